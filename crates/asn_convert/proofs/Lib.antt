@@ -1,0 +1,4 @@
+pub mod CallsLemmas
+pub mod Known
+pub mod Places
+pub mod Words

@@ -2,7 +2,17 @@
 #![tactic(auto)]
 
 mod codec;
+mod constraint;
+mod identifier;
+mod integer_type;
+mod memory;
 mod tag;
+mod whole_number;
 
 pub use codec::Codec;
-pub use tag::{Class, Tag};
+pub use constraint::{Bounded, Constraint, Constraints, Extensible, Size};
+pub use identifier::Identifier;
+pub use integer_type::IntegerType;
+pub use memory::OutOfMemory;
+pub use tag::{Class, Tag, TagTree};
+pub use whole_number::{Integer, WholeNumber};

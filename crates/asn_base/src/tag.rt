@@ -1,5 +1,8 @@
 // Tags of types (X.680, section 8).
-ghost use Rattle.std.specs.Prelude.{◌≡◌};
+ghost use Rattle.asn_base.specs.Texts.{class_name, tag_text};
+ghost use Rattle.std.specs.Prelude.{◌≡◌, Some};
+
+use std::fmt;
 
 /// The class of a tag, in the order in which classes compare.
 #[derive(Clone, Copy, Debug, PartialEq, Eq, PartialOrd, Ord)]
@@ -10,11 +13,45 @@ pub enum Class {
     Private,
 }
 
+/// The name in capitals.
+impl fmt::Display for Class {
+    ghost output = { λ class. Some (class_name class) };
+
+    fn fmt<W: fmt::Write>(&self, f: &mut fmt::Formatter<W>) -> fmt::Result {
+        f.write_str(match self {
+            Class::Universal => "UNIVERSAL",
+            Class::Application => "APPLICATION",
+            Class::Context => "CONTEXT",
+            Class::Private => "PRIVATE",
+        })
+    }
+}
+
 /// A tag: its class and its number within the class. Tags compare by class first.
 #[derive(Clone, Copy, Debug, PartialEq, Eq, PartialOrd, Ord)]
 pub struct Tag {
     pub class: Class,
     pub value: u32,
+}
+
+/// The tags that a value of a type can have.
+#[derive(Clone, Copy)]
+pub enum TagTree {
+    /// The one tag of a type that is no CHOICE.
+    Leaf(Tag),
+    /// The tags of the alternatives of a CHOICE without a tag of its own.
+    Choice(&'static [TagTree]),
+}
+
+/// The class, a space and the number.
+impl fmt::Display for Tag {
+    ghost output = { λ tag. Some (tag_text tag) };
+
+    fn fmt<W: fmt::Write>(&self, f: &mut fmt::Formatter<W>) -> fmt::Result {
+        self.class.fmt(f)?;
+        f.write_str(" ")?;
+        self.value.fmt(f)
+    }
 }
 
 impl Tag {
@@ -138,6 +175,7 @@ impl Tag {
         value: 31,
     };
 
+    /// The tag of this class and number.
     pub fn new(class: Class, value: u32) -> Tag
         ensures { result ≡ record { class = class; value = value } }
     {

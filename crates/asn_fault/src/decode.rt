@@ -1,0 +1,165 @@
+// Why a value is not read.
+ghost use Rattle.std.specs.Prelude.{◌≡◌, ◌⊎◌, string_bytes};
+ghost use Rattle.asn_fault.specs.Stop.{Why, at_root, error_stop, is_memory, kind_stop, wrapped};
+
+use crate::{AvnDecodeErrorKind, BerDecodeErrorKind, JerDecodeErrorKind};
+use asn_base::{Codec, Tag};
+use std::alloc::Global;
+
+/// A kind of refusal that one set of encoding rules has.
+#[derive(Debug, Drop)]
+pub enum CodecDecodeError {
+    Ber(BerDecodeErrorKind),
+    Jer(JerDecodeErrorKind),
+    Avn(AvnDecodeErrorKind),
+}
+
+/// Why a value is not read.
+#[cycle(decode_error)]
+#[derive(Drop)]
+pub enum DecodeErrorKind {
+    /// A kind that one set of encoding rules has.
+    CodecSpecific {
+        inner: CodecDecodeError,
+    },
+    /// A cause of its own words.
+    Custom {
+        msg: String,
+    },
+    /// The value of a field is refused.
+    FieldError {
+        name: &'static str,
+        nested: Box<DecodeError>,
+    },
+    /// The number is outside the range of its type, which has this many bits.
+    IntegerOverflow {
+        max_width: u32,
+    },
+    /// A required field that was added to the type later is absent.
+    MissingField {
+        name: &'static str,
+    },
+    /// A REAL is due or is there.
+    RealNotSupported,
+    /// The text is no JSON.
+    Parser {
+        msg: String,
+    },
+    /// The string has a character that its type lacks. The tag is the type's universal one.
+    StringConversionFailed {
+        tag: Tag,
+        msg: String,
+    },
+    /// The value names no alternative of the CHOICE type of this name.
+    NoValidChoice {
+        name: &'static str,
+    },
+    /// Braces stand in one another too deep.
+    ExceedsMaxParseDepth,
+    /// Memory ran out.
+    OutOfMemory,
+}
+
+/// A refusal to read: why, and by which encoding rules.
+#[cycle(decode_error)]
+#[derive(Drop)]
+pub struct DecodeError {
+    pub kind: DecodeErrorKind,
+    pub codec: Codec,
+}
+
+impl DecodeError {
+    /// The refusal of this kind.
+    pub fn from_kind(kind: DecodeErrorKind, codec: Codec) -> DecodeError
+        ensures { error_stop result ≡ kind_stop kind codec }
+    {
+        DecodeError { kind, codec }
+    }
+
+    /// The number is outside the range of its type, which has `max_width` bits.
+    pub fn integer_overflow(max_width: u32, codec: Codec) -> DecodeError
+        ensures { error_stop result ≡ at_root (Why.integer_overflow max_width) codec }
+    {
+        DecodeError::from_kind(DecodeErrorKind::IntegerOverflow { max_width }, codec)
+    }
+
+    /// The text is no JSON.
+    pub fn parser_fail(msg: String, codec: Codec) -> DecodeError
+        ensures { error_stop result ≡ at_root (Why.parser (string_bytes msg)) codec }
+    {
+        DecodeError::from_kind(DecodeErrorKind::Parser { msg }, codec)
+    }
+
+    /// A REAL is due or is there.
+    pub fn real_not_supported(codec: Codec) -> DecodeError
+        ensures { error_stop result ≡ at_root Why.real_not_supported codec }
+    {
+        DecodeError::from_kind(DecodeErrorKind::RealNotSupported, codec)
+    }
+
+    /// The string has a character that its type, of this universal tag, lacks.
+    pub fn string_conversion_failed(tag: Tag, msg: String, codec: Codec) -> DecodeError
+        ensures { error_stop result ≡ at_root (Why.string_conversion_failed tag (string_bytes msg)) codec }
+    {
+        DecodeError::from_kind(DecodeErrorKind::StringConversionFailed { tag, msg }, codec)
+    }
+
+    /// A cause of its own words.
+    pub fn custom(msg: String, codec: Codec) -> DecodeError
+        ensures { error_stop result ≡ at_root (Why.custom (string_bytes msg)) codec }
+    {
+        DecodeError::from_kind(DecodeErrorKind::Custom { msg }, codec)
+    }
+
+    /// The required field of this name, which was added to the type later, is absent.
+    pub fn missing_field(name: &'static str, codec: Codec) -> DecodeError
+        ensures { error_stop result ≡ at_root (Why.missing_field name.now) codec }
+    {
+        DecodeError::from_kind(DecodeErrorKind::MissingField { name }, codec)
+    }
+
+    /// The value names no alternative of the CHOICE type of this name.
+    pub fn no_valid_choice(name: &'static str, codec: Codec) -> DecodeError
+        ensures { error_stop result ≡ at_root (Why.no_valid_choice name.now) codec }
+    {
+        DecodeError::from_kind(DecodeErrorKind::NoValidChoice { name }, codec)
+    }
+
+    /// Memory ran out.
+    pub fn out_of_memory(codec: Codec) -> DecodeError
+        ensures { error_stop result ≡ at_root Why.out_of_memory codec }
+    {
+        DecodeError::from_kind(DecodeErrorKind::OutOfMemory, codec)
+    }
+
+    /// Whether memory ran out, within no field.
+    pub fn is_out_of_memory(&self) -> bool
+        ensures { result ≡ is_memory (error_stop self.now) }
+    {
+        match &self.kind {
+            DecodeErrorKind::OutOfMemory => true,
+            _ => false,
+        }
+    }
+
+    /// The refusal `nested` of the value of the field `name`.
+    /// Where `nested` is `OutOfMemory`, or there is no memory to box it, the answer is `OutOfMemory` at no field.
+    pub fn field_error(
+        alloc: Global,
+        name: &'static str,
+        nested: DecodeError,
+        codec: Codec,
+    ) -> DecodeError
+        ensures { (error_stop result ≡ wrapped name.now codec (error_stop nested)) ⊎ (error_stop result ≡ at_root Why.out_of_memory codec) }
+    {
+        if nested.is_out_of_memory() {
+            return DecodeError::out_of_memory(codec);
+        }
+        match Box::new(alloc, nested) {
+            Ok(nested) => {
+                DecodeError::from_kind(DecodeErrorKind::FieldError { name, nested }, codec)
+            }
+            Err(_) => DecodeError::out_of_memory(codec),
+        }
+    }
+}

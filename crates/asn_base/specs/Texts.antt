@@ -1,10 +1,14 @@
 -- The texts that the plain types print.
-use Rattle.std.specs.Prelude.{ℕ, suc, List, ◌++◌, Bool, true, codes, decimal}
+use Rattle.std.specs.Prelude.{ℕ, List, ◌++◌, Option, Some, None, codes, decimal}
+use Rattle.std.specs.Fmt.{signed_decimal}
 use Rattle.asn_base.specs.declared.codec.Codec.{Codec}
 use Rattle.asn_base.specs.declared.codec.Codec.TheVariants.{Aper, Ber, Cer, Der, Uper, Jer, Oer, Coer, Xer, Avn}
 use Rattle.asn_base.specs.declared.tag.Class.{Class}
 use Rattle.asn_base.specs.declared.tag.Class.TheVariants.{Universal, Application, Context, Private}
 use Rattle.asn_base.specs.declared.tag.Tag.{Tag}
+use Rattle.asn_base.specs.declared.constraint.Bounded.{Bounded}
+use Rattle.asn_base.specs.declared.constraint.Bounded.TheVariants.{None as Every, Single, Range}
+use Rattle.asn_base.specs.Numbers.{signed}
 use Rattle.asn_base.specs.declared.whole_number.WholeNumber.{WholeNumber}
 
 -- The name of a set of encoding rules, in capitals.
@@ -31,11 +35,17 @@ class_name Private = codes "PRIVATE"
 abbrev pub tag_text : Tag → List ℕ
 tag_text tag = class_name tag.class ++ codes " " ++ decimal tag.value
 
--- A minus where the number is below zero, and its digits.
-abbrev pub signed_text : Bool → ℕ → List ℕ
-signed_text true (suc m) = codes "-" ++ decimal (suc m)
-signed_text _ m = decimal m
-
--- A whole number in decimal.
+-- A whole number in decimal, with a minus below zero.
 abbrev pub whole_number_text : WholeNumber → List ℕ
-whole_number_text n = signed_text n.negative n.magnitude
+whole_number_text n = signed_decimal (signed n.negative n.magnitude)
+
+-- An end of a range, or the word for one that is absent.
+abbrev pub end_text : {T : Type 0} → (T → List ℕ) → List ℕ → Option T → List ℕ
+end_text text absent None = absent
+end_text text absent (Some n) = text n
+
+-- The numbers that a constraint admits, as one number or as the two ends of a range.
+abbrev pub bounded_text : {T : Type 0} → (T → List ℕ) → Bounded T → List ℕ
+bounded_text text Every = codes "MIN..MAX"
+bounded_text text (Single n) = text n
+bounded_text text (Range start end) = end_text text (codes "MIN") start ++ codes ".." ++ end_text text (codes "MAX") end

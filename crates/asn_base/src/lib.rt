@@ -10,7 +10,7 @@ mod tag;
 mod whole_number;
 
 pub use codec::Codec;
-pub use constraint::{Bounded, Constraint, Constraints, Extensible, Size};
+pub use constraint::{Bound, Bounded, Constraint, Constraints, Extensible, Size};
 pub use identifier::Identifier;
 pub use integer_type::IntegerType;
 pub use memory::OutOfMemory;

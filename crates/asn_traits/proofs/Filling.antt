@@ -1,0 +1,54 @@
+-- What a scope writes is what its type writes.
+use Rattle.std.proofs.Common.{true, ◌≡◌, ℕ, List, [], ◌∷◌, ◌++◌, Some, None, Ok, Result, ap, sym, ◌∙◌, append_assoc, inl, inr, MutBor, append-nil, subst}
+use Rattle.std.specs.Fn.{Once, FnOnceReturnsAtMut}
+use Rattle.asn_base.specs.declared.tag.Tag.{Tag}
+use Rattle.asn_fault.specs.declared.encode.EncodeError.{EncodeError}
+use Rattle.asn_traits.specs.Notation.{Notation}
+use Rattle.asn_traits.specs.Shape.{Shape, Fields, Alternatives, Presence, closed_seq, closed_choice}
+use Rattle.asn_traits.specs.Value.{Value, Fits, FitsFields, is_kept, may_lack}
+use Rattle.asn_traits.specs.Writing.{Frame, push, push_all, close, as_members, as_choice, named, Turns, Written, Filled, CannotWrite, ScopeRan, CannotFill, tail_names, Offered}
+
+-- on a new frame the slots are the frame
+push_all-new : (ss f : Frame) (fs : List Frame) → push_all ss (f ∷ fs) ≡ (f ++ ss) ∷ fs
+push_all-new [] f fs = ap (λ g. g ∷ fs) (sym (append-nil f))
+push_all-new (s ∷ ss) f fs = push_all-new ss (f ++ (s ∷ [])) fs ∙ ap (λ g. g ∷ fs) (append_assoc f (s ∷ []) ss)
+
+pub fill_end : {S : Type 0} {holds : S → List Frame → Type 0} {n : Notation} {now : S} → Filled holds n Fields.no_fields [] [] now now
+fill_end {S} {holds} {n} {now} = record { added = λ fs h. h; fit = FitsFields.fits_end; writable = tt }
+
+pub fill_present : {S : Type 0} {holds : S → List Frame → Type 0} {n : Notation} {name : List ℕ} {g : Tag} {p : Presence} {s : Shape} {v : Value} {rest : Fields} {names : List (List ℕ)} {ss : Frame} {old mid new : S} → Written holds n s v old mid → is_kept p v ≡ true → Filled holds n rest names ss mid new → Filled holds n (Fields.field name g p s rest) (name ∷ names) (Some v ∷ ss) old new
+fill_present {holds = holds} {v = v} {ss = ss} {new = new} w kept f = record { added = λ fs h. f.added (push (Some v) fs) (w.added fs h); fit = FitsFields.fits_present w.fit kept f.fit; writable = (w.writable, f.writable) }
+
+pub fill_absent : {S : Type 0} {holds : S → List Frame → Type 0} {n : Notation} {name : List ℕ} {g : Tag} {p : Presence} {s : Shape} {rest : Fields} {names : List (List ℕ)} {ss : Frame} {old mid new : S} → Turns holds (push None) old mid → may_lack p ≡ true → Filled holds n rest names ss mid new → Filled holds n (Fields.field name g p s rest) (name ∷ names) (None ∷ ss) old new
+fill_absent {holds = holds} {ss = ss} {new = new} w lack f = record { added = λ fs h. f.added (push None fs) (w fs h); fit = FitsFields.fits_absent lack f.fit; writable = f.writable }
+
+-- what a scope's refusal is for its type
+pub refuse_members : {n : Notation} {ss : Frame} {e : EncodeError} (names : List (List ℕ)) → CannotFill n ss e → CannotWrite n (Value.members (named ss names)) e
+refuse_members names (CannotFill.no_memory_left o) = CannotWrite.no_memory o
+refuse_members names (CannotFill.slot_refused (CannotWrite.no_memory o)) = CannotWrite.no_memory o
+refuse_members names (CannotFill.slot_refused (CannotWrite.blocked b c)) = CannotWrite.blocked (inl b) c
+refuse_members names (CannotFill.slot_refused (CannotWrite.write_free o)) = CannotWrite.write_free o
+refuse_members {n} {ss} {e} names (CannotFill.after_slot w r) = elim (refuse_members (tail_names names) r) [ CannotWrite.no_memory o ↦ CannotWrite.no_memory o | CannotWrite.blocked b c ↦ CannotWrite.blocked (inr (w, b)) c | CannotWrite.write_free o ↦ CannotWrite.write_free o ]
+refuse_members names (CannotFill.after_absent r) = elim (refuse_members (tail_names names) r) [ CannotWrite.no_memory o ↦ CannotWrite.no_memory o | CannotWrite.blocked b c ↦ CannotWrite.blocked b c | CannotWrite.write_free o ↦ CannotWrite.write_free o ]
+
+-- the whole scope
+pub scope_members : {S F : Type 0} {g : Once F (MutBor S × Unit {0}) (Result (Unit {0}) EncodeError × (MutBor S × Unit {0}))} {f : F} {holds : S → List Frame → Type 0} {names : List (List ℕ)} {old new : S} (n : Notation) (all : Fields) (slots : Frame)
+    → (r : ScopeRan holds (FnOnceReturnsAtMut g f) old (Ok tt) (λ left. Turns holds (close (as_members names)) left new))
+    → Filled holds n all names slots r.answered.shown.now r.answered.left.now
+    → Written holds n (closed_seq all) (Value.members (named slots names)) old new
+scope_members {holds = holds} {names = names} n all slots r f = record {
+  added = λ fs h. r.left _ (subst (holds r.end) (push_all-new slots [] fs) (subst (λ e. holds e (push_all slots ([] ∷ fs))) r.answered.leaves (f.added ([] ∷ fs) (subst (λ s. holds s ([] ∷ fs)) (sym r.answered.shows) (r.opened fs h)))));
+  fit = Fits.fits_members f.fit;
+  writable = f.writable;
+}
+
+-- the scope of a choice
+pub scope_choice : {S F : Type 0} {g : Once F (MutBor S × Unit {0}) (Result Tag EncodeError × (MutBor S × Unit {0}))} {f : F} {holds : S → List Frame → Type 0} {old new : S} {answer : Tag} (n : Notation) (all : Alternatives) (id : List ℕ) (v : Value)
+    → (r : ScopeRan holds (FnOnceReturnsAtMut g f) old (Ok answer) (λ left. Turns holds (close (as_choice id)) left new))
+    → Offered holds n all id v r.answered.shown.now r.answered.left.now
+    → Written holds n (closed_choice all) (Value.choice id v) old new
+scope_choice {holds = holds} n all id v r f = record {
+  added = λ fs h. r.left _ (subst (λ e. holds e (push (Some v) ([] ∷ fs))) r.answered.leaves (f.added ([] ∷ fs) (subst (λ s. holds s ([] ∷ fs)) (sym r.answered.shows) (r.opened fs h))));
+  fit = Fits.fits_choice f.fit;
+  writable = f.writable;
+}

@@ -1,0 +1,81 @@
+-- How answers of parts make the answer of a whole.
+use Rattle.std.specs.Prelude.{◌≡◌, ℕ, List, ◌∷◌, map, Some, None, Result, Ok, Err, Bool, true, false, ◌⊎◌, if◌then◌else◌}
+use Rattle.std.proofs.Common.{sym, ◌∙◌, subst, inl, inr, refl}
+use Rattle.asn_fault.specs.Stop.{Stop, Why, error_stop, is_memory, wrapped, at_root}
+use Rattle.asn_base.specs.declared.codec.Codec.{Codec}
+use Rattle.asn_fault.specs.declared.decode.DecodeError.{DecodeError}
+use Rattle.asn_traits.specs.Notation.{Notation, notation_of}
+use Rattle.asn_traits.specs.Shape.{Shape, Fields, field_names, unfold_loop, closed_seq}
+use Rattle.asn_traits.specs.Tree.{Slot, head_slot}
+use Rattle.asn_traits.specs.Value.{Value, Values, Slots}
+use Rattle.asn_traits.specs.Says.{Says, SaysEach, SaysFields}
+use Rattle.asn_traits.specs.Stops.{Stops, StopsEach, StopsFields, Path}
+use Rattle.asn_traits.specs.Answer.{Answer, Refuses}
+use Rattle.asn_traits.specs.Opening.{IsList, HasMembers}
+
+-- A refusal for a reason is one for another reason that follows from it.
+pub refuses_by : {n : Notation} {P Q : Path → Why → Type 0} → ((p : Path) (w : Why) → P p w → Q p w) → (e : Stop) → Refuses n P e → Refuses n Q e
+refuses_by f e (Refuses.no_memory h) = Refuses.no_memory h
+refuses_by f e (Refuses.stopped h l c) = Refuses.stopped (f _ _ h) l c
+refuses_by f e (Refuses.refuses_free h) = Refuses.refuses_free h
+
+pub same_head : (x y : Slot) (xs ys : List Slot) → x ∷ xs ≡ y ∷ ys → x ≡ y
+same_head x y xs ys e = cc e
+
+pub same_tail : (x y : Slot) (xs ys : List Slot) → x ∷ xs ≡ y ∷ ys → xs ≡ ys
+same_tail x y xs ys e = cc e
+
+pub list_says : {n : Notation} {slot : Slot} {slots : List Slot} (s : Shape) (vs : Values) → IsList n slot slots → SaysEach n s slots vs → Says n (Shape.list_of s) slot (Value.list vs)
+list_says s vs (IsList.is_list t slots e) h = Says.says_list s t slots vs e h
+list_says s vs (IsList.list_free slot slots e) h = Says.says_free _ slot _ e
+
+pub list_stops : {n : Notation} {slot : Slot} {slots : List Slot} (s : Shape) (p : Path) (w : Why) → IsList n slot slots → StopsEach n s slots p w → Stops n (Shape.list_of s) slot p w
+list_stops s p w (IsList.is_list t slots e) h = Stops.stops_list s t slots p w e h
+list_stops s p w (IsList.list_free slot slots e) h = Stops.stops_free _ slot p w e
+
+pub members_say : {n : Notation} {names : List (List ℕ)} {slot : Slot} {slots : List Slot} (fs : Fields) (vs : Slots) → names ≡ field_names fs → HasMembers n names slot slots → SaysFields n fs slots vs → Says n (closed_seq fs) slot (Value.members vs)
+members_say {n} fs vs e (HasMembers.has_members names t look is) h = Says.says_seq fs t look vs is (subst (λ l. SaysFields n fs (map look l) vs) e h)
+members_say fs vs e (HasMembers.members_free names slot slots is) h = Says.says_free _ slot _ is
+
+pub members_stop : {n : Notation} {names : List (List ℕ)} {slot : Slot} {slots : List Slot} (fs : Fields) (p : Path) (w : Why) → names ≡ field_names fs → HasMembers n names slot slots → StopsFields n fs slots p w → Stops n (closed_seq fs) slot p w
+members_stop {n} fs p w e (HasMembers.has_members names t look is) h = Stops.stops_seq fs t look p w is (subst (λ l. StopsFields n fs (map look l) p w) e h)
+members_stop fs p w e (HasMembers.members_free names slot slots is) h = Stops.stops_free _ slot p w is
+
+says_nothing : {n : Notation} {s : Shape} {v : Value} → Says n s None v → (r : Shape) → Says n r None v
+says_nothing (Says.says_free s slot v e) r = Says.says_free r None v e
+
+stops_alike : {n : Notation} {s : Shape} {p : Path} {w : Why} → Stops n s None p w → (r : Shape) → Stops n r None p w
+stops_alike (Stops.stops_absent s c e) r = Stops.stops_absent r c e
+stops_alike (Stops.stops_free s slot p w e) r = Stops.stops_free r None p w e
+
+-- What one turn of a loop says, the loop says.
+pub loop_says : {n : Notation} {v : Value} (body : Shape) (slot : Slot) → Says n (unfold_loop body) slot v → Says n (Shape.loop body) slot v
+loop_says body None h = says_nothing h (Shape.loop body)
+loop_says body (Some t) h = Says.says_loop body t _ h
+
+pub loop_stops : {n : Notation} (body : Shape) (slot : Slot) (p : Path) (w : Why) → Stops n (unfold_loop body) slot p w → Stops n (Shape.loop body) slot p w
+loop_stops body None p w h = stops_alike h (Shape.loop body)
+loop_stops body (Some t) p w h = Stops.stops_loop body t p w h
+
+pub loop_refuses : {n : Notation} (body : Shape) (slot : Slot) (e : Stop) → Refuses n (Stops n (unfold_loop body) slot) e → Refuses n (Stops n (Shape.loop body) slot) e
+loop_refuses body slot e h = refuses_by (loop_stops body slot) e h
+
+pub loop_answer : {A : Type 0} (n : Notation) (body : Shape) (value : A → Value) (before : List Slot) (r : Result A DecodeError) (after : List Slot) → Answer n (unfold_loop body) value before r after → Answer n (Shape.loop body) value before r after
+loop_answer n body value before (Ok x) after (slot, shown, says) = (slot, shown, loop_says body slot says)
+loop_answer n body value before (Err e) after h = loop_refuses body (head_slot before) (error_stop e) h
+
+memory_at_root : (c : Codec) → is_memory (at_root Why.out_of_memory c) ≡ true
+memory_at_root c = refl
+
+wrapped_refuses : {n : Notation} {P Q : Path → Why → Type 0} (name : List ℕ) (c : Codec) → notation_of c ≡ n → ((p : Path) (w : Why) → P p w → Q (name ∷ p) w)
+    → (e : Stop) (b : Bool) → is_memory e ≡ b → Refuses n P e → Refuses n Q (if b then at_root Why.out_of_memory c else record { path = record { name = name; codec = c } ∷ e.path; why = e.why; codec = e.codec })
+wrapped_refuses name c of f e true is h = Refuses.no_memory refl
+wrapped_refuses name c of f e false is (Refuses.no_memory m) = let d : true ≡ false = sym m ∙ is in cc d
+wrapped_refuses name c of f e false is (Refuses.stopped h l k) = Refuses.stopped (f _ _ h) (of, l) k
+wrapped_refuses name c of f e false is (Refuses.refuses_free o) = Refuses.refuses_free o
+
+-- A refusal within a field is one for what the field's refusal is for, under the field's name.
+pub within_refuses : {n : Notation} {P Q : Path → Why → Type 0} (name : List ℕ) (c : Codec) → notation_of c ≡ n → ((p : Path) (w : Why) → P p w → Q (name ∷ p) w)
+    → (e r : Stop) → (r ≡ wrapped name c e) ⊎ (r ≡ at_root Why.out_of_memory c) → Refuses n P e → Refuses n Q r
+within_refuses {n} {P} {Q} name c of f e r (inl is) h = subst (Refuses n Q) (sym is) (wrapped_refuses name c of f e (is_memory e) refl h)
+within_refuses {n} {P} {Q} name c of f e r (inr is) h = subst (Refuses n Q) (sym is) (Refuses.no_memory refl)

@@ -1,0 +1,34 @@
+use Rattle.std.proofs.Common.{inr, inl, refl, subst, ap}
+use Rattle.std.proofs.lemmas.Result.{err_from_is_err_and, on_ok_weaker}
+use Rattle.asn_traits.specs.Writing.{close, as_choice, Turns}
+use Rattle.asn_traits.proofs.Choices.{name_found, known, known_some, unknown_none}
+use Rattle.asn_traits.proofs.encoder.Encoder.encode_choice.Goals as goal
+
+pub returns-in_default-clause-refused : goal.returns-in_default-clause-refused
+returns-in_default-clause-refused g c =
+    let f = name_found g.C.Choice.alternatives c.args.tag _ _ _ c.variant_table.ensures c.identifier_table.ensures c.in_default.ensures in
+    inr (inl (ap (λ e. e.kind) c.variant_not_in_choice.ensures, unknown_none _ f))
+
+pub returns-in_err-_answer-clause-refused : goal.returns-in_err-_answer-clause-refused
+returns-in_err-_answer-clause-refused g c =
+    let p = err_from_is_err_and c.from_residual-in_err-_answer.result c.from_residual-in_err-_answer.ensures.1 in
+    rw (p.1, p.2) (inr (inr (record { start = c.open_frame.new.self; end = c.encode_fn.new.arg2; opened = c.in_ok-open_frame.ensures.opened; answered = record { shown = _; shows = refl; left = _; met = c.in_err-_answer.ensures; leaves = refl }; left = tt })))
+
+pub returns-clause-written : goal.returns-clause-written
+returns-clause-written g c =
+    let f = name_found g.C.Choice.alternatives c.args.tag _ _ _ c.variant_table.ensures c.identifier_table.ensures c.in-Some.ensures in
+    on_ok_weaker c.close_choice.result (λ e. known c.in-Some.name.now _ f (λ a is. (
+      c.in_ok-_answer._answer,
+      record {
+        start = c.open_frame.new.self;
+        end = c.encode_fn.new.arg2;
+        opened = c.in_ok-open_frame.ensures.opened;
+        answered = record { shown = _; shows = refl; left = _; met = c.in_ok-_answer.ensures; leaves = refl };
+        left = subst (λ i. Turns g.Self.Encoder.holds (close (as_choice i)) c.encode_fn.new.arg2 c.close_choice.new.self) is e;
+      },
+    ))) c.close_choice.ensures.closed
+
+pub returns-clause-listed : goal.returns-clause-listed
+returns-clause-listed g c =
+    let f = name_found g.C.Choice.alternatives c.args.tag _ _ _ c.variant_table.ensures c.identifier_table.ensures c.in-Some.ensures in
+    λ h. known_some c.in-Some.name.now _ f

@@ -1,0 +1,15 @@
+pub mod Fixed
+pub mod Notation
+pub mod Shape
+pub mod Value
+pub mod Digits
+pub mod Tree
+pub mod Leaf
+pub mod Says
+pub mod Stops
+pub mod Answer
+pub mod Opening
+pub mod Scopes
+pub mod Writing
+pub mod Tables
+pub mod Canonical

@@ -1,0 +1,57 @@
+-- What a decoder puts before the pending slots when it opens a tree.
+use Rattle.std.specs.Prelude.{◌≡◌, ℕ, ◌<◌, List, [], ◌∷◌, ◌++◌, map, length, Option, Some, None, Result, Ok, Err}
+use Rattle.asn_fault.specs.Stop.{error_stop}
+use Rattle.asn_fault.specs.declared.decode.DecodeError.{DecodeError}
+use Rattle.asn_base.specs.declared.tag.Tag.{Tag}
+use Rattle.asn_traits.specs.Notation.{Notation}
+use Rattle.asn_traits.specs.Shape.{Shape, Fields, Alternatives, place_named, alternative_named, alternative_tagged, closed_seq, closed_choice}
+use Rattle.asn_traits.specs.Tree.{Tree, Slot, slot_nodes, head_slot, as_list, as_members, as_choice, same_identifier}
+use Rattle.asn_traits.specs.Stops.{Stops}
+use Rattle.asn_traits.specs.Answer.{Refuses}
+
+-- each slot has fewer nodes
+abbrev pub AllBelow : ℕ → List Slot → Type 0
+AllBelow n [] = Unit {0}
+AllBelow n (s ∷ ss) = (slot_nodes s < n) × AllBelow n ss
+
+pub data IsList (n : Notation) : Slot → List Slot → Type 0 where
+  is_list : (t : Tree) (slots : List Slot) → as_list n t ≡ Some slots → IsList n (Some t) slots
+  list_free : (slot : Slot) (slots : List Slot) → n ≡ Notation.other → IsList n slot slots
+
+pub data HasMembers (n : Notation) : List (List ℕ) → Slot → List Slot → Type 0 where
+  has_members : (names : List (List ℕ)) (t : Tree) (look : List ℕ → Slot) → as_members n t ≡ Some look → HasMembers n names (Some t) (map look names)
+  members_free : (names : List (List ℕ)) (slot : Slot) (slots : List Slot) → n ≡ Notation.other → HasMembers n names slot slots
+
+-- The payload stands in a slot, with the place of its identifier, or an absent slot without a place.
+pub data IsChoice (n : Notation) : List (List ℕ) → Slot → Option ℕ → Slot → Type 0 where
+  is_choice : (names : List (List ℕ)) (t u : Tree) (name : List ℕ) (k : ℕ) → as_choice n t ≡ Some (Some (name, u)) → place_named same_identifier names name ≡ Some k → IsChoice n names (Some t) (Some k) (Some u)
+  is_unnamed : (names : List (List ℕ)) (t u : Tree) (name : List ℕ) → as_choice n t ≡ Some (Some (name, u)) → place_named same_identifier names name ≡ None → IsChoice n names (Some t) None None
+  is_empty : (names : List (List ℕ)) (t : Tree) → as_choice n t ≡ Some None → IsChoice n names (Some t) None None
+  choice_free : (names : List (List ℕ)) (slot : Slot) (place : Option ℕ) (put : Slot) → n ≡ Notation.other → IsChoice n names slot place put
+
+-- The elements of the first pending slot stand in its place, each with fewer nodes, or it is no list.
+abbrev pub OpensList : Notation → List Slot → Result ℕ DecodeError → List Slot → Type 0
+OpensList n before (Ok count) after = (slot : Slot) × (slots : List Slot) × (rest : List Slot) × (before ≡ slot ∷ rest) × (after ≡ slots ++ rest) × (length slots ≡ count) × AllBelow (slot_nodes slot) slots × IsList n slot slots
+OpensList n before (Err e) after = (s : Shape) → Refuses n (Stops n (Shape.list_of s) (head_slot before)) (error_stop e)
+
+-- The slots of these names in the first pending slot stand in its place, or it has no members.
+abbrev pub OpensMembers : Notation → List (List ℕ) → List Slot → Result (Unit {0}) DecodeError → List Slot → Type 0
+OpensMembers n names before (Ok u) after = (slot : Slot) × (slots : List Slot) × (rest : List Slot) × (before ≡ slot ∷ rest) × (after ≡ slots ++ rest) × (length slots ≡ length names) × AllBelow (slot_nodes slot) slots × HasMembers n names slot slots
+OpensMembers n names before (Err e) after = (fs : Fields) → Refuses n (Stops n (closed_seq fs) (head_slot before)) (error_stop e)
+
+-- A choice's payload stands in its place, or an absent slot, or it is no choice.
+abbrev pub OpensChoice : Notation → List (List ℕ) → List Slot → Result (Option ℕ) DecodeError → List Slot → Type 0
+OpensChoice n names before (Ok place) after = (slot : Slot) × (put : Slot) × (rest : List Slot) × (before ≡ slot ∷ rest) × (after ≡ put ∷ rest) × (slot_nodes put < slot_nodes slot) × IsChoice n names slot place put
+OpensChoice n names before (Err e) after = (alts : Alternatives) → Refuses n (Stops n (closed_choice alts) (head_slot before)) (error_stop e)
+
+-- What a choice's slot and the slot put for it say of the alternative.
+pub data Chosen (n : Notation) (alts : Alternatives) : Slot → Slot → Option (List ℕ × Shape) → Type 0 where
+  is_chosen : (t u : Tree) (name : List ℕ) (a : List ℕ × Shape) → as_choice n t ≡ Some (Some (name, u)) → alternative_named same_identifier alts name ≡ Some a → Chosen n alts (Some t) (Some u) (Some a)
+  is_unknown : (t u : Tree) (name : List ℕ) → as_choice n t ≡ Some (Some (name, u)) → alternative_named same_identifier alts name ≡ None → Chosen n alts (Some t) None None
+  is_bare : (t : Tree) → as_choice n t ≡ Some None → Chosen n alts (Some t) None None
+  is_free : (slot put : Slot) (o : Option (List ℕ × Shape)) → n ≡ Notation.other → Chosen n alts slot put o
+
+-- The same, by the tag of the alternative.
+abbrev pub OpensAlternative : Notation → Alternatives → List Slot → Result Tag DecodeError → List Slot → Type 0
+OpensAlternative n alts before (Ok tag) after = (slot : Slot) × (put : Slot) × (rest : List Slot) × (before ≡ slot ∷ rest) × (after ≡ put ∷ rest) × (slot_nodes put < slot_nodes slot) × Chosen n alts slot put (alternative_tagged alts tag)
+OpensAlternative n alts before (Err e) after = Refuses n (Stops n (closed_choice alts) (head_slot before)) (error_stop e)

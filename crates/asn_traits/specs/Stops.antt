@@ -1,0 +1,52 @@
+-- Why a slot says no value by a shape: the names of the fields that lead to the place, and what is wrong there.
+use Rattle.std.specs.Prelude.{◌≡◌, ℕ, ℤ, ◌<ℤ◌, List, [], ◌∷◌, map, Some, None, Ok, Err, true, false}
+use Rattle.asn_base.specs.declared.codec.Codec.{Codec}
+use Rattle.asn_base.specs.declared.tag.Tag.{Tag}
+use Rattle.asn_fault.specs.Stop.{Why}
+use Rattle.asn_traits.specs.Notation.{Notation, notation_of}
+use Rattle.asn_traits.specs.Shape.{Shape, Fields, Alternatives, Presence, closed_seq, closed_choice, unfold_loop, alternative_named, field_names}
+use Rattle.asn_traits.specs.Tree.{Tree, Slot, as_list, as_members, as_choice, same_identifier}
+use Rattle.asn_traits.specs.Leaf.{Blame, Blamed, leaf, as_number, needs_members, needs_list, needs_choice}
+use Rattle.asn_traits.specs.Value.{Value, may_lack}
+use Rattle.asn_traits.specs.Says.{Says}
+
+-- the names of the fields that lead to a place
+abbrev pub Path : Type 0
+Path = List (List ℕ)
+
+mutual
+  -- the slot says no value by the shape: at this path, for this reason
+  pub data Stops (n : Notation) : Shape → Slot → Path → Why → Type 0 where
+    stops_absent : (s : Shape) (c : Codec) → notation_of c ≡ n → Stops n s None [] (Why.end_of_input c)
+    stops_leaf : (s : Shape) (t : Tree) (b : Blame) (w : Why) → leaf n s t ≡ Some (Err b) → Blamed n t b w → Stops n s (Some t) [] w
+    stops_number : (least greatest : ℤ) (width : ℕ) (t : Tree) (b : Blame) (w : Why) → as_number n t ≡ Err b → Blamed n t b w → Stops n (Shape.int least greatest width) (Some t) [] w
+    stops_below : (least greatest k : ℤ) (width : ℕ) (t : Tree) → as_number n t ≡ Ok k → k <ℤ least → Stops n (Shape.int least greatest width) (Some t) [] (Why.integer_overflow width)
+    stops_above : (least greatest k : ℤ) (width : ℕ) (t : Tree) → as_number n t ≡ Ok k → greatest <ℤ k → Stops n (Shape.int least greatest width) (Some t) [] (Why.integer_overflow width)
+    stops_no_members : (fs : Fields) (t : Tree) (w : Why) → as_members n t ≡ None → Blamed n t (needs_members n) w → Stops n (closed_seq fs) (Some t) [] w
+    stops_seq : (fs : Fields) (t : Tree) (look : List ℕ → Slot) (p : Path) (w : Why) → as_members n t ≡ Some look → StopsFields n fs (map look (field_names fs)) p w → Stops n (closed_seq fs) (Some t) p w
+    stops_no_list : (s : Shape) (t : Tree) (w : Why) → as_list n t ≡ None → Blamed n t (needs_list n) w → Stops n (Shape.list_of s) (Some t) [] w
+    stops_list : (s : Shape) (t : Tree) (slots : List Slot) (p : Path) (w : Why) → as_list n t ≡ Some slots → StopsEach n s slots p w → Stops n (Shape.list_of s) (Some t) p w
+    stops_no_choice : (alts : Alternatives) (t : Tree) (w : Why) → as_choice n t ≡ None → Blamed n t (needs_choice n) w → Stops n (closed_choice alts) (Some t) [] w
+    stops_no_member : (alts : Alternatives) (t : Tree) (type_name : List ℕ) → as_choice n t ≡ Some None → Stops n (closed_choice alts) (Some t) [] (Why.no_valid_choice type_name)
+    stops_unnamed : (alts : Alternatives) (t : Tree) (name : List ℕ) (u : Tree) (type_name : List ℕ) → as_choice n t ≡ Some (Some (name, u)) → alternative_named same_identifier alts name ≡ None
+        → Stops n (closed_choice alts) (Some t) [] (Why.no_valid_choice type_name)
+    stops_payload : (alts : Alternatives) (t : Tree) (name : List ℕ) (u : Tree) (id : List ℕ) (s : Shape) (p : Path) (w : Why)
+        → as_choice n t ≡ Some (Some (name, u)) → alternative_named same_identifier alts name ≡ Some (id, s) → Stops n s (Some u) p w → Stops n (closed_choice alts) (Some t) p w
+    stops_loop : (body : Shape) (t : Tree) (p : Path) (w : Why) → Stops n (unfold_loop body) (Some t) p w → Stops n (Shape.loop body) (Some t) p w
+    stops_free : (s : Shape) (slot : Slot) (p : Path) (w : Why) → n ≡ Notation.other → Stops n s slot p w
+
+  -- an element stops, and those before it say values
+  pub data StopsEach (n : Notation) : Shape → List Slot → Path → Why → Type 0 where
+    stops_here : (s : Shape) (slot : Slot) (rest : List Slot) (p : Path) (w : Why) → Stops n s slot p w → StopsEach n s (slot ∷ rest) p w
+    stops_later : (s : Shape) (slot : Slot) (rest : List Slot) (v : Value) (p : Path) (w : Why) → Says n s slot v → StopsEach n s rest p w → StopsEach n s (slot ∷ rest) p w
+
+  -- a field stops, and the slots of those before it say values or are absent
+  pub data StopsFields (n : Notation) : Fields → List Slot → Path → Why → Type 0 where
+    field_stops : (name : List ℕ) (g : Tag) (k : Presence) (s : Shape) (fs : Fields) (t : Tree) (rest : List Slot) (p : Path) (w : Why)
+        → Stops n s (Some t) p w → StopsFields n (Fields.field name g k s fs) (Some t ∷ rest) (name ∷ p) w
+    field_lacks : (name : List ℕ) (g : Tag) (k : Presence) (s : Shape) (fs : Fields) (rest : List Slot) (p : Path) (w : Why)
+        → may_lack k ≡ false → Stops n s None p w → StopsFields n (Fields.field name g k s fs) (None ∷ rest) (name ∷ p) w
+    after_present : (name : List ℕ) (g : Tag) (k : Presence) (s : Shape) (fs : Fields) (slot : Slot) (rest : List Slot) (v : Value) (p : Path) (w : Why)
+        → Says n s slot v → StopsFields n fs rest p w → StopsFields n (Fields.field name g k s fs) (slot ∷ rest) p w
+    after_absent : (name : List ℕ) (g : Tag) (k : Presence) (s : Shape) (fs : Fields) (rest : List Slot) (p : Path) (w : Why)
+        → may_lack k ≡ true → StopsFields n fs rest p w → StopsFields n (Fields.field name g k s fs) (None ∷ rest) p w

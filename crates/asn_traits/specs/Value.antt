@@ -1,0 +1,141 @@
+-- What a Rust value of an ASN.1 type stands for, and what values a shape has.
+use Rattle.std.specs.Prelude.{◌≡◌, ℕ, ℤ, ◌≤ℤ◌, ◌+◌, List, [], ◌∷◌, Bool, true, false, not, if◌then◌else◌, Option}
+use Rattle.std.specs.Str.{bytes_eq, is_utf8}
+use Rattle.std.specs.Ordering.{int_eq}
+use Rattle.asn_base.specs.declared.tag.Tag.{Tag}
+use Rattle.asn_traits.specs.Shape.{Shape, Fields, Alternatives, Alphabet, Plain, Presence, closed_enum, closed_seq, closed_choice, unfold_loop, is_item}
+
+mutual
+  -- the abstract value of an ASN.1 type
+  pub data Value : Type 0 where
+    null : Value
+    boolean : Bool → Value
+    int : ℤ → Value
+    -- with the size that the type fixes, or none
+    bits : List Bool → Option ℕ → Value
+    octets : List ℕ → Value
+    arcs : List ℕ → Value
+    -- the bytes of a character string
+    text : List ℕ → Value
+    -- the 16-bit units of a BMPString
+    units : List ℕ → Value
+    -- seconds since 1970-01-01T00:00:00 in UTC
+    utc : ℤ → Value
+    -- nanoseconds since 1970-01-01T00:00:00 in UTC
+    gen : ℤ → Value
+    -- days since 1970-01-01
+    day : ℤ → Value
+    item : List ℕ → Value
+    members : Slots → Value
+    list : Values → Value
+    -- sorted, repeats kept
+    bag : Values → Value
+    choice : List ℕ → Value → Value
+
+  -- the elements of a list, in order
+  pub data Values : Type 0 where
+    no_values : Values
+    value : Value → Values → Values
+
+  -- the members of a sequence, in order, each absent or present
+  pub data Slots : Type 0 where
+    no_slots : Slots
+    absent : List ℕ → Slots → Slots
+    present : List ℕ → Value → Slots → Slots
+
+-- the number of parts of a value, itself included
+abbrev mutual
+  pub nodes : Value → ℕ
+  nodes Value.null = 1
+  nodes (Value.boolean b) = 1
+  nodes (Value.int n) = 1
+  nodes (Value.bits bs n) = 1
+  nodes (Value.octets o) = 1
+  nodes (Value.arcs a) = 1
+  nodes (Value.text t) = 1
+  nodes (Value.units u) = 1
+  nodes (Value.utc n) = 1
+  nodes (Value.gen n) = 1
+  nodes (Value.day n) = 1
+  nodes (Value.item i) = 1
+  nodes (Value.members ms) = 1 + nodes_slots ms
+  nodes (Value.list vs) = 1 + nodes_values vs
+  nodes (Value.bag vs) = 1 + nodes_values vs
+  nodes (Value.choice i v) = 1 + nodes v
+
+  pub nodes_values : Values → ℕ
+  nodes_values Values.no_values = 0
+  nodes_values (Values.value v vs) = nodes v + nodes_values vs
+
+  pub nodes_slots : Slots → ℕ
+  nodes_slots Slots.no_slots = 0
+  nodes_slots (Slots.absent n ms) = nodes_slots ms
+  nodes_slots (Slots.present n v ms) = nodes v + nodes_slots ms
+
+-- the bits with this size as the one that their type fixes
+abbrev pub marked : Option ℕ → Value → Value
+marked n (Value.bits bs m) = Value.bits bs n
+marked n v = v
+
+-- the value of a type of this shape under constraints that fix this size, or none
+abbrev pub value_under : Option ℕ → Shape → Value → Value
+value_under n (Shape.bits m) v = marked n v
+value_under n s v = v
+
+-- the values that f gives of the items
+abbrev pub values : {A : Type 0} → (A → Value) → List A → Values
+values f [] = Values.no_values
+values f (x ∷ xs) = Values.value (f x) (values f xs)
+
+-- the value is the one that a DEFAULT names
+abbrev pub is_plain : Plain → Value → Bool
+is_plain (Plain.boolean true) (Value.boolean c) = c
+is_plain (Plain.boolean false) (Value.boolean c) = not c
+is_plain (Plain.int m) (Value.int n) = int_eq m n
+is_plain (Plain.text s) (Value.text t) = bytes_eq s t
+is_plain (Plain.item i) (Value.item j) = bytes_eq i j
+is_plain _ _ = false
+
+-- a field with this value is written and not left out
+abbrev pub is_kept : Presence → Value → Bool
+is_kept (Presence.default d) v = not (is_plain d v)
+is_kept p v = true
+
+-- a field may be absent
+abbrev pub may_lack : Presence → Bool
+may_lack Presence.required = false
+may_lack _ = true
+
+-- the members with a field's value in front, which is absent where it is the field's default
+abbrev pub with_field : Presence → List ℕ → Value → Slots → Slots
+with_field p name v vs = if is_kept p v then Slots.present name v vs else Slots.absent name vs
+
+mutual
+  -- the value is one of the shape
+  pub data Fits : Shape → Value → Type 0 where
+    fits_null : Fits Shape.null Value.null
+    fits_bool : {b : Bool} → Fits Shape.boolean (Value.boolean b)
+    fits_int : {l g : ℤ} {w : ℕ} {n : ℤ} → l ≤ℤ n → n ≤ℤ g → Fits (Shape.int l g w) (Value.int n)
+    fits_utf8 : {t : List ℕ} → is_utf8 t ≡ true → Fits (Shape.text Alphabet.utf8) (Value.text t)
+    fits_item : {items : List (List ℕ)} {i : List ℕ} → is_item items i ≡ true → Fits (closed_enum items) (Value.item i)
+    fits_members : {fs : Fields} {ms : Slots} → FitsFields fs ms → Fits (closed_seq fs) (Value.members ms)
+    fits_list : {s : Shape} {vs : Values} → FitsEach s vs → Fits (Shape.list_of s) (Value.list vs)
+    fits_choice : {alts : Alternatives} {i : List ℕ} {v : Value} → FitsAlternative alts i v → Fits (closed_choice alts) (Value.choice i v)
+    fits_loop : {b : Shape} {v : Value} → Fits (unfold_loop b) v → Fits (Shape.loop b) v
+
+  -- each element is a value of the shape
+  pub data FitsEach : Shape → Values → Type 0 where
+    fits_none : {s : Shape} → FitsEach s Values.no_values
+    fits_one : {s : Shape} {v : Value} {vs : Values} → Fits s v → FitsEach s vs → FitsEach s (Values.value v vs)
+
+  -- each field's slot is absent where it may be, or has a value of the field's shape that isn't its default
+  pub data FitsFields : Fields → Slots → Type 0 where
+    fits_end : FitsFields Fields.no_fields Slots.no_slots
+    fits_present : {n : List ℕ} {t : Tag} {p : Presence} {s : Shape} {fs : Fields} {v : Value} {ms : Slots} → Fits s v → is_kept p v ≡ true → FitsFields fs ms
+        → FitsFields (Fields.field n t p s fs) (Slots.present n v ms)
+    fits_absent : {n : List ℕ} {t : Tag} {p : Presence} {s : Shape} {fs : Fields} {ms : Slots} → may_lack p ≡ true → FitsFields fs ms → FitsFields (Fields.field n t p s fs) (Slots.absent n ms)
+
+  -- the payload is a value of the alternative of that identifier
+  pub data FitsAlternative : Alternatives → List ℕ → Value → Type 0 where
+    fits_here : {i : List ℕ} {t : Tag} {s : Shape} {alts : Alternatives} {v : Value} → Fits s v → FitsAlternative (Alternatives.alternative i t s alts) i v
+    fits_later : {i j : List ℕ} {t : Tag} {s : Shape} {alts : Alternatives} {v : Value} → FitsAlternative alts i v → FitsAlternative (Alternatives.alternative j t s alts) i v

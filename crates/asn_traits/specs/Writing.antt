@@ -1,0 +1,156 @@
+-- What an encoder holds, what a call adds to it, and why it refuses.
+use Rattle.std.specs.Prelude.{◌≡◌, ◌≤ℤ◌, ◌⊎◌, pos, negsuc, ℕ, ℤ, ◌-◌, ◌^◌, List, [], ◌∷◌, ◌++◌, Option, Some, None, true}
+use Rattle.std.specs.Str.{is_utf8}
+use Rattle.asn_fault.specs.declared.encode.EncodeError.{EncodeError}
+use Rattle.asn_fault.specs.declared.encode.EncodeErrorKind.TheVariants.{OutOfMemory}
+use Rattle.asn_fault.specs.Unwritten.{WhyUnwritten, encode_why}
+use Rattle.asn_base.specs.declared.whole_number.WholeNumber.{WholeNumber}
+use Rattle.asn_base.specs.Numbers.{is_negative, magnitude}
+use Rattle.asn_traits.specs.Notation.{Notation, notation_of}
+use Rattle.asn_traits.specs.Shape.{Shape, Fields, Alternatives, shape_under}
+use Rattle.asn_traits.specs.Value.{Value, Values, Slots, Fits, FitsFields, FitsAlternative, value_under}
+
+-- a value, or absent
+abbrev pub Frame : Type 0
+Frame = List (Option Value)
+
+-- One more slot in the last frame; the frames stand with the last one first. Where none is open, one opens.
+abbrev pub push : Option Value → List Frame → List Frame
+push s [] = (s ∷ []) ∷ []
+push s (f ∷ fs) = (f ++ (s ∷ [])) ∷ fs
+
+abbrev pub push_all : Frame → List Frame → List Frame
+push_all [] fs = fs
+push_all (s ∷ ss) fs = push_all ss (push s fs)
+
+abbrev pub present_values : Frame → Values
+present_values [] = Values.no_values
+present_values (None ∷ ss) = present_values ss
+present_values (Some v ∷ ss) = Values.value v (present_values ss)
+
+-- Each slot with its name. A slot past the names has the empty one.
+abbrev pub head_name : List (List ℕ) → List ℕ
+head_name [] = []
+head_name (n ∷ ns) = n
+
+abbrev pub tail_names : List (List ℕ) → List (List ℕ)
+tail_names [] = []
+tail_names (n ∷ ns) = ns
+
+abbrev pub named : Frame → List (List ℕ) → Slots
+named [] ns = Slots.no_slots
+named (None ∷ ss) ns = Slots.absent (head_name ns) (named ss (tail_names ns))
+named (Some v ∷ ss) ns = Slots.present (head_name ns) v (named ss (tail_names ns))
+
+-- the last frame becomes one slot of the frame before it
+abbrev pub close : (Frame → Option Value) → List Frame → List Frame
+close f [] = []
+close f (ss ∷ fs) = push (f ss) fs
+
+abbrev pub as_list : Frame → Option Value
+as_list ss = Some (Value.list (present_values ss))
+
+abbrev pub as_members : List (List ℕ) → Frame → Option Value
+as_members names ss = Some (Value.members (named ss names))
+
+abbrev pub as_choice : List ℕ → Frame → Option Value
+as_choice i [] = None
+as_choice i (None ∷ ss) = None
+as_choice i (Some v ∷ ss) = Some (Value.choice i v)
+
+-- the notation has the number
+abbrev pub IntStands : Notation → ℤ → Type 0
+IntStands Notation.jer n = (negsuc (2 ^ 63 - 1) ≤ℤ n) × (n ≤ℤ pos (2 ^ 64 - 1))
+IntStands _ n = Unit {0}
+
+abbrev mutual
+  -- the notation can write the value
+  pub Writable : Notation → Value → Type 0
+  Writable n (Value.int k) = IntStands n k
+  Writable n (Value.text t) = is_utf8 t ≡ true
+  Writable n (Value.members ms) = WritableSlots n ms
+  Writable n (Value.list vs) = WritableEach n vs
+  Writable n (Value.choice i v) = Writable n v
+  Writable n _ = Unit {0}
+
+  pub WritableEach : Notation → Values → Type 0
+  WritableEach n Values.no_values = Unit {0}
+  WritableEach n (Values.value v vs) = Writable n v × WritableEach n vs
+
+  pub WritableSlots : Notation → Slots → Type 0
+  WritableSlots n Slots.no_slots = Unit {0}
+  WritableSlots n (Slots.absent m ms) = WritableSlots n ms
+  WritableSlots n (Slots.present m v ms) = Writable n v × WritableSlots n ms
+
+-- the number as an error names it
+abbrev pub whole : ℤ → WholeNumber
+whole n = record { negative = is_negative n; magnitude = magnitude n }
+
+abbrev mutual
+  -- the first part of the value that the notation cannot write is refused so
+  pub Blocks : Notation → Value → WhyUnwritten → Type 0
+  Blocks n (Value.int k) why = (IntStands n k → ⊥) × (why ≡ WhyUnwritten.exceeds_supported_int_size (whole k))
+  Blocks n (Value.members ms) why = BlocksSlots n ms why
+  Blocks n (Value.list vs) why = BlocksEach n vs why
+  Blocks n (Value.choice i v) why = Blocks n v why
+  Blocks n _ why = ⊥
+
+  pub BlocksEach : Notation → Values → WhyUnwritten → Type 0
+  BlocksEach n Values.no_values why = ⊥
+  BlocksEach n (Values.value v vs) why = Blocks n v why ⊎ (Writable n v × BlocksEach n vs why)
+
+  pub BlocksSlots : Notation → Slots → WhyUnwritten → Type 0
+  BlocksSlots n Slots.no_slots why = ⊥
+  BlocksSlots n (Slots.absent m ms) why = BlocksSlots n ms why
+  BlocksSlots n (Slots.present m v ms) why = Blocks n v why ⊎ (Writable n v × BlocksSlots n ms why)
+
+-- memory is out, or the value has a part that the notation cannot write, or the codec is neither notation
+pub data CannotWrite (n : Notation) (v : Value) (e : EncodeError) : Type 0 where
+  no_memory : e.kind ≡ OutOfMemory → CannotWrite n v e
+  blocked : Blocks n v (encode_why e.kind) → notation_of e.codec ≡ n → CannotWrite n v e
+  write_free : n ≡ Notation.other → CannotWrite n v e
+
+-- the same, under constraints that fix this size, or none
+abbrev pub CannotWriteUnder : Notation → Option ℕ → Shape → Value → EncodeError → Type 0
+CannotWriteUnder n size s v e = CannotWrite n (value_under size s v) e
+
+-- Whatever frames the old state holds, the new state holds these frames turned by f.
+abbrev pub Turns : {S : Type 0} → (S → List Frame → Type 0) → (List Frame → List Frame) → S → S → Type 0
+Turns holds f old new = (fs : List Frame) → holds old fs → holds new (f fs)
+
+-- The last frame has one more slot, the value, which fits its shape and can be written.
+pub record Written {S : Type 0} (holds : S → List Frame → Type 0) (n : Notation) (s : Shape) (v : Value) (old new : S) : Type 0 where
+  pub added : Turns holds (push (Some v)) old new
+  pub fit : Fits s v
+  pub writable : Writable n v
+
+-- the same, under constraints that fix this size, or none
+abbrev pub WrittenUnder : {S : Type 0} → (S → List Frame → Type 0) → Notation → Option ℕ → Shape → Value → S → S → Type 0
+WrittenUnder holds n size s v old new = Written holds n (shape_under size s) (value_under size s v) old new
+
+-- A scope ran from a new empty frame on the old ones, answered this, and what it left is so.
+pub record ScopeRan {S R : Type 0} (holds : S → List Frame → Type 0) (ran : S → R → S → Type 0) (old : S) (answer : R) (Left : S → Type 0) : Type 0 where
+  pub start : S
+  pub end : S
+  pub opened : Turns holds (λ fs. [] ∷ fs) old start
+  pub answered : ran start answer end
+  pub left : Left end
+
+-- The last frame has these slots more, which fit the fields and can be written.
+pub record Filled {S : Type 0} (holds : S → List Frame → Type 0) (n : Notation) (all : Fields) (names : List (List ℕ)) (slots : Frame) (old new : S) : Type 0 where
+  pub added : Turns holds (push_all slots) old new
+  pub fit : FitsFields all (named slots names)
+  pub writable : WritableSlots n (named slots names)
+
+-- Memory is out, or the first of the slots that cannot be written is refused.
+pub data CannotFill (n : Notation) : Frame → EncodeError → Type 0 where
+  no_memory_left : {ss : Frame} {e : EncodeError} → e.kind ≡ OutOfMemory → CannotFill n ss e
+  slot_refused : {v : Value} {ss : Frame} {e : EncodeError} → CannotWrite n v e → CannotFill n (Some v ∷ ss) e
+  after_slot : {v : Value} {ss : Frame} {e : EncodeError} → Writable n v → CannotFill n ss e → CannotFill n (Some v ∷ ss) e
+  after_absent : {ss : Frame} {e : EncodeError} → CannotFill n ss e → CannotFill n (None ∷ ss) e
+
+-- The last frame has one more slot, the payload, which fits its alternative and can be written.
+pub record Offered {S : Type 0} (holds : S → List Frame → Type 0) (n : Notation) (all : Alternatives) (id : List ℕ) (v : Value) (old new : S) : Type 0 where
+  pub added : Turns holds (push (Some v)) old new
+  pub fit : FitsAlternative all id v
+  pub writable : Writable n v

@@ -1,0 +1,196 @@
+// Reading a value of a type from the slots that a decoder has pending.
+//
+// A codec writes the primitives. The calls that have a bound of this crate's are final, and are proved here once for every codec.
+ghost use Rattle.asn_fault.specs.Stop.{error_stop};
+ghost use Rattle.asn_traits.specs.Fixed.{fixed_size};
+ghost use Rattle.asn_traits.specs.Notation.{Notation, notation_of};
+ghost use Rattle.asn_traits.specs.Shape.{Shape, Alphabet, closed_enum, closed_seq, closed_choice, field_names};
+ghost use Rattle.asn_traits.specs.Tree.{Slot, head_nodes, slot_nodes};
+ghost use Rattle.asn_traits.specs.Value.{Value, values};
+ghost use Rattle.asn_traits.specs.Answer.{Answer, AnswerBy, AnswerUnder, TakesAbsent, OptionalAnswer};
+ghost use Rattle.asn_traits.specs.Opening.{OpensList, OpensMembers, OpensChoice, OpensAlternative, AllBelow};
+ghost use Rattle.asn_traits.specs.Scopes.{ScopeAnswer, TagAnswer};
+ghost use Rattle.asn_traits.specs.Tables.{names_of};
+ghost use Rattle.std.specs.Prelude.{◌≡◌, ℕ, pos, List, ◌∷◌, ◌++◌, ◌<◌, map, length, string_bytes};
+
+use crate::tables::tag_at;
+use crate::{AsnType, Choice, Constructed, Enumerated, Field};
+use asn_base::{Codec, Constraints, IntegerType, Tag};
+use asn_fault::{DecodeError, Refusal};
+use std::alloc::Global;
+
+pub trait Decoder {
+    ghost notation: { Notation };
+
+    /// What the decoder is seen as: the slots that are still to be read.
+    ghost pending: { Self → List Slot };
+
+    fn codec(&self) -> Codec
+        ensures { notation_of result ≡ notation };
+
+    fn allocator(&self) -> Global;
+
+    fn decode_bool(&mut self, tag: Tag) -> Result<bool, DecodeError>
+        ensures { Answer notation Shape.boolean Value.boolean (pending self.old) result (pending self.new) };
+
+    fn decode_null(&mut self, tag: Tag) -> Result<(), DecodeError>
+        ensures { Answer notation Shape.null (λ u. Value.null) (pending self.old) result (pending self.new) };
+
+    fn decode_integer<I: IntegerType>(
+        &mut self,
+        tag: Tag,
+        constraints: &Constraints,
+    ) -> Result<I, DecodeError>
+        ensures { Answer notation (Shape.int I.LEAST (pos I.GREATEST) I.WIDTH) (λ n. Value.int (I.number n)) (pending self.old) result (pending self.new) };
+
+    fn decode_utf8_string(
+        &mut self,
+        tag: Tag,
+        constraints: &Constraints,
+    ) -> Result<String, DecodeError>
+        ensures { Answer notation (Shape.text Alphabet.utf8) (λ s. Value.text (string_bytes s)) (pending self.old) result (pending self.new) };
+
+    fn decode_enumerated<E: Enumerated>(&mut self, tag: Tag) -> Result<E, DecodeError>
+        ensures { Answer notation (closed_enum E.items) (λ x. Value.item (E.item x)) (pending self.old) result (pending self.new) };
+
+    /// Takes the first pending slot if it is absent.
+    fn take_absent(&mut self) -> Result<bool, DecodeError>
+        ensures { TakesAbsent notation (pending self.old) result (pending self.new) };
+
+    /// Puts the elements of the first pending slot, a list, in its place, and answers how many they are.
+    fn open_list(&mut self) -> Result<usize, DecodeError>
+        ensures { OpensList notation (pending self.old) result (pending self.new) };
+
+    /// Puts the slots of these fields of the first pending slot in its place.
+    fn open_members(&mut self, fields: &[Field]) -> Result<(), DecodeError>
+        ensures { OpensMembers notation (names_of fields.now) (pending self.old) result (pending self.new) };
+
+    /// Puts the payload of the first pending slot, a choice, in its place, and answers the place of its identifier.
+    fn open_choice(&mut self, identifiers: &[&'static str]) -> Result<Option<usize>, DecodeError>
+        ensures { OpensChoice notation (map (λ s. s.now) identifiers.now) (pending self.old) result (pending self.new) };
+
+    final fn decode_sequence_of<T: Decode>(
+        &mut self,
+        tag: Tag,
+        constraints: &Constraints,
+    ) -> Result<Vec<T>, DecodeError>
+        ensures { Answer notation (Shape.list_of T.shape_of) (λ v. Value.list (values T.value_of v.items)) (pending self.old) result (pending self.new) }
+    {
+        let count = self.open_list()?;
+        let mut items = Vec::new(self.allocator());
+        for i in 0..count {
+            let item = T::decode(self)?;
+            let Ok(()) = items.push(item) else {
+                return Err(DecodeError::out_of_memory(self.codec()));
+            };
+        }
+        Ok(items)
+    }
+
+    /// Reads the slots of a type's fields by `decode_fn`, whose error is a `DecodeError`.
+    final fn decode_sequence<C: Constructed, E: Refusal, F: FnOnce(&mut Self) -> Result<C, E>>(
+        &mut self,
+        tag: Tag,
+        decode_fn: F,
+    ) -> Result<C, E>
+        requires callable { (p : _) (slot : Slot) (slots rest : List Slot) → pending self.old ≡ slot ∷ rest → pending p.now ≡ slots ++ rest
+            → length slots ≡ length (field_names C.fields) → AllBelow (slot_nodes slot) slots → F.pre decode_fn p }
+        requires reads { (p : _) (r : _) (q : _) (slots rest : List Slot) → pending p.now ≡ slots ++ rest → length slots ≡ length (field_names C.fields)
+            → F.post decode_fn p r q → ScopeAnswer E.stop notation C.fields C.value_of slots rest r (pending q.now) }
+        ensures { AnswerBy E.stop notation (closed_seq C.fields) C.value_of (pending self.old) result (pending self.new) }
+    {
+        match self.open_members(C::field_table().items) {
+            Ok(()) => decode_fn(self),
+            Err(error) => Err(E::of(error)),
+        }
+    }
+
+    /// Opens a choice, and answers the tag of its alternative, or that of the end of contents.
+    final fn open_alternative<C: Choice>(
+        &mut self,
+        constraints: &Constraints,
+    ) -> Result<Tag, DecodeError>
+        ensures { OpensAlternative notation C.alternatives (pending self.old) result (pending self.new) }
+    {
+        match self.open_choice(C::identifier_table()) {
+            Ok(Some(place)) => Ok(tag_at(C::variant_table(), place)),
+            Ok(None) => Ok(Tag::EOC),
+            Err(error) => Err(error),
+        }
+    }
+
+    final fn decode_choice<C: DecodeChoice>(
+        &mut self,
+        constraints: &Constraints,
+    ) -> Result<C, DecodeError>
+        ensures { Answer notation (closed_choice C.alternatives) C.value_of (pending self.old) result (pending self.new) }
+    {
+        match self.open_alternative::<C>(constraints) {
+            Ok(tag) => C::from_tag(self, tag),
+            Err(error) => Err(error),
+        }
+    }
+
+    final fn decode_optional<T: Decode>(&mut self) -> Result<Option<T>, DecodeError>
+        ensures { OptionalAnswer notation T.shape_of T.value_of (pending self.old) result (pending self.new) }
+    {
+        match self.take_absent() {
+            Ok(true) => Ok(None),
+            Ok(false) => match T::decode(self) {
+                Ok(value) => Ok(Some(value)),
+                Err(error) => Err(error),
+            },
+            Err(error) => Err(error),
+        }
+    }
+
+    final fn decode_explicit_prefix<T: Decode>(&mut self, tag: Tag) -> Result<T, DecodeError>
+        ensures { Answer notation T.shape_of T.value_of (pending self.old) result (pending self.new) }
+    {
+        T::decode(self)
+    }
+}
+
+/// A type that is read. The last call is each type's own, and the others hand it the type's own tag or constraints.
+///
+/// Tags change nothing in text, and constraints decide only whether a BIT STRING has a fixed size.
+pub trait Decode: AsnType + Sized + Drop {
+    /// Reads the first pending slot.
+    fn decode<D: Decoder>(decoder: &mut D) -> Result<Self, DecodeError>
+        ensures { Answer D.notation Self.shape_of Self.value_of (D.pending decoder.old) result (D.pending decoder.new) }
+    {
+        Self::decode_with_tag(decoder, Self::TAG)
+    }
+
+    /// Reads the first pending slot under another tag.
+    fn decode_with_tag<D: Decoder>(decoder: &mut D, tag: Tag) -> Result<Self, DecodeError>
+        ensures { Answer D.notation Self.shape_of Self.value_of (D.pending decoder.old) result (D.pending decoder.new) }
+    {
+        let constraints = Self::constraint_table();
+        Self::decode_with_tag_and_constraints(decoder, tag, &constraints)
+    }
+
+    /// Reads the first pending slot under other constraints.
+    fn decode_with_constraints<D: Decoder>(
+        decoder: &mut D,
+        constraints: &Constraints,
+    ) -> Result<Self, DecodeError>
+        ensures { AnswerUnder D.notation (fixed_size constraints.now) Self.shape_of Self.value_of (D.pending decoder.old) result (D.pending decoder.new) }
+    {
+        Self::decode_with_tag_and_constraints(decoder, Self::TAG, constraints)
+    }
+
+    /// Reads the first pending slot under another tag and other constraints.
+    fn decode_with_tag_and_constraints<D: Decoder>(
+        decoder: &mut D,
+        tag: Tag,
+        constraints: &Constraints,
+    ) -> Result<Self, DecodeError>
+        ensures { AnswerUnder D.notation (fixed_size constraints.now) Self.shape_of Self.value_of (D.pending decoder.old) result (D.pending decoder.new) };
+}
+
+/// A choice that is read.
+pub trait DecodeChoice: Choice + Sized + Drop {
+    fn from_tag<D: Decoder>(decoder: &mut D, tag: Tag) -> Result<Self, DecodeError>
+        ensures { TagAnswer D.notation Self.alternatives Self.value_of tag (D.pending decoder.old) result (D.pending decoder.new) };
+}

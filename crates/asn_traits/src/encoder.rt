@@ -1,0 +1,236 @@
+// Writing a value of a type as one slot more of what an encoder holds.
+//
+// A codec writes the primitives. The calls that have a bound of this crate's are final, and are proved here once for every codec.
+ghost use Rattle.asn_traits.specs.Fixed.{fixed_size};
+ghost use Rattle.asn_traits.specs.Notation.{Notation, notation_of};
+ghost use Rattle.asn_traits.specs.Shape.{Shape, Alphabet, closed_enum, field_names, alternative_tagged};
+ghost use Rattle.asn_traits.specs.Tables.{names_of};
+ghost use Rattle.asn_traits.specs.Value.{Value, values};
+ghost use Rattle.asn_traits.specs.Writing.{Frame, push, close, as_list, as_members, as_choice, Written, WrittenUnder, CannotWrite, CannotWriteUnder, ScopeRan, Turns};
+ghost use Rattle.std.specs.Fn.{FnOnceReturnsAtMut};
+ghost use Rattle.std.specs.Prelude.{◌≡◌, ◌⊎◌, pos, ◌∷◌, [], ℕ, List, Option, Some, None, Ok, Err, map, option_map, OnOk, IfErr, IfSome, IsOk, IsSome, ⊤};
+
+use crate::tables::identifier_of;
+use crate::{AsnType, Choice, Constructed, Enumerated, Field};
+use asn_base::{Codec, Constraints, Identifier, IntegerType, Tag};
+use asn_fault::{EncodeError, EncodeErrorKind};
+use std::alloc::Global;
+
+pub trait Encoder {
+    ghost notation: { Notation };
+
+    /// What the encoder is seen as: its open frames, the last one first. A codec's tree need not tell its value, so this is a relation.
+    ghost holds: { Self → List Frame → Type 0 };
+
+    fn codec(&self) -> Codec
+        ensures { notation_of result ≡ notation };
+
+    fn allocator(&self) -> Global;
+
+    fn encode_bool(
+        &mut self,
+        tag: Tag,
+        value: bool,
+        identifier: Identifier,
+    ) -> Result<(), EncodeError>
+        ensures written { OnOk result (Written holds notation Shape.boolean (Value.boolean value) self.old self.new) }
+        ensures refused { IfErr result (CannotWrite notation (Value.boolean value)) };
+
+    fn encode_null(&mut self, tag: Tag, identifier: Identifier) -> Result<(), EncodeError>
+        ensures written { OnOk result (Written holds notation Shape.null Value.null self.old self.new) }
+        ensures refused { IfErr result (CannotWrite notation Value.null) };
+
+    fn encode_integer<I: IntegerType>(
+        &mut self,
+        tag: Tag,
+        constraints: &Constraints,
+        value: &I,
+        identifier: Identifier,
+    ) -> Result<(), EncodeError>
+        ensures written { OnOk result (Written holds notation (Shape.int I.LEAST (pos I.GREATEST) I.WIDTH) (Value.int (I.number value.now)) self.old self.new) }
+        ensures refused { IfErr result (CannotWrite notation (Value.int (I.number value.now))) };
+
+    fn encode_utf8_string(
+        &mut self,
+        tag: Tag,
+        constraints: &Constraints,
+        value: &str,
+        identifier: Identifier,
+    ) -> Result<(), EncodeError>
+        ensures written { OnOk result (Written holds notation (Shape.text Alphabet.utf8) (Value.text value.now) self.old self.new) }
+        ensures refused { IfErr result (CannotWrite notation (Value.text value.now)) };
+
+    fn encode_enumerated<T: Enumerated>(
+        &mut self,
+        tag: Tag,
+        value: &T,
+        identifier: Identifier,
+    ) -> Result<(), EncodeError>
+        ensures written { OnOk result (Written holds notation (closed_enum T.items) (Value.item (T.item value.now)) self.old self.new) }
+        ensures refused { IfErr result (CannotWrite notation (Value.item (T.item value.now))) };
+
+    /// An absent slot.
+    fn encode_absent(&mut self) -> Result<(), EncodeError>
+        ensures written { OnOk result (Turns holds (push None) self.old self.new) }
+        ensures refused { IfErr result (λ e. e.kind ≡ EncodeErrorKind.OutOfMemory) };
+
+    fn open_frame(&mut self) -> Result<(), EncodeError>
+        ensures opened { OnOk result (Turns holds (λ fs. [] ∷ fs) self.old self.new) }
+        ensures refused { IfErr result (λ e. e.kind ≡ EncodeErrorKind.OutOfMemory) };
+
+    fn close_list(&mut self) -> Result<(), EncodeError>
+        ensures closed { OnOk result (Turns holds (close as_list) self.old self.new) }
+        ensures refused { IfErr result (λ e. e.kind ≡ EncodeErrorKind.OutOfMemory) };
+
+    fn close_members(&mut self, fields: &[Field]) -> Result<(), EncodeError>
+        ensures closed { OnOk result (Turns holds (close (as_members (names_of fields.now))) self.old self.new) }
+        ensures refused { IfErr result (λ e. e.kind ≡ EncodeErrorKind.OutOfMemory) };
+
+    fn close_choice(&mut self, identifier: &'static str) -> Result<(), EncodeError>
+        ensures closed { OnOk result (Turns holds (close (as_choice identifier.now)) self.old self.new) }
+        ensures refused { IfErr result (λ e. e.kind ≡ EncodeErrorKind.OutOfMemory) };
+
+    final fn encode_some<T: Encode>(
+        &mut self,
+        value: &T,
+        identifier: Identifier,
+    ) -> Result<(), EncodeError>
+    where
+        Self: Sized,
+        ensures written { OnOk result (Written holds notation T.shape_of (T.value_of value.now) self.old self.new) }
+        ensures refused { IfErr result (CannotWrite notation (T.value_of value.now)) }
+    {
+        value.encode(self)
+    }
+
+    final fn encode_none<T: Encode>(&mut self, identifier: Identifier) -> Result<(), EncodeError>
+    where
+        Self: Sized,
+        ensures written { OnOk result (Turns holds (push None) self.old self.new) }
+        ensures refused { IfErr result (λ e. e.kind ≡ EncodeErrorKind.OutOfMemory) }
+    {
+        self.encode_absent()
+    }
+
+    final fn encode_explicit_prefix<T: Encode>(
+        &mut self,
+        tag: Tag,
+        value: &T,
+        identifier: Identifier,
+    ) -> Result<(), EncodeError>
+    where
+        Self: Sized,
+        ensures written { OnOk result (Written holds notation T.shape_of (T.value_of value.now) self.old self.new) }
+        ensures refused { IfErr result (CannotWrite notation (T.value_of value.now)) }
+    {
+        value.encode(self)
+    }
+
+    final fn encode_sequence_of<T: Encode>(
+        &mut self,
+        tag: Tag,
+        value: &[T],
+        constraints: &Constraints,
+        identifier: Identifier,
+    ) -> Result<(), EncodeError>
+    where
+        Self: Sized,
+        ensures written { OnOk result (Written holds notation (Shape.list_of T.shape_of) (Value.list (values T.value_of value.now)) self.old self.new) }
+        ensures refused { IfErr result (CannotWrite notation (Value.list (values T.value_of value.now))) }
+    {
+        self.open_frame()?;
+        for item in value {
+            item.encode(self)?;
+        }
+        self.close_list()
+    }
+
+    /// The closure leaves one slot per field. What it wrote is told by its own clauses.
+    final fn encode_sequence<C: Constructed, F: FnOnce(&mut Self) -> Result<(), EncodeError>>(
+        &mut self,
+        tag: Tag,
+        encoder_scope: F,
+        identifier: Identifier,
+    ) -> Result<(), EncodeError>
+    where
+        Self: Sized,
+        requires { F.IsAlwaysCallable encoder_scope }
+        ensures written { OnOk result (ScopeRan holds (FnOnceReturnsAtMut F.FnOnce encoder_scope) self.old (Ok tt) (λ left. Turns holds (close (as_members (field_names C.fields))) left self.new)) }
+        ensures refused { IfErr result (λ e. (e.kind ≡ EncodeErrorKind.OutOfMemory)
+            ⊎ ScopeRan holds (FnOnceReturnsAtMut F.FnOnce encoder_scope) self.old (Err e) (λ left. ⊤)) }
+    {
+        self.open_frame()?;
+        encoder_scope(self)?;
+        self.close_members(C::field_table().items)
+    }
+
+    /// The closure leaves the payload's slot and answers the tag. What it wrote is told by its own clauses.
+    final fn encode_choice<C: Choice, F: FnOnce(&mut Self) -> Result<Tag, EncodeError>>(
+        &mut self,
+        constraints: &Constraints,
+        tag: Tag,
+        encode_fn: F,
+        identifier: Identifier,
+    ) -> Result<(), EncodeError>
+    where
+        Self: Sized,
+        requires { F.IsAlwaysCallable encode_fn }
+        ensures written { OnOk result (IfSome (alternative_tagged C.alternatives tag) (λ a. (answer : _) × ScopeRan holds (FnOnceReturnsAtMut F.FnOnce encode_fn) self.old (Ok answer) (λ left. Turns holds (close (as_choice a.0)) left self.new))) }
+        ensures listed { IsOk result → IsSome (alternative_tagged C.alternatives tag) }
+        ensures refused { IfErr result (λ e. (e.kind ≡ EncodeErrorKind.OutOfMemory)
+            ⊎ (((e.kind ≡ EncodeErrorKind.VariantNotInChoice) × (alternative_tagged C.alternatives tag ≡ None))
+            ⊎ ScopeRan holds (FnOnceReturnsAtMut F.FnOnce encode_fn) self.old (Err e) (λ left. ⊤))) }
+    {
+        let Some(name) = identifier_of(C::variant_table(), C::identifier_table(), tag) else {
+            return Err(EncodeError::variant_not_in_choice(self.codec()));
+        };
+        self.open_frame()?;
+        let _answer = encode_fn(self)?;
+        self.close_choice(name)
+    }
+}
+
+/// A type that is written. The last call is each type's own, and the others hand it the type's own tag or constraints.
+///
+/// Tag and identifier change nothing in text, and constraints decide only whether a BIT STRING has a fixed size.
+pub trait Encode: AsnType {
+    /// Writes the value as one slot more.
+    fn encode<E: Encoder>(&self, encoder: &mut E) -> Result<(), EncodeError>
+        ensures written { OnOk result (Written E.holds E.notation Self.shape_of (Self.value_of self.now) encoder.old encoder.new) }
+        ensures refused { IfErr result (CannotWrite E.notation (Self.value_of self.now)) }
+    {
+        self.encode_with_tag(encoder, Self::TAG)
+    }
+
+    /// Writes the value under another tag.
+    fn encode_with_tag<E: Encoder>(&self, encoder: &mut E, tag: Tag) -> Result<(), EncodeError>
+        ensures written { OnOk result (Written E.holds E.notation Self.shape_of (Self.value_of self.now) encoder.old encoder.new) }
+        ensures refused { IfErr result (CannotWrite E.notation (Self.value_of self.now)) }
+    {
+        let constraints = Self::constraint_table();
+        self.encode_with_tag_and_constraints(encoder, tag, &constraints, Self::IDENTIFIER)
+    }
+
+    /// Writes the value under other constraints.
+    fn encode_with_constraints<E: Encoder>(
+        &self,
+        encoder: &mut E,
+        constraints: &Constraints,
+    ) -> Result<(), EncodeError>
+        ensures written { OnOk result (WrittenUnder E.holds E.notation (fixed_size constraints.now) Self.shape_of (Self.value_of self.now) encoder.old encoder.new) }
+        ensures refused { IfErr result (CannotWriteUnder E.notation (fixed_size constraints.now) Self.shape_of (Self.value_of self.now)) }
+    {
+        self.encode_with_tag_and_constraints(encoder, Self::TAG, constraints, Self::IDENTIFIER)
+    }
+
+    /// Writes the value under another tag, other constraints and a name.
+    fn encode_with_tag_and_constraints<E: Encoder>(
+        &self,
+        encoder: &mut E,
+        tag: Tag,
+        constraints: &Constraints,
+        identifier: Identifier,
+    ) -> Result<(), EncodeError>
+        ensures written { OnOk result (WrittenUnder E.holds E.notation (fixed_size constraints.now) Self.shape_of (Self.value_of self.now) encoder.old encoder.new) }
+        ensures refused { IfErr result (CannotWriteUnder E.notation (fixed_size constraints.now) Self.shape_of (Self.value_of self.now)) };
+}

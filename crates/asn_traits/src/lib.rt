@@ -1,0 +1,15 @@
+//! The traits of ASN.1 types and of codecs, with the laws that each implementation keeps.
+#![tactic(auto)]
+
+mod decoder;
+mod encoder;
+mod integers;
+mod laws;
+mod plain;
+mod tables;
+mod types;
+
+pub use decoder::{Decode, DecodeChoice, Decoder};
+pub use encoder::{Encode, Encoder};
+pub use laws::{no_reason, one_value};
+pub use types::{AsnType, Choice, Constructed, Enumerated, Field, Fields, Presence};

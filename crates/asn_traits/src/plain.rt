@@ -1,0 +1,188 @@
+// The types of the language that are ASN.1 types, but for the integers.
+ghost use Rattle.asn_traits.specs.Shape.{Shape, Alphabet};
+ghost use Rattle.asn_traits.specs.Value.{Value, values};
+ghost use Rattle.std.specs.Prelude.{string_bytes};
+
+use crate::{AsnType, Decode, Decoder, Encode, Encoder};
+use asn_base::{Constraints, Identifier, Tag, TagTree};
+use asn_fault::{DecodeError, EncodeError};
+
+/// BOOLEAN (X.680, section 18).
+impl AsnType for bool {
+    const TAG: Tag = Tag::BOOL;
+
+    const TAG_TREE: TagTree = TagTree::Leaf(Tag::BOOL);
+
+    const CONSTRAINTS: Constraints = Constraints::NONE;
+
+    const IDENTIFIER: Identifier = Identifier::EMPTY;
+
+    const IS_CHOICE: bool = false;
+
+    const RANK: u32 = 0;
+
+    ghost shape_of = { Shape.boolean };
+
+    ghost value_of = { Value.boolean };
+
+    fn constraint_table() -> Constraints {
+        Self::CONSTRAINTS
+    }
+}
+
+impl Encode for bool {
+    fn encode_with_tag_and_constraints<E: Encoder>(
+        &self,
+        encoder: &mut E,
+        tag: Tag,
+        _constraints: &Constraints,
+        identifier: Identifier,
+    ) -> Result<(), EncodeError> {
+        encoder.encode_bool(tag, *self, identifier)
+    }
+}
+
+impl Decode for bool {
+    fn decode_with_tag_and_constraints<D: Decoder>(
+        decoder: &mut D,
+        tag: Tag,
+        _constraints: &Constraints,
+    ) -> Result<bool, DecodeError> {
+        decoder.decode_bool(tag)
+    }
+}
+
+/// NULL (X.680, section 24).
+impl AsnType for () {
+    const TAG: Tag = Tag::NULL;
+
+    const TAG_TREE: TagTree = TagTree::Leaf(Tag::NULL);
+
+    const CONSTRAINTS: Constraints = Constraints::NONE;
+
+    const IDENTIFIER: Identifier = Identifier::EMPTY;
+
+    const IS_CHOICE: bool = false;
+
+    const RANK: u32 = 0;
+
+    ghost shape_of = { Shape.null };
+
+    ghost value_of = { λ u. Value.null };
+
+    fn constraint_table() -> Constraints {
+        Self::CONSTRAINTS
+    }
+}
+
+impl Encode for () {
+    fn encode_with_tag_and_constraints<E: Encoder>(
+        &self,
+        encoder: &mut E,
+        tag: Tag,
+        _constraints: &Constraints,
+        identifier: Identifier,
+    ) -> Result<(), EncodeError> {
+        encoder.encode_null(tag, identifier)
+    }
+}
+
+impl Decode for () {
+    fn decode_with_tag_and_constraints<D: Decoder>(
+        decoder: &mut D,
+        tag: Tag,
+        _constraints: &Constraints,
+    ) -> Result<(), DecodeError> {
+        decoder.decode_null(tag)
+    }
+}
+
+/// UTF8String (X.680, section 41).
+impl AsnType for String {
+    const TAG: Tag = Tag::UTF8_STRING;
+
+    const TAG_TREE: TagTree = TagTree::Leaf(Tag::UTF8_STRING);
+
+    const CONSTRAINTS: Constraints = Constraints::NONE;
+
+    const IDENTIFIER: Identifier = Identifier::EMPTY;
+
+    const IS_CHOICE: bool = false;
+
+    const RANK: u32 = 0;
+
+    ghost shape_of = { Shape.text Alphabet.utf8 };
+
+    ghost value_of = { λ s. Value.text (string_bytes s) };
+
+    fn constraint_table() -> Constraints {
+        Self::CONSTRAINTS
+    }
+}
+
+impl Encode for String {
+    fn encode_with_tag_and_constraints<E: Encoder>(
+        &self,
+        encoder: &mut E,
+        tag: Tag,
+        constraints: &Constraints,
+        identifier: Identifier,
+    ) -> Result<(), EncodeError> {
+        encoder.encode_utf8_string(tag, constraints, self.as_str(), identifier)
+    }
+}
+
+impl Decode for String {
+    fn decode_with_tag_and_constraints<D: Decoder>(
+        decoder: &mut D,
+        tag: Tag,
+        constraints: &Constraints,
+    ) -> Result<String, DecodeError> {
+        decoder.decode_utf8_string(tag, constraints)
+    }
+}
+
+/// SEQUENCE OF (X.680, section 26).
+impl<T: AsnType> AsnType for Vec<T> {
+    const TAG: Tag = Tag::SEQUENCE;
+
+    const TAG_TREE: TagTree = TagTree::Leaf(Tag::SEQUENCE);
+
+    const CONSTRAINTS: Constraints = Constraints::NONE;
+
+    const IDENTIFIER: Identifier = Identifier::EMPTY;
+
+    const IS_CHOICE: bool = false;
+
+    const RANK: u32 = 0;
+
+    ghost shape_of = { Shape.list_of T.shape_of };
+
+    ghost value_of = { λ v. Value.list (values T.value_of v.items) };
+
+    fn constraint_table() -> Constraints {
+        Self::CONSTRAINTS
+    }
+}
+
+impl<T: Encode> Encode for Vec<T> {
+    fn encode_with_tag_and_constraints<E: Encoder>(
+        &self,
+        encoder: &mut E,
+        tag: Tag,
+        constraints: &Constraints,
+        identifier: Identifier,
+    ) -> Result<(), EncodeError> {
+        encoder.encode_sequence_of::<T>(tag, self.as_slice(), constraints, identifier)
+    }
+}
+
+impl<T: Decode> Decode for Vec<T> {
+    fn decode_with_tag_and_constraints<D: Decoder>(
+        decoder: &mut D,
+        tag: Tag,
+        constraints: &Constraints,
+    ) -> Result<Vec<T>, DecodeError> {
+        decoder.decode_sequence_of::<T>(tag, constraints)
+    }
+}

@@ -6,6 +6,7 @@ mod constraint;
 mod identifier;
 mod integer_type;
 mod memory;
+mod scan;
 mod tag;
 mod whole_number;
 
@@ -14,5 +15,6 @@ pub use constraint::{Bound, Bounded, Constraint, Constraints, Extensible, Size};
 pub use identifier::Identifier;
 pub use integer_type::IntegerType;
 pub use memory::OutOfMemory;
+pub use scan::Scan;
 pub use tag::{Class, Tag, TagTree};
 pub use whole_number::{Integer, WholeNumber};

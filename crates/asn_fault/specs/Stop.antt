@@ -97,3 +97,14 @@ kind_stop OutOfMemory c = at_root Why.out_of_memory c
 -- What an error of reading says.
 abbrev pub error_stop : DecodeError → Stop
 error_stop error = kind_stop error.kind error.codec
+
+-- The kind at the end of a chain of `FieldError`s.
+abbrev pub root_kind : DecodeErrorKind → DecodeErrorKind
+root_kind (FieldError' name p kind codec) = root_kind kind
+root_kind kind = kind
+
+-- The set of encoding rules that has the kind.
+abbrev pub codec_of : CodecDecodeError → Codec
+codec_of (Ber kind) = codec.Ber
+codec_of (Jer kind) = codec.Jer
+codec_of (Avn kind) = codec.Avn

@@ -104,7 +104,11 @@ root_kind (FieldError' name p kind codec) = root_kind kind
 root_kind kind = kind
 
 -- The set of encoding rules that has the kind.
-abbrev pub codec_of : CodecDecodeError → Codec
-codec_of (Ber kind) = codec.Ber
-codec_of (Jer kind) = codec.Jer
-codec_of (Avn kind) = codec.Avn
+abbrev pub decode_codec_of : CodecDecodeError → Codec
+decode_codec_of (Ber kind) = codec.Ber
+decode_codec_of (Jer kind) = codec.Jer
+decode_codec_of (Avn kind) = codec.Avn
+
+-- The refusal by the set of encoding rules that has the kind.
+abbrev pub codec_stop : CodecDecodeError → Stop
+codec_stop inner = at_root (codec_why inner) (decode_codec_of inner)

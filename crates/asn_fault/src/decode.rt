@@ -1,9 +1,8 @@
 // Why a value is not read.
 ghost use Rattle.std.specs.Prelude.{◌≡◌, ◌⊎◌, Some, string_bytes};
-ghost use Rattle.asn_fault.specs.Stop.{Why, at_root, codec_of, codec_why, error_stop, is_memory, kind_stop, root_kind, wrapped};
+ghost use Rattle.asn_fault.specs.Stop.{Why, at_root, codec_stop, error_stop, is_memory, kind_stop, root_kind, wrapped};
 ghost use Rattle.asn_fault.specs.Texts.{codec_decode_text, decode_kind_text, decode_error_text};
 ghost use Rattle.asn_fault.specs.declared.decode.CodecDecodeError.TheVariants.{Ber, Jer, Avn};
-ghost use Rattle.asn_base.specs.declared.codec.Codec.TheVariants as codec;
 
 use crate::{AvnDecodeErrorKind, BerDecodeErrorKind, JerDecodeErrorKind};
 use asn_base::{Codec, Tag};
@@ -192,7 +191,7 @@ impl DecodeError {
 }
 
 impl From<CodecDecodeError> for DecodeError {
-    ghost from_gives = { λ inner error. error_stop error ≡ at_root (codec_why inner) (codec_of inner) };
+    ghost from_gives = { λ inner error. error_stop error ≡ codec_stop inner };
 
     fn from(inner: CodecDecodeError) -> DecodeError {
         let codec = match &inner {
@@ -205,7 +204,7 @@ impl From<CodecDecodeError> for DecodeError {
 }
 
 impl From<BerDecodeErrorKind> for DecodeError {
-    ghost from_gives = { λ kind error. error_stop error ≡ at_root (codec_why (Ber kind)) codec.Ber };
+    ghost from_gives = { λ kind error. error_stop error ≡ codec_stop (Ber kind) };
 
     fn from(kind: BerDecodeErrorKind) -> DecodeError {
         DecodeError::from(CodecDecodeError::Ber(kind))
@@ -213,7 +212,7 @@ impl From<BerDecodeErrorKind> for DecodeError {
 }
 
 impl From<JerDecodeErrorKind> for DecodeError {
-    ghost from_gives = { λ kind error. error_stop error ≡ at_root (codec_why (Jer kind)) codec.Jer };
+    ghost from_gives = { λ kind error. error_stop error ≡ codec_stop (Jer kind) };
 
     fn from(kind: JerDecodeErrorKind) -> DecodeError {
         DecodeError::from(CodecDecodeError::Jer(kind))
@@ -221,7 +220,7 @@ impl From<JerDecodeErrorKind> for DecodeError {
 }
 
 impl From<AvnDecodeErrorKind> for DecodeError {
-    ghost from_gives = { λ kind error. error_stop error ≡ at_root (codec_why (Avn kind)) codec.Avn };
+    ghost from_gives = { λ kind error. error_stop error ≡ codec_stop (Avn kind) };
 
     fn from(kind: AvnDecodeErrorKind) -> DecodeError {
         DecodeError::from(CodecDecodeError::Avn(kind))

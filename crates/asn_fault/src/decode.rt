@@ -1,10 +1,11 @@
 // Why a value is not read.
 ghost use Rattle.std.specs.Prelude.{◌≡◌, ◌⊎◌, Some, string_bytes};
+ghost use Rattle.std.specs.Fn.{FnReturnsAt};
 ghost use Rattle.asn_fault.specs.Stop.{Why, at_root, codec_stop, error_stop, is_memory, kind_stop, root_kind, wrapped};
 ghost use Rattle.asn_fault.specs.Texts.{codec_decode_text, decode_kind_text, decode_error_text};
 ghost use Rattle.asn_fault.specs.declared.decode.CodecDecodeError.TheVariants.{Ber, Jer, Avn};
 
-use crate::{AvnDecodeErrorKind, BerDecodeErrorKind, JerDecodeErrorKind};
+use crate::{AvnDecodeErrorKind, BerDecodeErrorKind, Cause, JerDecodeErrorKind};
 use asn_base::{Codec, Tag};
 use std::alloc::Global;
 use std::error::Error;
@@ -148,8 +149,17 @@ impl DecodeError {
         DecodeError::from_kind(DecodeErrorKind::OutOfMemory, codec)
     }
 
+    /// The predicate's answer on the kind at the end of the chain of `FieldError`s.
+    /// `K` is `DecodeErrorKind`.
+    pub fn matches_root_cause<K: Cause, F: Fn(&K) -> bool + Drop>(&self, predicate: F) -> bool
+        requires { F.IsAlwaysCallable predicate }
+        ensures { (cause : K) × (K.kind cause ≡ root_kind self.now.kind) × FnReturnsAt F.Fn predicate cause result }
+    {
+        predicate(K::of(self.root_cause()))
+    }
+
     /// The kind at the end of the chain of `FieldError`s.
-    pub fn root_cause(&self) -> &DecodeErrorKind
+    fn root_cause(&self) -> &DecodeErrorKind
         ensures { result.now ≡ root_kind self.now.kind }
     {
         match &self.kind {

@@ -43,9 +43,7 @@ impl fmt::Display for AvnDecodeErrorKind {
             AvnDecodeErrorKind::AvnTypeMismatch { needed, found } => {
                 write!(f, "AVN type mismatch: expected {needed}, found {found}")
             }
-            AvnDecodeErrorKind::InvalidOid { value } => {
-                write!(f, "Invalid OID in AVN: {value}")
-            }
+            AvnDecodeErrorKind::InvalidOid { value } => { write!(f, "Invalid OID in AVN: {value}") }
             AvnDecodeErrorKind::AvnInvalidEnumDiscriminant { discriminant } => {
                 write!(f, "Invalid enumerated discriminant in AVN: {discriminant}")
             }
@@ -78,9 +76,7 @@ impl fmt::Display for AvnEncodeErrorKind {
             AvnEncodeErrorKind::AvnNoRootValueFound => {
                 write!(f, "No encoded AVN root value found")
             }
-            AvnEncodeErrorKind::AvnEncoder { msg } => {
-                write!(f, "Error in AVN encoder: {msg}")
-            }
+            AvnEncodeErrorKind::AvnEncoder { msg } => { write!(f, "Error in AVN encoder: {msg}") }
         }
     }
 }

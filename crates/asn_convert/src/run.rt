@@ -13,6 +13,7 @@ use crate::request::{Sample, requested};
 use crate::status::Status;
 use crate::transcode::transcode;
 use crate::whole::{Stopped, read_to_end, write_all};
+use asn_base::Integer;
 use asn_traits::{Decode, Encode};
 use std::alloc::Global;
 
@@ -75,7 +76,13 @@ fn convert<K: Sink>(alloc: Global, sample: Sample, text: &str, sink: &mut K) -> 
     ensures complete { IsConvertible (sample_shape sample) text.now → result ≢ Refused }
 {
     match sample {
+        Sample::Bool => convert_as::<bool, K>(alloc, text, sink),
+        Sample::U8 => convert_as::<u8, K>(alloc, text, sink),
+        Sample::I64 => convert_as::<i64, K>(alloc, text, sink),
         Sample::U64 => convert_as::<u64, K>(alloc, text, sink),
+        Sample::U128 => convert_as::<u128, K>(alloc, text, sink),
+        Sample::Integer => convert_as::<Integer, K>(alloc, text, sink),
+        Sample::Utf8String => convert_as::<String, K>(alloc, text, sink),
     }
 }
 

@@ -1,8 +1,10 @@
 pub mod Meanings
 pub mod Steps
+pub mod Refusing
 pub mod Taking
 pub mod Reading
 pub mod Choices
 pub mod Filling
 pub mod Collecting
 pub mod Scopes
+pub mod Whole

@@ -7,6 +7,7 @@ use Rattle.asn_base.specs.declared.codec.Codec.TheVariants.{Ber}
 use Rattle.asn_traits.specs.Notation.{Notation, notation_of}
 use Rattle.asn_traits.specs.Shape.{Shape, shape_under}
 use Rattle.asn_traits.specs.Tree.{Tree, Slot, head_slot}
+use Rattle.asn_traits.specs.Leaf.{Blame, Blamed}
 use Rattle.asn_traits.specs.Value.{Value, value_under}
 use Rattle.asn_traits.specs.Says.{Says}
 use Rattle.asn_traits.specs.Stops.{Stops, Path}
@@ -26,6 +27,14 @@ pub data Refuses (n : Notation) (P : Path → Why → Type 0) (s : Stop) : Type 
   no_memory : is_memory s ≡ true → Refuses n P s
   stopped : P (map (λ l. l.name) s.path) s.why → OfLevels n s.path → OfPlace n s.why s.codec → Refuses n P s
   refuses_free : n ≡ Notation.other → Refuses n P s
+
+-- at no field, for a reason that has P
+abbrev pub AtRoot : (Why → Type 0) → Path → Why → Type 0
+AtRoot P path why = (path ≡ []) × P why
+
+-- the error tells this blame of the tree, or want of memory
+abbrev pub TellsBlame : Notation → Tree → Blame → Stop → Type 0
+TellsBlame n t blame s = Refuses n (AtRoot (Blamed n t blame)) s
 
 -- The first pending slot says the value, and is gone, or it is refused for a reason that it has.
 abbrev pub AnswerBy : {A E : Type 0} → (E → Stop) → Notation → Shape → (A → Value) → List Slot → Result A E → List Slot → Type 0

@@ -12,4 +12,5 @@ pub mod Opening
 pub mod Scopes
 pub mod Writing
 pub mod Tables
+pub mod Root
 pub mod Canonical

@@ -214,3 +214,8 @@ tags_distinct (t ∷ ts) = if has_tag ts t then false else tags_distinct ts
 abbrev pub is_item : List (List ℕ) → List ℕ → Bool
 is_item [] i = false
 is_item (n ∷ ns) i = if bytes_eq i n then true else is_item ns i
+
+-- no name stands twice
+abbrev pub are_distinct : List (List ℕ) → Bool
+are_distinct [] = true
+are_distinct (n ∷ ns) = if is_item ns n then false else are_distinct ns

@@ -42,6 +42,16 @@ named [] ns = Slots.no_slots
 named (None ∷ ss) ns = Slots.absent (head_name ns) (named ss (tail_names ns))
 named (Some v ∷ ss) ns = Slots.present (head_name ns) v (named ss (tail_names ns))
 
+-- what is there, or else the other
+abbrev pub or_some : {A : Type 0} → Option A → Option A → Option A
+or_some (Some x) o = Some x
+or_some None o = o
+
+-- the last one that is present
+abbrev pub last_present : {A : Type 0} → List (Option A) → Option A
+last_present [] = None
+last_present (s ∷ ss) = or_some (last_present ss) s
+
 -- the last frame becomes one slot of the frame before it
 abbrev pub close : (Frame → Option Value) → List Frame → List Frame
 close f [] = []

@@ -4,14 +4,14 @@
 ghost use Rattle.asn_fault.specs.Stop.{error_stop};
 ghost use Rattle.asn_traits.specs.Fixed.{fixed_size};
 ghost use Rattle.asn_traits.specs.Notation.{Notation, notation_of};
-ghost use Rattle.asn_traits.specs.Shape.{Shape, Alphabet, closed_enum, closed_seq, closed_choice, field_names};
+ghost use Rattle.asn_traits.specs.Shape.{are_distinct, Shape, Alphabet, closed_enum, closed_seq, closed_choice, field_names};
 ghost use Rattle.asn_traits.specs.Tree.{Slot, head_nodes, slot_nodes};
 ghost use Rattle.asn_traits.specs.Value.{Value, values};
 ghost use Rattle.asn_traits.specs.Answer.{Answer, AnswerBy, AnswerUnder, TakesAbsent, OptionalAnswer};
 ghost use Rattle.asn_traits.specs.Opening.{OpensList, OpensMembers, OpensChoice, OpensAlternative, AllBelow};
 ghost use Rattle.asn_traits.specs.Scopes.{ScopeAnswer, TagAnswer};
 ghost use Rattle.asn_traits.specs.Tables.{names_of};
-ghost use Rattle.std.specs.Prelude.{◌≡◌, ℕ, pos, List, ◌∷◌, ◌++◌, ◌<◌, map, length, string_bytes};
+ghost use Rattle.std.specs.Prelude.{true, ◌≡◌, ℕ, pos, List, ◌∷◌, ◌++◌, ◌<◌, map, length, string_bytes};
 
 use crate::tables::tag_at;
 use crate::{AsnType, Choice, Constructed, Enumerated, Field};
@@ -63,6 +63,7 @@ pub trait Decoder {
 
     /// Puts the slots of these fields of the first pending slot in its place.
     fn open_members(&mut self, fields: &[Field]) -> Result<(), DecodeError>
+        requires { are_distinct (names_of fields.now) ≡ true }
         ensures { OpensMembers notation (names_of fields.now) (pending self.old) result (pending self.new) };
 
     /// Puts the payload of the first pending slot, a choice, in its place, and answers the place of its identifier.

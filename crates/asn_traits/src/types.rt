@@ -1,6 +1,6 @@
 // What every ASN.1 type tells of itself: its shape, its values and its tables of constants.
 ghost use Rattle.asn_traits.specs.Fixed.{fixed_size};
-ghost use Rattle.asn_traits.specs.Shape.{Shape, Fields as FieldShapes, Alternatives, field_names, identifiers, tags, tags_distinct, alternative_tagged, is_item, shape_under};
+ghost use Rattle.asn_traits.specs.Shape.{are_distinct, Shape, Fields as FieldShapes, Alternatives, field_names, identifiers, tags, tags_distinct, alternative_tagged, is_item, shape_under};
 ghost use Rattle.asn_traits.specs.Value.{Value, value_under};
 ghost use Rattle.asn_traits.specs.Tables.{names_of, end_tag};
 ghost use Rattle.std.specs.Prelude.{◌≡◌, ℕ, List, map, true, false, None, MatchOption};
@@ -71,6 +71,9 @@ pub trait Constructed: AsnType {
     /// `FIELDS`, whose names are those of the shape.
     fn field_table() -> Fields
         ensures { names_of result.items.now ≡ field_names fields };
+
+    // No two fields have the same name.
+    ghost names_distinct: { are_distinct (field_names fields) ≡ true };
 }
 
 /// A CHOICE (X.680, section 29).

@@ -8,6 +8,7 @@ mod integer_type;
 mod memory;
 mod scan;
 mod tag;
+mod tag_tree;
 mod whole_number;
 
 pub use codec::Codec;
@@ -16,5 +17,9 @@ pub use identifier::Identifier;
 pub use integer_type::IntegerType;
 pub use memory::OutOfMemory;
 pub use scan::Scan;
-pub use tag::{Class, Tag, TagTree};
+pub use tag::{Class, Tag};
+pub use tag_tree::TagTree;
 pub use whole_number::{Integer, WholeNumber};
+
+#[cfg(test)]
+mod tests;

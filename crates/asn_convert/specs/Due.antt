@@ -3,11 +3,6 @@ use Rattle.std.specs.Prelude.{◌≡◌, ◌≤◌, ◌⊎◌, ℕ, List, [], �
 use Rattle.std.specs.Io.KnownBytes.{Appends, Consumes, IsAtEnd, Keeps}
 use Rattle.asn_traits.specs.Notation.{Notation}
 use Rattle.asn_traits.specs.Shape.{Shape}
-use Rattle.asn_traits.specs.Tree.{Tree}
-use Rattle.asn_traits.specs.Value.{Value}
-use Rattle.asn_traits.specs.Says.{Says}
-use Rattle.asn_traits.specs.Writing.{Writable}
-use Rattle.jer_rules.specs.Texts.{HasTree}
 use Rattle.asn_convert.specs.Conversion.{Converts, Refuses, refusal_of, error_text}
 use Rattle.asn_convert.specs.Faults.{Rose, AppendsFront}
 use Rattle.asn_convert.specs.declared.status.Status.{Status}
@@ -57,11 +52,3 @@ Answers s text old new faults_old faults_new Refused = Wrote old new (IsRefusal 
 Answers s text old new faults_old faults_new WriteFault = Rose faults_old faults_new × WroteFront old new (IsDue s text)
 Answers s text old new faults_old faults_new WantOfMemory = Keeps old new
 Answers s text old new faults_old faults_new _ = ⊥
-
--- the text says a value by the shape that can be written
-pub record IsConvertible (s : Shape) (text : List ℕ) : Type 0 where
-  pub tree : Tree
-  pub value : Value
-  pub read : HasTree Notation.jer text tree
-  pub says : Says Notation.jer s (Some tree) value
-  pub writable : Writable Notation.jer value

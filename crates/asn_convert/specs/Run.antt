@@ -1,10 +1,12 @@
 -- What the program reads and writes.
 use Rattle.std.specs.Prelude.{◌≡◌, ◌≤◌, ℕ, List, length, Option, Some, IsUtf8}
+use Rattle.asn_traits.specs.Notation.{Notation}
 use Rattle.asn_traits.specs.Shape.{Shape}
 use Rattle.asn_convert.specs.Faults.{Rose}
 use Rattle.asn_convert.specs.Lines.{text_part}
 use Rattle.asn_convert.specs.Requests.{asked, sample_shape}
-use Rattle.asn_convert.specs.Due.{Wrote, WroteFront, IsDue, IsConvertible}
+use Rattle.asn_convert.specs.Conversion.{IsConvertible}
+use Rattle.asn_convert.specs.Due.{Wrote, WroteFront, IsDue}
 use Rattle.asn_convert.specs.declared.request.Sample.{Sample}
 
 -- the input asks for a sample, and bytes that are due for its text in this way were written
@@ -31,4 +33,4 @@ pub record IsRead {S : Type 0} (left : S → Option (List ℕ)) (faults : S → 
 pub record AsksValue (input : List ℕ) : Type 0 where
   pub asks : Sample
   pub asked_for : asked input ≡ Some asks
-  pub convertible : IsConvertible (sample_shape asks) (text_part input)
+  pub convertible : IsConvertible Notation.jer Notation.jer (sample_shape asks) (text_part input)

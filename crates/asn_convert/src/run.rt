@@ -3,7 +3,9 @@ ghost use Rattle.std.specs.Prelude.{◌≡◌, ◌≢◌, ◌≤◌, ◌<◌, �
 ghost use Rattle.std.specs.Io.KnownBytes.{Appends, Consumes, Keeps};
 ghost use Rattle.asn_convert.specs.Faults.{Rose, AppendsFront};
 ghost use Rattle.asn_convert.specs.Requests.{asked, sample_shape};
-ghost use Rattle.asn_convert.specs.Due.{Answers, IsConvertible, IsAnswer, IsRefusal, ReadWhole};
+ghost use Rattle.asn_convert.specs.Due.{Answers, IsAnswer, IsRefusal, ReadWhole};
+ghost use Rattle.asn_convert.specs.Conversion.{IsConvertible};
+ghost use Rattle.asn_traits.specs.Notation.{Notation};
 ghost use Rattle.asn_convert.specs.Run.{Answered, CutShort, IsRead, AsksValue};
 ghost use Rattle.asn_convert.specs.declared.status.Status.TheVariants.{Done, Refused, BadRequest, ReadFault, WriteFault, WantOfMemory, TooLong, NotText};
 
@@ -73,7 +75,7 @@ pub fn run<S: Source, K: Sink>(alloc: Global, source: &mut S, sink: &mut K) -> S
 /// The answer to a text as a value of the sample type.
 fn convert<K: Sink>(alloc: Global, sample: Sample, text: &str, sink: &mut K) -> Status
     ensures answer { Answers (sample_shape sample) text.now (K.written sink.old) (K.written sink.new) (K.faults sink.old) (K.faults sink.new) result }
-    ensures complete { IsConvertible (sample_shape sample) text.now → result ≢ Refused }
+    ensures complete { IsConvertible Notation.jer Notation.jer (sample_shape sample) text.now → result ≢ Refused }
 {
     match sample {
         Sample::Bool => convert_as::<bool, K>(alloc, text, sink),
@@ -90,7 +92,7 @@ fn convert<K: Sink>(alloc: Global, sample: Sample, text: &str, sink: &mut K) -> 
 /// `Refused`, `WriteFault` or `WantOfMemory`.
 pub fn convert_as<T: Encode + Decode, K: Sink>(alloc: Global, text: &str, sink: &mut K) -> Status
     ensures answer { Answers T.shape_of text.now (K.written sink.old) (K.written sink.new) (K.faults sink.old) (K.faults sink.new) result }
-    ensures complete { IsConvertible T.shape_of text.now → result ≢ Refused }
+    ensures complete { IsConvertible Notation.jer Notation.jer T.shape_of text.now → result ≢ Refused }
 {
     match transcode::<T>(alloc, text) {
         Ok(mut output) => match output.push('\n') {

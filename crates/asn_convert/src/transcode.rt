@@ -1,13 +1,7 @@
 // A text converted by way of a type's value.
-ghost use Rattle.std.specs.Prelude.{◌≡◌, ◌⊎◌, true, Some, IfOk, IfErr, MatchResult, string_bytes};
 ghost use Rattle.asn_traits.specs.Notation.{Notation};
-ghost use Rattle.asn_traits.specs.Tree.{Tree};
-ghost use Rattle.asn_traits.specs.Value.{Value};
-ghost use Rattle.asn_traits.specs.Says.{Says};
-ghost use Rattle.asn_traits.specs.Writing.{Writable};
-ghost use Rattle.asn_traits.specs.Canonical.{canonical_text};
-ghost use Rattle.jer_rules.specs.Texts.{HasTree};
-ghost use Rattle.asn_convert.specs.Conversion.{Converts, Refuses, refusal_of, is_want_of_memory, error_text};
+ghost use Rattle.asn_convert.specs.Conversion.{Converts, IsConvertible, Refuses, refusal_of, is_want_of_memory, error_text};
+ghost use Rattle.std.specs.Prelude.{◌≡◌, ◌⊎◌, true, Some, IfOk, IfErr, string_bytes};
 
 use asn_fault::{DecodeError, EncodeError};
 use asn_traits::{Decode, Encode};
@@ -46,14 +40,16 @@ impl fmt::Display for TranscodeError {
     }
 }
 
-/// The canonical text of the value that a JSON text says as a T. The error is want of memory, or says
-/// why the text has no tree, or its tree says no value, or the value cannot be written.
+/// The canonical text of the value that a JSON text says as a T.
+///
+/// Errors: want of memory; else why the text has no tree, or its tree says no value, or the value
+/// cannot be written.
 pub fn transcode<T: Encode + Decode>(alloc: Global, input: &str) -> Result<String, TranscodeError>
     ensures converted { IfOk result (λ s. Converts Notation.jer Notation.jer T.shape_of input.now (string_bytes s)) }
     ensures refused { IfErr result (λ e. (is_want_of_memory (refusal_of e) ≡ true)
         ⊎ Refuses Notation.jer Notation.jer T.shape_of input.now (refusal_of e)) }
-    ensures complete { (t : Tree) (v : Value) → HasTree Notation.jer input.now t → Says Notation.jer T.shape_of (Some t) v → Writable Notation.jer v
-        → MatchResult result (λ s. string_bytes s ≡ canonical_text Notation.jer v) (λ e. is_want_of_memory (refusal_of e) ≡ true) }
+    ensures complete { IsConvertible Notation.jer Notation.jer T.shape_of input.now
+        → IfErr result (λ e. is_want_of_memory (refusal_of e) ≡ true) }
 {
     match jer::decode::<T>(alloc, input) {
         Ok(value) => match jer::encode(alloc, &value) {

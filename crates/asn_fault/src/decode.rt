@@ -1,7 +1,7 @@
 // Why a value is not read.
 ghost use Rattle.std.specs.Prelude.{◌≡◌, ◌⊎◌, Some, string_bytes};
 ghost use Rattle.std.specs.Fn.{FnReturnsAt};
-ghost use Rattle.asn_fault.specs.Stop.{Why, at_root, codec_stop, error_stop, is_memory, kind_stop, root_kind, wrapped};
+ghost use Rattle.asn_fault.specs.Stop.{Why, at_root, codec_stop, error_stop, is_memory, root_kind, wrapped};
 ghost use Rattle.asn_fault.specs.Texts.{codec_decode_text, decode_kind_text, decode_error_text};
 ghost use Rattle.asn_fault.specs.declared.decode.CodecDecodeError.TheVariants.{Ber, Jer, Avn};
 
@@ -88,7 +88,7 @@ pub struct DecodeError {
 impl DecodeError {
     /// The refusal of this kind.
     pub fn from_kind(kind: DecodeErrorKind, codec: Codec) -> DecodeError
-        ensures { error_stop result ≡ kind_stop kind codec }
+        ensures { result ≡ record { kind = kind; codec = codec } }
     {
         DecodeError { kind, codec }
     }

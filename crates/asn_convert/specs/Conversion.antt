@@ -1,12 +1,12 @@
 -- What converting a text from one notation to another answers.
-use Rattle.std.specs.Prelude.{◌≡◌, ℕ, List, map, Some, None, Bool, true, false, codes}
+use Rattle.std.specs.Prelude.{◌≡◌, ℕ, List, map, Some, None, Bool, true, codes}
 use Rattle.serde_json.specs.Data.{Data}
 use Rattle.serde_json.specs.Read.{read}
 use Rattle.serde_json.specs.Written.{has_float}
 use Rattle.asn_base.specs.declared.codec.Codec.{Codec}
 use Rattle.asn_base.specs.declared.codec.Codec.TheVariants.{Jer}
 use Rattle.asn_fault.specs.Stop.{Stop, Why, at_root, is_memory, error_stop}
-use Rattle.asn_fault.specs.Unwritten.{WhyUnwritten, encode_why}
+use Rattle.asn_fault.specs.Unwritten.{WhyUnwritten, encode_why, is_unwritten_memory}
 use Rattle.asn_fault.specs.Texts.{decode_error_text, encode_error_text}
 use Rattle.asn_traits.specs.Answer.{OfLevels, OfPlace}
 use Rattle.asn_traits.specs.Canonical.{canonical_text}
@@ -63,8 +63,7 @@ error_text (Encode e) = encode_error_text e
 -- memory ran out
 abbrev pub is_want_of_memory : Refusal → Bool
 is_want_of_memory (Refusal.decode stop) = is_memory stop
-is_want_of_memory (Refusal.encode WhyUnwritten.out_of_memory codec) = true
-is_want_of_memory (Refusal.encode why codec) = false
+is_want_of_memory (Refusal.encode why codec) = is_unwritten_memory why
 
 -- the input is refused so: it has no tree, or a number in it is a float, or its tree says no value, or one that cannot be written
 pub data Refuses (from to : Notation) (s : Shape) (input : List ℕ) : Refusal → Type 0 where

@@ -1,5 +1,5 @@
 -- Why a value is not written, with every text as its bytes.
-use Rattle.std.specs.Prelude.{ℕ, List, string_bytes}
+use Rattle.std.specs.Prelude.{ℕ, List, string_bytes, Bool, true, false}
 use Rattle.asn_base.specs.declared.codec.Codec.{Codec}
 use Rattle.asn_base.specs.declared.codec.Codec.TheVariants as codec
 use Rattle.asn_base.specs.declared.constraint.Bounded.{Bounded}
@@ -49,3 +49,8 @@ encode_codec_of (Avn kind) = codec.Avn
 -- The refusal by the set of encoding rules that has the kind.
 abbrev pub codec_refusal : CodecEncodeError → EncodeError
 codec_refusal inner = record { kind = CodecSpecific inner; codec = encode_codec_of inner }
+
+-- Whether memory ran out.
+abbrev pub is_unwritten_memory : WhyUnwritten → Bool
+is_unwritten_memory WhyUnwritten.out_of_memory = true
+is_unwritten_memory _ = false

@@ -1,7 +1,7 @@
 // Why a value is not written.
 ghost use Rattle.std.specs.Prelude.{◌≡◌, Some};
 ghost use Rattle.asn_fault.specs.Texts.{codec_encode_text, encode_kind_text, encode_error_text};
-ghost use Rattle.asn_fault.specs.Unwritten.{codec_refusal};
+ghost use Rattle.asn_fault.specs.Unwritten.{codec_refusal, encode_why, is_unwritten_memory};
 ghost use Rattle.asn_fault.specs.declared.encode.CodecEncodeError.TheVariants.{Jer, Avn};
 
 use crate::{AvnEncodeErrorKind, JerEncodeErrorKind};
@@ -105,6 +105,16 @@ impl EncodeError {
         ensures { result ≡ record { kind = EncodeErrorKind.OutOfMemory; codec = codec } }
     {
         EncodeError::from_kind(EncodeErrorKind::OutOfMemory, codec)
+    }
+
+    /// Whether memory ran out.
+    pub fn is_out_of_memory(&self) -> bool
+        ensures { result ≡ is_unwritten_memory (encode_why self.now.kind) }
+    {
+        match &self.kind {
+            EncodeErrorKind::OutOfMemory => true,
+            _ => false,
+        }
     }
 }
 

@@ -44,3 +44,7 @@ pub convertible_read : {A : Type 0} (s : Shape) (text : List ℕ) (value : A →
 convertible_read s text value r complete c =
     let (d, h, is) = json_of c.says.read in
     complete d c.value h (subst (λ t. Says Notation.jer s (Some t) c.value) is c.says.says)
+
+-- what is equal to a value that can be written can be written
+pub writable_same : (v w : Value) → v ≡ w → Writable Notation.jer w → Writable Notation.jer v
+writable_same v w e h = rw e h

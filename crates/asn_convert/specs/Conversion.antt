@@ -18,8 +18,8 @@ use Rattle.asn_traits.specs.Tree.{Tree}
 use Rattle.asn_traits.specs.Value.{Value, Fits}
 use Rattle.asn_traits.specs.Writing.{Writable, Blocks}
 use Rattle.jer_rules.specs.Text.{IsJer}
-use Rattle.asn_convert.specs.declared.transcode.TranscodeError.{TranscodeError}
-use Rattle.asn_convert.specs.declared.transcode.TranscodeError.TheVariants.{Decode, Encode}
+use Rattle.asn_convert.specs.declared.conversion.TranscodeError.{TranscodeError}
+use Rattle.asn_convert.specs.declared.conversion.TranscodeError.TheVariants.{Decode, Encode}
 
 -- the text has this tree in the notation
 pub data HasTree : Notation → List ℕ → Tree → Type 0 where

@@ -7,7 +7,7 @@ use Rattle.asn_convert.specs.Conversion.{Converts, Refuses, refusal_of, error_te
 use Rattle.asn_convert.specs.Faults.{Rose, AppendsFront}
 use Rattle.asn_convert.specs.declared.status.Status.{Status}
 use Rattle.asn_convert.specs.declared.status.Status.TheVariants.{Done, Refused, WriteFault, WantOfMemory}
-use Rattle.asn_convert.specs.declared.transcode.TranscodeError.{TranscodeError}
+use Rattle.asn_convert.specs.declared.conversion.TranscodeError.{TranscodeError}
 
 -- the bytes are the canonical text of the value that the text says by the shape, and a line feed
 pub record IsAnswer (s : Shape) (text due : List ℕ) : Type 0 where
@@ -15,11 +15,15 @@ pub record IsAnswer (s : Shape) (text due : List ℕ) : Type 0 where
   pub converts : Converts Notation.jer Notation.jer s text output
   pub is : due ≡ output ++ 10 ∷ []
 
+-- the line that tells a fault
+abbrev pub refusal_line : TranscodeError → List ℕ
+refusal_line fault = codes "refused: " ++ error_text fault ++ 10 ∷ []
+
 -- the bytes are the line of a fault for which the text is refused by the shape
 pub record IsRefusal (s : Shape) (text due : List ℕ) : Type 0 where
   pub fault : TranscodeError
   pub refuses : Refuses Notation.jer Notation.jer s text (refusal_of fault)
-  pub is : due ≡ codes "refused: " ++ error_text fault ++ 10 ∷ []
+  pub is : due ≡ refusal_line fault
 
 -- the bytes are what is due for the text, an answer or a refusal
 abbrev pub IsDue : Shape → List ℕ → List ℕ → Type 0
@@ -44,6 +48,12 @@ pub record ReadWhole (old new : Option (List ℕ)) (P : List ℕ → Type 0) : T
   pub ended : IsAtEnd new
   pub within : length input ≤ 16777216
   pub has : P input
+
+-- What a status says of bytes that were due: all of them were written, or a write was cut short, or memory ran out before any was.
+pub data Puts (due : List ℕ) (status : Status) (old new : Option (List ℕ)) (faults_old faults_new : ℕ) : Status → Type 0 where
+  whole : Appends old new due → Puts due status old new faults_old faults_new status
+  cut : Rose faults_old faults_new → AppendsFront old new due → Puts due status old new faults_old faults_new WriteFault
+  unwritten : Keeps old new → Puts due status old new faults_old faults_new WantOfMemory
 
 -- What a status says of the answer to a text: what was written, and why a write was cut short.
 abbrev pub Answers : Shape → List ℕ → Option (List ℕ) → Option (List ℕ) → ℕ → ℕ → Status → Type 0

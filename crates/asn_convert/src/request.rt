@@ -42,7 +42,10 @@ pub fn requested(line: &str) -> Option<Sample>
     let (from, rest) = next_word(line)?;
     let (to, rest) = next_word(rest)?;
     let (name, rest) = next_word(rest)?;
-    if from != "jer" || to != "jer" || next_word(rest).is_some() {
+    if next_word(rest).is_some() {
+        return None;
+    }
+    if from != "jer" || to != "jer" {
         return None;
     }
     Sample::named(name)

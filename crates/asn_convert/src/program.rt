@@ -1,19 +1,19 @@
 // All that the program does.
-ghost use Rattle.std.specs.Prelude.{◌≡◌, ◌≢◌, ◌≤◌, ◌<◌, ◌⊎◌, ℕ, List, length, IsUtf8, Some, None};
-ghost use Rattle.std.specs.Io.KnownBytes.{Appends, Consumes, Keeps};
-ghost use Rattle.asn_convert.specs.Faults.{Rose, AppendsFront};
+ghost use Rattle.std.specs.Prelude.{◌≡◌, ◌≢◌, ◌<◌, ◌⊎◌, ◌++◌, ◌∷◌, [], ℕ, List, length, IsUtf8, Some, None, true, string_bytes};
+ghost use Rattle.std.specs.Io.KnownBytes.{Consumes, Keeps};
+ghost use Rattle.asn_convert.specs.Faults.{Rose};
 ghost use Rattle.asn_convert.specs.Requests.{asked, sample_shape};
-ghost use Rattle.asn_convert.specs.Due.{Answers, IsAnswer, IsRefusal, ReadWhole};
-ghost use Rattle.asn_convert.specs.Conversion.{IsConvertible};
+ghost use Rattle.asn_convert.specs.Due.{Answers, IsAnswer, IsRefusal, Puts, ReadWhole, refusal_line};
+ghost use Rattle.asn_convert.specs.Conversion.{IsConvertible, refusal_of, is_want_of_memory};
 ghost use Rattle.asn_traits.specs.Notation.{Notation};
 ghost use Rattle.asn_convert.specs.Run.{Answered, CutShort, IsRead, AsksValue};
 ghost use Rattle.asn_convert.specs.declared.status.Status.TheVariants.{Done, Refused, BadRequest, ReadFault, WriteFault, WantOfMemory, TooLong, NotText};
 
+use crate::conversion::{TranscodeError, transcode};
 use crate::ends::{Sink, Source};
 use crate::lines::split_request;
 use crate::request::{Sample, requested};
 use crate::status::Status;
-use crate::transcode::transcode;
 use crate::whole::{Stopped, read_to_end, write_all};
 use asn_base::Integer;
 use asn_traits::{Decode, Encode};
@@ -95,22 +95,38 @@ pub fn convert_as<T: Encode + Decode, K: Sink>(alloc: Global, text: &str, sink: 
     ensures complete { IsConvertible Notation.jer Notation.jer T.shape_of text.now → result ≢ Refused }
 {
     match transcode::<T>(alloc, text) {
-        Ok(mut output) => match output.push('\n') {
-            Ok(()) => written(sink, output.as_bytes(), Status::Done),
-            Err(_) => Status::WantOfMemory,
-        },
-        Err(fault) if fault.is_out_of_memory() => Status::WantOfMemory,
-        Err(fault) => match format!(in alloc; "refused: {fault}\n") {
-            Ok(line) => written(sink, line.as_bytes(), Status::Refused),
-            Err(_) => Status::WantOfMemory,
-        },
+        Ok(output) => answer(output, sink),
+        Err(fault) => refuse(alloc, &fault, sink),
     }
 }
 
-/// The status where all of it is written, and else a write fault.
+/// Writes the text and a line feed.
+fn answer<K: Sink>(mut text: String, sink: &mut K) -> Status
+    ensures { Puts (string_bytes text ++ 10 ∷ []) Done (K.written sink.old) (K.written sink.new) (K.faults sink.old) (K.faults sink.new) result }
+{
+    match text.push('\n') {
+        Ok(()) => written(sink, text.as_bytes(), Status::Done),
+        Err(_) => Status::WantOfMemory,
+    }
+}
+
+/// Writes the line of a fault, unless it is want of memory.
+fn refuse<K: Sink>(alloc: Global, fault: &TranscodeError, sink: &mut K) -> Status
+    ensures line { Puts (refusal_line fault.now) Refused (K.written sink.old) (K.written sink.new) (K.faults sink.old) (K.faults sink.new) result }
+    ensures memory { is_want_of_memory (refusal_of fault.now) ≡ true → result ≡ WantOfMemory }
+{
+    if fault.is_out_of_memory() {
+        return Status::WantOfMemory;
+    }
+    match format!(in alloc; "refused: {fault}\n") {
+        Ok(line) => written(sink, line.as_bytes(), Status::Refused),
+        Err(_) => Status::WantOfMemory,
+    }
+}
+
+/// Writes the bytes. The status where all of them are written, and else a write fault.
 fn written<K: Sink>(sink: &mut K, bytes: &[u8], status: Status) -> Status
-    ensures whole { (result ≡ status) × Appends (K.written sink.old) (K.written sink.new) bytes.now
-        ⊎ ((result ≡ WriteFault) × Rose (K.faults sink.old) (K.faults sink.new) × AppendsFront (K.written sink.old) (K.written sink.new) bytes.now) }
+    ensures { Puts bytes.now status (K.written sink.old) (K.written sink.new) (K.faults sink.old) (K.faults sink.new) result }
 {
     match write_all(sink, bytes) {
         Ok(()) => status,

@@ -10,6 +10,7 @@ pub trait Bound: Copy + fmt::Display {
     // What the number prints.
     ghost text: { Self → List ℕ };
 
+    // It prints that.
     ghost prints: { (n : Self) → Self.output n ≡ Some (text n) };
 }
 

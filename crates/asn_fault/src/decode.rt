@@ -39,11 +39,11 @@ pub enum DecodeErrorKind {
     CodecSpecific {
         inner: CodecDecodeError,
     },
-    /// A cause of its own words.
+    /// A cause told in words of its own.
     Custom {
         msg: String,
     },
-    /// The value of a field is refused.
+    /// The value of the field of this name is refused.
     FieldError {
         name: &'static str,
         nested: Box<DecodeError>,
@@ -52,7 +52,7 @@ pub enum DecodeErrorKind {
     IntegerOverflow {
         max_width: u32,
     },
-    /// A required field that was added to the type later is absent.
+    /// A required extension addition is absent.
     MissingField {
         name: &'static str,
     },
@@ -116,19 +116,20 @@ impl DecodeError {
 
     /// The string has a character that its type, of this universal tag, lacks.
     pub fn string_conversion_failed(tag: Tag, msg: String, codec: Codec) -> DecodeError
-        ensures { error_stop result ≡ at_root (Why.string_conversion_failed tag (string_bytes msg)) codec }
+        ensures { error_stop result
+            ≡ at_root (Why.string_conversion_failed tag (string_bytes msg)) codec }
     {
         DecodeError::from_kind(DecodeErrorKind::StringConversionFailed { tag, msg }, codec)
     }
 
-    /// A cause of its own words.
+    /// A cause told in words of its own.
     pub fn custom(msg: String, codec: Codec) -> DecodeError
         ensures { error_stop result ≡ at_root (Why.custom (string_bytes msg)) codec }
     {
         DecodeError::from_kind(DecodeErrorKind::Custom { msg }, codec)
     }
 
-    /// The required field of this name, which was added to the type later, is absent.
+    /// The required extension addition of this name is absent.
     pub fn missing_field(name: &'static str, codec: Codec) -> DecodeError
         ensures { error_stop result ≡ at_root (Why.missing_field name.now) codec }
     {
@@ -150,10 +151,11 @@ impl DecodeError {
     }
 
     /// The predicate's answer on the kind at the end of the chain of `FieldError`s.
-    /// `K` is `DecodeErrorKind`.
+    /// `K` stands for `DecodeErrorKind`, as `Cause` says: a caller writes `|kind: &DecodeErrorKind| ..`.
     pub fn matches_root_cause<K: Cause, F: Fn(&K) -> bool + Drop>(&self, predicate: F) -> bool
         requires { F.IsAlwaysCallable predicate }
-        ensures { (cause : K) × (K.kind cause ≡ root_kind self.now.kind) × FnReturnsAt F.Fn predicate cause result }
+        ensures { (cause : K) × (K.kind cause ≡ root_kind self.now.kind)
+            × FnReturnsAt F.Fn predicate cause result }
     {
         predicate(K::of(self.root_cause()))
     }
@@ -186,7 +188,8 @@ impl DecodeError {
         nested: DecodeError,
         codec: Codec,
     ) -> DecodeError
-        ensures { (error_stop result ≡ wrapped name.now codec (error_stop nested)) ⊎ (error_stop result ≡ at_root Why.out_of_memory codec) }
+        ensures { (error_stop result ≡ wrapped name.now codec (error_stop nested))
+            ⊎ (error_stop result ≡ at_root Why.out_of_memory codec) }
     {
         if nested.is_out_of_memory() {
             return DecodeError::out_of_memory(codec);

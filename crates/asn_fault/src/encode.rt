@@ -30,7 +30,7 @@ impl fmt::Display for CodecEncodeError {
 /// Why a value is not written.
 #[derive(Debug, Drop)]
 pub enum EncodeErrorKind {
-    /// A cause of its own words.
+    /// A cause told in words of its own.
     Custom {
         msg: String,
     },
@@ -68,7 +68,8 @@ impl EncodeError {
 
     /// The size of a value is not one of `expected`.
     pub fn size_constraint_not_satisfied(size: usize, expected: &Size, codec: Codec) -> EncodeError
-        ensures { result ≡ record { kind = EncodeErrorKind.SizeConstraintNotSatisfied size expected.now.bounds; codec = codec } }
+        ensures { result ≡ record
+            { kind = EncodeErrorKind.SizeConstraintNotSatisfied size expected.now.bounds; codec = codec } }
     {
         EncodeError::from_kind(
             EncodeErrorKind::SizeConstraintNotSatisfied {
@@ -93,7 +94,7 @@ impl EncodeError {
         EncodeError::from_kind(EncodeErrorKind::RealNotSuppored, codec)
     }
 
-    /// A cause of its own words.
+    /// A cause told in words of its own.
     pub fn custom(msg: String, codec: Codec) -> EncodeError
         ensures { result ≡ record { kind = EncodeErrorKind.Custom msg; codec = codec } }
     {

@@ -94,7 +94,8 @@ impl Error for JerEncodeErrorKind {}
 /// Where a string stops being text.
 #[derive(Clone, Copy, Debug, PartialEq, Eq)]
 pub struct Utf8Fault {
-    /// The number of octets before the first one that begins no UTF-8 character, or of 16-bit units before the first surrogate.
+    /// The number of octets before the first one that begins no UTF-8 character,
+    /// or of 16-bit units before the first surrogate.
     pub valid_up_to: usize,
 }
 

@@ -2,10 +2,24 @@
 use crate::*;
 use asn_base::{Bounded, Codec, Size, Tag, WholeNumber};
 use std::alloc::{AllocError, Global};
+use std::fmt;
+use std::process::Abort;
 use std::test::Fail;
 
 fn m(alloc: Global) -> Result<String, AllocError> {
     String::from_str(alloc, "m")
+}
+
+/// Each error prints the text beside it.
+fn assert_texts<E: fmt::Display>(
+    rt: &impl Abort,
+    alloc: Global,
+    rows: &[(E, &'static str)],
+) -> Result<(), Fail> {
+    for (error, want) in rows {
+        assert_eq!(rt; error.to_string(alloc)?.as_str(), *want);
+    }
+    Ok(())
 }
 
 #[test]
@@ -71,10 +85,7 @@ fn texts_of_jer_and_avn(rt: HostRuntime) -> Result<(), Fail> {
             "BER decoding error: Invalid date string: m (Codec: BER)",
         ),
     ];
-    for (error, want) in &rows {
-        assert_eq!(rt; error.to_string(alloc)?.as_str(), *want);
-    }
-    Ok(())
+    assert_texts(&rt, alloc, &rows)
 }
 
 #[test]
@@ -118,10 +129,7 @@ fn texts_of_reading(rt: HostRuntime) -> Result<(), Fail> {
             "Out of memory (Codec: APER)",
         ),
     ];
-    for (error, want) in &rows {
-        assert_eq!(rt; error.to_string(alloc)?.as_str(), *want);
-    }
-    Ok(())
+    assert_texts(&rt, alloc, &rows)
 }
 
 #[test]
@@ -181,10 +189,7 @@ fn texts_of_writing(rt: HostRuntime) -> Result<(), Fail> {
             "Out of memory (Codec: DER)",
         ),
     ];
-    for (error, want) in &rows {
-        assert_eq!(rt; error.to_string(alloc)?.as_str(), *want);
-    }
-    Ok(())
+    assert_texts(&rt, alloc, &rows)
 }
 
 #[test]

@@ -1,0 +1,15 @@
+pub mod Runs
+pub mod RunsBefore
+pub mod PrintedBefore
+pub mod Digits
+pub mod Packing
+pub mod PrintedTokens
+pub mod OneTree
+pub mod Refusals
+pub mod DeepStands
+pub mod ReadPrinted
+pub mod DeepPrinted
+pub mod WholePrinted
+pub mod NormalForms
+pub mod OneAnswer
+pub mod Samples

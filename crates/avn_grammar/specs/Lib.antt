@@ -1,0 +1,9 @@
+pub mod Tree
+pub mod Chars
+pub mod Octets
+pub mod Grammar
+pub mod Depth
+pub mod Unread
+pub mod Print
+pub mod WellFormed
+pub mod Normal

@@ -1,0 +1,82 @@
+//! The laws of the notation, each the contract of a function that does nothing. Each holds for
+//! every limit on levels.
+ghost use Rattle.std.specs.Prelude.{◌≡◌, ℕ, ◌≤◌, ◌<◌, ◌++◌, ◌↔◌, List, true};
+ghost use Rattle.std.specs.Str.{chars};
+ghost use Rattle.avn_grammar.specs.Tree.{Tree};
+ghost use Rattle.avn_grammar.specs.Chars.{lead, skip};
+ghost use Rattle.avn_grammar.specs.Grammar.{Stands, Reads, ComesAfterValue};
+ghost use Rattle.avn_grammar.specs.Depth.{Deep, deepest};
+ghost use Rattle.avn_grammar.specs.Unread.{Unread, Halts, by_token};
+ghost use Rattle.avn_grammar.specs.Print.{print};
+ghost use Rattle.avn_grammar.specs.WellFormed.{is_well_formed};
+ghost use Rattle.avn_grammar.specs.Normal.{normal};
+
+/// At most one tree stands at the front of a text, and at most one rest follows it.
+pub fn one_tree_and_rest()
+    ensures { (limit level : ℕ) (text rest other_rest : List ℕ) (tree other : Tree)
+        → Stands limit level text tree rest → Stands limit level text other other_rest
+        → (tree ≡ other) × (rest ≡ other_rest) }
+{}
+
+/// Where a value is looked for too deep, no tree stands.
+pub fn depth_excludes_tree()
+    ensures { (limit level : ℕ) (text rest : List ℕ) (tree : Tree)
+        → Deep limit level text → Stands limit level text tree rest → ⊥ }
+{}
+
+/// A whole text is read as at most one tree.
+pub fn one_tree()
+    ensures { (limit : ℕ) (text : List ℕ) (tree other : Tree)
+        → Reads limit text tree → Reads limit text other → tree ≡ other }
+{}
+
+/// A whole text has at most one of three answers: a tree, what was found in place of one, and
+/// that a value is looked for too deep.
+pub fn one_answer()
+    ensures read_or_unread { (limit : ℕ) (text found : List ℕ) (tree : Tree)
+        → Reads limit text tree → Unread limit text found → ⊥ }
+    ensures read_or_deep { (limit : ℕ) (text : List ℕ) (tree : Tree) → Reads limit text tree → Deep limit 0 text → ⊥ }
+    ensures unread_or_deep { (limit : ℕ) (text found : List ℕ) → Unread limit text found → Deep limit 0 text → ⊥ }
+{}
+
+/// What is found in a text that is not read is one text.
+pub fn one_found()
+    ensures { (limit : ℕ) (text found other : List ℕ)
+        → Unread limit text found → Unread limit text other → found ≡ other }
+{}
+
+/// The printed text of a well-formed tree is read as its normal form where it is deep at most the
+/// limit, whatever text follows that may follow a value.
+pub fn reads_printed_text()
+    ensures { (limit level depth : ℕ) (tree : Tree) (rest : List ℕ)
+        → is_well_formed tree ≡ true → deepest level tree ≤ limit
+        → ComesAfterValue (lead (skip (chars rest)))
+        → Stands limit level (chars (print depth tree ++ rest)) (normal tree) (chars rest) }
+{}
+
+/// The whole printed text of a well-formed tree that is deep at most the limit is read as its
+/// normal form.
+pub fn reads_whole_printed_text()
+    ensures { (limit : ℕ) (tree : Tree) → is_well_formed tree ≡ true → deepest 0 tree ≤ limit
+        → Reads limit (chars (print 0 tree)) (normal tree) }
+{}
+
+/// The printed text of a well-formed tree is refused for its depth exactly where the tree is
+/// deeper than the limit.
+pub fn depth_of_printed_text()
+    ensures { (limit level depth : ℕ) (tree : Tree) (rest : List ℕ)
+        → is_well_formed tree ≡ true → ComesAfterValue (lead (skip (chars rest)))
+        → Deep limit level (chars (print depth tree ++ rest)) ↔ (limit < deepest level tree) }
+{}
+
+/// The whole printed text of a well-formed tree is refused for its depth where the tree is deeper
+/// than the limit.
+pub fn depth_of_whole_printed_text()
+    ensures { (limit : ℕ) (tree : Tree) → is_well_formed tree ≡ true → limit < deepest 0 tree
+        → Deep limit 0 (chars (print 0 tree)) }
+{}
+
+/// The normal form of a normal form is itself.
+pub fn normal_of_normal()
+    ensures { (tree : Tree) → normal (normal tree) ≡ normal tree }
+{}

@@ -1,0 +1,6 @@
+//! The ASN.1 value notation (X.680) as trees: its grammar, its printed text, and the laws that
+//! join them. It has definitions for contracts, and no reader or printer of its own.
+#![tactic(auto)]
+
+pub mod chars;
+pub mod laws;

@@ -1,1 +1,2 @@
+pub mod ScanSteps
 mod SmallestTag

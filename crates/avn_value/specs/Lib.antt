@@ -1,2 +1,3 @@
 pub mod View
 pub mod Levels
+pub mod Runs

@@ -1,7 +1,11 @@
 //! Values of the ASN.1 value notation (X.680): printing them, reading them, and their normal form.
 #![tactic(auto)]
 
+mod chars;
+mod copy;
 mod digits;
+mod form;
+mod normal;
 mod print;
 mod value;
 

@@ -5,3 +5,15 @@ pub mod Doubling
 pub mod Forms
 pub mod Joins
 pub mod Packed
+pub mod Looking
+pub mod Pairs
+pub mod Items
+pub mod NoToken
+pub mod NotDeep
+pub mod Going
+pub mod Steps
+pub mod Tokens
+pub mod Paying
+pub mod QuotedText
+pub mod Finding
+pub mod Whole

@@ -16,6 +16,8 @@ pub enum Run {
     Name,
     /// Double quotation marks.
     Quotes,
+    /// Characters other than an apostrophe.
+    Inside,
 }
 
 /// The character belongs to the run.
@@ -29,6 +31,7 @@ pub fn passes(run: Run, c: char) -> bool
         Run::Letters => c.is_ascii_alphabetic(),
         Run::Name => c.is_ascii_alphanumeric() || c == '-' || c == '_',
         Run::Quotes => c == '"',
+        Run::Inside => c != '\'',
     }
 }
 

@@ -3,10 +3,17 @@
 
 mod chars;
 mod copy;
+mod cursor;
 mod digits;
+mod fault;
 mod form;
+mod gathered;
 mod normal;
+mod parse;
 mod print;
+mod quoted;
+mod token;
 mod value;
 
+pub use parse::{parse_avn, parse_scan};
 pub use value::AvnValue;

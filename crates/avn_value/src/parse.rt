@@ -1,14 +1,17 @@
 // A reader of values, by descent.
 ghost use Rattle.std.specs.Prelude.{List, [], ℕ, true, ◌≡◌, ◌≢◌, ◌⊎◌, ◌+◌, ◌*◌, ◌≤◌, ◌<◌, ◌++◌, false, length, Err, IfOk, IfErr, OnOk, string_bytes};
 ghost use Rattle.std.specs.Char.{is_whitespace};
-ghost use Rattle.asn_fault.specs.Stop.{error_stop};
+ghost use Rattle.asn_fault.specs.Stop.{Why, error_stop};
 ghost use Rattle.avn_grammar.specs.Chars.{past, spelled};
-ghost use Rattle.avn_grammar.specs.Depth.{Deep, ItemDeep, ItemsDeep};
+ghost use Rattle.avn_grammar.specs.Depth.{Deep, ItemDeep, ItemsDeep, deepest};
 ghost use Rattle.avn_grammar.specs.Grammar.{Item, Stands, ItemStands, BracesStand, Reads};
 ghost use Rattle.avn_grammar.specs.Tree.{Tree};
-ghost use Rattle.avn_grammar.specs.Unread.{Found};
+ghost use Rattle.avn_grammar.specs.Unread.{Found, Unread};
+ghost use Rattle.avn_grammar.specs.Print.{print};
+ghost use Rattle.avn_grammar.specs.WellFormed.{is_well_formed};
+ghost use Rattle.avn_grammar.specs.Normal.{normal};
 ghost use Rattle.avn_value.specs.Ahead.{Costs, Paid};
-ghost use Rattle.avn_value.specs.Answer.{Explains, IsMoreOrMemory, IsFoundOrMemory};
+ghost use Rattle.avn_value.specs.Answer.{Explains, IsMoreOrMemory, IsFoundOrMemory, IsValue, IsRefusal};
 ghost use Rattle.avn_value.specs.Gathering.{item_of};
 ghost use Rattle.avn_value.specs.View.{tree_of};
 ghost use Rattle.std.specs.Str.{chars};
@@ -218,19 +221,25 @@ fn read_whole(alloc: Global, cursor: &mut Cursor<'_>) -> Result<AvnValue, Decode
     }
 }
 
-/// The value that the whole text of the scan is, in the ASN.1 value notation, with no value
-/// looked for at a level above 64. What the scan counts rises by at most 16 for each character
-/// and 16 more, whatever the answer.
+/// The value that the whole text of the scan is, in the ASN.1 value notation (X.680), where no
+/// value is looked for at a level above 64. White space may follow it. What the scan counts rises
+/// by at most 16 for each character and 16 more, whatever the answer.
 ///
-/// An error of the codec AVN is `UnexpectedToken` where no value is read and none is looked for
+/// The errors, of the codec AVN: `UnexpectedToken` where no value is read and none is looked for
 /// too deep, with the first 20 characters of what is not read, or where more than white space
-/// follows the value, with all that follows; `ExceedsMaxParseDepth` where a value is looked for
+/// follows the value, with all that follows it; `ExceedsMaxParseDepth` where a value is looked for
 /// too deep; and `OutOfMemory`.
 pub fn parse_scan(alloc: Global, scan: &mut Scan<'_>) -> Result<AvnValue, DecodeError>
     ensures text { scan.new.text ≡ scan.old.text }
     ensures looks { scan.new.looks ≤ scan.old.looks + 16 * (length (chars scan.old.text) + 1) }
-    ensures ok { IfOk result (λ v. Reads 64 (chars scan.old.text) (tree_of v)) }
-    ensures err { IfErr result (λ e. Explains 64 (chars scan.old.text) (error_stop e)) }
+
+    ensures ok { IfOk result (λ value. Reads 64 (chars scan.old.text) (tree_of value)) }
+    ensures err { IfErr result (λ error. Explains 64 (chars scan.old.text) (error_stop error)) }
+
+    // Each of the two errors comes exactly where it says, and a value else, memory aside.
+    ensures reads { (tree : Tree) → Reads 64 (chars scan.old.text) tree → IsValue tree result }
+    ensures unread { (found : List ℕ) → Unread 64 (chars scan.old.text) found → IsRefusal (Why.unexpected_token found) result }
+    ensures deep { Deep 64 0 (chars scan.old.text) → IsRefusal Why.exceeds_max_parse_depth result }
 {
     let mut cursor = Cursor::new(mem::replace(scan, Scan::new("")));
     let found = read_whole(alloc, &mut cursor);
@@ -238,10 +247,18 @@ pub fn parse_scan(alloc: Global, scan: &mut Scan<'_>) -> Result<AvnValue, Decode
     found
 }
 
-/// The value that the whole text is, as `parse_scan` reads it.
+/// The value that the whole text is, as `parse_scan` reads it, with the same errors. The printed
+/// text of a well-formed value is read as the value's normal form, unless it is too deep.
 pub fn parse_avn(alloc: Global, input: &str) -> Result<AvnValue, DecodeError>
-    ensures ok { IfOk result (λ v. Reads 64 (chars input.now) (tree_of v)) }
-    ensures err { IfErr result (λ e. Explains 64 (chars input.now) (error_stop e)) }
+    ensures ok { IfOk result (λ value. Reads 64 (chars input.now) (tree_of value)) }
+    ensures err { IfErr result (λ error. Explains 64 (chars input.now) (error_stop error)) }
+
+    ensures reads { (tree : Tree) → Reads 64 (chars input.now) tree → IsValue tree result }
+    ensures unread { (found : List ℕ) → Unread 64 (chars input.now) found → IsRefusal (Why.unexpected_token found) result }
+    ensures deep { Deep 64 0 (chars input.now) → IsRefusal Why.exceeds_max_parse_depth result }
+
+    ensures printed { (tree : Tree) → input.now ≡ print 0 tree → is_well_formed tree ≡ true → deepest 0 tree ≤ 64 → IsValue (normal tree) result }
+    ensures printed_deep { (tree : Tree) → input.now ≡ print 0 tree → is_well_formed tree ≡ true → 64 < deepest 0 tree → IsRefusal Why.exceeds_max_parse_depth result }
 {
     let mut scan = Scan::new(input);
     parse_scan(alloc, &mut scan)

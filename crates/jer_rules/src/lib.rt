@@ -2,3 +2,4 @@
 #![tactic(auto)]
 
 pub mod jer;
+pub mod laws;

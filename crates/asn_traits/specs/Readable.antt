@@ -34,18 +34,22 @@ abbrev mutual
   names_apart (Shape.loop s) = names_apart s
   names_apart s = true
 
+  -- The shapes of the fields have their names apart.
   pub fields_apart : Fields → Bool
   fields_apart Fields.no_fields = true
   fields_apart (Fields.field n t p s fs) = names_apart s && fields_apart fs
 
+  -- So have those of the added fields.
   pub added_fields_apart : FieldAdditions → Bool
   added_fields_apart FieldAdditions.closed_fields = true
   added_fields_apart (FieldAdditions.extended_fields fs) = fields_apart fs
 
+  -- The shapes of the alternatives have their names apart.
   pub alternatives_apart : Alternatives → Bool
   alternatives_apart Alternatives.no_alternatives = true
   alternatives_apart (Alternatives.alternative i t s alts) = names_apart s && alternatives_apart alts
 
+  -- So have those of the added alternatives.
   pub added_alternatives_apart : AlternativeAdditions → Bool
   added_alternatives_apart AlternativeAdditions.closed_alternatives = true
   added_alternatives_apart (AlternativeAdditions.extended_alternatives alts) = alternatives_apart alts

@@ -1,2 +1,4 @@
 pub mod Numbers
+pub mod Tags
 pub mod Texts
+pub mod Seen

@@ -6,7 +6,9 @@ mod constraint;
 mod identifier;
 mod integer_type;
 mod memory;
+mod scan;
 mod tag;
+mod tag_tree;
 mod whole_number;
 
 pub use codec::Codec;
@@ -14,5 +16,10 @@ pub use constraint::{Bound, Bounded, Constraint, Constraints, Extensible, Size};
 pub use identifier::Identifier;
 pub use integer_type::IntegerType;
 pub use memory::OutOfMemory;
-pub use tag::{Class, Tag, TagTree};
+pub use scan::Scan;
+pub use tag::{Class, Tag};
+pub use tag_tree::TagTree;
 pub use whole_number::{Integer, WholeNumber};
+
+#[cfg(test)]
+mod tests;

@@ -34,15 +34,6 @@ pub struct Tag {
     pub value: u32,
 }
 
-/// The tags that a value of a type can have.
-#[derive(Clone, Copy)]
-pub enum TagTree {
-    /// The one tag of a type that is no CHOICE.
-    Leaf(Tag),
-    /// The tags of the alternatives of a CHOICE without a tag of its own.
-    Choice(&'static [TagTree]),
-}
-
 /// The class, a space and the number.
 impl fmt::Display for Tag {
     ghost output = { λ tag. Some (tag_text tag) };

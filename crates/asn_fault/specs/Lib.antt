@@ -1,2 +1,3 @@
 pub mod Stop
+pub mod Texts
 pub mod Unwritten

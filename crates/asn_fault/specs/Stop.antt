@@ -97,3 +97,18 @@ kind_stop OutOfMemory c = at_root Why.out_of_memory c
 -- What an error of reading says.
 abbrev pub error_stop : DecodeError → Stop
 error_stop error = kind_stop error.kind error.codec
+
+-- The kind at the end of a chain of `FieldError`s.
+abbrev pub root_kind : DecodeErrorKind → DecodeErrorKind
+root_kind (FieldError' name p kind codec) = root_kind kind
+root_kind kind = kind
+
+-- The set of encoding rules that has the kind.
+abbrev pub decode_codec_of : CodecDecodeError → Codec
+decode_codec_of (Ber kind) = codec.Ber
+decode_codec_of (Jer kind) = codec.Jer
+decode_codec_of (Avn kind) = codec.Avn
+
+-- The refusal by the set of encoding rules that has the kind.
+abbrev pub codec_stop : CodecDecodeError → Stop
+codec_stop inner = at_root (codec_why inner) (decode_codec_of inner)

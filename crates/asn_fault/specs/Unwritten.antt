@@ -1,5 +1,5 @@
 -- Why a value is not written, with every text as its bytes.
-use Rattle.std.specs.Prelude.{ℕ, List, string_bytes}
+use Rattle.std.specs.Prelude.{ℕ, List, string_bytes, Bool, true, false}
 use Rattle.asn_base.specs.declared.codec.Codec.{Codec}
 use Rattle.asn_base.specs.declared.codec.Codec.TheVariants as codec
 use Rattle.asn_base.specs.declared.constraint.Bounded.{Bounded}
@@ -8,6 +8,7 @@ use Rattle.asn_fault.specs.declared.encode.CodecEncodeError.{CodecEncodeError}
 use Rattle.asn_fault.specs.declared.encode.CodecEncodeError.TheVariants.{Jer, Avn}
 use Rattle.asn_fault.specs.declared.jer.JerEncodeErrorKind.TheVariants.{NoRootValueFound, ExceedsSupportedIntSize, InvalidCharacter}
 use Rattle.asn_fault.specs.declared.avn.AvnEncodeErrorKind.TheVariants.{AvnNoRootValueFound, AvnEncoder}
+use Rattle.asn_fault.specs.declared.encode.EncodeError.{EncodeError}
 use Rattle.asn_fault.specs.declared.encode.EncodeErrorKind.{EncodeErrorKind}
 use Rattle.asn_fault.specs.declared.encode.EncodeErrorKind.TheVariants.{Custom, CodecSpecific, SizeConstraintNotSatisfied, VariantNotInChoice, RealNotSuppored, OutOfMemory}
 
@@ -39,3 +40,17 @@ encode_why (SizeConstraintNotSatisfied size expected) = WhyUnwritten.size_constr
 encode_why VariantNotInChoice = WhyUnwritten.variant_not_in_choice
 encode_why RealNotSuppored = WhyUnwritten.real_not_supported
 encode_why OutOfMemory = WhyUnwritten.out_of_memory
+
+-- The set of encoding rules that has the kind.
+abbrev pub encode_codec_of : CodecEncodeError → Codec
+encode_codec_of (Jer kind) = codec.Jer
+encode_codec_of (Avn kind) = codec.Avn
+
+-- The refusal by the set of encoding rules that has the kind.
+abbrev pub codec_refusal : CodecEncodeError → EncodeError
+codec_refusal inner = record { kind = CodecSpecific inner; codec = encode_codec_of inner }
+
+-- Whether memory ran out.
+abbrev pub is_unwritten_memory : WhyUnwritten → Bool
+is_unwritten_memory WhyUnwritten.out_of_memory = true
+is_unwritten_memory _ = false

@@ -1,8 +1,11 @@
 // What is wrong with a value by the rules that both text notations share with BER.
-ghost use Rattle.std.specs.Prelude.{◌≡◌, string_bytes};
+ghost use Rattle.std.specs.Prelude.{◌≡◌, Some, string_bytes};
 ghost use Rattle.asn_fault.specs.Stop.{Why, codec_why};
+ghost use Rattle.asn_fault.specs.Texts.{ber_decode_text};
 
 use crate::CodecDecodeError;
+use std::error::Error;
+use std::fmt;
 
 /// Why a value is no value of a type, by a rule that BER has too.
 #[derive(Debug, Drop)]
@@ -19,3 +22,15 @@ impl BerDecodeErrorKind {
         CodecDecodeError::Ber(BerDecodeErrorKind::InvalidDate { msg })
     }
 }
+
+impl fmt::Display for BerDecodeErrorKind {
+    ghost output = { λ kind. Some (ber_decode_text kind) };
+
+    fn fmt<W: fmt::Write>(&self, f: &mut fmt::Formatter<W>) -> fmt::Result {
+        match self {
+            BerDecodeErrorKind::InvalidDate { msg } => write!(f, "Invalid date string: {msg}"),
+        }
+    }
+}
+
+impl Error for BerDecodeErrorKind {}

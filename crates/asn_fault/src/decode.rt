@@ -1,10 +1,15 @@
 // Why a value is not read.
-ghost use Rattle.std.specs.Prelude.{◌≡◌, ◌⊎◌, string_bytes};
-ghost use Rattle.asn_fault.specs.Stop.{Why, at_root, error_stop, is_memory, kind_stop, wrapped};
+ghost use Rattle.std.specs.Prelude.{◌≡◌, ◌⊎◌, Some, string_bytes};
+ghost use Rattle.std.specs.Fn.{FnReturnsAt};
+ghost use Rattle.asn_fault.specs.Stop.{Why, at_root, codec_stop, error_stop, is_memory, root_kind, wrapped};
+ghost use Rattle.asn_fault.specs.Texts.{codec_decode_text, decode_kind_text, decode_error_text};
+ghost use Rattle.asn_fault.specs.declared.decode.CodecDecodeError.TheVariants.{Ber, Jer, Avn};
 
-use crate::{AvnDecodeErrorKind, BerDecodeErrorKind, JerDecodeErrorKind};
+use crate::{AvnDecodeErrorKind, BerDecodeErrorKind, Cause, JerDecodeErrorKind};
 use asn_base::{Codec, Tag};
 use std::alloc::Global;
+use std::error::Error;
+use std::fmt;
 
 /// A kind of refusal that one set of encoding rules has.
 #[derive(Debug, Drop)]
@@ -14,9 +19,21 @@ pub enum CodecDecodeError {
     Avn(AvnDecodeErrorKind),
 }
 
+impl fmt::Display for CodecDecodeError {
+    ghost output = { λ error. Some (codec_decode_text error) };
+
+    fn fmt<W: fmt::Write>(&self, f: &mut fmt::Formatter<W>) -> fmt::Result {
+        match self {
+            CodecDecodeError::Ber(kind) => write!(f, "BER decoding error: {kind}"),
+            CodecDecodeError::Jer(kind) => write!(f, "JER decoding error: {kind}"),
+            CodecDecodeError::Avn(kind) => write!(f, "AVN decoding error: {kind}"),
+        }
+    }
+}
+
 /// Why a value is not read.
 #[cycle(decode_error)]
-#[derive(Drop)]
+#[derive(Debug, Drop)]
 pub enum DecodeErrorKind {
     /// A kind that one set of encoding rules has.
     CodecSpecific {
@@ -62,7 +79,7 @@ pub enum DecodeErrorKind {
 
 /// A refusal to read: why, and by which encoding rules.
 #[cycle(decode_error)]
-#[derive(Drop)]
+#[derive(Debug, Drop)]
 pub struct DecodeError {
     pub kind: DecodeErrorKind,
     pub codec: Codec,
@@ -71,7 +88,7 @@ pub struct DecodeError {
 impl DecodeError {
     /// The refusal of this kind.
     pub fn from_kind(kind: DecodeErrorKind, codec: Codec) -> DecodeError
-        ensures { error_stop result ≡ kind_stop kind codec }
+        ensures { result ≡ record { kind = kind; codec = codec } }
     {
         DecodeError { kind, codec }
     }
@@ -132,6 +149,25 @@ impl DecodeError {
         DecodeError::from_kind(DecodeErrorKind::OutOfMemory, codec)
     }
 
+    /// The predicate's answer on the kind at the end of the chain of `FieldError`s.
+    /// `K` is `DecodeErrorKind`.
+    pub fn matches_root_cause<K: Cause, F: Fn(&K) -> bool + Drop>(&self, predicate: F) -> bool
+        requires { F.IsAlwaysCallable predicate }
+        ensures { (cause : K) × (K.kind cause ≡ root_kind self.now.kind) × FnReturnsAt F.Fn predicate cause result }
+    {
+        predicate(K::of(self.root_cause()))
+    }
+
+    /// The kind at the end of the chain of `FieldError`s.
+    fn root_cause(&self) -> &DecodeErrorKind
+        ensures { result.now ≡ root_kind self.now.kind }
+    {
+        match &self.kind {
+            DecodeErrorKind::FieldError { nested, .. } => nested.root_cause(),
+            kind => kind,
+        }
+    }
+
     /// Whether memory ran out, within no field.
     pub fn is_out_of_memory(&self) -> bool
         ensures { result ≡ is_memory (error_stop self.now) }
@@ -163,3 +199,88 @@ impl DecodeError {
         }
     }
 }
+
+impl From<CodecDecodeError> for DecodeError {
+    ghost from_gives = { λ inner error. error_stop error ≡ codec_stop inner };
+
+    fn from(inner: CodecDecodeError) -> DecodeError {
+        let codec = match &inner {
+            CodecDecodeError::Ber(_) => Codec::Ber,
+            CodecDecodeError::Jer(_) => Codec::Jer,
+            CodecDecodeError::Avn(_) => Codec::Avn,
+        };
+        DecodeError::from_kind(DecodeErrorKind::CodecSpecific { inner }, codec)
+    }
+}
+
+impl From<BerDecodeErrorKind> for DecodeError {
+    ghost from_gives = { λ kind error. error_stop error ≡ codec_stop (Ber kind) };
+
+    fn from(kind: BerDecodeErrorKind) -> DecodeError {
+        DecodeError::from(CodecDecodeError::Ber(kind))
+    }
+}
+
+impl From<JerDecodeErrorKind> for DecodeError {
+    ghost from_gives = { λ kind error. error_stop error ≡ codec_stop (Jer kind) };
+
+    fn from(kind: JerDecodeErrorKind) -> DecodeError {
+        DecodeError::from(CodecDecodeError::Jer(kind))
+    }
+}
+
+impl From<AvnDecodeErrorKind> for DecodeError {
+    ghost from_gives = { λ kind error. error_stop error ≡ codec_stop (Avn kind) };
+
+    fn from(kind: AvnDecodeErrorKind) -> DecodeError {
+        DecodeError::from(CodecDecodeError::Avn(kind))
+    }
+}
+
+impl fmt::Display for DecodeErrorKind {
+    ghost output = { λ kind. Some (decode_kind_text kind) };
+
+    #[cycle(printing)]
+    fn fmt<W: fmt::Write>(&self, f: &mut fmt::Formatter<W>) -> fmt::Result {
+        match self {
+            DecodeErrorKind::CodecSpecific { inner } => inner.fmt(f),
+            DecodeErrorKind::Custom { msg } => write!(f, "Custom error: {msg}"),
+            DecodeErrorKind::FieldError { name, nested } => {
+                write!(f, "Error when decoding field `{name}`: ")?;
+                (**nested).fmt(f)
+            }
+            DecodeErrorKind::IntegerOverflow { max_width } => write!(
+                f,
+                "Actual integer larger than expected {max_width} bits"
+            ),
+            DecodeErrorKind::MissingField { name } => write!(f, "Missing field `{name}`"),
+            DecodeErrorKind::RealNotSupported => {
+                write!(f, "Decoder doesn't support `REAL` type")
+            }
+            DecodeErrorKind::Parser { msg } => write!(f, "Error in Parser: {msg}"),
+            DecodeErrorKind::StringConversionFailed { tag, msg } => write!(
+                f,
+                "Failed to convert byte array into valid ASN.1 string. String type as tag: {tag} Error: {msg}"
+            ),
+            DecodeErrorKind::NoValidChoice { name } => write!(f, "No valid choice for `{name}`"),
+            DecodeErrorKind::ExceedsMaxParseDepth => write!(f, "Exceeded maximum parse depth"),
+            DecodeErrorKind::OutOfMemory => write!(f, "Out of memory"),
+        }
+    }
+}
+
+impl Error for DecodeErrorKind {}
+
+/// The text of the kind, and the codec.
+impl fmt::Display for DecodeError {
+    ghost output = { λ error. Some (decode_error_text error) };
+
+    #[cycle(printing)]
+    fn fmt<W: fmt::Write>(&self, f: &mut fmt::Formatter<W>) -> fmt::Result {
+        self.kind.fmt(f)?;
+        let codec = self.codec;
+        write!(f, " (Codec: {codec})")
+    }
+}
+
+impl Error for DecodeError {}

@@ -13,4 +13,7 @@ pub use ber::BerDecodeErrorKind;
 pub use decode::{CodecDecodeError, DecodeError, DecodeErrorKind};
 pub use encode::{CodecEncodeError, EncodeError, EncodeErrorKind};
 pub use jer::{JerDecodeErrorKind, JerEncodeErrorKind, Utf8Fault};
-pub use refusal::Refusal;
+pub use refusal::{Cause, Refusal};
+
+#[cfg(test)]
+mod tests;

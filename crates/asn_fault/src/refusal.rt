@@ -1,10 +1,12 @@
-// The errors that reading the fields of a type can refuse by.
+// What closures are handed and answer in place of an error of reading.
+ghost use Rattle.asn_fault.specs.declared.decode.DecodeErrorKind.{DecodeErrorKind};
 ghost use Rattle.std.specs.Prelude.{◌≡◌};
 ghost use Rattle.asn_fault.specs.Stop.{Stop, error_stop};
 
-use crate::DecodeError;
+use crate::{DecodeError, DecodeErrorKind};
 
 /// What the reading of a type's fields refuses by: an error that says where it stopped and why.
+/// It is `DecodeError`, and its caller need not write it.
 pub trait Refusal: Sized + Drop {
     // Where the reading stopped and why.
     ghost stop: { Self → Stop };
@@ -19,5 +21,23 @@ impl Refusal for DecodeError {
 
     fn of(error: DecodeError) -> DecodeError {
         error
+    }
+}
+
+/// What a predicate on root causes is asked of. It is `DecodeErrorKind`, and its caller need not write it.
+pub trait Cause: Sized {
+    // The kind that it is.
+    ghost kind: { Self → DecodeErrorKind };
+
+    /// The same kind.
+    fn of(cause: &DecodeErrorKind) -> &Self
+        ensures { kind result.now ≡ cause.now };
+}
+
+impl Cause for DecodeErrorKind {
+    ghost kind = { λ kind. kind };
+
+    fn of(cause: &DecodeErrorKind) -> &DecodeErrorKind {
+        cause
     }
 }

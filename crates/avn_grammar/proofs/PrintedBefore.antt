@@ -101,14 +101,14 @@ mutual
 chars-plain : (xs ys : List ℕ) → IsAscii xs → chars (xs ++ ys) ≡ xs ++ chars ys
 chars-plain xs ys a = chars-append xs ys (IsUtf8-from_ascii xs a) ∙ ap (λ x. x ++ chars ys) (chars-IsAscii xs a)
 
-nil-right : (xs : List ℕ) → xs ≡ xs ++ []
+pub nil-right : (xs : List ℕ) → xs ≡ xs ++ []
 nil-right [] = refl
 nil-right (x ∷ xs) = ap (λ y. x ∷ y) (nil-right xs)
 
 chars-cons : (c : ℕ) (xs : List ℕ) → c < 128 → chars (c ∷ xs) ≡ c ∷ chars xs
 chars-cons c xs h = chars-plain (c ∷ []) xs (ascii-cons c [] h ascii-nil)
 
-doubled-over : (xs ys : List ℕ) → ((k : ℕ) → k < length xs → get_or xs k 0 ≢ 34) → doubled (xs ++ ys) ≡ xs ++ doubled ys
+pub doubled-over : (xs ys : List ℕ) → ((k : ℕ) → k < length xs → get_or xs k 0 ≢ 34) → doubled (xs ++ ys) ≡ xs ++ doubled ys
 doubled-over [] ys h = refl
 doubled-over (c ∷ xs) ys h =
     cond-false (c == 34) (34 ∷ 34 ∷ doubled (xs ++ ys)) (c ∷ doubled (xs ++ ys)) (false_from_ne_true (c == 34) (λ e. h 0 (omega arith) (eqb-true c 34 e)))

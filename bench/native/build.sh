@@ -1,0 +1,17 @@
+#!/bin/sh
+# Builds the peer into OUT (bench/out unless named). Needs Debian's package librust-serde-json-dev.
+set -eu
+here=$(CDPATH= cd -- "$(dirname -- "$0")" && pwd)
+out=${1:-$here/../out}
+registry=$(dpkg -L librust-serde-json-dev | grep -m1 'registry$')
+mkdir -p "$out/native/.cargo"
+cp -r "$here/Cargo.toml" "$here/src" "$out/native/"
+cat >"$out/native/.cargo/config.toml" <<TOML
+[source.crates-io]
+replace-with = "debian"
+[source.debian]
+directory = "$registry"
+TOML
+cd "$out/native"
+cargo build --release --offline -q
+cp target/release/native "$out/native_peer"

@@ -1,0 +1,2 @@
+pub mod ScanSteps
+mod SmallestTag

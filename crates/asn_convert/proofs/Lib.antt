@@ -1,0 +1,5 @@
+pub mod Converting
+pub mod CallsLemmas
+pub mod Known
+pub mod Places
+pub mod Words

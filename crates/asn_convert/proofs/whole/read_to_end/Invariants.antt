@@ -1,0 +1,12 @@
+use Rattle.std.proofs.Common.{◌≡◌, ◌≤◌, length, ◌-◌, vec_len}
+use Rattle.std.specs.Io.KnownBytes.{Consumes}
+use Rattle.asn_convert.proofs.whole.read_to_end.Given as goal
+
+abbrev pub invariant-pieces : goal.invariant-pieces
+invariant-pieces g l =
+    Consumes (g.S.Source.left l.initial.source) (g.S.Source.left l.source) l.bytes.items
+    × (vec_len l.bytes ≤ 16777217)
+    × (g.S.Source.faults l.initial.source ≤ g.S.Source.faults l.source)
+
+abbrev pub decreases-pieces : goal.decreases-pieces
+decreases-pieces g l = 16777217 - vec_len l.bytes

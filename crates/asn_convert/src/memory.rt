@@ -1,0 +1,230 @@
+// Sources and sinks in memory, which fail at the calls that a list names.
+ghost use Rattle.std.specs.Prelude.{◌≡◌, ◌≤◌, ◌<◌, ◌+◌, ◌-◌, ◌^◌, ◌↔◌, ◌⊎◌, [], length, min, Some, None, vec_len, vec_capacity, IfOk, IsErr, IsTrue, Contains};
+ghost use Rattle.std.specs.Io.{ReadsAtMost, WritesAtMost};
+ghost use Rattle.std.specs.Io.KnownBytes.{ReadConsumes, WriteAppends};
+ghost use Rattle.asn_convert.specs.Faults.{Rose, HasCause};
+
+use crate::ends::{Failed, Sink, Source};
+use asn_base::OutOfMemory;
+use std::alloc::Global;
+
+/// Gives its bytes, as many as the slice takes, and never fails.
+#[derive(Drop)]
+pub struct SteadySource {
+    bytes: Vec<u8>,
+    at: usize,
+    ghost within: { at ≤ vec_len bytes },
+}
+
+impl SteadySource {
+    ghost use Rattle.asn_convert.specs.Memory.{bytes_left};
+
+    /// All of the bytes are left.
+    pub fn new(bytes: Vec<u8>) -> SteadySource
+        ensures { bytes_left result ≡ bytes.items }
+    {
+        SteadySource { bytes, at: 0 }
+    }
+}
+
+impl Source for SteadySource {
+    ghost use Rattle.asn_convert.specs.Memory.{bytes_left};
+
+    ghost left = { λ s. Some (bytes_left s) };
+
+    ghost faults = { λ _. 0 };
+
+    fn read(&mut self, into: &mut [u8]) -> Result<usize, Failed> {
+        let left = &self.bytes[self.at..];
+        let count = into.len().min(left.len());
+        into[..count].copy_from_slice(&left[..count]);
+        self.at += count;
+        Ok(count)
+    }
+}
+
+/// Takes every piece whole, tells no bytes and never fails.
+#[derive(Drop)]
+pub struct SteadySink;
+
+impl SteadySink {
+    pub fn new() -> SteadySink {
+        SteadySink
+    }
+}
+
+impl Sink for SteadySink {
+    ghost written = { λ _. None };
+
+    ghost faults = { λ _. 0 };
+
+    fn write(&mut self, from: &[u8]) -> Result<usize, Failed> {
+        Ok(from.len())
+    }
+}
+
+/// How many calls were made and how many have failed, with the numbers of those that are to fail.
+#[derive(Drop)]
+struct Calls {
+    made: u64,
+    faults: u64,
+    failing: Vec<u64>,
+}
+
+impl Calls {
+    ghost use Rattle.asn_convert.specs.Calls.{next_number};
+
+    fn new(failing: Vec<u64>) -> Calls
+        ensures { result ≡ record { made = 0; faults = 0; failing = failing } }
+    {
+        Calls {
+            made: 0,
+            faults: 0,
+            failing,
+        }
+    }
+
+    /// Counts a call, and tells whether it is to fail.
+    fn next_fails(&mut self) -> bool
+        ensures made { self.new ≡ record self.old { made = next_number self.old } }
+        ensures value { IsTrue result ↔ Contains self.old.failing.items (next_number self.old) }
+    {
+        self.made = self.made.saturating_add(1);
+        self.failing.contains(&self.made)
+    }
+
+    /// Counts a fault.
+    fn fail(&mut self) -> Failed
+        ensures counted { self.new ≡ record self.old { faults = min (self.old.faults + 1) (2 ^ 64 - 1) } }
+        ensures later { self.old.faults ≤ self.new.faults }
+    {
+        self.faults = self.faults.saturating_add(1);
+        Failed
+    }
+}
+
+/// Gives its bytes, at most `piece` of them per call. A call fails exactly where its number, counted
+/// from 1, is listed.
+#[derive(Drop)]
+pub struct MemorySource {
+    bytes: SteadySource,
+    piece: usize,
+    calls: Calls,
+    ghost gives: { 0 < piece },
+}
+
+impl MemorySource {
+    ghost use Rattle.asn_convert.specs.Memory.{bytes_left};
+
+    /// All of the bytes are left, and no call was made.
+    pub fn new(bytes: Vec<u8>, piece: usize, failing: Vec<u64>) -> MemorySource
+        requires { 0 < piece }
+        ensures left { bytes_left result.bytes ≡ bytes.items }
+        ensures piece { result.piece ≡ piece }
+        ensures failing { result.calls ≡ record { made = 0; faults = 0; failing = failing } }
+    {
+        MemorySource {
+            bytes: SteadySource::new(bytes),
+            piece,
+            calls: Calls::new(failing),
+        }
+    }
+}
+
+impl Source for MemorySource {
+    ghost use Rattle.asn_convert.specs.Memory.{bytes_left};
+    ghost use Rattle.asn_convert.specs.Calls.{next_number};
+
+    ghost left = { λ s. Some (bytes_left s.bytes) };
+
+    ghost faults = { λ s. s.calls.faults };
+
+    fn read(&mut self, into: &mut [u8]) -> Result<usize, Failed>
+        ensures bound { ReadsAtMost result into.new }
+        ensures bytes { ReadConsumes (Some (bytes_left self.old.bytes)) (Some (bytes_left self.new.bytes)) result into.new }
+        ensures cause { HasCause self.old.calls.faults self.new.calls.faults result }
+        ensures fails { IsErr result ↔ Contains self.old.calls.failing.items (next_number self.old.calls) }
+        ensures piece { IfOk result (λ n. n ≤ self.old.piece) }
+    {
+        if self.calls.next_fails() {
+            return Err(self.calls.fail());
+        }
+        let count = into.len().min(self.piece);
+        self.bytes.read(&mut into[..count])
+    }
+}
+
+/// Takes bytes as far as its room goes, at most `piece` of them per call. A call fails exactly where
+/// its number, counted from 1, is listed, or where its slice is not empty and no room is left.
+#[derive(Drop)]
+pub struct MemorySink {
+    bytes: Vec<u8>,
+    room: usize,
+    piece: usize,
+    calls: Calls,
+    ghost within: { vec_len bytes ≤ room },
+    ghost reserved: { room ≤ vec_capacity bytes },
+    ghost takes: { 0 < piece },
+}
+
+impl MemorySink {
+    /// Nothing is written, and no call was made. Memory for `room` bytes is taken here and none later.
+    /// Its one error is want of memory.
+    pub fn new(
+        alloc: Global,
+        room: usize,
+        piece: usize,
+        failing: Vec<u64>,
+    ) -> Result<MemorySink, OutOfMemory>
+        requires { 0 < piece }
+        ensures empty { IfOk result (λ s. s.bytes.items ≡ []) }
+        ensures room { IfOk result (λ s. s.room ≡ room) }
+        ensures piece { IfOk result (λ s. s.piece ≡ piece) }
+        ensures failing { IfOk result (λ s. s.calls ≡ record { made = 0; faults = 0; failing = failing }) }
+    {
+        let bytes = Vec::with_capacity(alloc, room)?;
+        Ok(MemorySink {
+            bytes,
+            room,
+            piece,
+            calls: Calls::new(failing),
+        })
+    }
+
+    /// What was written.
+    pub fn bytes(&self) -> &[u8]
+        ensures { result.now ≡ self.now.bytes.items }
+    {
+        &self.bytes
+    }
+}
+
+impl Sink for MemorySink {
+    ghost use Rattle.asn_convert.specs.Calls.{next_number};
+
+    ghost written = { λ s. Some s.bytes.items };
+
+    ghost faults = { λ s. s.calls.faults };
+
+    fn write(&mut self, from: &[u8]) -> Result<usize, Failed>
+        ensures bound { WritesAtMost result from.now }
+        ensures bytes { WriteAppends (Some self.old.bytes.items) (Some self.new.bytes.items) result from.now }
+        ensures stuck { IfOk result (λ n. n ≡ 0 → 0 < length from.now
+            → Rose self.old.calls.faults self.new.calls.faults) }
+        ensures cause { HasCause self.old.calls.faults self.new.calls.faults result }
+        ensures fails { IsErr result ↔ (Contains self.old.calls.failing.items (next_number self.old.calls)
+            ⊎ (0 < length from.now × (self.old.room ≡ vec_len self.old.bytes))) }
+        ensures takes { IfOk result (λ n. n ≡ min (min (length from.now) self.old.piece) (self.old.room - vec_len self.old.bytes)) }
+    {
+        let room = self.room - self.bytes.len();
+        let full = room == 0 && !from.is_empty();
+        if self.calls.next_fails() || full {
+            return Err(self.calls.fail());
+        }
+        let count = from.len().min(self.piece).min(room);
+        match self.bytes.extend_from_slice(&from[..count]) {
+            Ok(()) => Ok(count),
+            Err(_) => unreachable!(),
+        }
+    }
+}

@@ -1,0 +1,119 @@
+// All that the program does.
+ghost use Rattle.std.specs.Prelude.{◌≡◌, ◌≢◌, ◌≤◌, ◌<◌, ◌⊎◌, ℕ, List, length, IsUtf8, Some, None};
+ghost use Rattle.std.specs.Io.KnownBytes.{Appends, Consumes, Keeps};
+ghost use Rattle.asn_convert.specs.Faults.{Rose, AppendsFront};
+ghost use Rattle.asn_convert.specs.Requests.{asked, sample_shape};
+ghost use Rattle.asn_convert.specs.Due.{Answers, IsAnswer, IsRefusal, ReadWhole};
+ghost use Rattle.asn_convert.specs.Conversion.{IsConvertible};
+ghost use Rattle.asn_traits.specs.Notation.{Notation};
+ghost use Rattle.asn_convert.specs.Run.{Answered, CutShort, IsRead, AsksValue};
+ghost use Rattle.asn_convert.specs.declared.status.Status.TheVariants.{Done, Refused, BadRequest, ReadFault, WriteFault, WantOfMemory, TooLong, NotText};
+
+use crate::ends::{Sink, Source};
+use crate::lines::split_request;
+use crate::request::{Sample, requested};
+use crate::status::Status;
+use crate::transcode::transcode;
+use crate::whole::{Stopped, read_to_end, write_all};
+use asn_base::Integer;
+use asn_traits::{Decode, Encode};
+use std::alloc::Global;
+
+/// Reads the whole input, and writes the canonical text of the value that its text says, or the line of
+/// the refusal. Statuses are decided in the order ReadFault, TooLong, NotText, BadRequest, Refused,
+/// WriteFault; WantOfMemory may come anywhere, and then nothing was written.
+pub fn run<S: Source, K: Sink>(alloc: Global, source: &mut S, sink: &mut K) -> Status
+    ensures done { result ≡ Done → ReadWhole (S.left source.old) (S.left source.new)
+        (Answered (K.written sink.old) (K.written sink.new) IsAnswer) }
+    ensures refused { result ≡ Refused → ReadWhole (S.left source.old) (S.left source.new)
+        (Answered (K.written sink.old) (K.written sink.new) IsRefusal) }
+    ensures bad_request { result ≡ BadRequest → ReadWhole (S.left source.old) (S.left source.new)
+        (λ input. IsUtf8 input × (asked input ≡ None)) }
+    ensures read_fault { result ≡ ReadFault → Rose (S.faults source.old) (S.faults source.new) }
+    ensures write_fault { result ≡ WriteFault → Rose (K.faults sink.old) (K.faults sink.new) }
+    ensures cut { result ≡ WriteFault → ReadWhole (S.left source.old) (S.left source.new)
+        (CutShort (K.written sink.old) (K.written sink.new)) }
+    ensures too_long { result ≡ TooLong → (xs : List ℕ)
+        × Consumes (S.left source.old) (S.left source.new) xs × (length xs ≡ 16777217) }
+    ensures not_text { result ≡ NotText → ReadWhole (S.left source.old) (S.left source.new)
+        (λ input. IsUtf8 input → ⊥) }
+    ensures silent { (result ≡ BadRequest) ⊎ (result ≡ ReadFault) ⊎ (result ≡ WantOfMemory) ⊎ (result ≡ TooLong) ⊎ (result ≡ NotText)
+        → Keeps (K.written sink.old) (K.written sink.new) }
+
+    // Where the source tells its bytes and neither count of faults rises, each input has its status, or
+    // memory runs out.
+    ensures answers { (input : List ℕ) → IsRead S.left S.faults source.old source.new input → IsUtf8 input → asked input ≢ None
+        → (Rose (K.faults sink.old) (K.faults sink.new) → ⊥)
+        → (result ≡ Done) ⊎ (result ≡ Refused) ⊎ (result ≡ WantOfMemory) }
+    ensures answers_values { (input : List ℕ) → IsRead S.left S.faults source.old source.new input → IsUtf8 input → AsksValue input
+        → (Rose (K.faults sink.old) (K.faults sink.new) → ⊥)
+        → (result ≡ Done) ⊎ (result ≡ WantOfMemory) }
+    ensures rejects { (input : List ℕ) → IsRead S.left S.faults source.old source.new input → IsUtf8 input → asked input ≡ None
+        → (result ≡ BadRequest) ⊎ (result ≡ WantOfMemory) }
+    ensures rejects_bytes { (input : List ℕ) → IsRead S.left S.faults source.old source.new input → (IsUtf8 input → ⊥)
+        → (result ≡ NotText) ⊎ (result ≡ WantOfMemory) }
+    ensures stops { (input : List ℕ) → S.left source.old ≡ Some input → 16777216 < length input
+        → (Rose (S.faults source.old) (S.faults source.new) → ⊥)
+        → (result ≡ TooLong) ⊎ (result ≡ WantOfMemory) }
+{
+    let input = match read_to_end(alloc, source) {
+        Ok(bytes) => bytes,
+        Err(Stopped::Fault) => return Status::ReadFault,
+        Err(Stopped::TooLong) => return Status::TooLong,
+        Err(Stopped::OutOfMemory) => return Status::WantOfMemory,
+    };
+    let Ok(text) = str::from_utf8(&input) else {
+        return Status::NotText;
+    };
+    let (line, text) = split_request(text);
+    match requested(line) {
+        Some(sample) => convert(alloc, sample, text, sink),
+        None => Status::BadRequest,
+    }
+}
+
+/// The answer to a text as a value of the sample type.
+fn convert<K: Sink>(alloc: Global, sample: Sample, text: &str, sink: &mut K) -> Status
+    ensures answer { Answers (sample_shape sample) text.now (K.written sink.old) (K.written sink.new) (K.faults sink.old) (K.faults sink.new) result }
+    ensures complete { IsConvertible Notation.jer Notation.jer (sample_shape sample) text.now → result ≢ Refused }
+{
+    match sample {
+        Sample::Bool => convert_as::<bool, K>(alloc, text, sink),
+        Sample::U8 => convert_as::<u8, K>(alloc, text, sink),
+        Sample::I64 => convert_as::<i64, K>(alloc, text, sink),
+        Sample::U64 => convert_as::<u64, K>(alloc, text, sink),
+        Sample::U128 => convert_as::<u128, K>(alloc, text, sink),
+        Sample::Integer => convert_as::<Integer, K>(alloc, text, sink),
+        Sample::Utf8String => convert_as::<String, K>(alloc, text, sink),
+    }
+}
+
+/// Writes the canonical text of the value that a text says as a T, or the line of its refusal: `Done`,
+/// `Refused`, `WriteFault` or `WantOfMemory`.
+pub fn convert_as<T: Encode + Decode, K: Sink>(alloc: Global, text: &str, sink: &mut K) -> Status
+    ensures answer { Answers T.shape_of text.now (K.written sink.old) (K.written sink.new) (K.faults sink.old) (K.faults sink.new) result }
+    ensures complete { IsConvertible Notation.jer Notation.jer T.shape_of text.now → result ≢ Refused }
+{
+    match transcode::<T>(alloc, text) {
+        Ok(mut output) => match output.push('\n') {
+            Ok(()) => written(sink, output.as_bytes(), Status::Done),
+            Err(_) => Status::WantOfMemory,
+        },
+        Err(fault) if fault.is_out_of_memory() => Status::WantOfMemory,
+        Err(fault) => match format!(in alloc; "refused: {fault}\n") {
+            Ok(line) => written(sink, line.as_bytes(), Status::Refused),
+            Err(_) => Status::WantOfMemory,
+        },
+    }
+}
+
+/// The status where all of it is written, and else a write fault.
+fn written<K: Sink>(sink: &mut K, bytes: &[u8], status: Status) -> Status
+    ensures whole { (result ≡ status) × Appends (K.written sink.old) (K.written sink.new) bytes.now
+        ⊎ ((result ≡ WriteFault) × Rose (K.faults sink.old) (K.faults sink.new) × AppendsFront (K.written sink.old) (K.written sink.new) bytes.now) }
+{
+    match write_all(sink, bytes) {
+        Ok(()) => status,
+        Err(_) => Status::WriteFault,
+    }
+}

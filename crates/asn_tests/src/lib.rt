@@ -1,0 +1,5 @@
+//! Tests that cross crates. There is nothing here but tests.
+#![tactic(auto)]
+
+#[cfg(test)]
+mod program;

@@ -1,0 +1,8 @@
+use Rattle.std.proofs.Common.{◌≡◌, take, ◌-◌, ◌*◌}
+use Rattle.std.specs.Fmt.{HasWritten, IsPlainFormatter}
+use Rattle.avn_grammar.specs.Octets.{hex_text, bit_text}
+use Rattle.avn_grammar.specs.Print.{arc_text}
+use Rattle.avn_value.proofs.digits.write_hex.Given as goal
+
+abbrev pub invariant-loop-octet : goal.invariant-loop-octet
+invariant-loop-octet g l = IsPlainFormatter l.initial.f → HasWritten g.W.Write.write_str_gives l.initial.f (hex_text (take l.octet-index l.octets)) l.f

@@ -1,0 +1,210 @@
+// The printed text of a value.
+ghost use Rattle.std.specs.Prelude.{◌≡◌, suc};
+ghost use Rattle.std.specs.Fmt.{WritesOnOk};
+ghost use Rattle.avn_grammar.specs.Tree.{sequence, sequence_of, octet_string, bit_string, oid, char_string};
+ghost use Rattle.avn_grammar.specs.Chars.{doubled};
+ghost use Rattle.avn_grammar.specs.Print.{print, indent, separator};
+ghost use Rattle.avn_value.specs.View.{tree_of, list_trees, fields_trees};
+ghost use Rattle.avn_value.specs.Levels.{depth_of, closing_of};
+
+use crate::digits::{write_arcs, write_bits, write_hex};
+use crate::value::AvnValue;
+use std::fmt;
+
+/// The open braces, the innermost first, as a chain of references: no number of levels can
+/// overflow, and printing takes no memory.
+#[derive(Drop)]
+pub enum Levels<'a> {
+    Root,
+    Under(&'a Levels<'a>),
+}
+
+/// Writes two spaces for each level.
+fn write_indent<W: fmt::Write>(levels: &Levels<'_>, f: &mut fmt::Formatter<W>) -> fmt::Result
+    ensures { WritesOnOk W.write_str_gives f.old result (indent (depth_of levels.now)) f.new }
+{
+    match levels {
+        Levels::Root => Ok(()),
+        Levels::Under(up) => {
+            f.write_str("  ")?;
+            write_indent(up, f)
+        }
+    }
+}
+
+/// What stands before a row.
+fn separator(row: usize) -> &'static str
+    ensures { result.now ≡ separator row }
+{
+    if row == 0 { "\n" } else { ",\n" }
+}
+
+/// Writes the closing brace after so many rows.
+fn write_close<W: fmt::Write>(
+    rows: usize,
+    levels: &Levels<'_>,
+    f: &mut fmt::Formatter<W>,
+) -> fmt::Result
+    ensures { WritesOnOk W.write_str_gives f.old result (closing_of (depth_of levels.now) rows) f.new }
+{
+    if rows == 0 {
+        return f.write_str("}");
+    }
+    f.write_str("\n")?;
+    write_indent(levels, f)?;
+    f.write_str("}")
+}
+
+/// Writes a text with each quote doubled.
+fn write_doubled<W: fmt::Write>(text: &str, f: &mut fmt::Formatter<W>) -> fmt::Result
+    ensures { WritesOnOk W.write_str_gives f.old result (doubled text.now) f.new }
+{
+    for c in text.chars() {
+        if c == '"' {
+            f.write_str("\"\"")?;
+        } else {
+            f.write_char(c)?;
+        }
+    }
+    Ok(())
+}
+
+/// Writes a text in quotes.
+#[tactic(auto, unfolding(avn_grammar::specs::Print::print))]
+fn write_text<W: fmt::Write>(text: &str, f: &mut fmt::Formatter<W>) -> fmt::Result
+    ensures { WritesOnOk W.write_str_gives f.old result (print 0 (char_string text.now)) f.new }
+{
+    f.write_str("\"")?;
+    write_doubled(text, f)?;
+    f.write_str("\"")
+}
+
+/// Writes octets in hexadecimal.
+#[tactic(auto, unfolding(avn_grammar::specs::Print::print))]
+fn write_octets<W: fmt::Write>(octets: &[u8], f: &mut fmt::Formatter<W>) -> fmt::Result
+    ensures { WritesOnOk W.write_str_gives f.old result (print 0 (octet_string octets.now)) f.new }
+{
+    f.write_str("'")?;
+    write_hex(octets, f)?;
+    f.write_str("'H")
+}
+
+/// Writes a bit string: in binary, or in hexadecimal where it has whole octets.
+#[tactic(auto, unfolding(avn_grammar::specs::Print::print))]
+fn write_bit_string<W: fmt::Write>(
+    octets: &[u8],
+    bit_length: usize,
+    f: &mut fmt::Formatter<W>,
+) -> fmt::Result
+    ensures { WritesOnOk W.write_str_gives f.old result (print 0 (bit_string octets.now bit_length)) f.new }
+{
+    if bit_length == 0 {
+        return f.write_str("''H");
+    }
+    if bit_length % 8 == 0 {
+        return write_octets(octets, f);
+    }
+    f.write_str("'")?;
+    write_bits(octets, bit_length, f)?;
+    f.write_str("'B")
+}
+
+/// Writes the arcs of an object identifier in braces.
+#[tactic(auto, unfolding(avn_grammar::specs::Print::print))]
+fn write_oid<W: fmt::Write>(arcs: &[u32], f: &mut fmt::Formatter<W>) -> fmt::Result
+    ensures { WritesOnOk W.write_str_gives f.old result (print 0 (oid arcs.now)) f.new }
+{
+    f.write_str("{")?;
+    write_arcs(arcs, f)?;
+    f.write_str(" }")
+}
+
+/// Writes a value below open braces.
+#[cycle(print)]
+#[tactic(auto, unfolding(avn_grammar::specs::Print::print))]
+fn print_at<W: fmt::Write>(
+    value: &AvnValue,
+    levels: &Levels<'_>,
+    f: &mut fmt::Formatter<W>,
+) -> fmt::Result
+    ensures { WritesOnOk W.write_str_gives f.old result (print (depth_of levels.now) (tree_of value.now)) f.new }
+{
+    match value {
+        AvnValue::Boolean(true) => f.write_str("TRUE"),
+        AvnValue::Boolean(false) => f.write_str("FALSE"),
+        AvnValue::Null => f.write_str("NULL"),
+        AvnValue::Integer(text) => f.write_str(text.as_str()),
+        AvnValue::Real(text) => f.write_str(text.as_str()),
+        AvnValue::Enumerated(identifier) => f.write_str(identifier.as_str()),
+        AvnValue::OctetString(octets) => write_octets(octets, f),
+        AvnValue::BitString { bytes, bit_length } => write_bit_string(bytes, *bit_length, f),
+        AvnValue::Oid(arcs) => write_oid(arcs, f),
+        AvnValue::CharString(text) => write_text(text.as_str(), f),
+        AvnValue::Sequence(fields) => print_fields(fields, levels, f),
+        AvnValue::SequenceOf(list) => print_list(list, levels, f),
+        AvnValue::Choice { identifier, value } => {
+            f.write_str(identifier.as_str())?;
+            f.write_str(" : ")?;
+            print_at(value, levels, f)
+        }
+    }
+}
+
+/// Writes the values of a list in braces, a row for each.
+#[cycle(print)]
+fn print_list<W: fmt::Write>(
+    list: &Vec<AvnValue>,
+    levels: &Levels<'_>,
+    f: &mut fmt::Formatter<W>,
+) -> fmt::Result
+    ensures { WritesOnOk W.write_str_gives f.old result (print (depth_of levels.now) (sequence_of (list_trees list.now.items))) f.new }
+{
+    let under = Levels::Under(&*levels);
+    f.write_str("{")?;
+    for (row, item) in list.iter().enumerate() {
+        f.write_str(separator(row))?;
+        write_indent(&under, f)?;
+        print_at(item, &under, f)?;
+    }
+    write_close(list.len(), levels, f)
+}
+
+/// Writes the fields of a sequence in braces, a row for each that is present.
+#[cycle(print)]
+fn print_fields<W: fmt::Write>(
+    fields: &Vec<(String, Option<AvnValue>)>,
+    levels: &Levels<'_>,
+    f: &mut fmt::Formatter<W>,
+) -> fmt::Result
+    ensures { WritesOnOk W.write_str_gives f.old result (print (depth_of levels.now) (sequence (fields_trees fields.now.items))) f.new }
+{
+    let under = Levels::Under(&*levels);
+    let mut row: usize = 0;
+    f.write_str("{")?;
+    for (name, slot) in fields.iter() {
+        match slot {
+            Some(value) => {
+                f.write_str(separator(row))?;
+                write_indent(&under, f)?;
+                f.write_str(name.as_str())?;
+                f.write_str(" ")?;
+                print_at(value, &under, f)?;
+                row += 1;
+            }
+            None => {}
+        }
+    }
+    write_close(row, levels, f)
+}
+
+impl fmt::Display for AvnValue {
+    ghost use Rattle.std.specs.Prelude.{Some};
+    ghost use Rattle.avn_grammar.specs.Print.{print};
+    ghost use Rattle.avn_value.specs.View.{tree_of};
+
+    ghost output = { λ value. Some (print 0 (tree_of value)) };
+
+    fn fmt<W: fmt::Write>(&self, f: &mut fmt::Formatter<W>) -> fmt::Result {
+        print_at(self, &Levels::Root, f)
+    }
+}

@@ -39,11 +39,13 @@ pub trait Decoder {
 
     /// Reads a BOOLEAN.
     fn decode_bool(&mut self, tag: Tag) -> Result<bool, DecodeError>
-        ensures { Answer notation Shape.boolean Value.boolean (pending self.old) result (pending self.new) };
+        ensures { Answer notation Shape.boolean Value.boolean (pending self.old) result
+            (pending self.new) };
 
     /// Reads a NULL.
     fn decode_null(&mut self, tag: Tag) -> Result<(), DecodeError>
-        ensures { Answer notation Shape.null (λ u. Value.null) (pending self.old) result (pending self.new) };
+        ensures { Answer notation Shape.null (λ u. Value.null) (pending self.old) result
+            (pending self.new) };
 
     /// Reads an INTEGER of the type's range.
     fn decode_integer<I: IntegerType>(
@@ -51,7 +53,8 @@ pub trait Decoder {
         tag: Tag,
         constraints: &Constraints,
     ) -> Result<I, DecodeError>
-        ensures { Answer notation (Shape.int I.LEAST (pos I.GREATEST) I.WIDTH) (λ n. Value.int (I.number n)) (pending self.old) result (pending self.new) };
+        ensures { Answer notation (Shape.int I.LEAST (pos I.GREATEST) I.WIDTH)
+            (λ n. Value.int (I.number n)) (pending self.old) result (pending self.new) };
 
     /// Reads a UTF8String.
     fn decode_utf8_string(
@@ -59,11 +62,13 @@ pub trait Decoder {
         tag: Tag,
         constraints: &Constraints,
     ) -> Result<String, DecodeError>
-        ensures { Answer notation (Shape.text Alphabet.utf8) (λ s. Value.text (string_bytes s)) (pending self.old) result (pending self.new) };
+        ensures { Answer notation (Shape.text Alphabet.utf8) (λ s. Value.text (string_bytes s))
+            (pending self.old) result (pending self.new) };
 
     /// Reads an item of an ENUMERATED type.
     fn decode_enumerated<E: Enumerated>(&mut self, tag: Tag) -> Result<E, DecodeError>
-        ensures { Answer notation (closed_enum E.items) (λ x. Value.item (E.item x)) (pending self.old) result (pending self.new) };
+        ensures { Answer notation (closed_enum E.items) (λ x. Value.item (E.item x))
+            (pending self.old) result (pending self.new) };
 
     /// Takes the first pending slot if it is absent, and tells whether it was. It refuses where none is pending.
     fn take_absent(&mut self) -> Result<bool, DecodeError>
@@ -76,11 +81,13 @@ pub trait Decoder {
     /// Puts the slots of these fields of the first pending slot in its place.
     fn open_members(&mut self, fields: &[Field]) -> Result<(), DecodeError>
         requires { are_distinct (names_of fields.now) ≡ true }
-        ensures { OpensMembers notation (names_of fields.now) (pending self.old) result (pending self.new) };
+        ensures { OpensMembers notation (names_of fields.now) (pending self.old) result
+            (pending self.new) };
 
     /// Puts the payload of the first pending slot, a choice, in its place, and answers the place of its identifier.
     fn open_choice(&mut self, identifiers: &[&'static str]) -> Result<Option<usize>, DecodeError>
-        ensures { OpensChoice notation (map (λ s. s.now) identifiers.now) (pending self.old) result (pending self.new) };
+        ensures { OpensChoice notation (map (λ s. s.now) identifiers.now) (pending self.old) result
+            (pending self.new) };
 
     /// Reads a SEQUENCE OF.
     final fn decode_sequence_of<T: Decode>(
@@ -88,7 +95,9 @@ pub trait Decoder {
         tag: Tag,
         constraints: &Constraints,
     ) -> Result<Vec<T>, DecodeError>
-        ensures { Answer notation (Shape.list_of T.shape_of) (λ v. Value.list (values T.value_of v.items)) (pending self.old) result (pending self.new) }
+        ensures { Answer notation (Shape.list_of T.shape_of)
+            (λ v. Value.list (values T.value_of v.items)) (pending self.old) result
+            (pending self.new) }
     {
         let count = self.open_list()?;
         let mut items = Vec::new(self.allocator());
@@ -107,11 +116,14 @@ pub trait Decoder {
         tag: Tag,
         decode_fn: F,
     ) -> Result<C, E>
-        requires callable { (p : _) (slot : Slot) (slots rest : List Slot) → pending self.old ≡ slot ∷ rest → pending p.now ≡ slots ++ rest
+        requires callable { (p : _) (slot : Slot) (slots rest : List Slot)
+            → pending self.old ≡ slot ∷ rest → pending p.now ≡ slots ++ rest
             → length slots ≡ length (field_names C.fields) → AllBelow (slot_nodes slot) slots → F.pre decode_fn p }
-        requires reads { (p : _) (r : _) (q : _) (slots rest : List Slot) → pending p.now ≡ slots ++ rest → length slots ≡ length (field_names C.fields)
+        requires reads { (p : _) (r : _) (q : _) (slots rest : List Slot)
+            → pending p.now ≡ slots ++ rest → length slots ≡ length (field_names C.fields)
             → F.post decode_fn p r q → ScopeAnswer E.stop notation C.fields C.value_of slots rest r (pending q.now) }
-        ensures { AnswerBy E.stop notation (closed_seq C.fields) C.value_of (pending self.old) result (pending self.new) }
+        ensures { AnswerBy E.stop notation (closed_seq C.fields) C.value_of
+            (pending self.old) result (pending self.new) }
     {
         match self.open_members(C::field_table().items) {
             Ok(()) => decode_fn(self),
@@ -126,7 +138,8 @@ pub trait Decoder {
         &mut self,
         constraints: &Constraints,
     ) -> Result<Tag, DecodeError>
-        ensures { OpensAlternative notation C.alternatives (pending self.old) result (pending self.new) }
+        ensures { OpensAlternative notation C.alternatives (pending self.old) result
+            (pending self.new) }
     {
         match self.open_choice(C::identifier_table()) {
             Ok(Some(place)) => Ok(tag_at(C::variant_table(), place)),
@@ -140,7 +153,8 @@ pub trait Decoder {
         &mut self,
         constraints: &Constraints,
     ) -> Result<C, DecodeError>
-        ensures { Answer notation (closed_choice C.alternatives) C.value_of (pending self.old) result (pending self.new) }
+        ensures { Answer notation (closed_choice C.alternatives) C.value_of
+            (pending self.old) result (pending self.new) }
     {
         match self.open_alternative::<C>(constraints) {
             Ok(tag) => C::from_tag(self, tag),
@@ -150,7 +164,8 @@ pub trait Decoder {
 
     /// Reads an optional field: nothing where the slot is absent.
     final fn decode_optional<T: Decode>(&mut self) -> Result<Option<T>, DecodeError>
-        ensures { OptionalAnswer notation T.shape_of T.value_of (pending self.old) result (pending self.new) }
+        ensures { OptionalAnswer notation T.shape_of T.value_of (pending self.old) result
+            (pending self.new) }
     {
         match self.take_absent() {
             Ok(true) => Ok(None),
@@ -164,7 +179,8 @@ pub trait Decoder {
 
     /// Reads a value under an explicit tag, which changes nothing in text.
     final fn decode_explicit_prefix<T: Decode>(&mut self, tag: Tag) -> Result<T, DecodeError>
-        ensures { Answer notation T.shape_of T.value_of (pending self.old) result (pending self.new) }
+        ensures { Answer notation T.shape_of T.value_of (pending self.old) result
+            (pending self.new) }
     {
         T::decode(self)
     }
@@ -176,14 +192,16 @@ pub trait Decoder {
 pub trait Decode: AsnType + Sized + Drop {
     /// Reads the first pending slot.
     fn decode<D: Decoder>(decoder: &mut D) -> Result<Self, DecodeError>
-        ensures { Answer D.notation Self.shape_of Self.value_of (D.pending decoder.old) result (D.pending decoder.new) }
+        ensures { Answer D.notation Self.shape_of Self.value_of (D.pending decoder.old) result
+            (D.pending decoder.new) }
     {
         Self::decode_with_tag(decoder, Self::TAG)
     }
 
     /// Reads the first pending slot under another tag.
     fn decode_with_tag<D: Decoder>(decoder: &mut D, tag: Tag) -> Result<Self, DecodeError>
-        ensures { Answer D.notation Self.shape_of Self.value_of (D.pending decoder.old) result (D.pending decoder.new) }
+        ensures { Answer D.notation Self.shape_of Self.value_of (D.pending decoder.old) result
+            (D.pending decoder.new) }
     {
         let constraints = Self::constraint_table();
         Self::decode_with_tag_and_constraints(decoder, tag, &constraints)
@@ -194,7 +212,8 @@ pub trait Decode: AsnType + Sized + Drop {
         decoder: &mut D,
         constraints: &Constraints,
     ) -> Result<Self, DecodeError>
-        ensures { AnswerUnder D.notation (fixed_size constraints.now) Self.shape_of Self.value_of (D.pending decoder.old) result (D.pending decoder.new) }
+        ensures { AnswerUnder D.notation (fixed_size constraints.now) Self.shape_of Self.value_of
+            (D.pending decoder.old) result (D.pending decoder.new) }
     {
         Self::decode_with_tag_and_constraints(decoder, Self::TAG, constraints)
     }
@@ -205,12 +224,14 @@ pub trait Decode: AsnType + Sized + Drop {
         tag: Tag,
         constraints: &Constraints,
     ) -> Result<Self, DecodeError>
-        ensures { AnswerUnder D.notation (fixed_size constraints.now) Self.shape_of Self.value_of (D.pending decoder.old) result (D.pending decoder.new) };
+        ensures { AnswerUnder D.notation (fixed_size constraints.now) Self.shape_of Self.value_of
+            (D.pending decoder.old) result (D.pending decoder.new) };
 }
 
 /// A choice that is read.
 pub trait DecodeChoice: Choice + Sized + Drop {
     /// Reads the payload of the alternative of this tag from the first pending slot. Of any other tag it takes no slot and refuses with `NoValidChoice`.
     fn from_tag<D: Decoder>(decoder: &mut D, tag: Tag) -> Result<Self, DecodeError>
-        ensures { TagAnswer D.notation Self.alternatives Self.value_of tag (D.pending decoder.old) result (D.pending decoder.new) };
+        ensures { TagAnswer D.notation Self.alternatives Self.value_of tag
+            (D.pending decoder.old) result (D.pending decoder.new) };
 }

@@ -41,7 +41,8 @@ pub trait Encoder {
         value: bool,
         identifier: Identifier,
     ) -> Result<(), EncodeError>
-        ensures written { OnOk result (Written holds notation Shape.boolean (Value.boolean value) self.old self.new) }
+        ensures written { OnOk result (Written holds notation Shape.boolean
+            (Value.boolean value) self.old self.new) }
         ensures refused { IfErr result (CannotWrite notation (Value.boolean value)) };
 
     /// Writes a NULL.
@@ -57,7 +58,9 @@ pub trait Encoder {
         value: &I,
         identifier: Identifier,
     ) -> Result<(), EncodeError>
-        ensures written { OnOk result (Written holds notation (Shape.int I.LEAST (pos I.GREATEST) I.WIDTH) (Value.int (I.number value.now)) self.old self.new) }
+        ensures written { OnOk result (Written holds notation
+            (Shape.int I.LEAST (pos I.GREATEST) I.WIDTH)
+            (Value.int (I.number value.now)) self.old self.new) }
         ensures refused { IfErr result (CannotWrite notation (Value.int (I.number value.now))) };
 
     /// Writes a UTF8String.
@@ -68,7 +71,8 @@ pub trait Encoder {
         value: &str,
         identifier: Identifier,
     ) -> Result<(), EncodeError>
-        ensures written { OnOk result (Written holds notation (Shape.text Alphabet.utf8) (Value.text value.now) self.old self.new) }
+        ensures written { OnOk result (Written holds notation (Shape.text Alphabet.utf8)
+            (Value.text value.now) self.old self.new) }
         ensures refused { IfErr result (CannotWrite notation (Value.text value.now)) };
 
     /// Writes an item of an ENUMERATED type.
@@ -78,7 +82,8 @@ pub trait Encoder {
         value: &T,
         identifier: Identifier,
     ) -> Result<(), EncodeError>
-        ensures written { OnOk result (Written holds notation (closed_enum T.items) (Value.item (T.item value.now)) self.old self.new) }
+        ensures written { OnOk result (Written holds notation (closed_enum T.items)
+            (Value.item (T.item value.now)) self.old self.new) }
         ensures refused { IfErr result (CannotWrite notation (Value.item (T.item value.now))) };
 
     /// Puts an absent slot into the last frame. It refuses memory alone.
@@ -98,12 +103,14 @@ pub trait Encoder {
 
     /// Puts the last frame into the one before it as members, by the names of these fields. It refuses memory alone.
     fn close_members(&mut self, fields: &[Field]) -> Result<(), EncodeError>
-        ensures closed { OnOk result (Turns holds (close (as_members (names_of fields.now))) self.old self.new) }
+        ensures closed { OnOk result (Turns holds (close
+            (as_members (names_of fields.now))) self.old self.new) }
         ensures refused { IfErr result (λ e. e.kind ≡ EncodeErrorKind.OutOfMemory) };
 
     /// Puts the first slot of the last frame into the one before it as the payload of a choice. It refuses memory alone.
     fn close_choice(&mut self, identifier: &'static str) -> Result<(), EncodeError>
-        ensures closed { OnOk result (Turns holds (close (as_choice identifier.now)) self.old self.new) }
+        ensures closed { OnOk result (Turns holds (close
+            (as_choice identifier.now)) self.old self.new) }
         ensures refused { IfErr result (λ e. e.kind ≡ EncodeErrorKind.OutOfMemory) };
 
     /// Writes the value of an optional field.
@@ -114,7 +121,8 @@ pub trait Encoder {
     ) -> Result<(), EncodeError>
     where
         Self: Sized,
-        ensures written { OnOk result (Written holds notation T.shape_of (T.value_of value.now) self.old self.new) }
+        ensures written { OnOk result (Written holds notation T.shape_of
+            (T.value_of value.now) self.old self.new) }
         ensures refused { IfErr result (CannotWrite notation (T.value_of value.now)) }
     {
         value.encode(self)
@@ -139,7 +147,8 @@ pub trait Encoder {
     ) -> Result<(), EncodeError>
     where
         Self: Sized,
-        ensures written { OnOk result (Written holds notation T.shape_of (T.value_of value.now) self.old self.new) }
+        ensures written { OnOk result (Written holds notation T.shape_of
+            (T.value_of value.now) self.old self.new) }
         ensures refused { IfErr result (CannotWrite notation (T.value_of value.now)) }
     {
         value.encode(self)
@@ -155,8 +164,10 @@ pub trait Encoder {
     ) -> Result<(), EncodeError>
     where
         Self: Sized,
-        ensures written { OnOk result (Written holds notation (Shape.list_of T.shape_of) (Value.list (values T.value_of value.now)) self.old self.new) }
-        ensures refused { IfErr result (CannotWrite notation (Value.list (values T.value_of value.now))) }
+        ensures written { OnOk result (Written holds notation (Shape.list_of T.shape_of)
+            (Value.list (values T.value_of value.now)) self.old self.new) }
+        ensures refused { IfErr result (CannotWrite notation
+            (Value.list (values T.value_of value.now))) }
     {
         self.open_frame()?;
         for item in value {
@@ -197,7 +208,9 @@ pub trait Encoder {
     where
         Self: Sized,
         requires { F.IsAlwaysCallable encode_fn }
-        ensures written { OnOk result (IfSome (alternative_tagged C.alternatives tag) (λ a. (answer : _) × ScopeRan holds (FnOnceReturnsAtMut F.FnOnce encode_fn) self.old (Ok answer) (λ left. Turns holds (close (as_choice a.0)) left self.new))) }
+        ensures written { OnOk result (IfSome (alternative_tagged C.alternatives tag)
+            (λ a. (answer : _) × ScopeRan holds (FnOnceReturnsAtMut F.FnOnce encode_fn) self.old
+            (Ok answer) (λ left. Turns holds (close (as_choice a.0)) left self.new))) }
         ensures listed { IsOk result → IsSome (alternative_tagged C.alternatives tag) }
         ensures refused { IfErr result (λ e. (e.kind ≡ EncodeErrorKind.OutOfMemory)
             ⊎ (((e.kind ≡ EncodeErrorKind.VariantNotInChoice) × (alternative_tagged C.alternatives tag ≡ None))
@@ -218,7 +231,8 @@ pub trait Encoder {
 pub trait Encode: AsnType {
     /// Writes the value as one slot more.
     fn encode<E: Encoder>(&self, encoder: &mut E) -> Result<(), EncodeError>
-        ensures written { OnOk result (Written E.holds E.notation Self.shape_of (Self.value_of self.now) encoder.old encoder.new) }
+        ensures written { OnOk result (Written E.holds E.notation Self.shape_of
+            (Self.value_of self.now) encoder.old encoder.new) }
         ensures refused { IfErr result (CannotWrite E.notation (Self.value_of self.now)) }
     {
         self.encode_with_tag(encoder, Self::TAG)
@@ -226,7 +240,8 @@ pub trait Encode: AsnType {
 
     /// Writes the value under another tag.
     fn encode_with_tag<E: Encoder>(&self, encoder: &mut E, tag: Tag) -> Result<(), EncodeError>
-        ensures written { OnOk result (Written E.holds E.notation Self.shape_of (Self.value_of self.now) encoder.old encoder.new) }
+        ensures written { OnOk result (Written E.holds E.notation Self.shape_of
+            (Self.value_of self.now) encoder.old encoder.new) }
         ensures refused { IfErr result (CannotWrite E.notation (Self.value_of self.now)) }
     {
         let constraints = Self::constraint_table();
@@ -239,8 +254,10 @@ pub trait Encode: AsnType {
         encoder: &mut E,
         constraints: &Constraints,
     ) -> Result<(), EncodeError>
-        ensures written { OnOk result (WrittenUnder E.holds E.notation (fixed_size constraints.now) Self.shape_of (Self.value_of self.now) encoder.old encoder.new) }
-        ensures refused { IfErr result (CannotWriteUnder E.notation (fixed_size constraints.now) Self.shape_of (Self.value_of self.now)) }
+        ensures written { OnOk result (WrittenUnder E.holds E.notation
+            (fixed_size constraints.now) Self.shape_of (Self.value_of self.now) encoder.old encoder.new) }
+        ensures refused { IfErr result (CannotWriteUnder E.notation
+            (fixed_size constraints.now) Self.shape_of (Self.value_of self.now)) }
     {
         self.encode_with_tag_and_constraints(encoder, Self::TAG, constraints, Self::IDENTIFIER)
     }
@@ -253,6 +270,8 @@ pub trait Encode: AsnType {
         constraints: &Constraints,
         identifier: Identifier,
     ) -> Result<(), EncodeError>
-        ensures written { OnOk result (WrittenUnder E.holds E.notation (fixed_size constraints.now) Self.shape_of (Self.value_of self.now) encoder.old encoder.new) }
-        ensures refused { IfErr result (CannotWriteUnder E.notation (fixed_size constraints.now) Self.shape_of (Self.value_of self.now)) };
+        ensures written { OnOk result (WrittenUnder E.holds E.notation
+            (fixed_size constraints.now) Self.shape_of (Self.value_of self.now) encoder.old encoder.new) }
+        ensures refused { IfErr result (CannotWriteUnder E.notation
+            (fixed_size constraints.now) Self.shape_of (Self.value_of self.now)) };
 }

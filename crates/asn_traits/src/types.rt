@@ -109,7 +109,8 @@ pub trait AsnType {
     /// `CONSTRAINTS`. The type's own shape and values are those under them.
     fn constraint_table() -> Constraints
         ensures shape { shape_under (fixed_size result) shape_of ≡ shape_of }
-        ensures value { (x : Self) → value_under (fixed_size result) shape_of (value_of x) ≡ value_of x };
+        ensures value { (x : Self) → value_under (fixed_size result) shape_of
+            (value_of x) ≡ value_of x };
 }
 
 /// A SEQUENCE or SET.
@@ -164,5 +165,6 @@ pub trait Enumerated: AsnType + Sized + Drop {
 
     /// The value of that item. None exactly where it is none of them.
     fn from_identifier(identifier: &str) -> Option<Self>
-        ensures { MatchOption result (is_item items identifier.now ≡ false) (λ x. (item x ≡ identifier.now) × (is_item items identifier.now ≡ true)) };
+        ensures { MatchOption result (is_item items identifier.now ≡ false)
+            (λ x. (item x ≡ identifier.now) × (is_item items identifier.now ≡ true)) };
 }

@@ -11,11 +11,13 @@ ghost use Rattle.std.specs.Prelude.{◌≡◌, Some, true};
 
 /// The JSON value that is written for a value says that value.
 pub fn written_is_said()
-    ensures { (s : Shape) (v : Value) → names_apart s ≡ true → Fits s v → Says Notation.jer s (Some (Tree.json (jer_data v))) v }
+    ensures { (s : Shape) (v : Value) → names_apart s ≡ true → Fits s v → Says Notation.jer s
+        (Some (Tree.json (jer_data v))) v }
 {}
 
 /// Values of a shape whose canonical texts are equal are equal.
 pub fn equal_texts_are_of_equal_values()
-    ensures { (s : Shape) (v w : Value) → names_apart s ≡ true → Fits s v → Fits s w → Writable Notation.jer v → Writable Notation.jer w
+    ensures { (s : Shape) (v w : Value) → names_apart s ≡ true → Fits s v → Fits s w
+        → Writable Notation.jer v → Writable Notation.jer w
         → canonical_text Notation.jer v ≡ canonical_text Notation.jer w → v ≡ w }
 {}

@@ -3,3 +3,5 @@
 
 pub mod jer;
 pub mod laws;
+#[cfg(test)]
+mod tests;

@@ -1,6 +1,6 @@
 use Rattle.std.proofs.Common.{arith, refl, length, map, ◌≡◌, [], suc, ◌<◌, ◌-◌}
 use Rattle.asn_base.specs.declared.tag.Class.TheVariants.{Universal}
-use Rattle.asn_base.specs.declared.tag.TagTree.TheVariants.{Leaf}
+use Rattle.asn_base.specs.declared.tag_tree.TagTree.TheVariants.{Leaf}
 use Rattle.asn_traits.specs.declared.types.Field.{Field}
 use Rattle.asn_traits.specs.declared.types.Presence.TheVariants.{Required}
 use Rattle.serde_json.specs.View.{members_view}

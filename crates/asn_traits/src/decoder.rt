@@ -1,6 +1,6 @@
 // Reading a value of a type from the slots that a decoder has pending.
 //
-// A codec writes the primitives. The calls that have a bound of this crate's are final, and are proved here once for every codec.
+// A codec writes the calls without a body. The calls that have a bound of this crate's are final, and are proved here once for every codec.
 ghost use Rattle.asn_fault.specs.Stop.{error_stop};
 ghost use Rattle.asn_traits.specs.Fixed.{fixed_size};
 ghost use Rattle.asn_traits.specs.Notation.{Notation, notation_of};
@@ -19,41 +19,58 @@ use asn_base::{Codec, Constraints, IntegerType, Tag};
 use asn_fault::{DecodeError, Refusal};
 use std::alloc::Global;
 
+/// A reader of one notation. It is seen as a list of pending slots: a tree or absent.
+///
+/// Unless said otherwise a call takes the first pending slot and reads it. It refuses with the path and the kind by which the slot says no value of the type,
+/// and else memory alone. What is pending after a refusal isn't told.
 pub trait Decoder {
+    // The notation that is read.
     ghost notation: { Notation };
 
-    /// What the decoder is seen as: the slots that are still to be read.
+    // The slots that are still to be read, the first one first.
     ghost pending: { Self → List Slot };
 
+    /// The codec of its errors.
     fn codec(&self) -> Codec
         ensures { notation_of result ≡ notation };
 
+    /// The allocator that it takes memory from.
     fn allocator(&self) -> Global;
 
+    /// Reads a BOOLEAN.
     fn decode_bool(&mut self, tag: Tag) -> Result<bool, DecodeError>
-        ensures { Answer notation Shape.boolean Value.boolean (pending self.old) result (pending self.new) };
+        ensures { Answer notation Shape.boolean Value.boolean (pending self.old) result
+            (pending self.new) };
 
+    /// Reads a NULL.
     fn decode_null(&mut self, tag: Tag) -> Result<(), DecodeError>
-        ensures { Answer notation Shape.null (λ u. Value.null) (pending self.old) result (pending self.new) };
+        ensures { Answer notation Shape.null (λ u. Value.null) (pending self.old) result
+            (pending self.new) };
 
+    /// Reads an INTEGER of the type's range.
     fn decode_integer<I: IntegerType>(
         &mut self,
         tag: Tag,
         constraints: &Constraints,
     ) -> Result<I, DecodeError>
-        ensures { Answer notation (Shape.int I.LEAST (pos I.GREATEST) I.WIDTH) (λ n. Value.int (I.number n)) (pending self.old) result (pending self.new) };
+        ensures { Answer notation (Shape.int I.LEAST (pos I.GREATEST) I.WIDTH)
+            (λ n. Value.int (I.number n)) (pending self.old) result (pending self.new) };
 
+    /// Reads a UTF8String.
     fn decode_utf8_string(
         &mut self,
         tag: Tag,
         constraints: &Constraints,
     ) -> Result<String, DecodeError>
-        ensures { Answer notation (Shape.text Alphabet.utf8) (λ s. Value.text (string_bytes s)) (pending self.old) result (pending self.new) };
+        ensures { Answer notation (Shape.text Alphabet.utf8) (λ s. Value.text (string_bytes s))
+            (pending self.old) result (pending self.new) };
 
+    /// Reads an item of an ENUMERATED type.
     fn decode_enumerated<E: Enumerated>(&mut self, tag: Tag) -> Result<E, DecodeError>
-        ensures { Answer notation (closed_enum E.items) (λ x. Value.item (E.item x)) (pending self.old) result (pending self.new) };
+        ensures { Answer notation (closed_enum E.items) (λ x. Value.item (E.item x))
+            (pending self.old) result (pending self.new) };
 
-    /// Takes the first pending slot if it is absent.
+    /// Takes the first pending slot if it is absent, and tells whether it was. It refuses where none is pending.
     fn take_absent(&mut self) -> Result<bool, DecodeError>
         ensures { TakesAbsent notation (pending self.old) result (pending self.new) };
 
@@ -64,18 +81,23 @@ pub trait Decoder {
     /// Puts the slots of these fields of the first pending slot in its place.
     fn open_members(&mut self, fields: &[Field]) -> Result<(), DecodeError>
         requires { are_distinct (names_of fields.now) ≡ true }
-        ensures { OpensMembers notation (names_of fields.now) (pending self.old) result (pending self.new) };
+        ensures { OpensMembers notation (names_of fields.now) (pending self.old) result
+            (pending self.new) };
 
     /// Puts the payload of the first pending slot, a choice, in its place, and answers the place of its identifier.
     fn open_choice(&mut self, identifiers: &[&'static str]) -> Result<Option<usize>, DecodeError>
-        ensures { OpensChoice notation (map (λ s. s.now) identifiers.now) (pending self.old) result (pending self.new) };
+        ensures { OpensChoice notation (map (λ s. s.now) identifiers.now) (pending self.old) result
+            (pending self.new) };
 
+    /// Reads a SEQUENCE OF.
     final fn decode_sequence_of<T: Decode>(
         &mut self,
         tag: Tag,
         constraints: &Constraints,
     ) -> Result<Vec<T>, DecodeError>
-        ensures { Answer notation (Shape.list_of T.shape_of) (λ v. Value.list (values T.value_of v.items)) (pending self.old) result (pending self.new) }
+        ensures { Answer notation (Shape.list_of T.shape_of)
+            (λ v. Value.list (values T.value_of v.items)) (pending self.old) result
+            (pending self.new) }
     {
         let count = self.open_list()?;
         let mut items = Vec::new(self.allocator());
@@ -88,17 +110,20 @@ pub trait Decoder {
         Ok(items)
     }
 
-    /// Reads the slots of a type's fields by `decode_fn`, whose error is a `DecodeError`.
+    /// Reads a SEQUENCE: `decode_fn` starts with one slot per field before the others, and takes them all. Its error is a `DecodeError`.
     final fn decode_sequence<C: Constructed, E: Refusal, F: FnOnce(&mut Self) -> Result<C, E>>(
         &mut self,
         tag: Tag,
         decode_fn: F,
     ) -> Result<C, E>
-        requires callable { (p : _) (slot : Slot) (slots rest : List Slot) → pending self.old ≡ slot ∷ rest → pending p.now ≡ slots ++ rest
+        requires callable { (p : _) (slot : Slot) (slots rest : List Slot)
+            → pending self.old ≡ slot ∷ rest → pending p.now ≡ slots ++ rest
             → length slots ≡ length (field_names C.fields) → AllBelow (slot_nodes slot) slots → F.pre decode_fn p }
-        requires reads { (p : _) (r : _) (q : _) (slots rest : List Slot) → pending p.now ≡ slots ++ rest → length slots ≡ length (field_names C.fields)
+        requires reads { (p : _) (r : _) (q : _) (slots rest : List Slot)
+            → pending p.now ≡ slots ++ rest → length slots ≡ length (field_names C.fields)
             → F.post decode_fn p r q → ScopeAnswer E.stop notation C.fields C.value_of slots rest r (pending q.now) }
-        ensures { AnswerBy E.stop notation (closed_seq C.fields) C.value_of (pending self.old) result (pending self.new) }
+        ensures { AnswerBy E.stop notation (closed_seq C.fields) C.value_of
+            (pending self.old) result (pending self.new) }
     {
         match self.open_members(C::field_table().items) {
             Ok(()) => decode_fn(self),
@@ -106,12 +131,15 @@ pub trait Decoder {
         }
     }
 
-    /// Opens a choice, and answers the tag of its alternative, or that of the end of contents.
+    /// Puts the payload of the first pending slot, a CHOICE, in its place, and answers the tag of its alternative.
+    ///
+    /// Where it names no alternative, it puts an absent slot there and answers `EOC`.
     final fn open_alternative<C: Choice>(
         &mut self,
         constraints: &Constraints,
     ) -> Result<Tag, DecodeError>
-        ensures { OpensAlternative notation C.alternatives (pending self.old) result (pending self.new) }
+        ensures { OpensAlternative notation C.alternatives (pending self.old) result
+            (pending self.new) }
     {
         match self.open_choice(C::identifier_table()) {
             Ok(Some(place)) => Ok(tag_at(C::variant_table(), place)),
@@ -120,11 +148,13 @@ pub trait Decoder {
         }
     }
 
+    /// Reads a CHOICE. Where no alternative is named, the type's `from_tag` refuses.
     final fn decode_choice<C: DecodeChoice>(
         &mut self,
         constraints: &Constraints,
     ) -> Result<C, DecodeError>
-        ensures { Answer notation (closed_choice C.alternatives) C.value_of (pending self.old) result (pending self.new) }
+        ensures { Answer notation (closed_choice C.alternatives) C.value_of
+            (pending self.old) result (pending self.new) }
     {
         match self.open_alternative::<C>(constraints) {
             Ok(tag) => C::from_tag(self, tag),
@@ -132,8 +162,10 @@ pub trait Decoder {
         }
     }
 
+    /// Reads an optional field: nothing where the slot is absent.
     final fn decode_optional<T: Decode>(&mut self) -> Result<Option<T>, DecodeError>
-        ensures { OptionalAnswer notation T.shape_of T.value_of (pending self.old) result (pending self.new) }
+        ensures { OptionalAnswer notation T.shape_of T.value_of (pending self.old) result
+            (pending self.new) }
     {
         match self.take_absent() {
             Ok(true) => Ok(None),
@@ -145,8 +177,10 @@ pub trait Decoder {
         }
     }
 
+    /// Reads a value under an explicit tag, which changes nothing in text.
     final fn decode_explicit_prefix<T: Decode>(&mut self, tag: Tag) -> Result<T, DecodeError>
-        ensures { Answer notation T.shape_of T.value_of (pending self.old) result (pending self.new) }
+        ensures { Answer notation T.shape_of T.value_of (pending self.old) result
+            (pending self.new) }
     {
         T::decode(self)
     }
@@ -158,14 +192,16 @@ pub trait Decoder {
 pub trait Decode: AsnType + Sized + Drop {
     /// Reads the first pending slot.
     fn decode<D: Decoder>(decoder: &mut D) -> Result<Self, DecodeError>
-        ensures { Answer D.notation Self.shape_of Self.value_of (D.pending decoder.old) result (D.pending decoder.new) }
+        ensures { Answer D.notation Self.shape_of Self.value_of (D.pending decoder.old) result
+            (D.pending decoder.new) }
     {
         Self::decode_with_tag(decoder, Self::TAG)
     }
 
     /// Reads the first pending slot under another tag.
     fn decode_with_tag<D: Decoder>(decoder: &mut D, tag: Tag) -> Result<Self, DecodeError>
-        ensures { Answer D.notation Self.shape_of Self.value_of (D.pending decoder.old) result (D.pending decoder.new) }
+        ensures { Answer D.notation Self.shape_of Self.value_of (D.pending decoder.old) result
+            (D.pending decoder.new) }
     {
         let constraints = Self::constraint_table();
         Self::decode_with_tag_and_constraints(decoder, tag, &constraints)
@@ -176,7 +212,8 @@ pub trait Decode: AsnType + Sized + Drop {
         decoder: &mut D,
         constraints: &Constraints,
     ) -> Result<Self, DecodeError>
-        ensures { AnswerUnder D.notation (fixed_size constraints.now) Self.shape_of Self.value_of (D.pending decoder.old) result (D.pending decoder.new) }
+        ensures { AnswerUnder D.notation (fixed_size constraints.now) Self.shape_of Self.value_of
+            (D.pending decoder.old) result (D.pending decoder.new) }
     {
         Self::decode_with_tag_and_constraints(decoder, Self::TAG, constraints)
     }
@@ -187,11 +224,14 @@ pub trait Decode: AsnType + Sized + Drop {
         tag: Tag,
         constraints: &Constraints,
     ) -> Result<Self, DecodeError>
-        ensures { AnswerUnder D.notation (fixed_size constraints.now) Self.shape_of Self.value_of (D.pending decoder.old) result (D.pending decoder.new) };
+        ensures { AnswerUnder D.notation (fixed_size constraints.now) Self.shape_of Self.value_of
+            (D.pending decoder.old) result (D.pending decoder.new) };
 }
 
 /// A choice that is read.
 pub trait DecodeChoice: Choice + Sized + Drop {
+    /// Reads the payload of the alternative of this tag from the first pending slot. Of any other tag it takes no slot and refuses with `NoValidChoice`.
     fn from_tag<D: Decoder>(decoder: &mut D, tag: Tag) -> Result<Self, DecodeError>
-        ensures { TagAnswer D.notation Self.alternatives Self.value_of tag (D.pending decoder.old) result (D.pending decoder.new) };
+        ensures { TagAnswer D.notation Self.alternatives Self.value_of tag
+            (D.pending decoder.old) result (D.pending decoder.new) };
 }

@@ -7,7 +7,8 @@ use asn_base::{Class, Tag};
 
 /// The identifier beside the tag.
 pub fn identifier_of(tags: &[Tag], identifiers: &[&'static str], tag: Tag) -> Option<&'static str>
-    ensures { option_map (λ s. s.now) result ≡ name_tagged tags.now (map (λ s. s.now) identifiers.now) tag }
+    ensures { option_map (λ s. s.now) result ≡ name_tagged tags.now
+        (map (λ s. s.now) identifiers.now) tag }
 {
     let Some((first, other_tags)) = tags.split_first() else {
         return None;
@@ -32,6 +33,7 @@ pub fn tag_at(tags: &[Tag], place: usize) -> Tag
     }
 }
 
+/// Whether the tags are equal.
 pub fn same_tag(a: Tag, b: Tag) -> bool
     ensures { result ≡ tag_eq a b }
 {

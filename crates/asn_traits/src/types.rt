@@ -27,10 +27,60 @@ pub struct Field {
     pub name: &'static str,
 }
 
+impl Field {
+    /// A field that has to be present.
+    pub fn new_required(index: usize, tag: Tag, tag_tree: TagTree, name: &'static str) -> Field
+        ensures { result ≡ record { index = index; tag = tag; tag_tree = tag_tree; presence = Presence.Required; name = name.entry } }
+    {
+        Field {
+            index,
+            tag,
+            tag_tree,
+            presence: Presence::Required,
+            name,
+        }
+    }
+
+    /// A field that may be absent.
+    pub fn new_optional(index: usize, tag: Tag, tag_tree: TagTree, name: &'static str) -> Field
+        ensures { result ≡ record { index = index; tag = tag; tag_tree = tag_tree; presence = Presence.Optional; name = name.entry } }
+    {
+        Field {
+            index,
+            tag,
+            tag_tree,
+            presence: Presence::Optional,
+            name,
+        }
+    }
+
+    /// A field that is absent where it has its default.
+    pub fn new_default(index: usize, tag: Tag, tag_tree: TagTree, name: &'static str) -> Field
+        ensures { result ≡ record { index = index; tag = tag; tag_tree = tag_tree; presence = Presence.Default; name = name.entry } }
+    {
+        Field {
+            index,
+            tag,
+            tag_tree,
+            presence: Presence::Default,
+            name,
+        }
+    }
+}
+
 /// The fields of a type, in order.
 #[derive(Clone, Copy)]
 pub struct Fields {
     pub items: &'static [Field],
+}
+
+impl Fields {
+    /// These fields.
+    pub fn from_static(items: &'static [Field]) -> Fields
+        ensures { result.items.now ≡ items.now }
+    {
+        Fields { items }
+    }
 }
 
 /// An ASN.1 type.
@@ -59,7 +109,8 @@ pub trait AsnType {
     /// `CONSTRAINTS`. The type's own shape and values are those under them.
     fn constraint_table() -> Constraints
         ensures shape { shape_under (fixed_size result) shape_of ≡ shape_of }
-        ensures value { (x : Self) → value_under (fixed_size result) shape_of (value_of x) ≡ value_of x };
+        ensures value { (x : Self) → value_under (fixed_size result) shape_of
+            (value_of x) ≡ value_of x };
 }
 
 /// A SEQUENCE or SET.
@@ -114,5 +165,6 @@ pub trait Enumerated: AsnType + Sized + Drop {
 
     /// The value of that item. None exactly where it is none of them.
     fn from_identifier(identifier: &str) -> Option<Self>
-        ensures { MatchOption result (is_item items identifier.now ≡ false) (λ x. (item x ≡ identifier.now) × (is_item items identifier.now ≡ true)) };
+        ensures { MatchOption result (is_item items identifier.now ≡ false)
+            (λ x. (item x ≡ identifier.now) × (is_item items identifier.now ≡ true)) };
 }

@@ -8,3 +8,4 @@ pub mod Building
 pub mod Signs
 pub mod Floats
 pub mod Roots
+pub mod Texts

@@ -27,12 +27,14 @@ use std::alloc::Global;
 ///
 /// Errors: `OutOfMemory`; else the kind of the first part that JER cannot write.
 pub fn encode<T: Encode>(alloc: Global, value: &T) -> Result<String, EncodeError>
-    ensures text { IfOk result (λ s. string_bytes s ≡ canonical_text Notation.jer (T.value_of value.now)) }
+    ensures text { IfOk result (λ s. string_bytes s ≡ canonical_text Notation.jer
+        (T.value_of value.now)) }
     ensures fits { OnOk result (Fits T.shape_of (T.value_of value.now)) }
     ensures writable { OnOk result (Writable Notation.jer (T.value_of value.now)) }
     ensures refused { IfErr result (CannotWrite Notation.jer (T.value_of value.now)) }
     // What can be written is written, unless memory runs out.
-    ensures complete { Writable Notation.jer (T.value_of value.now) → IfErr result (λ e. e.kind ≡ OutOfMemory) }
+    ensures complete { Writable Notation.jer (T.value_of value.now) → IfErr result
+        (λ e. e.kind ≡ OutOfMemory) }
 {
     let mut encoder = enc::Encoder::new(alloc);
     value.encode(&mut encoder)?;
@@ -44,10 +46,12 @@ pub fn encode<T: Encode>(alloc: Global, value: &T) -> Result<String, EncodeError
 /// Errors: `OutOfMemory`; `Parser` where the text is no JSON; `RealNotSupported` where a number in it is neither an `i64` nor a `u64`;
 /// else why the JSON value is no value of the type, within a `FieldError` for each field on the way.
 pub fn decode<T: Decode>(alloc: Global, input: &str) -> Result<T, DecodeError>
-    ensures value { IfOk result (λ x. (d : Data) × IsJer input.now d × Says Notation.jer T.shape_of (Some (Tree.json d)) (T.value_of x)) }
+    ensures value { IfOk result (λ x. (d : Data) × IsJer input.now d × Says Notation.jer T.shape_of
+        (Some (Tree.json d)) (T.value_of x)) }
     ensures refused { IfErr result (λ e. RefusesText T.shape_of input.now (error_stop e)) }
     // A text that says a value is read as that value, unless memory runs out.
-    ensures complete { (d : Data) (v : Value) → IsJer input.now d → Says Notation.jer T.shape_of (Some (Tree.json d)) v → Reads T.value_of v result }
+    ensures complete { (d : Data) (v : Value) → IsJer input.now d → Says Notation.jer T.shape_of
+        (Some (Tree.json d)) v → Reads T.value_of v result }
 {
     let mut decoder = de::Decoder::new(alloc, input)?;
     T::decode(&mut decoder)

@@ -2,3 +2,6 @@
 #![tactic(auto)]
 
 pub mod jer;
+pub mod laws;
+#[cfg(test)]
+mod tests;

@@ -58,7 +58,8 @@ pub fn object_of(
     slots: Vec<Option<Value>>,
     fields: &[Field],
 ) -> Result<Map<String, Value>, EncodeError>
-    ensures members { IfOk result (λ m. members_view m.entries ≡ members_onto (data_of slots.items) (names_of fields.now) Members.no_members) }
+    ensures members { IfOk result (λ m. members_view m.entries ≡ members_onto (data_of slots.items)
+        (names_of fields.now) Members.no_members) }
     ensures refused { IfErr result (λ e. e.kind ≡ EncodeErrorKind.OutOfMemory) }
 {
     let mut slots = slots;
@@ -77,7 +78,8 @@ pub fn one_member(
     name: &str,
     value: Value,
 ) -> Result<Map<String, Value>, EncodeError>
-    ensures member { IfOk result (λ m. members_view m.entries ≡ Members.member name.now (view value) Members.no_members) }
+    ensures member { IfOk result (λ m. members_view m.entries ≡ Members.member name.now
+        (view value) Members.no_members) }
     ensures refused { IfErr result (λ e. e.kind ≡ EncodeErrorKind.OutOfMemory) }
 {
     let mut members = Map::new(alloc);
@@ -125,7 +127,8 @@ fn insert(
     name: &str,
     value: Value,
 ) -> Result<(), EncodeError>
-    ensures put { OnOk result (members_view members.new.entries ≡ put name.now (view value) (members_view members.old.entries)) }
+    ensures put { OnOk result (members_view members.new.entries ≡ put name.now (view value)
+        (members_view members.old.entries)) }
     ensures refused { IfErr result (λ e. e.kind ≡ EncodeErrorKind.OutOfMemory) }
 {
     let Ok(key) = String::from_str(alloc, name) else {

@@ -34,7 +34,8 @@ impl Decoder {
     ///
     /// Errors: `Parser` where the text is no JSON; else `RealNotSupported` where a number in it is neither an `i64` nor a `u64`; `OutOfMemory`.
     pub fn new(alloc: Global, input: &str) -> Result<Decoder, DecodeError>
-        ensures tree { IfOk result (λ d. (t : Data) × IsJer input.now t × (pending_of d ≡ Some (Tree.json t) ∷ [])) }
+        ensures tree { IfOk result (λ d. (t : Data) × IsJer input.now t
+            × (pending_of d ≡ Some (Tree.json t) ∷ [])) }
         ensures refused { IfErr result (λ e. NoTree input.now (error_stop e)) }
     {
         let value = match Value::from_str(alloc, input) {
@@ -68,7 +69,9 @@ impl Decoder {
 
     // Takes the first pending slot, if it is present.
     fn take(&mut self) -> Result<Value, DecodeError>
-        ensures { MatchResult result (λ v. pending_of self.old ≡ Some (tree_of v) ∷ pending_of self.new) (λ e. (s : Shape) → Refuses Notation.jer (Stops Notation.jer s (head_slot (pending_of self.old))) (error_stop e)) }
+        ensures { MatchResult result (λ v. pending_of self.old ≡ Some
+            (tree_of v) ∷ pending_of self.new) (λ e. (s : Shape) → Refuses Notation.jer
+            (Stops Notation.jer s (head_slot (pending_of self.old))) (error_stop e)) }
     {
         match self.stack.pop() {
             Some(Some(value)) => Ok(value),
@@ -79,7 +82,8 @@ impl Decoder {
 
     // Puts a slot before the pending ones.
     fn put(&mut self, slot: Option<Value>) -> Result<(), DecodeError>
-        ensures { MatchResult result (λ _. pending_of self.new ≡ slot_of slot ∷ pending_of self.old) (λ e. error_stop e ≡ at_root Why.out_of_memory Jer) }
+        ensures { MatchResult result (λ _. pending_of self.new ≡ slot_of slot ∷ pending_of self.old)
+            (λ e. error_stop e ≡ at_root Why.out_of_memory Jer) }
     {
         match self.stack.push(slot) {
             Ok(()) => Ok(()),

@@ -44,9 +44,11 @@ impl Encoder {
     ///
     /// Errors: `NoRootValueFound` where none was.
     pub fn to_json(self) -> Result<Value, EncodeError>
-        ensures tree { IfOk result (λ t. (f : Frame) → Holds self (f ∷ []) → option_map jer_data (last_present f) ≡ Some (view t)) }
+        ensures tree { IfOk result (λ t. (f : Frame) → Holds self (f ∷ []) → option_map jer_data
+            (last_present f) ≡ Some (view t)) }
         ensures kind { IfErr result (λ e. encode_why e.kind ≡ WhyUnwritten.no_root_value Jer) }
-        ensures none { IfErr result (λ e. (f : Frame) → Holds self (f ∷ []) → last_present f ≡ None) }
+        ensures none { IfErr result (λ e. (f : Frame) → Holds self (f ∷ [])
+            → last_present f ≡ None) }
     {
         match last_value(self.current) {
             Some(value) => Ok(value),
@@ -58,7 +60,8 @@ impl Encoder {
     ///
     /// Errors: `NoRootValueFound` where there is none; `OutOfMemory`.
     pub fn to_string(self) -> Result<String, EncodeError>
-        ensures text { IfOk result (λ s. (f : Frame) → Holds self (f ∷ []) → option_map (canonical_text Notation.jer) (last_present f) ≡ Some (string_bytes s)) }
+        ensures text { IfOk result (λ s. (f : Frame) → Holds self (f ∷ []) → option_map
+            (canonical_text Notation.jer) (last_present f) ≡ Some (string_bytes s)) }
         ensures refused { IfErr result (λ e. (e.kind ≡ EncodeErrorKind.OutOfMemory)
             ⊎ ((encode_why e.kind ≡ WhyUnwritten.no_root_value Jer) × ((f : Frame) → Holds self (f ∷ []) → last_present f ≡ None))) }
     {
@@ -94,7 +97,11 @@ impl Encoder {
 
 // The refusal of this kind.
 fn jer_error(kind: JerEncodeErrorKind) -> EncodeError
-    ensures { result ≡ record { kind = EncodeErrorKind.CodecSpecific (CodecEncodeError.Jer kind); codec = Jer } }
+    ensures { result ≡ record {
+      kind = EncodeErrorKind.CodecSpecific
+          (CodecEncodeError.Jer kind);
+      codec = Jer;
+    } }
 {
     EncodeError::from_kind(
         EncodeErrorKind::CodecSpecific {

@@ -27,7 +27,8 @@ pub fn end_of_input() -> DecodeError
 
 /// The JSON value is of another kind than the one that is needed. Memory may run out.
 pub fn mismatch(alloc: Global, needed: &'static str, value: &Value) -> DecodeError
-    ensures { TellsBlame Notation.jer (Tree.json (view value.now)) (Blame.mismatch needed.now) (error_stop result) }
+    ensures { TellsBlame Notation.jer (Tree.json (view value.now)) (Blame.mismatch needed.now)
+        (error_stop result) }
 {
     match value.to_string(alloc) {
         Ok(found) => jer_error(JerDecodeErrorKind::TypeMismatch { needed, found }),
@@ -37,7 +38,8 @@ pub fn mismatch(alloc: Global, needed: &'static str, value: &Value) -> DecodeErr
 
 /// The JSON value is no object where members are needed. Memory may run out.
 pub fn no_object(alloc: Global, value: &Value) -> DecodeError
-    ensures { TellsBlame Notation.jer (Tree.json (view value.now)) (needs_members Notation.jer) (error_stop result) }
+    ensures { TellsBlame Notation.jer (Tree.json (view value.now)) (needs_members Notation.jer)
+        (error_stop result) }
 {
     match String::from_str(alloc, "unknown") {
         Ok(found) => jer_error(JerDecodeErrorKind::TypeMismatch {
@@ -50,7 +52,8 @@ pub fn no_object(alloc: Global, value: &Value) -> DecodeError
 
 /// The text names no item of the type. Memory may run out.
 pub fn no_item(alloc: Global, text: &str) -> DecodeError
-    ensures { (error_stop result ≡ at_root (Why.invalid_enum_discriminant Jer text.now) Jer) ⊎ (error_stop result ≡ at_root Why.out_of_memory Jer) }
+    ensures { (error_stop result ≡ at_root (Why.invalid_enum_discriminant Jer text.now) Jer)
+        ⊎ (error_stop result ≡ at_root Why.out_of_memory Jer) }
 {
     match String::from_str(alloc, text) {
         Ok(discriminant) => jer_error(JerDecodeErrorKind::InvalidEnumDiscriminant { discriminant }),
@@ -60,7 +63,8 @@ pub fn no_item(alloc: Global, text: &str) -> DecodeError
 
 /// The text is no JSON. Memory may run out.
 pub fn no_json(alloc: Global) -> DecodeError
-    ensures { (error_stop result ≡ at_root (Why.parser (codes "Error parsing JER JSON")) Jer) ⊎ (error_stop result ≡ at_root Why.out_of_memory Jer) }
+    ensures { (error_stop result ≡ at_root (Why.parser (codes "Error parsing JER JSON")) Jer)
+        ⊎ (error_stop result ≡ at_root Why.out_of_memory Jer) }
 {
     match String::from_str(alloc, "Error parsing JER JSON") {
         Ok(msg) => DecodeError::parser_fail(msg, Codec::Jer),

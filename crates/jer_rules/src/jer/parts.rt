@@ -12,7 +12,8 @@ use serde_json::{Map, Value};
 
 /// The text, or the value where it is no string.
 pub fn into_text(value: Value) -> Result<String, Value>
-    ensures { MatchResult result (λ s. view value ≡ Data.string (string_bytes s)) (λ v. (v ≡ value) × (as_str (view value) ≡ None)) }
+    ensures { MatchResult result (λ s. view value ≡ Data.string (string_bytes s))
+        (λ v. (v ≡ value) × (as_str (view value) ≡ None)) }
 {
     match value {
         Value::String(text) => Ok(text),
@@ -22,7 +23,8 @@ pub fn into_text(value: Value) -> Result<String, Value>
 
 /// The elements, or the value where it is no array.
 pub fn into_items(value: Value) -> Result<Vec<Value>, Value>
-    ensures { MatchResult result (λ items. view value ≡ Data.array (items_view items.items)) (λ v. (v ≡ value) × (as_array (view value) ≡ None)) }
+    ensures { MatchResult result (λ items. view value ≡ Data.array (items_view items.items))
+        (λ v. (v ≡ value) × (as_array (view value) ≡ None)) }
 {
     match value {
         Value::Array(items) => Ok(items),
@@ -32,7 +34,8 @@ pub fn into_items(value: Value) -> Result<Vec<Value>, Value>
 
 /// The members, or the value where it is no object.
 pub fn into_members(value: Value) -> Result<Map<String, Value>, Value>
-    ensures { MatchResult result (λ members. view value ≡ Data.object (members_view members.entries)) (λ v. (v ≡ value) × (as_object (view value) ≡ None)) }
+    ensures { MatchResult result (λ members. view value ≡ Data.object
+        (members_view members.entries)) (λ v. (v ≡ value) × (as_object (view value) ≡ None)) }
 {
     match value {
         Value::Object(members) => Ok(members),

@@ -26,7 +26,7 @@ failed false x y q h n = h
 pub lead_letter : (c : ℕ) → lead_of c ≡ is.Letter → is_letter c ≡ true
 unfolding lead_of
 lead_letter c h = elim (cases_Bool (is_letter c)) [
-    inl e ↦ e
+  | inl e ↦ e
   | inr e ↦
       let a0 = passed (is_space c) _ _ _ h (λ x. let n : ⊥ = cc in n) in
       let a1 = failed (is_letter c) _ _ _ a0 e in
@@ -39,12 +39,13 @@ lead_letter c h = elim (cases_Bool (is_letter c)) [
       let a7 = passed (c == 44) _ _ _ a6 (λ x. let n : ⊥ = cc in n) in
       let a8 = passed (c == 58) _ _ _ a7 (λ x. let n : ⊥ = cc in n) in
       let a9 : is.Other ≡ is.Letter = passed (c == 95) _ _ _ a8 (λ x. let n : ⊥ = cc in n) in
-      let n : ⊥ = cc in absurd n ]
+      let n : ⊥ = cc in absurd n
+]
 
 pub lead_digit : (c : ℕ) → lead_of c ≡ is.Digit → is_digit c ≡ true
 unfolding lead_of
 lead_digit c h = elim (cases_Bool (is_digit c)) [
-    inl e ↦ e
+  | inl e ↦ e
   | inr e ↦
       let a0 = passed (is_space c) _ _ _ h (λ x. let n : ⊥ = cc in n) in
       let a1 = passed (is_letter c) _ _ _ a0 (λ x. let n : ⊥ = cc in n) in
@@ -57,8 +58,8 @@ lead_digit c h = elim (cases_Bool (is_digit c)) [
       let a7 = passed (c == 44) _ _ _ a6 (λ x. let n : ⊥ = cc in n) in
       let a8 = passed (c == 58) _ _ _ a7 (λ x. let n : ⊥ = cc in n) in
       let a9 : is.Other ≡ is.Digit = passed (c == 95) _ _ _ a8 (λ x. let n : ⊥ = cc in n) in
-      let n : ⊥ = cc in absurd n ]
-
+      let n : ⊥ = cc in absurd n
+]
 
 letter-name : (c : ℕ) → is_letter c ≡ true → is_name c ≡ true
 letter-name c h = ap (λ b. b || is_digit c || (c == 45) || (c == 95)) h
@@ -84,8 +85,9 @@ tail-less (c ∷ u) k e n = omega arith
 
 number-shorter : (w : List ℕ) → lead w ≡ is.Digit → length (past_number w) < length w
 number-shorter w e = elim (has_fraction (past is_digit w)) as (λ b. length (cond b (past is_digit (tail (past is_digit w))) (past is_digit w)) < length w) [
-    true ↦ omega (arith, digits-shorter w e, tail-le (past is_digit w), past-le is_digit (tail (past is_digit w)))
-  | false ↦ digits-shorter w e ]
+  | true ↦ omega (arith, digits-shorter w e, tail-le (past is_digit w), past-le is_digit (tail (past is_digit w)))
+  | false ↦ digits-shorter w e
+]
 
 quoted-shorter : (w r : List ℕ) (c : ℕ) → past inside (tail w) ≡ 39 ∷ c ∷ r → length r < length w
 quoted-shorter w r c e = omega (arith, ap (λ (x : List ℕ). length x) e, past-le inside (tail w), tail-le w)
@@ -133,8 +135,9 @@ module _ (limit level : ℕ) (u w : List ℕ) (at : w ≡ skip u) where
       let c1 : lead (skip (tail (skip u))) ≢ is.CloseBrace = subst (λ x. lead (skip x) ≢ is.CloseBrace) e1 c in
       let d1 : ItemsStand limit (suc level) [] (tail (skip u)) d.0 n = subst (λ x. ItemsStand limit (suc level) [] x d.0 n) e1 (subst (λ x. ItemsStand limit x [] z d.0 n) (add-one level) d.1) in
       elim d.2 [
-          inl k ↦ subst (λ x. Stands limit level u x n) (sym k.1) (fields_in_braces le (lead_at o) c1 d1 k.0)
-        | inr k ↦ subst (λ x. Stands limit level u x n) (sym k.1) (list_in_braces le (lead_at o) c1 d1 k.0) ]
+        | inl k ↦ subst (λ x. Stands limit level u x n) (sym k.1) (fields_in_braces le (lead_at o) c1 d1 k.0)
+        | inr k ↦ subst (λ x. Stands limit level u x n) (sym k.1) (list_in_braces le (lead_at o) c1 d1 k.0)
+      ]
 
   pub item_choice : (r z n id b : List ℕ) (t p q : Tree) → Ident w id r → lead (skip r) ≡ is.Colon → z ≡ tail (skip r) → Stands limit level z p n
       → t ≡ choice b q → b ≡ spelled id → q ≡ p → ItemStands limit level u (bare t) n
@@ -224,17 +227,19 @@ module _ (m : ℕ) (start now r : List ℕ) (g h : Gathered) (x : Item) (going :
   unclosed c f t n b =
       let p = going.only b.0 n b.1 in
       elim (follows stands p.2) [
-          ends i j k ↦ f (going.before ++ (x ∷ [])) t (pushed going.before going.holds) (subst (λ v. IsGathered v t) (p.1 ∙ ap (λ v. going.before ++ v) j) b.2)
+        | ends i j k ↦ f (going.before ++ (x ∷ [])) t (pushed going.before going.holds) (subst (λ v. IsGathered v t) (p.1 ∙ ap (λ v. going.before ++ v) j) b.2)
         | after_comma zs i j k ↦ close_comma _ c i
-        | after_number zs i j k l ↦ number_close _ j c ]
+        | after_number zs i j k l ↦ number_close _ j c
+      ]
 
   pub not_going : lead (skip r) ≢ is.CloseBrace → lead (skip r) ≢ is.Comma → (BeginsNumber (lead (skip r)) → h.integers ≢ true) → (t : Tree) (n : List ℕ) → BracesStand 64 m start t n → ⊥
   not_going c d f t n b =
       let p = going.only b.0 n b.1 in
       elim (follows stands p.2) [
-          ends i j k ↦ c i
+        | ends i j k ↦ c i
         | after_comma zs i j k ↦ d i
-        | after_number zs i j k l ↦ f j ((pushed going.before going.holds).only_integers i) ]
+        | after_number zs i j k l ↦ f j ((pushed going.before going.holds).only_integers i)
+      ]
 
   pub closed : (n : List ℕ) (t : Tree) → n ≡ tail (skip r) → lead (skip r) ≡ is.CloseBrace → ((xs : List Item) → Holds h xs → IsGathered xs t) → BracesStand 64 m start t n
   closed n t e c f =

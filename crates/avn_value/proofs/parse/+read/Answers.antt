@@ -60,7 +60,7 @@ read_item-returns-in_ok-field-in_default-lead_past_blanks-clause-ok t c =
     let f = c.lead_past_blanks.ensures in
     let less = word_shorter c.args.cursor.now.rest c.lead.new.self.rest i.0 c.identifier.new.cursor.rest c.lead_past_blanks.new.self.rest at i.1 f.stays in
     item_field 64 c.args.level _ c.lead.new.self.rest at c.identifier.new.cursor.rest c.lead_past_blanks.new.self.rest _ i.0 _ _ i.1 (λ h. d.not-Colon (f.found ∙ h)) (λ h. d.not-Comma (f.found ∙ h))
-          (λ h. d.not-CloseBrace (f.found ∙ h)) f.stays c.in_ok-field-in_default-lead_past_blanks.ensures.ok i.2
+    (λ h. d.not-CloseBrace (f.found ∙ h)) f.stays c.in_ok-field-in_default-lead_past_blanks.ensures.ok i.2
 
 pub read_item-returns-in_ok-field-in_default-lead_past_blanks-clause-shorter : goal.read_item-returns-in_ok-field-in_default-lead_past_blanks-clause-shorter
 read_item-returns-in_ok-field-in_default-lead_past_blanks-clause-shorter t c =
@@ -75,26 +75,32 @@ pub read_items-items-preserved-in-Comma : goal.read_items-items-preserved-in-Com
 read_items-items-preserved-in-Comma t c =
     let k = c.items in
     let comma : lead (skip c.read_item.new.cursor.rest) ≡ is.Comma = cc in
-    let next : c.take-comma.new.self.rest ≡ tail (skip c.read_item.new.cursor.rest) = cc in
-    (going_comma c.args.level c.args.cursor.now.rest k.cursor.rest c.read_item.new.cursor.rest k.gathered c.push.new.self _ k.invariant.0 c.in_ok-entry.ensures.ok c.in_ok-push.ensures.ok
-    c.take-comma.new.self.rest next (omega (arith, c.in_ok-entry.ensures.shorter, tail-le (skip c.read_item.new.cursor.rest), skip-le c.read_item.new.cursor.rest, ap (λ (x : List ℕ). length x) next)) comma, grind (arith, common_steps), grind (arith, common_steps))
+    let next : c.take-comma.new.self.rest ≡ tail (skip c.read_item.new.cursor.rest) = cc in (
+      going_comma c.args.level c.args.cursor.now.rest k.cursor.rest c.read_item.new.cursor.rest k.gathered c.push.new.self _ k.invariant.0 c.in_ok-entry.ensures.ok c.in_ok-push.ensures.ok
+          c.take-comma.new.self.rest next (omega (arith, c.in_ok-entry.ensures.shorter, tail-le (skip c.read_item.new.cursor.rest), skip-le c.read_item.new.cursor.rest, ap (λ (x : List ℕ). length x) next)) comma,
+      grind (arith, common_steps),
+      grind (arith, common_steps),
+    )
 
 pub read_items-returns-in-CloseBrace-clause-ok : goal.read_items-returns-in-CloseBrace-clause-ok
-read_items-returns-in-CloseBrace-clause-ok t c = 
+read_items-returns-in-CloseBrace-clause-ok t c =
     let k = c.items in
     let brace : lead (skip c.read_item.new.cursor.rest) ≡ is.CloseBrace = cc in
     let next : c.take-close.new.self.rest ≡ tail (skip c.read_item.new.cursor.rest) = cc in
     all_closed _ _ tree_of c.args.level c.args.cursor.now.rest c.take-close.new.self.rest c.push.new.self _ c.finish.result c.ok_or.result c.ok_or.ensures.value c.finish.ensures.some
     (λ v f. closed c.args.level c.args.cursor.now.rest k.cursor.rest c.read_item.new.cursor.rest k.gathered c.push.new.self _ k.invariant.0 c.in_ok-entry.ensures.ok c.in_ok-push.ensures.ok
-        c.take-close.new.self.rest v next brace f)
+    c.take-close.new.self.rest v next brace f)
 
 pub read_items-items-preserved : goal.read_items-items-preserved
 read_items-items-preserved t c =
     let k = c.items in
     let digit : BeginsNumber (lead (skip c.read_item.new.cursor.rest)) = subst BeginsNumber (c.lead.ensures.found ∙ ap lead c.skip.ensures.moves) c.in-Digit.is in
-    let next : c.lead.new.self.rest ≡ skip c.read_item.new.cursor.rest = cc in
-    (going_number c.args.level c.args.cursor.now.rest k.cursor.rest c.read_item.new.cursor.rest k.gathered c.push.new.self _ k.invariant.0 c.in_ok-entry.ensures.ok c.in_ok-push.ensures.ok
-    c.lead.new.self.rest next (omega (arith, c.in_ok-entry.ensures.shorter, skip-le c.read_item.new.cursor.rest, ap (λ (x : List ℕ). length x) next)) digit (grind (arith, common_steps)), grind (arith, common_steps), grind (arith, common_steps))
+    let next : c.lead.new.self.rest ≡ skip c.read_item.new.cursor.rest = cc in (
+      going_number c.args.level c.args.cursor.now.rest k.cursor.rest c.read_item.new.cursor.rest k.gathered c.push.new.self _ k.invariant.0 c.in_ok-entry.ensures.ok c.in_ok-push.ensures.ok
+          c.lead.new.self.rest next (omega (arith, c.in_ok-entry.ensures.shorter, skip-le c.read_item.new.cursor.rest, ap (λ (x : List ℕ). length x) next)) digit (grind (arith, common_steps)),
+      grind (arith, common_steps),
+      grind (arith, common_steps),
+    )
 
 pub read_value-returns-in_ok-payload-in-Colon-2-clause-ok : goal.read_value-returns-in_ok-payload-in-Colon-2-clause-ok
 read_value-returns-in_ok-payload-in-Colon-2-clause-ok t c =
@@ -111,7 +117,7 @@ read_value-returns-in_default-lead_past_blanks-clause-ok t c =
     let i = c.in_ok-name-in-Letter.ensures.ok in
     let f = c.lead_past_blanks.ensures in
     value_word 64 c.args.level _ c.lead.new.self.rest at c.identifier.new.cursor.rest c.lead_past_blanks.new.self.rest i.0 _ _ (omega arith) i.1 (λ h. c.in_default-lead_past_blanks.not-Colon (f.found ∙ h)) f.stays
-          c.bare.ensures i.2
+    c.bare.ensures i.2
 
 pub read_value-returns-in_default-lead_past_blanks-clause-shorter : goal.read_value-returns-in_default-lead_past_blanks-clause-shorter
 read_value-returns-in_default-lead_past_blanks-clause-shorter t c =

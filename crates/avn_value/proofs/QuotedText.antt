@@ -1,6 +1,6 @@
 -- Texts in quotes.
 use Rattle.std.specs.Prelude.{not, is_some}
-use Rattle.std.proofs.Common.{Option, Some, None, MatchOption, ◌≡◌, ◌≢◌, ◌⊎◌, inl, inr, ℕ, List, [], ◌∷◌, ◌++◌, Bool, true, false, cond, ◌==◌, refl, sym, ap, subst, ◌∙◌, append_assoc}
+use Rattle.std.proofs.Common.{Option, Some, None, MatchOption, ◌≡◌, ◌≢◌, inl, inr, ℕ, List, [], ◌∷◌, ◌++◌, Bool, true, false, cond, ◌==◌, refl, sym, ap, subst, ◌∙◌, append_assoc}
 use Rattle.std.proofs.lemmas.Bool.{cases_Bool, eqb-true, eq-eqb}
 use Rattle.std.proofs.lemmas.List.{append-nil}
 use Rattle.std.proofs.lemmas.Str.{encodes-append}
@@ -9,7 +9,7 @@ use Rattle.avn_grammar.specs.declared.chars.Lead.{Lead}
 use Rattle.avn_grammar.specs.declared.chars.Lead.TheVariants as is
 use Rattle.avn_grammar.specs.Chars.{lead, lead_of, tail, is_space, is_letter, is_digit, begins, doubled, spelled}
 use Rattle.avn_grammar.specs.Grammar.{Token, text_token}
-use Rattle.avn_grammar.specs.Tree.{Tree, char_string}
+use Rattle.avn_grammar.specs.Tree.{char_string}
 
 passed : (b : Bool) (x y q : Lead) → cond b x y ≡ q → (x ≡ q → ⊥) → y ≡ q
 passed true x y q h n = absurd (n h)

@@ -1,14 +1,14 @@
 -- Steps of a reader.
-use Rattle.std.proofs.Common.{◌≡◌, ◌≢◌, ◌⊎◌, inl, inr, ℕ, suc, ◌+◌, ◌<◌, ◌≤◌, List, [], ◌∷◌, ◌++◌, Bool, true, false, cond, ◌==◌, ◌&&◌, ◌||◌, refl, sym, ap, subst, ◌∙◌, append_assoc, length, arith, add-one, length-append, Result, Ok, Err, IfOk, OnOk, Option, Some, None}
-use Rattle.std.proofs.lemmas.Bool.{cases_Bool, eqb-true, eq-eqb}
+use Rattle.std.proofs.Common.{◌≡◌, ◌≢◌, inl, inr, ℕ, suc, ◌+◌, ◌<◌, ◌≤◌, List, [], ◌∷◌, ◌++◌, Bool, true, false, cond, ◌==◌, ◌||◌, refl, sym, ap, subst, ◌∙◌, append_assoc, length, arith, add-one, length-append, Result, Ok, Err, IfOk, OnOk, Option, Some, None}
+use Rattle.std.proofs.lemmas.Bool.{cases_Bool}
 use Rattle.avn_grammar.specs.declared.chars.Lead.{Lead}
 use Rattle.avn_grammar.specs.declared.chars.Lead.TheVariants as is
 use Rattle.avn_grammar.proofs.Refusals.{no_items, Follows, follows, ends, after_comma, after_number}
 use Rattle.avn_grammar.proofs.Runs.{past-le, skip-le}
-use Rattle.avn_grammar.specs.Chars.{lead, lead_of, tail, front, past, skip, is_space, is_letter, is_digit, is_name, begins, doubled, has_fraction, inside, spelled}
-use Rattle.avn_grammar.specs.Depth.{Deep, ItemDeep, ItemsDeep, deep_payload, deep_braces, deep_choice, deep_field, deep_value, deep_here, deep_after_comma, deep_after_number}
-use Rattle.avn_grammar.specs.Grammar.{word_of, word, Token, number_token, past_number, negative_token, octets_token, bits_token, text_token, Ident, ComesAfterWord, BeginsNumber, Item, named, bare, AllIntegers, AllNamed, AllBare, fields_of, trees_of, IsGathered, BracesStand, Stands, token, bare_word, choose, empty_braces, fields_in_braces, list_in_braces, ItemStands, choice_item, word_item, field_item, value_item, ItemsStand, last_item, comma_item, number_item}
-use Rattle.avn_grammar.specs.Tree.{Tree, Trees, Fields, integer, enumerated, choice, sequence, sequence_of, no_trees}
+use Rattle.avn_grammar.specs.Chars.{lead, lead_of, tail, past, skip, is_space, is_letter, is_digit, is_name, doubled, has_fraction, inside, spelled}
+use Rattle.avn_grammar.specs.Depth.{Deep, ItemDeep, ItemsDeep, deep_payload, deep_braces, deep_choice, deep_field, deep_value, deep_after_comma, deep_after_number}
+use Rattle.avn_grammar.specs.Grammar.{word_of, Token, number_token, past_number, negative_token, octets_token, bits_token, text_token, Ident, ComesAfterWord, BeginsNumber, Item, named, bare, IsGathered, BracesStand, Stands, token, bare_word, choose, empty_braces, fields_in_braces, list_in_braces, ItemStands, choice_item, word_item, field_item, value_item, ItemsStand, last_item, comma_item, number_item}
+use Rattle.avn_grammar.specs.Tree.{Tree, choice, sequence_of, no_trees}
 use Rattle.avn_value.proofs.Going.{Going}
 use Rattle.avn_value.proofs.NotDeep.{deep_comma_only, deep_number_only}
 use Rattle.avn_value.specs.Gathering.{Holds}

@@ -1,15 +1,15 @@
-use Rattle.std.proofs.Common.{true, ◌≡◌, ◌≢◌, ◌⊎◌, inl, inr, ℕ, List, [], ◌∷◌, ◌++◌, ◌+◌, ◌<◌, ◌≤◌, length, string_bytes, arith, ap, sym, refl, subst, ◌∙◌, Result, IfOk, OnOk, Ok, Err}
+use Rattle.std.proofs.Common.{true, ◌≡◌, ◌≢◌, inl, inr, ℕ, List, ◌<◌, length, arith, ap, sym, refl, subst, ◌∙◌}
 use Rattle.std.proofs.lemmas.Grind.{common_steps}
 use Rattle.avn_grammar.specs.declared.chars.Lead.TheVariants as is
-use Rattle.avn_grammar.proofs.Refusals.{choice_none, braces_none, other_none, item_choice_none, item_field_none, item_value_none}
+use Rattle.avn_grammar.proofs.Refusals.{choice_none, braces_none, other_none}
 use Rattle.avn_grammar.proofs.Runs.{skip-le}
 use Rattle.avn_grammar.specs.Chars.{lead, skip, tail}
 use Rattle.avn_grammar.specs.Depth.{too_deep, deep_here}
-use Rattle.avn_grammar.specs.Grammar.{Ident, ComesAfterWord, BeginsNumber, Token}
+use Rattle.avn_grammar.specs.Grammar.{Ident, ComesAfterWord, BeginsNumber}
 use Rattle.avn_grammar.specs.Tree.{sequence_of}
 use Rattle.avn_value.proofs.NoToken.{lead_token}
-use Rattle.avn_value.proofs.NotDeep.{choice_shallow, braces_shallow, other_shallow, item_choice_shallow, item_field_shallow, item_value_shallow, no_entry_deep, stopped_deep}
-use Rattle.avn_value.proofs.Steps.{ident-shorter, tail-less, tail-le, token-shorter, value_choice, value_word, value_token, value_empty, value_braces, item_choice, item_word, item_field, item_value, going_comma, going_number, closed, refused, number_close as number-close, number_comma as number-comma, all_closed, shorter_token, braces_along, payload_deep, braces_deep, choice_deep, field_deep, value_deep, items_deep_along, unclosed, not_going, no_entry}
+use Rattle.avn_value.proofs.NotDeep.{stopped_deep}
+use Rattle.avn_value.proofs.Steps.{ident-shorter, tail-le, value_choice, value_word, value_token, value_empty, value_braces, item_choice, item_word, item_field, item_value, going_comma, going_number, closed, refused, number_close as number-close, number_comma as number-comma, all_closed, shorter_token, braces_along, payload_deep, braces_deep, choice_deep, field_deep, value_deep, items_deep_along, unclosed, not_going}
 use Rattle.avn_value.proofs.Views.{view-Choice, view-SequenceOf}
 use Rattle.avn_value.specs.View.{tree_of, trees_in}
 use Rattle.std.specs.Prelude.{map}

@@ -1,7 +1,7 @@
-use Rattle.std.proofs.Common.{◌≡◌, ◌≢◌, ◌==◌, ℕ, ◌∷◌, ◌++◌, ◌≤◌, [], false, length, string_bytes, arith, ap, sym, refl, subst, ◌∙◌}
+use Rattle.std.proofs.Common.{◌≡◌, ◌≢◌, ◌==◌, ℕ, ◌∷◌, ◌++◌, [], false, arith, ap, sym, subst, ◌∙◌}
 use Rattle.std.proofs.lemmas.Grind.{common_steps}
 use Rattle.std.proofs.lemmas.Bool.{false_from_ne_true, eqb-true}
-use Rattle.avn_grammar.specs.Chars.{doubled, begins, tail}
+use Rattle.avn_grammar.specs.Chars.{begins}
 use Rattle.avn_grammar.specs.Grammar.{Token}
 use Rattle.avn_grammar.specs.Tree.{char_string}
 use Rattle.avn_value.proofs.NoToken.{text_none}

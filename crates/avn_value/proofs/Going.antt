@@ -1,10 +1,7 @@
 -- Items that were read, and what may follow them.
-use Rattle.std.proofs.Common.{◌≡◌, ℕ, List, [], ◌∷◌, ◌++◌, ◌≤◌, length, refl, sym, ap, subst, ◌∙◌, append_assoc, inl, inr, ◌⊎◌, true}
-use Rattle.avn_grammar.specs.declared.chars.Lead.TheVariants as is
-use Rattle.avn_grammar.specs.Chars.{lead, skip, tail}
+use Rattle.std.proofs.Common.{◌≡◌, ℕ, List, [], ◌++◌, ◌≤◌, length}
 use Rattle.avn_grammar.specs.Depth.{ItemsDeep}
-use Rattle.avn_grammar.specs.Grammar.{Item, AllIntegers, BeginsNumber, ItemStands, ItemsStand, last_item, comma_item, number_item, BracesStand, IsGathered}
-use Rattle.avn_grammar.specs.Tree.{Tree}
+use Rattle.avn_grammar.specs.Grammar.{Item, ItemsStand}
 use Rattle.avn_value.specs.Gathering.{Holds}
 use Rattle.avn_value.specs.declared.gathered.Gathered.{Gathered}
 

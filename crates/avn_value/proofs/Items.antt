@@ -1,6 +1,6 @@
 -- The items of braces and the vectors that hold them.
-use Rattle.std.proofs.Common.{◌≡◌, ◌≢◌, ℕ, List, [], ◌∷◌, ◌++◌, ◌⊎◌, inl, inr, Bool, true, false, Option, Some, None, refl, sym, ap, subst, ◌∙◌, string_bytes, String, Vec, Global, append_assoc}
-use Rattle.std.specs.Prelude.{map, option_map, ⊤}
+use Rattle.std.proofs.Common.{◌≡◌, ◌≢◌, ℕ, List, [], ◌∷◌, ◌++◌, inl, inr, true, false, Option, Some, None, refl, sym, ap, ◌∙◌, string_bytes, String, Global}
+use Rattle.std.specs.Prelude.{map, option_map}
 use Rattle.avn_grammar.specs.Grammar.{Item, named, bare, fields_of, trees_of, is_integer, AllIntegers, AllNamed, AllBare, IsGathered}
 use Rattle.avn_grammar.specs.Tree.{Tree, Trees, Fields, sequence, sequence_of, no_trees, tree, no_fields, field, absent}
 use Rattle.avn_value.proofs.Views.{view-Sequence, view-SequenceOf}

@@ -1,5 +1,5 @@
 -- What no token begins with.
-use Rattle.std.proofs.Common.{◌≡◌, ◌≢◌, ◌⊎◌, inl, inr, ℕ, List, [], ◌∷◌, ◌++◌, Bool, true, false, refl, sym, ap, ◌∙◌, arith}
+use Rattle.std.proofs.Common.{◌≡◌, ◌≢◌, ◌⊎◌, inl, inr, ℕ, List, [], ◌∷◌, ◌++◌, false, sym, ap, ◌∙◌, arith}
 use Rattle.avn_grammar.specs.declared.chars.Lead.TheVariants as is
 use Rattle.avn_grammar.specs.Chars.{lead, tail, past, front, inside, solid, every, doubled}
 use Rattle.avn_grammar.specs.Octets.{are_pairs, is_bit}

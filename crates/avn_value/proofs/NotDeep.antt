@@ -1,13 +1,12 @@
 -- What is not looked for too deep.
-use Rattle.std.proofs.Common.{◌≡◌, ◌≢◌, ◌⊎◌, inl, inr, ℕ, suc, ◌+◌, ◌<◌, ◌≤◌, List, [], ◌∷◌, ◌++◌, refl, sym, subst, arith, add-one, ap, ◌∙◌}
+use Rattle.std.proofs.Common.{◌≡◌, ◌≢◌, inl, inr, ℕ, ◌+◌, ◌≤◌, List, [], ◌∷◌, ◌++◌, sym, subst, arith, add-one, ap, ◌∙◌}
 use Rattle.avn_grammar.specs.declared.chars.Lead.{Lead}
 use Rattle.avn_grammar.specs.declared.chars.Lead.TheVariants as is
 use Rattle.avn_grammar.proofs.OneTree.{same_item, ident_same, lead_along, letter_brace}
 use Rattle.avn_grammar.proofs.DeepStands.{item_deep}
 use Rattle.avn_grammar.specs.Chars.{lead, skip, tail}
 use Rattle.avn_grammar.specs.Depth.{Deep, too_deep, deep_payload, deep_braces, ItemDeep, deep_choice, deep_field, deep_value, ItemsDeep, deep_here, deep_after_comma, deep_after_number}
-use Rattle.avn_grammar.specs.Grammar.{Ident, BeginsNumber, AllIntegers, Item, BracesStand, Stands, token, bare_word, choose, empty_braces, fields_in_braces, list_in_braces, ItemStands, ItemsStand}
-use Rattle.avn_grammar.specs.Tree.{Tree}
+use Rattle.avn_grammar.specs.Grammar.{Ident, BeginsNumber, AllIntegers, Item, ItemStands}
 
 close_comma : (k : Lead) → k ≡ is.CloseBrace → k ≡ is.Comma → ⊥
 close_comma k a b = cc

@@ -1,9 +1,9 @@
 -- Digits, an octet at a time.
-use Rattle.std.proofs.Common.{◌≡◌, ◌≢◌, ℕ, zero, suc, ◌+◌, ◌*◌, List, [], ◌∷◌, ◌++◌, Bool, true, refl, sym, ap, ◌∙◌, get_or, drop, append_assoc, length, ◌≤◌, arith}
+use Rattle.std.proofs.Common.{◌≡◌, ◌≢◌, ℕ, zero, suc, ◌+◌, ◌*◌, List, [], ◌∷◌, ◌++◌, Bool, true, refl, sym, ap, ◌∙◌, get_or, drop, append_assoc, length, arith}
 use Rattle.std.proofs.lemmas.List.{append-nil}
 use Rattle.std.proofs.lemmas.Bool.{and_parts}
 use Rattle.avn_grammar.specs.Chars.{every}
-use Rattle.avn_grammar.specs.Octets.{octet, packed, octets_of, are_pairs}
+use Rattle.avn_grammar.specs.Octets.{octet, packed}
 use Rattle.avn_grammar.proofs.Packing.{octet-sum}
 
 pub every-drop : (p : ℕ → Bool) (n : ℕ) (xs : List ℕ) → every p xs ≡ true → every p (drop n xs) ≡ true

@@ -1,5 +1,5 @@
 -- Looks at characters.
-use Rattle.std.proofs.Common.{◌≡◌, ℕ, ◌+◌, ◌*◌, ◌≤◌, ◌<◌, List, length, arith, ap, sym, ◌∙◌}
+use Rattle.std.proofs.Common.{◌≡◌, ℕ, ◌+◌, ◌≤◌, List, length, arith, ap}
 use Rattle.avn_grammar.specs.Chars.{lead, past, is_digit}
 use Rattle.avn_value.proofs.Steps.{digits-shorter}
 use Rattle.avn_value.specs.Ahead.{Ahead, Paid, Costs}

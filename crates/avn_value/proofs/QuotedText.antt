@@ -1,6 +1,6 @@
 -- Texts in quotes.
 use Rattle.std.specs.Prelude.{not, is_some}
-use Rattle.std.proofs.Common.{Option, Some, None, MatchOption, ◌≡◌, ◌≢◌, ◌⊎◌, inl, inr, ℕ, List, [], ◌∷◌, ◌++◌, Bool, true, false, cond, ◌==◌, refl, sym, ap, subst, ◌∙◌, append_assoc}
+use Rattle.std.proofs.Common.{Option, Some, None, MatchOption, ◌≡◌, ◌≢◌, inl, inr, ℕ, List, [], ◌∷◌, ◌++◌, Bool, true, false, cond, ◌==◌, refl, sym, ap, subst, ◌∙◌, append_assoc}
 use Rattle.std.proofs.lemmas.Bool.{cases_Bool, eqb-true, eq-eqb}
 use Rattle.std.proofs.lemmas.List.{append-nil}
 use Rattle.std.proofs.lemmas.Str.{encodes-append}
@@ -9,7 +9,7 @@ use Rattle.avn_grammar.specs.declared.chars.Lead.{Lead}
 use Rattle.avn_grammar.specs.declared.chars.Lead.TheVariants as is
 use Rattle.avn_grammar.specs.Chars.{lead, lead_of, tail, is_space, is_letter, is_digit, begins, doubled, spelled}
 use Rattle.avn_grammar.specs.Grammar.{Token, text_token}
-use Rattle.avn_grammar.specs.Tree.{Tree, char_string}
+use Rattle.avn_grammar.specs.Tree.{char_string}
 
 passed : (b : Bool) (x y q : Lead) → cond b x y ≡ q → (x ≡ q → ⊥) → y ≡ q
 passed true x y q h n = absurd (n h)
@@ -22,7 +22,7 @@ failed false x y q h n = h
 pub lead_quote : (c : ℕ) → lead_of c ≡ is.Quote → c ≡ 34
 unfolding lead_of
 lead_quote c h = elim (cases_Bool (c == 34)) [
-    inl e ↦ eqb-true c 34 e
+  | inl e ↦ eqb-true c 34 e
   | inr e ↦
       let a = passed (is_space c) _ _ _ h (λ x. let n : ⊥ = cc in n) in
       let b = passed (is_letter c) _ _ _ a (λ x. let n : ⊥ = cc in n) in
@@ -35,7 +35,8 @@ lead_quote c h = elim (cases_Bool (c == 34)) [
       let k = passed (c == 44) _ _ _ j (λ x. let n : ⊥ = cc in n) in
       let l = passed (c == 58) _ _ _ k (λ x. let n : ⊥ = cc in n) in
       let m : is.Other ≡ is.Quote = passed (c == 95) _ _ _ l (λ x. let n : ⊥ = cc in n) in
-      let n : ⊥ = cc in absurd n ]
+      let n : ⊥ = cc in absurd n
+]
 
 pub open_quote : (u : List ℕ) → lead u ≡ is.Quote → u ≡ 34 ∷ tail u
 open_quote [] h = let n : ⊥ = cc in absurd n
@@ -53,15 +54,17 @@ doubled_plain : (cs : List ℕ) (c : ℕ) → (c == 34) ≡ false → doubled (c
 doubled_plain [] c h = ap (λ b. cond b (34 ∷ 34 ∷ []) (c ∷ [])) h
 doubled_plain (d ∷ cs) c h =
     elim (d == 34) as (λ b. cond b (34 ∷ 34 ∷ doubled (cs ++ (c ∷ []))) (d ∷ doubled (cs ++ (c ∷ []))) ≡ cond b (34 ∷ 34 ∷ doubled cs) (d ∷ doubled cs) ++ (c ∷ [])) [
-        true ↦ ap (λ x. 34 ∷ 34 ∷ x) (doubled_plain cs c h)
-      | false ↦ ap (λ x. d ∷ x) (doubled_plain cs c h) ]
+      | true ↦ ap (λ x. 34 ∷ 34 ∷ x) (doubled_plain cs c h)
+      | false ↦ ap (λ x. d ∷ x) (doubled_plain cs c h)
+    ]
 
 doubled_quote : (cs : List ℕ) → doubled (cs ++ (34 ∷ [])) ≡ doubled cs ++ (34 ∷ 34 ∷ [])
 doubled_quote [] = refl
 doubled_quote (d ∷ cs) =
     elim (d == 34) as (λ b. cond b (34 ∷ 34 ∷ doubled (cs ++ (34 ∷ []))) (d ∷ doubled (cs ++ (34 ∷ []))) ≡ cond b (34 ∷ 34 ∷ doubled cs) (d ∷ doubled cs) ++ (34 ∷ 34 ∷ [])) [
-        true ↦ ap (λ x. 34 ∷ 34 ∷ x) (doubled_quote cs)
-      | false ↦ ap (λ x. d ∷ x) (doubled_quote cs) ]
+      | true ↦ ap (λ x. 34 ∷ 34 ∷ x) (doubled_quote cs)
+      | false ↦ ap (λ x. d ∷ x) (doubled_quote cs)
+    ]
 
 pub plain_more : (u r n cs : List ℕ) (c : ℕ) → u ≡ (34 ∷ doubled cs) ++ r → (c == 34) ≡ false → r ≡ c ∷ n → u ≡ (34 ∷ doubled (cs ++ (c ∷ []))) ++ n
 plain_more u r n cs c e h f =

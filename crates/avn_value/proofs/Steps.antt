@@ -1,14 +1,14 @@
 -- Steps of a reader.
-use Rattle.std.proofs.Common.{◌≡◌, ◌≢◌, ◌⊎◌, inl, inr, ℕ, suc, ◌+◌, ◌<◌, ◌≤◌, List, [], ◌∷◌, ◌++◌, Bool, true, false, cond, ◌==◌, ◌&&◌, ◌||◌, refl, sym, ap, subst, ◌∙◌, append_assoc, length, arith, add-one, length-append, Result, Ok, Err, IfOk, OnOk, Option, Some, None}
-use Rattle.std.proofs.lemmas.Bool.{cases_Bool, eqb-true, eq-eqb}
+use Rattle.std.proofs.Common.{◌≡◌, ◌≢◌, inl, inr, ℕ, suc, ◌+◌, ◌<◌, ◌≤◌, List, [], ◌∷◌, ◌++◌, Bool, true, false, cond, ◌==◌, ◌||◌, refl, sym, ap, subst, ◌∙◌, append_assoc, length, arith, add-one, length-append, Result, Ok, Err, IfOk, OnOk, Option, Some, None}
+use Rattle.std.proofs.lemmas.Bool.{cases_Bool}
 use Rattle.avn_grammar.specs.declared.chars.Lead.{Lead}
 use Rattle.avn_grammar.specs.declared.chars.Lead.TheVariants as is
 use Rattle.avn_grammar.proofs.Refusals.{no_items, Follows, follows, ends, after_comma, after_number}
 use Rattle.avn_grammar.proofs.Runs.{past-le, skip-le}
-use Rattle.avn_grammar.specs.Chars.{lead, lead_of, tail, front, past, skip, is_space, is_letter, is_digit, is_name, begins, doubled, has_fraction, inside, spelled}
-use Rattle.avn_grammar.specs.Depth.{Deep, ItemDeep, ItemsDeep, deep_payload, deep_braces, deep_choice, deep_field, deep_value, deep_here, deep_after_comma, deep_after_number}
-use Rattle.avn_grammar.specs.Grammar.{word_of, word, Token, number_token, past_number, negative_token, octets_token, bits_token, text_token, Ident, ComesAfterWord, BeginsNumber, Item, named, bare, AllIntegers, AllNamed, AllBare, fields_of, trees_of, IsGathered, BracesStand, Stands, token, bare_word, choose, empty_braces, fields_in_braces, list_in_braces, ItemStands, choice_item, word_item, field_item, value_item, ItemsStand, last_item, comma_item, number_item}
-use Rattle.avn_grammar.specs.Tree.{Tree, Trees, Fields, integer, enumerated, choice, sequence, sequence_of, no_trees}
+use Rattle.avn_grammar.specs.Chars.{lead, lead_of, tail, past, skip, is_space, is_letter, is_digit, is_name, doubled, has_fraction, inside, spelled}
+use Rattle.avn_grammar.specs.Depth.{Deep, ItemDeep, ItemsDeep, deep_payload, deep_braces, deep_choice, deep_field, deep_value, deep_after_comma, deep_after_number}
+use Rattle.avn_grammar.specs.Grammar.{word_of, Token, number_token, past_number, negative_token, octets_token, bits_token, text_token, Ident, ComesAfterWord, BeginsNumber, Item, named, bare, IsGathered, BracesStand, Stands, token, bare_word, choose, empty_braces, fields_in_braces, list_in_braces, ItemStands, choice_item, word_item, field_item, value_item, ItemsStand, last_item, comma_item, number_item}
+use Rattle.avn_grammar.specs.Tree.{Tree, choice, sequence_of, no_trees}
 use Rattle.avn_value.proofs.Going.{Going}
 use Rattle.avn_value.proofs.NotDeep.{deep_comma_only, deep_number_only}
 use Rattle.avn_value.specs.Gathering.{Holds}
@@ -26,7 +26,7 @@ failed false x y q h n = h
 pub lead_letter : (c : ℕ) → lead_of c ≡ is.Letter → is_letter c ≡ true
 unfolding lead_of
 lead_letter c h = elim (cases_Bool (is_letter c)) [
-    inl e ↦ e
+  | inl e ↦ e
   | inr e ↦
       let a0 = passed (is_space c) _ _ _ h (λ x. let n : ⊥ = cc in n) in
       let a1 = failed (is_letter c) _ _ _ a0 e in
@@ -39,12 +39,13 @@ lead_letter c h = elim (cases_Bool (is_letter c)) [
       let a7 = passed (c == 44) _ _ _ a6 (λ x. let n : ⊥ = cc in n) in
       let a8 = passed (c == 58) _ _ _ a7 (λ x. let n : ⊥ = cc in n) in
       let a9 : is.Other ≡ is.Letter = passed (c == 95) _ _ _ a8 (λ x. let n : ⊥ = cc in n) in
-      let n : ⊥ = cc in absurd n ]
+      let n : ⊥ = cc in absurd n
+]
 
 pub lead_digit : (c : ℕ) → lead_of c ≡ is.Digit → is_digit c ≡ true
 unfolding lead_of
 lead_digit c h = elim (cases_Bool (is_digit c)) [
-    inl e ↦ e
+  | inl e ↦ e
   | inr e ↦
       let a0 = passed (is_space c) _ _ _ h (λ x. let n : ⊥ = cc in n) in
       let a1 = passed (is_letter c) _ _ _ a0 (λ x. let n : ⊥ = cc in n) in
@@ -57,8 +58,8 @@ lead_digit c h = elim (cases_Bool (is_digit c)) [
       let a7 = passed (c == 44) _ _ _ a6 (λ x. let n : ⊥ = cc in n) in
       let a8 = passed (c == 58) _ _ _ a7 (λ x. let n : ⊥ = cc in n) in
       let a9 : is.Other ≡ is.Digit = passed (c == 95) _ _ _ a8 (λ x. let n : ⊥ = cc in n) in
-      let n : ⊥ = cc in absurd n ]
-
+      let n : ⊥ = cc in absurd n
+]
 
 letter-name : (c : ℕ) → is_letter c ≡ true → is_name c ≡ true
 letter-name c h = ap (λ b. b || is_digit c || (c == 45) || (c == 95)) h
@@ -84,8 +85,9 @@ tail-less (c ∷ u) k e n = omega arith
 
 number-shorter : (w : List ℕ) → lead w ≡ is.Digit → length (past_number w) < length w
 number-shorter w e = elim (has_fraction (past is_digit w)) as (λ b. length (cond b (past is_digit (tail (past is_digit w))) (past is_digit w)) < length w) [
-    true ↦ omega (arith, digits-shorter w e, tail-le (past is_digit w), past-le is_digit (tail (past is_digit w)))
-  | false ↦ digits-shorter w e ]
+  | true ↦ omega (arith, digits-shorter w e, tail-le (past is_digit w), past-le is_digit (tail (past is_digit w)))
+  | false ↦ digits-shorter w e
+]
 
 quoted-shorter : (w r : List ℕ) (c : ℕ) → past inside (tail w) ≡ 39 ∷ c ∷ r → length r < length w
 quoted-shorter w r c e = omega (arith, ap (λ (x : List ℕ). length x) e, past-le inside (tail w), tail-le w)
@@ -133,8 +135,9 @@ module _ (limit level : ℕ) (u w : List ℕ) (at : w ≡ skip u) where
       let c1 : lead (skip (tail (skip u))) ≢ is.CloseBrace = subst (λ x. lead (skip x) ≢ is.CloseBrace) e1 c in
       let d1 : ItemsStand limit (suc level) [] (tail (skip u)) d.0 n = subst (λ x. ItemsStand limit (suc level) [] x d.0 n) e1 (subst (λ x. ItemsStand limit x [] z d.0 n) (add-one level) d.1) in
       elim d.2 [
-          inl k ↦ subst (λ x. Stands limit level u x n) (sym k.1) (fields_in_braces le (lead_at o) c1 d1 k.0)
-        | inr k ↦ subst (λ x. Stands limit level u x n) (sym k.1) (list_in_braces le (lead_at o) c1 d1 k.0) ]
+        | inl k ↦ subst (λ x. Stands limit level u x n) (sym k.1) (fields_in_braces le (lead_at o) c1 d1 k.0)
+        | inr k ↦ subst (λ x. Stands limit level u x n) (sym k.1) (list_in_braces le (lead_at o) c1 d1 k.0)
+      ]
 
   pub item_choice : (r z n id b : List ℕ) (t p q : Tree) → Ident w id r → lead (skip r) ≡ is.Colon → z ≡ tail (skip r) → Stands limit level z p n
       → t ≡ choice b q → b ≡ spelled id → q ≡ p → ItemStands limit level u (bare t) n
@@ -224,17 +227,19 @@ module _ (m : ℕ) (start now r : List ℕ) (g h : Gathered) (x : Item) (going :
   unclosed c f t n b =
       let p = going.only b.0 n b.1 in
       elim (follows stands p.2) [
-          ends i j k ↦ f (going.before ++ (x ∷ [])) t (pushed going.before going.holds) (subst (λ v. IsGathered v t) (p.1 ∙ ap (λ v. going.before ++ v) j) b.2)
+        | ends i j k ↦ f (going.before ++ (x ∷ [])) t (pushed going.before going.holds) (subst (λ v. IsGathered v t) (p.1 ∙ ap (λ v. going.before ++ v) j) b.2)
         | after_comma zs i j k ↦ close_comma _ c i
-        | after_number zs i j k l ↦ number_close _ j c ]
+        | after_number zs i j k l ↦ number_close _ j c
+      ]
 
   pub not_going : lead (skip r) ≢ is.CloseBrace → lead (skip r) ≢ is.Comma → (BeginsNumber (lead (skip r)) → h.integers ≢ true) → (t : Tree) (n : List ℕ) → BracesStand 64 m start t n → ⊥
   not_going c d f t n b =
       let p = going.only b.0 n b.1 in
       elim (follows stands p.2) [
-          ends i j k ↦ c i
+        | ends i j k ↦ c i
         | after_comma zs i j k ↦ d i
-        | after_number zs i j k l ↦ f j ((pushed going.before going.holds).only_integers i) ]
+        | after_number zs i j k l ↦ f j ((pushed going.before going.holds).only_integers i)
+      ]
 
   pub closed : (n : List ℕ) (t : Tree) → n ≡ tail (skip r) → lead (skip r) ≡ is.CloseBrace → ((xs : List Item) → Holds h xs → IsGathered xs t) → BracesStand 64 m start t n
   closed n t e c f =

@@ -1,10 +1,12 @@
 -- Tokens that were read.
+use Rattle.avn_value.specs.declared.quoted.Radix.{Radix}
+use Rattle.avn_value.specs.Radix.{letter_of}
 use Rattle.avn_grammar.specs.Octets.{are_pairs, octets_of, is_bit, packed}
-use Rattle.std.proofs.Common.{◌≡◌, ℕ, List, [], ◌∷◌, ◌++◌, false, refl, sym, ap, subst, ◌∙◌, Result, Ok, Err, IfOk, OnOk, true, length}
+use Rattle.std.proofs.Common.{◌≡◌, ℕ, List, [], ◌∷◌, ◌++◌, sym, ap, subst, ◌∙◌, Result, Ok, Err, IfOk, OnOk, true, length}
 use Rattle.avn_grammar.specs.declared.chars.Lead.TheVariants as is
-use Rattle.avn_grammar.specs.Chars.{lead, tail, front, past, is_digit, has_fraction, spelled, inside, solid, every}
+use Rattle.avn_grammar.specs.Chars.{lead, tail, front, past, inside, solid, every}
 use Rattle.avn_grammar.specs.Grammar.{Token, number_token, negative_token, number_tree, past_number, octets_token, bits_token}
-use Rattle.avn_grammar.specs.Tree.{Tree, integer, octet_string, bit_string}
+use Rattle.avn_grammar.specs.Tree.{Tree, octet_string, bit_string}
 use Rattle.std.specs.Char.{encode_utf8}
 
 token_as : (u n m : List ℕ) (t v : Tree) → Token u t n → v ≡ t → m ≡ n → Token u v m
@@ -28,3 +30,10 @@ octets_read w r octets t l p h e f = subst (λ x. Token w x r) (sym (f ∙ ap oc
 pub bits_read : (w r octets : List ℕ) (n : ℕ) (t : Tree) → lead w ≡ is.Apostrophe → past inside (tail w) ≡ 39 ∷ 66 ∷ r → every is_bit (solid (front inside (tail w))) ≡ true → octets ≡ packed (solid (front inside (tail w))) → n ≡ length (solid (front inside (tail w)))
     → t ≡ bit_string octets n → Token w t r
 bits_read w r octets n t l p h e k f = subst (λ x. Token w x r) (sym (f ∙ ap (λ x. bit_string x n) e ∙ ap (bit_string (packed (solid (front inside (tail w))))) k)) (bits_token l p h)
+
+-- What was gathered between apostrophes, and what follows it.
+pub inside_read : (w z none digits : List ℕ) → z ≡ tail w → none ≡ [] → digits ≡ none ++ solid (front inside z) → digits ≡ solid (front inside (tail w))
+inside_read w z none digits e f g = g ∙ ap (λ x. x ++ solid (front inside z)) f ∙ ap (λ x. solid (front inside x)) e
+
+pub inside_closed : (w z p r : List ℕ) (j k : Radix) → z ≡ tail w → p ≡ past inside z → p ≡ 39 ∷ letter_of j ∷ r → j ≡ k → past inside (tail w) ≡ 39 ∷ letter_of k ∷ r
+inside_closed w z p r j k e f g h = ap (past inside) (sym e) ∙ sym f ∙ g ∙ ap (λ x. 39 ∷ letter_of x ∷ r) h

@@ -1,5 +1,5 @@
 -- What contracts see of a cursor.
-use Rattle.std.specs.Prelude.{◌≡◌, ℕ, ◌+◌, ◌*◌, ◌≤◌, List, refl, length}
+use Rattle.std.specs.Prelude.{ℕ, ◌+◌, ◌*◌, ◌≤◌, List, refl, length}
 use Rattle.std.specs.Coded.{Coded, code_by, coded×, coded_ℕ, coded_list}
 
 -- The whole text, as bytes, the characters that are read next, those that were not looked past, which are these or what follows their blanks, and how many characters were looked at.

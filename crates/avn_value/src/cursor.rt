@@ -7,9 +7,9 @@ ghost use Rattle.avn_grammar.specs.Chars.{lead, tail, skip, begins, front, past,
 ghost use Rattle.avn_value.specs.Ahead.{Costs};
 ghost use Rattle.avn_value.specs.Runs.{passes};
 
-use crate::chars::{passes, Run};
+use crate::chars::{Run, passes};
 use asn_base::{OutOfMemory, Scan};
-use avn_grammar::chars::{lead_of, Lead};
+use avn_grammar::chars::{Lead, lead_of};
 use std::alloc::{AllocError, Global};
 use std::marker::Model;
 
@@ -143,11 +143,7 @@ impl<'a> Cursor<'a> {
             (λ c. (passes run c ≡ true) × (self.old.rest ≡ c ∷ self.new.rest)) }
     {
         let c = self.kept?;
-        if passes(run, c) {
-            self.take()
-        } else {
-            None
-        }
+        if passes(run, c) { self.take() } else { None }
     }
 
     /// What is ahead.

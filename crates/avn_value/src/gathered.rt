@@ -5,8 +5,8 @@ ghost use Rattle.avn_grammar.specs.Tree.{sequence, sequence_of};
 ghost use Rattle.avn_value.specs.Gathering.{item_of, Holds};
 ghost use Rattle.avn_value.specs.View.{tree_of};
 
-use crate::value::AvnValue;
 use crate::fault::Fault;
+use crate::value::AvnValue;
 use std::alloc::Global;
 
 /// An item of braces.

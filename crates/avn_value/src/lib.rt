@@ -17,3 +17,6 @@ mod value;
 
 pub use parse::{parse_avn, parse_scan};
 pub use value::AvnValue;
+
+#[cfg(test)]
+mod tests;

@@ -51,7 +51,11 @@ fn octets_of_pairs(alloc: Global, digits: &[char]) -> Result<Option<Vec<u8>>, Al
         }
         rest = &rest[2..];
     }
-    if rest.is_empty() { Ok(Some(octets)) } else { Ok(None) }
+    if rest.is_empty() {
+        Ok(Some(octets))
+    } else {
+        Ok(None)
+    }
 }
 
 /// All digits are binary.
@@ -72,7 +76,11 @@ fn bit_at(digits: &[char], place: usize) -> u8
     ensures bit { result < 2 }
     ensures digit { 48 + result ≡ slice_index_or digits.now place 48 }
 {
-    if place < digits.len() && digits[place] == '1' { 1 } else { 0 }
+    if place < digits.len() && digits[place] == '1' {
+        1
+    } else {
+        0
+    }
 }
 
 /// The octet of the first eight binary digits, with zeros past the end.

@@ -1,15 +1,15 @@
-use Rattle.std.proofs.Common.{true, ◌≡◌, ◌≢◌, ◌⊎◌, inl, inr, ℕ, List, [], ◌∷◌, ◌++◌, ◌+◌, ◌<◌, ◌≤◌, length, string_bytes, arith, ap, sym, refl, subst, ◌∙◌, Result, IfOk, OnOk, Ok, Err}
+use Rattle.std.proofs.Common.{true, ◌≡◌, ◌≢◌, inl, inr, ℕ, List, ◌<◌, length, arith, ap, sym, refl, subst, ◌∙◌}
 use Rattle.std.proofs.lemmas.Grind.{common_steps}
 use Rattle.avn_grammar.specs.declared.chars.Lead.TheVariants as is
-use Rattle.avn_grammar.proofs.Refusals.{choice_none, braces_none, other_none, item_choice_none, item_field_none, item_value_none}
+use Rattle.avn_grammar.proofs.Refusals.{choice_none, braces_none, other_none}
 use Rattle.avn_grammar.proofs.Runs.{skip-le}
 use Rattle.avn_grammar.specs.Chars.{lead, skip, tail}
 use Rattle.avn_grammar.specs.Depth.{too_deep, deep_here}
-use Rattle.avn_grammar.specs.Grammar.{Ident, ComesAfterWord, BeginsNumber, Token}
+use Rattle.avn_grammar.specs.Grammar.{Ident, ComesAfterWord, BeginsNumber}
 use Rattle.avn_grammar.specs.Tree.{sequence_of}
 use Rattle.avn_value.proofs.NoToken.{lead_token}
-use Rattle.avn_value.proofs.NotDeep.{choice_shallow, braces_shallow, other_shallow, item_choice_shallow, item_field_shallow, item_value_shallow, no_entry_deep, stopped_deep}
-use Rattle.avn_value.proofs.Steps.{ident-shorter, tail-less, tail-le, token-shorter, value_choice, value_word, value_token, value_empty, value_braces, item_choice, item_word, item_field, item_value, going_comma, going_number, closed, refused, number_close as number-close, number_comma as number-comma, all_closed, shorter_token, braces_along, payload_deep, braces_deep, choice_deep, field_deep, value_deep, items_deep_along, unclosed, not_going, no_entry}
+use Rattle.avn_value.proofs.NotDeep.{stopped_deep}
+use Rattle.avn_value.proofs.Steps.{ident-shorter, tail-le, value_choice, value_word, value_token, value_empty, value_braces, item_choice, item_word, item_field, item_value, going_comma, going_number, closed, refused, number_close as number-close, number_comma as number-comma, all_closed, shorter_token, braces_along, payload_deep, braces_deep, choice_deep, field_deep, value_deep, items_deep_along, unclosed, not_going}
 use Rattle.avn_value.proofs.Views.{view-Choice, view-SequenceOf}
 use Rattle.avn_value.specs.View.{tree_of, trees_in}
 use Rattle.std.specs.Prelude.{map}
@@ -60,7 +60,7 @@ read_item-returns-in_ok-field-in_default-lead_past_blanks-clause-ok t c =
     let f = c.lead_past_blanks.ensures in
     let less = word_shorter c.args.cursor.now.rest c.lead.new.self.rest i.0 c.identifier.new.cursor.rest c.lead_past_blanks.new.self.rest at i.1 f.stays in
     item_field 64 c.args.level _ c.lead.new.self.rest at c.identifier.new.cursor.rest c.lead_past_blanks.new.self.rest _ i.0 _ _ i.1 (λ h. d.not-Colon (f.found ∙ h)) (λ h. d.not-Comma (f.found ∙ h))
-          (λ h. d.not-CloseBrace (f.found ∙ h)) f.stays c.in_ok-field-in_default-lead_past_blanks.ensures.ok i.2
+    (λ h. d.not-CloseBrace (f.found ∙ h)) f.stays c.in_ok-field-in_default-lead_past_blanks.ensures.ok i.2
 
 pub read_item-returns-in_ok-field-in_default-lead_past_blanks-clause-shorter : goal.read_item-returns-in_ok-field-in_default-lead_past_blanks-clause-shorter
 read_item-returns-in_ok-field-in_default-lead_past_blanks-clause-shorter t c =
@@ -75,26 +75,32 @@ pub read_items-items-preserved-in-Comma : goal.read_items-items-preserved-in-Com
 read_items-items-preserved-in-Comma t c =
     let k = c.items in
     let comma : lead (skip c.read_item.new.cursor.rest) ≡ is.Comma = cc in
-    let next : c.take-comma.new.self.rest ≡ tail (skip c.read_item.new.cursor.rest) = cc in
-    (going_comma c.args.level c.args.cursor.now.rest k.cursor.rest c.read_item.new.cursor.rest k.gathered c.push.new.self _ k.invariant.0 c.in_ok-entry.ensures.ok c.in_ok-push.ensures.ok
-    c.take-comma.new.self.rest next (omega (arith, c.in_ok-entry.ensures.shorter, tail-le (skip c.read_item.new.cursor.rest), skip-le c.read_item.new.cursor.rest, ap (λ (x : List ℕ). length x) next)) comma, grind (arith, common_steps), grind (arith, common_steps))
+    let next : c.take-comma.new.self.rest ≡ tail (skip c.read_item.new.cursor.rest) = cc in (
+      going_comma c.args.level c.args.cursor.now.rest k.cursor.rest c.read_item.new.cursor.rest k.gathered c.push.new.self _ k.invariant.0 c.in_ok-entry.ensures.ok c.in_ok-push.ensures.ok
+          c.take-comma.new.self.rest next (omega (arith, c.in_ok-entry.ensures.shorter, tail-le (skip c.read_item.new.cursor.rest), skip-le c.read_item.new.cursor.rest, ap (λ (x : List ℕ). length x) next)) comma,
+      grind (arith, common_steps),
+      grind (arith, common_steps),
+    )
 
 pub read_items-returns-in-CloseBrace-clause-ok : goal.read_items-returns-in-CloseBrace-clause-ok
-read_items-returns-in-CloseBrace-clause-ok t c = 
+read_items-returns-in-CloseBrace-clause-ok t c =
     let k = c.items in
     let brace : lead (skip c.read_item.new.cursor.rest) ≡ is.CloseBrace = cc in
     let next : c.take-close.new.self.rest ≡ tail (skip c.read_item.new.cursor.rest) = cc in
     all_closed _ _ tree_of c.args.level c.args.cursor.now.rest c.take-close.new.self.rest c.push.new.self _ c.finish.result c.ok_or.result c.ok_or.ensures.value c.finish.ensures.some
     (λ v f. closed c.args.level c.args.cursor.now.rest k.cursor.rest c.read_item.new.cursor.rest k.gathered c.push.new.self _ k.invariant.0 c.in_ok-entry.ensures.ok c.in_ok-push.ensures.ok
-        c.take-close.new.self.rest v next brace f)
+    c.take-close.new.self.rest v next brace f)
 
 pub read_items-items-preserved : goal.read_items-items-preserved
 read_items-items-preserved t c =
     let k = c.items in
     let digit : BeginsNumber (lead (skip c.read_item.new.cursor.rest)) = subst BeginsNumber (c.lead.ensures.found ∙ ap lead c.skip.ensures.moves) c.in-Digit.is in
-    let next : c.lead.new.self.rest ≡ skip c.read_item.new.cursor.rest = cc in
-    (going_number c.args.level c.args.cursor.now.rest k.cursor.rest c.read_item.new.cursor.rest k.gathered c.push.new.self _ k.invariant.0 c.in_ok-entry.ensures.ok c.in_ok-push.ensures.ok
-    c.lead.new.self.rest next (omega (arith, c.in_ok-entry.ensures.shorter, skip-le c.read_item.new.cursor.rest, ap (λ (x : List ℕ). length x) next)) digit (grind (arith, common_steps)), grind (arith, common_steps), grind (arith, common_steps))
+    let next : c.lead.new.self.rest ≡ skip c.read_item.new.cursor.rest = cc in (
+      going_number c.args.level c.args.cursor.now.rest k.cursor.rest c.read_item.new.cursor.rest k.gathered c.push.new.self _ k.invariant.0 c.in_ok-entry.ensures.ok c.in_ok-push.ensures.ok
+          c.lead.new.self.rest next (omega (arith, c.in_ok-entry.ensures.shorter, skip-le c.read_item.new.cursor.rest, ap (λ (x : List ℕ). length x) next)) digit (grind (arith, common_steps)),
+      grind (arith, common_steps),
+      grind (arith, common_steps),
+    )
 
 pub read_value-returns-in_ok-payload-in-Colon-2-clause-ok : goal.read_value-returns-in_ok-payload-in-Colon-2-clause-ok
 read_value-returns-in_ok-payload-in-Colon-2-clause-ok t c =
@@ -111,7 +117,7 @@ read_value-returns-in_default-lead_past_blanks-clause-ok t c =
     let i = c.in_ok-name-in-Letter.ensures.ok in
     let f = c.lead_past_blanks.ensures in
     value_word 64 c.args.level _ c.lead.new.self.rest at c.identifier.new.cursor.rest c.lead_past_blanks.new.self.rest i.0 _ _ (omega arith) i.1 (λ h. c.in_default-lead_past_blanks.not-Colon (f.found ∙ h)) f.stays
-          c.bare.ensures i.2
+    c.bare.ensures i.2
 
 pub read_value-returns-in_default-lead_past_blanks-clause-shorter : goal.read_value-returns-in_default-lead_past_blanks-clause-shorter
 read_value-returns-in_default-lead_past_blanks-clause-shorter t c =

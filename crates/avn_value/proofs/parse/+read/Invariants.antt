@@ -1,4 +1,4 @@
-use Rattle.std.proofs.Common.{◌≡◌, ℕ, ◌+◌, ◌*◌, length}
+use Rattle.std.proofs.Common.{◌≡◌, ◌+◌, ◌*◌, length}
 use Rattle.avn_value.proofs.Going.{Going}
 use Rattle.avn_value.specs.Ahead.{Paid}
 use Rattle.avn_value.proofs.parse.+read.Given as goal

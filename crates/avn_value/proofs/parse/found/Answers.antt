@@ -14,6 +14,9 @@ pub loop-cursor-preserved : goal.loop-cursor-preserved
 loop-cursor-preserved c =
     let e : c.take_choice.result ≡ true = grind (arith, common_steps) in
     let y = c.take_choice.ensures.yes e in
-    let i = c.loop-cursor.invariant in
-    (λ x f. i.0 x (found_on c.loop-cursor.cursor.rest c.skip.new.self.rest c.take_choice.new.self.rest x c.skip.ensures.moves y.0 y.1 y.2 f), cc, c.take_choice.ensures.together,
-    (omega (arith, i.3.0, i.3.1, c.skip.ensures.cost.0, c.skip.ensures.cost.1, y.3.0, y.3.1), omega (arith, i.3.0, i.3.1, c.skip.ensures.cost.0, c.skip.ensures.cost.1, y.3.0, y.3.1)))
+    let i = c.loop-cursor.invariant in (
+      λ x f. i.0 x (found_on c.loop-cursor.cursor.rest c.skip.new.self.rest c.take_choice.new.self.rest x c.skip.ensures.moves y.0 y.1 y.2 f),
+      cc,
+      c.take_choice.ensures.together,
+      (omega (arith, i.3.0, i.3.1, c.skip.ensures.cost.0, c.skip.ensures.cost.1, y.3.0, y.3.1), omega (arith, i.3.0, i.3.1, c.skip.ensures.cost.0, c.skip.ensures.cost.1, y.3.0, y.3.1)),
+    )

@@ -3,7 +3,7 @@ use Rattle.std.specs.Str.{chars}
 use Rattle.asn_fault.specs.Stop.{error_stop}
 use Rattle.avn_value.specs.Answer.{Explains, IsFoundOrMemory, exceeds_depth, out_of_memory}
 use Rattle.avn_value.specs.View.{tree_of}
-use Rattle.avn_value.proofs.Whole.{found_explains, whole_reads, whole_explains}
+use Rattle.avn_value.proofs.Whole.{found_explains, whole_explains}
 use Rattle.avn_value.proofs.parse.read_whole.Goals as goal
 
 pub returns-in-Err-UnexpectedToken-clause-err : goal.returns-in-Err-UnexpectedToken-clause-err

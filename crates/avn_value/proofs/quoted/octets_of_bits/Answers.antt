@@ -1,4 +1,4 @@
-use Rattle.std.proofs.Common.{sym, ◌∙◌}
+use Rattle.std.proofs.Common.{sym}
 use Rattle.std.proofs.lemmas.Bool.{eqb-true}
 use Rattle.avn_value.proofs.Pairs.{packed-done}
 use Rattle.avn_value.proofs.quoted.octets_of_bits.Goals as goal

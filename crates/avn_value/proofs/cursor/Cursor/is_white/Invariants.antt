@@ -1,7 +1,5 @@
 use Rattle.std.proofs.Common.{◌≡◌, length}
 use Rattle.std.specs.Char.{is_whitespace}
-use Rattle.std.specs.Str.{IsCharBoundary}
-use Rattle.asn_base.specs.Seen.{after}
 use Rattle.avn_grammar.specs.Chars.{past}
 use Rattle.avn_value.specs.Ahead.{Costs}
 use Rattle.avn_value.proofs.cursor.Cursor.is_white.Given as goal

@@ -1,4 +1,4 @@
-use Rattle.std.proofs.Common.{refl, ap}
+use Rattle.std.proofs.Common.{ap}
 use Rattle.std.specs.Str.{chars}
 use Rattle.asn_base.specs.Seen.{after}
 use Rattle.avn_value.proofs.cursor.Cursor.new.Goals as goal

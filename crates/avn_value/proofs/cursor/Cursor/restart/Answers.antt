@@ -1,5 +1,3 @@
-use Rattle.std.proofs.Common.{refl, ap}
-use Rattle.std.specs.Str.{chars}
 use Rattle.asn_base.specs.Seen.{after}
 use Rattle.avn_value.proofs.cursor.Cursor.restart.Goals as goal
 

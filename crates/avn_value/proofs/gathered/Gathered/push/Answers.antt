@@ -1,8 +1,6 @@
-use Rattle.std.proofs.Common.{◌≡◌, [], ◌∷◌, ◌++◌, true, refl, arith}
+use Rattle.std.proofs.Common.{refl, arith}
 use Rattle.std.proofs.lemmas.Grind.{common_steps}
-use Rattle.avn_grammar.specs.Grammar.{is_integer}
 use Rattle.avn_value.proofs.Items.{named_pushed, bare_pushed}
-use Rattle.avn_value.specs.View.{tree_of}
 use Rattle.avn_value.proofs.gathered.Gathered.push.Goals as goal
 use Rattle.avn_value.proofs.gathered.Gathered.push.Goals.{then-self, else-self}
 

@@ -1,5 +1,5 @@
 -- Names stay apart where a loop is unfolded.
-use Rattle.std.proofs.Common.{◌≡◌, refl, ap, sym, ◌∙◌, subst, ℕ, zero, suc, List, [], ◌∷◌, ◌++◌, Bool, true, false, ◌&&◌, nat_eq, if◌then◌else◌}
+use Rattle.std.proofs.Common.{◌≡◌, refl, ap, ◌∙◌, ℕ, suc, ◌∷◌, ◌++◌, Bool, true, false, ◌&&◌, nat_eq, if◌then◌else◌}
 use Rattle.asn_traits.specs.Shape.{Shape, Fields, FieldAdditions, Alternatives, AlternativeAdditions, fill, fill_fields, fill_added_fields, fill_alternatives, fill_added_alternatives, unfold_loop, field_names, identifiers, are_distinct}
 use Rattle.asn_traits.specs.Readable.{are_apart, all_field_names, all_identifiers, names_apart, fields_apart, added_fields_apart, alternatives_apart, added_alternatives_apart}
 

@@ -1,6 +1,6 @@
 -- A whole tree's answer, and completeness of reading and writing.
-use Rattle.std.proofs.Common.{◌≡◌, sym, ◌∙◌, subst, List, ◌∷◌, Option, Some, Result, Ok, Err, true, inl, inr}
-use Rattle.asn_fault.specs.Stop.{Stop, error_stop, is_memory}
+use Rattle.std.proofs.Common.{◌≡◌, sym, ◌∙◌, subst, List, ◌∷◌, Some, Result, Ok, Err, true, inl, inr}
+use Rattle.asn_fault.specs.Stop.{Stop, is_memory}
 use Rattle.asn_fault.specs.Unwritten.{WhyUnwritten}
 use Rattle.asn_fault.specs.declared.decode.DecodeError.{DecodeError}
 use Rattle.asn_fault.specs.declared.encode.EncodeError.{EncodeError}

@@ -1,5 +1,5 @@
 -- What is written says the value that was written.
-use Rattle.std.proofs.Common.{◌≡◌, refl, ap, sym, ◌∙◌, subst, ℕ, ℤ, pos, negsuc, List, [], ◌∷◌, map, Bool, true, false, if◌then◌else◌, Option, Some, None, Ok}
+use Rattle.std.proofs.Common.{◌≡◌, refl, ap, sym, ◌∙◌, subst, ℕ, ℤ, pos, negsuc, List, ◌∷◌, map, Bool, true, false, if◌then◌else◌, Some, None, Ok}
 use Rattle.std.specs.Prelude.{option_map}
 use Rattle.std.specs.Str.{bytes_eq}
 use Rattle.std.specs.Char.{to_ascii_lowercase}
@@ -8,13 +8,13 @@ use Rattle.serde_json.specs.Data.{Data, Members, put}
 use Rattle.serde_json.specs.Find.{get_member}
 use Rattle.serde_json.proofs.Views.{get_member-put, get_member-put_other}
 use Rattle.asn_traits.specs.Canonical.{jer_data, jer_items, jer_members}
-use Rattle.asn_traits.specs.Leaf.{as_number, as_item, result_map}
+use Rattle.asn_traits.specs.Leaf.{as_number, result_map}
 use Rattle.asn_traits.specs.Notation.{Notation}
 use Rattle.asn_traits.specs.Readable.{names_apart, fields_apart, alternatives_apart, are_apart, has_identifier}
 use Rattle.asn_traits.specs.Says.{Says, SaysEach, SaysFields}
-use Rattle.asn_traits.specs.Shape.{Shape, Fields, Alternatives, Alphabet, closed_enum, field_names, identifiers, are_distinct, is_item, alternative_named, unfold_loop}
-use Rattle.asn_traits.specs.Tree.{Tree, Slot, as_list, as_members, item_slots, member_slot, same_identifier}
-use Rattle.asn_traits.specs.Value.{Value, Values, Slots, Fits, FitsEach, FitsFields, FitsAlternative, with_field}
+use Rattle.asn_traits.specs.Shape.{Shape, Fields, Alternatives, Alphabet, closed_enum, field_names, identifiers, are_distinct, is_item, alternative_named}
+use Rattle.asn_traits.specs.Tree.{Tree, Slot, item_slots, member_slot, same_identifier}
+use Rattle.asn_traits.specs.Value.{Value, Values, Slots, Fits, FitsEach, FitsFields, FitsAlternative}
 use Rattle.asn_traits.specs.Writes.{Writes, Finds, value_slots, slot_names}
 use Rattle.asn_traits.proofs.Apartness.{and-left, and-right, unfolded-apart}
 

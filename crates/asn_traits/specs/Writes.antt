@@ -1,5 +1,5 @@
 -- What makes written trees readable.
-use Rattle.std.specs.Prelude.{◌≡◌, ℕ, ℤ, List, [], ◌∷◌, Bool, true, Option, Some, None, Ok}
+use Rattle.std.specs.Prelude.{◌≡◌, ℕ, ℤ, List, [], ◌∷◌, Bool, true, Some, None, Ok}
 use Rattle.asn_traits.specs.Leaf.{as_null, as_boolean, as_text, as_item, as_number}
 use Rattle.asn_traits.specs.Notation.{Notation}
 use Rattle.asn_traits.specs.Shape.{is_item, are_distinct}

@@ -1,16 +1,15 @@
 -- Compact texts tell JSON values apart, where each number is one that JER has.
-use Rattle.std.proofs.Common.{◌≡◌, ◌<◌, ◌≤◌, ◌^◌, ◌+◌, ◌-◌, ℕ, ℤ, pos, negsuc, zero, suc, max, List, [], ◌∷◌, ◌++◌, length, drop, get_or, cond, ◌==◌, Bool, true, false, Option, Some, None, option_and_then, option_map, unwrap_or, decimal, refl, sym, ap, ◌∙◌, subst, arith, rules, Ordering, Less, Equal, Greater}
+use Rattle.std.proofs.Common.{◌≡◌, ◌<◌, ◌^◌, ℕ, ℤ, pos, negsuc, suc, max, List, [], ◌∷◌, ◌++◌, get_or, ◌==◌, false, Option, Some, None, unwrap_or, decimal, refl, sym, ap, ◌∙◌, subst, arith, Ordering, Less, Equal, Greater}
 use Rattle.std.proofs.lemmas.Bool.{ne_eqb}
 use Rattle.std.proofs.lemmas.Fmt.{first_decimal}
 use Rattle.std.proofs.lemmas.Int.{ints}
 use Rattle.std.specs.Cmp.Lexicographic.{slice_cmp}
-use Rattle.std.specs.Fmt.{signed_decimal}
 use Rattle.std.specs.Ordering.{nat_cmp, match_ordering}
 use Rattle.json.specs.Json as json
 use Rattle.json.specs.Lex.{tokens}
-use Rattle.json.specs.Print.{print, IsNumber}
+use Rattle.json.specs.Print.{IsNumber}
 use Rattle.json.specs.Tree as tree
-use Rattle.json.specs.Word.{head, after_whole, after_fraction, after_exponent, after_number}
+use Rattle.json.specs.Word.{head, after_number}
 use Rattle.json.proofs.Printed.Decimals.{IsNumber-decimal}
 use Rattle.json.proofs.Printed.Tokens.{tokens-print}
 use Rattle.json.proofs.Printed.Trees.{value-json_tokens, ArePrintable-json_tokens}

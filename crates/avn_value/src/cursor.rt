@@ -45,7 +45,7 @@ fn push_solid(c: char, out: &mut Vec<char>) -> Result<(), AllocError>
 }
 
 /// A scan that is read from a mark on. It keeps the character at its place, which is the mark or
-/// past the blanks there, so that no character of what is read is looked at twice.
+/// past the blanks there, so that a character is looked at again only after a point.
 #[derive(Drop)]
 pub struct Cursor<'a> {
     scan: Scan<'a>,

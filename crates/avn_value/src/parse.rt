@@ -1,5 +1,5 @@
 // A reader of values, by descent.
-ghost use Rattle.std.specs.Prelude.{List, [], ℕ, true, ◌≡◌, ◌≢◌, ◌⊎◌, ◌+◌, ◌*◌, ◌≤◌, ◌<◌, ◌++◌, false, length, Err, IfOk, IfErr, OnOk, string_bytes};
+ghost use Rattle.std.specs.Prelude.{List, [], ℕ, true, ◌≡◌, ◌+◌, ◌*◌, ◌≤◌, ◌<◌, length, Err, IfOk, IfErr, OnOk, string_bytes};
 ghost use Rattle.std.specs.Char.{is_whitespace};
 ghost use Rattle.asn_fault.specs.Stop.{Why, error_stop};
 ghost use Rattle.avn_grammar.specs.Chars.{past, spelled};
@@ -10,7 +10,7 @@ ghost use Rattle.avn_grammar.specs.Unread.{Found, Unread};
 ghost use Rattle.avn_grammar.specs.Print.{print};
 ghost use Rattle.avn_grammar.specs.WellFormed.{is_well_formed};
 ghost use Rattle.avn_grammar.specs.Normal.{normal};
-ghost use Rattle.avn_value.specs.Ahead.{Costs, Paid};
+ghost use Rattle.avn_value.specs.Ahead.{Paid};
 ghost use Rattle.avn_value.specs.Answer.{Explains, IsMoreOrMemory, IsFoundOrMemory, IsValue, IsRefusal};
 ghost use Rattle.avn_value.specs.Gathering.{item_of};
 ghost use Rattle.avn_value.specs.View.{tree_of};
@@ -28,7 +28,8 @@ use avn_grammar::chars::Lead;
 use std::alloc::Global;
 use std::mem;
 
-/// A value at the level.
+/// Reads a value that is looked for at the level. `TooDeep` where a level above 64 is looked for
+/// before any other fault.
 #[cycle(read)]
 fn read_value(alloc: Global, cursor: &mut Cursor<'_>, level: usize) -> Result<AvnValue, Fault>
     ensures same { cursor.new.text ≡ cursor.old.text }
@@ -81,7 +82,7 @@ fn read_value(alloc: Global, cursor: &mut Cursor<'_>, level: usize) -> Result<Av
     }
 }
 
-/// An item of braces, whose values are at the level.
+/// Reads an item of braces, whose values are looked for at the level.
 #[cycle(read)]
 fn read_item(alloc: Global, cursor: &mut Cursor<'_>, level: usize) -> Result<Entry, Fault>
     ensures same { cursor.new.text ≡ cursor.old.text }
@@ -120,7 +121,8 @@ fn read_item(alloc: Global, cursor: &mut Cursor<'_>, level: usize) -> Result<Ent
     }
 }
 
-/// The items of braces, to the closing one.
+/// Reads the items of braces, to the closing one. `UnexpectedToken` where a comma is missing other
+/// than between Integers, or where items with a name and without are mixed.
 #[cycle(read)]
 fn read_items(alloc: Global, cursor: &mut Cursor<'_>, level: usize) -> Result<AvnValue, Fault>
     ensures same { cursor.new.text ≡ cursor.old.text }
@@ -154,7 +156,8 @@ fn read_items(alloc: Global, cursor: &mut Cursor<'_>, level: usize) -> Result<Av
     }
 }
 
-/// What is not read, for an error's text.
+/// What is not read: the first 20 characters ahead, past white space and each identifier with a
+/// colon.
 fn found(alloc: Global, cursor: &mut Cursor<'_>) -> Result<String, OutOfMemory>
     requires { cursor.old.ahead ≡ cursor.old.rest }
     ensures same { cursor.new.text ≡ cursor.old.text }
@@ -202,7 +205,7 @@ fn no_value(alloc: Global, cursor: &mut Cursor<'_>) -> DecodeError
     }
 }
 
-/// The value that the whole text is.
+/// Reads the value that the whole text is.
 fn read_whole(alloc: Global, cursor: &mut Cursor<'_>) -> Result<AvnValue, DecodeError>
     requires together { cursor.old.ahead ≡ cursor.old.rest }
     requires whole { cursor.old.rest ≡ chars cursor.old.text }

@@ -1,5 +1,5 @@
 // The tokens of the notation, other than those between apostrophes.
-ghost use Rattle.std.specs.Prelude.{◌≡◌, ◌≢◌, ◌⊎◌, ◌++◌, ◌≤◌, ℕ, List, length, Err, IfOk, OnOk, string_bytes};
+ghost use Rattle.std.specs.Prelude.{◌≡◌, ◌≢◌, ◌⊎◌, ◌≤◌, ℕ, List, length, Err, IfOk, OnOk, string_bytes};
 ghost use Rattle.avn_grammar.specs.Tree.{Tree};
 ghost use Rattle.avn_grammar.specs.Chars.{lead, spelled};
 ghost use Rattle.avn_grammar.specs.Grammar.{number_tree, past_number, word_of, Token, Ident};
@@ -13,7 +13,7 @@ use crate::value::AvnValue;
 use avn_grammar::chars::Lead;
 use std::alloc::{AllocError, Global};
 
-/// An identifier, which is ahead.
+/// Reads an identifier, whose first letter is ahead.
 #[inline(always)]
 pub fn identifier(alloc: Global, cursor: &mut Cursor<'_>) -> Result<String, AllocError>
     requires together { cursor.old.ahead ≡ cursor.old.rest }
@@ -44,7 +44,7 @@ pub fn bare(name: String) -> AvnValue
     }
 }
 
-/// A number, after its sign.
+/// Reads a number after its sign. `UnexpectedToken` where no digit is ahead.
 #[inline(always)]
 fn unsigned(cursor: &mut Cursor<'_>, sign: String) -> Result<AvnValue, Fault>
     requires together { cursor.old.ahead ≡ cursor.old.rest }
@@ -71,7 +71,8 @@ fn unsigned(cursor: &mut Cursor<'_>, sign: String) -> Result<AvnValue, Fault>
     Ok(AvnValue::Real(digits))
 }
 
-/// A number.
+/// Reads a number, whose sign or first digit is ahead. `UnexpectedToken` where no digit follows a
+/// sign.
 #[inline(always)]
 pub fn number(alloc: Global, cursor: &mut Cursor<'_>) -> Result<AvnValue, Fault>
     requires together { cursor.old.ahead ≡ cursor.old.rest }
@@ -94,7 +95,7 @@ pub fn number(alloc: Global, cursor: &mut Cursor<'_>) -> Result<AvnValue, Fault>
     }
 }
 
-/// A text in quotes, which is ahead.
+/// Reads a text in quotes, whose first quote is ahead. `UnexpectedToken` where no quote ends it.
 #[inline(always)]
 pub fn text(alloc: Global, cursor: &mut Cursor<'_>) -> Result<AvnValue, Fault>
     requires together { cursor.old.ahead ≡ cursor.old.rest }

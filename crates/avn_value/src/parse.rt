@@ -33,6 +33,7 @@ use std::mem;
 #[cycle(read)]
 fn read_value(alloc: Global, cursor: &mut Cursor<'_>, level: usize) -> Result<AvnValue, Fault>
     ensures same { cursor.new.text ≡ cursor.old.text }
+    ensures rises { cursor.old.looks ≤ cursor.new.looks }
     ensures paid { Paid cursor.old cursor.new }
     ensures ok { IfOk result (λ v. Stands 64 level cursor.old.rest (tree_of v) cursor.new.rest) }
     ensures deep { result ≡ Err Fault.TooDeep → Deep 64 level cursor.old.rest }
@@ -86,6 +87,7 @@ fn read_value(alloc: Global, cursor: &mut Cursor<'_>, level: usize) -> Result<Av
 #[cycle(read)]
 fn read_item(alloc: Global, cursor: &mut Cursor<'_>, level: usize) -> Result<Entry, Fault>
     ensures same { cursor.new.text ≡ cursor.old.text }
+    ensures rises { cursor.old.looks ≤ cursor.new.looks }
     ensures paid { Paid cursor.old cursor.new }
     ensures ok { IfOk result (λ x. ItemStands 64 level cursor.old.rest (item_of x) cursor.new.rest) }
     ensures deep { result ≡ Err Fault.TooDeep → ItemDeep 64 level cursor.old.rest }
@@ -126,6 +128,7 @@ fn read_item(alloc: Global, cursor: &mut Cursor<'_>, level: usize) -> Result<Ent
 #[cycle(read)]
 fn read_items(alloc: Global, cursor: &mut Cursor<'_>, level: usize) -> Result<AvnValue, Fault>
     ensures same { cursor.new.text ≡ cursor.old.text }
+    ensures rises { cursor.old.looks ≤ cursor.new.looks }
     ensures paid { Paid cursor.old cursor.new }
     ensures ok { IfOk result (λ v. BracesStand 64 level cursor.old.rest (tree_of v) cursor.new.rest) }
     ensures deep { result ≡ Err Fault.TooDeep → ItemsDeep 64 level [] cursor.old.rest }
@@ -161,6 +164,7 @@ fn read_items(alloc: Global, cursor: &mut Cursor<'_>, level: usize) -> Result<Av
 fn found(alloc: Global, cursor: &mut Cursor<'_>) -> Result<String, OutOfMemory>
     requires { cursor.old.ahead ≡ cursor.old.rest }
     ensures same { cursor.new.text ≡ cursor.old.text }
+    ensures rises { cursor.old.looks ≤ cursor.new.looks }
     ensures few { cursor.new.looks ≤ cursor.old.looks + 2 * length cursor.old.ahead + 1 }
     ensures found { IfOk result (λ s. (e : List ℕ) × Found cursor.old.rest e × (string_bytes s ≡ spelled e)) }
 {
@@ -179,6 +183,7 @@ fn whole_value(
     value: AvnValue,
 ) -> Result<AvnValue, DecodeError>
     ensures same { cursor.new.text ≡ cursor.old.text }
+    ensures rises { cursor.old.looks ≤ cursor.new.looks }
     ensures few { cursor.new.looks ≤ cursor.old.looks + 2 * length cursor.old.rest + 2 }
     ensures ok { IfOk result (λ v. (tree_of v ≡ tree_of value) × (past is_whitespace cursor.old.rest ≡ [])) }
     ensures err { IfErr result (λ e. IsMoreOrMemory cursor.old.rest (error_stop e)) }
@@ -195,6 +200,7 @@ fn whole_value(
 /// The error of a text that is no value: what was found in place of one.
 fn no_value(alloc: Global, cursor: &mut Cursor<'_>) -> DecodeError
     ensures same { cursor.new.text ≡ cursor.old.text }
+    ensures rises { cursor.old.looks ≤ cursor.new.looks }
     ensures few { cursor.new.looks ≤ cursor.old.looks + 2 * length (chars cursor.old.text) + 2 }
     ensures error { IsFoundOrMemory (chars cursor.old.text) (error_stop result) }
 {
@@ -210,6 +216,7 @@ fn read_whole(alloc: Global, cursor: &mut Cursor<'_>) -> Result<AvnValue, Decode
     requires together { cursor.old.ahead ≡ cursor.old.rest }
     requires whole { cursor.old.rest ≡ chars cursor.old.text }
     ensures same { cursor.new.text ≡ cursor.old.text }
+    ensures rises { cursor.old.looks ≤ cursor.new.looks }
     ensures few { cursor.new.looks ≤ cursor.old.looks + 4 * length cursor.old.rest + 2 }
     ensures ok { IfOk result (λ v. Reads 64 cursor.old.rest (tree_of v)) }
     ensures err { IfErr result (λ e. Explains 64 cursor.old.rest (error_stop e)) }
@@ -234,6 +241,7 @@ fn read_whole(alloc: Global, cursor: &mut Cursor<'_>) -> Result<AvnValue, Decode
 /// too deep; and `OutOfMemory`.
 pub fn parse_scan(alloc: Global, scan: &mut Scan<'_>) -> Result<AvnValue, DecodeError>
     ensures text { scan.new.text ≡ scan.old.text }
+    ensures rises { scan.old.looks ≤ scan.new.looks }
     ensures looks { scan.new.looks ≤ scan.old.looks + 16 * (length (chars scan.old.text) + 1) }
 
     ensures ok { IfOk result (λ value. Reads 64 (chars scan.old.text) (tree_of value)) }

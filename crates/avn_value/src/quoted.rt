@@ -124,6 +124,7 @@ pub enum Radix {
 fn closing(cursor: &mut Cursor<'_>) -> Option<Radix>
     requires together { cursor.old.ahead ≡ cursor.old.rest }
     ensures same { cursor.new.text ≡ cursor.old.text }
+    ensures rises { cursor.old.looks ≤ cursor.new.looks }
     ensures paid { Paid cursor.old cursor.new }
     ensures together { cursor.new.ahead ≡ cursor.new.rest }
     ensures found { MatchOption result
@@ -147,6 +148,7 @@ pub fn quoted(alloc: Global, cursor: &mut Cursor<'_>) -> Result<AvnValue, Fault>
     requires together { cursor.old.ahead ≡ cursor.old.rest }
     requires apostrophe { lead cursor.old.rest ≡ Lead.Apostrophe }
     ensures same { cursor.new.text ≡ cursor.old.text }
+    ensures rises { cursor.old.looks ≤ cursor.new.looks }
     ensures paid { Paid cursor.old cursor.new }
     ensures together { cursor.new.ahead ≡ cursor.new.rest }
     ensures ok { IfOk result (λ v. Token cursor.old.rest (tree_of v) cursor.new.rest) }

@@ -19,6 +19,7 @@ pub fn identifier(alloc: Global, cursor: &mut Cursor<'_>) -> Result<String, Allo
     requires together { cursor.old.ahead ≡ cursor.old.rest }
     requires letter { lead cursor.old.rest ≡ Lead.Letter }
     ensures same { cursor.new.text ≡ cursor.old.text }
+    ensures rises { cursor.old.looks ≤ cursor.new.looks }
     ensures cost { Costs cursor.old cursor.new }
     ensures together { cursor.new.ahead ≡ cursor.new.rest }
     ensures shorter { length cursor.new.rest ≤ length cursor.old.rest }
@@ -49,6 +50,7 @@ pub fn bare(name: String) -> AvnValue
 fn unsigned(cursor: &mut Cursor<'_>, sign: String) -> Result<AvnValue, Fault>
     requires together { cursor.old.ahead ≡ cursor.old.rest }
     ensures same { cursor.new.text ≡ cursor.old.text }
+    ensures rises { cursor.old.looks ≤ cursor.new.looks }
     ensures paid { Paid cursor.old cursor.new }
     ensures together { cursor.new.ahead ≡ cursor.new.rest }
     ensures digit { OnOk result (lead cursor.old.rest ≡ Lead.Digit) }
@@ -78,6 +80,7 @@ pub fn number(alloc: Global, cursor: &mut Cursor<'_>) -> Result<AvnValue, Fault>
     requires together { cursor.old.ahead ≡ cursor.old.rest }
     requires begins { (lead cursor.old.rest ≡ Lead.Digit) ⊎ (lead cursor.old.rest ≡ Lead.Minus) }
     ensures same { cursor.new.text ≡ cursor.old.text }
+    ensures rises { cursor.old.looks ≤ cursor.new.looks }
     ensures paid { Paid cursor.old cursor.new }
     ensures together { cursor.new.ahead ≡ cursor.new.rest }
     ensures ok { IfOk result (λ v. Token cursor.old.rest (tree_of v) cursor.new.rest) }
@@ -101,6 +104,7 @@ pub fn text(alloc: Global, cursor: &mut Cursor<'_>) -> Result<AvnValue, Fault>
     requires together { cursor.old.ahead ≡ cursor.old.rest }
     requires quote { lead cursor.old.rest ≡ Lead.Quote }
     ensures same { cursor.new.text ≡ cursor.old.text }
+    ensures rises { cursor.old.looks ≤ cursor.new.looks }
     ensures paid { Paid cursor.old cursor.new }
     ensures together { cursor.new.ahead ≡ cursor.new.rest }
     ensures ok { IfOk result (λ v. Token cursor.old.rest (tree_of v) cursor.new.rest) }

@@ -1,5 +1,5 @@
 // A text that is read a character at a time.
-ghost use Rattle.std.specs.Prelude.{◌≡◌, ◌+◌, ◌-◌, ◌<◌, ◌^◌, [], ◌∷◌, min, MatchOption, length, take, OnOk, OnErr, IfOk, string_bytes};
+ghost use Rattle.std.specs.Prelude.{◌≡◌, ◌+◌, ◌-◌, ◌<◌, ◌≤◌, ◌^◌, [], ◌∷◌, min, MatchOption, length, take, OnOk, OnErr, IfOk, string_bytes};
 ghost use Rattle.std.specs.Str.{IsCharBoundary, encode_utf8_all};
 ghost use Rattle.std.specs.Char.{len_utf8};
 ghost use Rattle.asn_base.specs.Seen.{after};
@@ -42,6 +42,7 @@ impl<'a> Scan<'a> {
         requires { IsCharBoundary self.old.text place }
         ensures same { self.new.text ≡ self.old.text }
         ensures counted { self.new.looks ≡ min (self.old.looks + 1) (2 ^ 128 - 1) }
+        ensures rises { self.old.looks ≤ self.new.looks }
         ensures found { MatchOption result (after self.old.text place ≡ [])
             (λ c. after self.old.text place ≡ c ∷ after self.old.text (place + len_utf8 c)) }
         ensures fits { length self.old.text < 2 ^ 64 }
@@ -72,6 +73,7 @@ impl<'a> Scan<'a> {
         requires { IsCharBoundary self.old.text place }
         ensures same { self.new.text ≡ self.old.text }
         ensures counted { OnOk result (self.new.looks ≡ min (self.old.looks + length (take at_most (after self.old.text place))) (2 ^ 128 - 1)) }
+        ensures rises { self.old.looks ≤ self.new.looks }
         ensures unchanged { OnErr result (self.new ≡ self.old) }
         ensures copied { IfOk result (λ s. string_bytes s ≡ encode_utf8_all (take at_most (after self.old.text place))) }
     {

@@ -6,7 +6,7 @@ ghost use Rattle.avn_grammar.specs.Tree.{Tree};
 ghost use Rattle.avn_grammar.specs.Chars.{lead, skip};
 ghost use Rattle.avn_grammar.specs.Grammar.{Stands, Reads, ComesAfterValue};
 ghost use Rattle.avn_grammar.specs.Depth.{Deep, deepest};
-ghost use Rattle.avn_grammar.specs.Unread.{Unread, Halts, by_token};
+ghost use Rattle.avn_grammar.specs.Unread.{Unread};
 ghost use Rattle.avn_grammar.specs.Print.{print};
 ghost use Rattle.avn_grammar.specs.WellFormed.{is_well_formed};
 ghost use Rattle.avn_grammar.specs.Normal.{normal};

@@ -45,7 +45,7 @@ fn push_solid(c: char, out: &mut Vec<char>) -> Result<(), AllocError>
 }
 
 /// A scan that is read from a mark on. It keeps the character at its place, which is the mark or
-/// past the blanks there, so that no character of what is read is looked at twice.
+/// past the blanks there, so that a character is looked at again only after a point.
 #[derive(Drop)]
 pub struct Cursor<'a> {
     scan: Scan<'a>,
@@ -80,6 +80,7 @@ impl<'a> Cursor<'a> {
         ensures rest { result.rest ≡ chars scan.entry.text }
         ensures together { result.ahead ≡ result.rest }
         ensures looks { result.looks ≤ scan.entry.looks + 1 }
+        ensures rises { scan.entry.looks ≤ result.looks }
     {
         scan.has_edge_at_start();
         let mut scan = scan;
@@ -110,6 +111,7 @@ impl<'a> Cursor<'a> {
     pub fn take(&mut self) -> Option<char>
         requires { self.old.ahead ≡ self.old.rest }
         ensures same { self.new.text ≡ self.old.text }
+        ensures rises { self.old.looks ≤ self.new.looks }
         ensures cost { Costs self.old self.new }
         ensures together { self.new.ahead ≡ self.new.rest }
         ensures shorter { length self.new.rest ≤ length self.old.rest }
@@ -136,6 +138,7 @@ impl<'a> Cursor<'a> {
     pub fn take_if(&mut self, run: Run) -> Option<char>
         requires { self.old.ahead ≡ self.old.rest }
         ensures same { self.new.text ≡ self.old.text }
+        ensures rises { self.old.looks ≤ self.new.looks }
         ensures cost { Costs self.old self.new }
         ensures together { self.new.ahead ≡ self.new.rest }
         ensures found { MatchOption result
@@ -165,6 +168,7 @@ impl<'a> Cursor<'a> {
     #[tactic(auto, using(crate::proofs::Looking::blanks))]
     pub fn skip(&mut self)
         ensures same { self.new.text ≡ self.old.text }
+        ensures rises { self.old.looks ≤ self.new.looks }
         ensures cost { Costs self.old self.new }
         ensures together { self.new.ahead ≡ self.new.rest }
         ensures shorter { length self.new.rest ≤ length self.old.rest }
@@ -179,6 +183,7 @@ impl<'a> Cursor<'a> {
     #[tactic(auto, using(crate::proofs::Looking::twice))]
     pub fn lead_past_blanks(&mut self) -> Lead
         ensures same { self.new.text ≡ self.old.text }
+        ensures rises { self.old.looks ≤ self.new.looks }
         ensures cost { Costs self.old self.new }
         ensures stays { self.new.rest ≡ self.old.rest }
         ensures past { self.new.ahead ≡ skip self.old.rest }
@@ -197,6 +202,7 @@ impl<'a> Cursor<'a> {
     pub fn take_run(&mut self, run: Run, out: &mut String) -> Result<(), AllocError>
         requires { self.old.ahead ≡ self.old.rest }
         ensures same { self.new.text ≡ self.old.text }
+        ensures rises { self.old.looks ≤ self.new.looks }
         ensures cost { Costs self.old self.new }
         ensures together { self.new.ahead ≡ self.new.rest }
         ensures shorter { length self.new.rest ≤ length self.old.rest }
@@ -216,6 +222,7 @@ impl<'a> Cursor<'a> {
     pub fn take_inside(&mut self, out: &mut Vec<char>) -> Result<(), AllocError>
         requires { self.old.ahead ≡ self.old.rest }
         ensures same { self.new.text ≡ self.old.text }
+        ensures rises { self.old.looks ≤ self.new.looks }
         ensures cost { Costs self.old self.new }
         ensures together { self.new.ahead ≡ self.new.rest }
         ensures moves { OnOk result (self.new.rest ≡ past inside self.old.rest) }
@@ -233,6 +240,7 @@ impl<'a> Cursor<'a> {
     pub fn has_fraction(&mut self) -> bool
         requires { self.old.ahead ≡ self.old.rest }
         ensures same { self.new.text ≡ self.old.text }
+        ensures rises { self.old.looks ≤ self.new.looks }
         ensures few { self.new.looks ≤ self.old.looks + 1 }
         ensures ahead { self.new.ahead ≡ self.old.ahead }
         ensures stays { self.new.rest ≡ self.old.rest }
@@ -251,6 +259,7 @@ impl<'a> Cursor<'a> {
     fn go_to(&mut self, place: usize)
         requires { IsCharBoundary self.old.text place }
         ensures same { self.new.text ≡ self.old.text }
+        ensures rises { self.old.looks ≤ self.new.looks }
         ensures few { self.new.looks ≤ self.old.looks + 1 }
         ensures rest { self.new.rest ≡ after self.old.text place }
         ensures together { self.new.ahead ≡ self.new.rest }
@@ -267,6 +276,7 @@ impl<'a> Cursor<'a> {
     /// Back at the mark.
     fn rewind(&mut self)
         ensures same { self.new.text ≡ self.old.text }
+        ensures rises { self.old.looks ≤ self.new.looks }
         ensures few { self.new.looks ≤ self.old.looks + 1 }
         ensures stays { self.new.rest ≡ self.old.rest }
         ensures together { self.new.ahead ≡ self.new.rest }
@@ -277,6 +287,7 @@ impl<'a> Cursor<'a> {
     /// Back at the text's beginning.
     pub fn restart(&mut self)
         ensures same { self.new.text ≡ self.old.text }
+        ensures rises { self.old.looks ≤ self.new.looks }
         ensures few { self.new.looks ≤ self.old.looks + 1 }
         ensures rest { self.new.rest ≡ chars self.old.text }
         ensures together { self.new.ahead ≡ self.new.rest }
@@ -288,6 +299,7 @@ impl<'a> Cursor<'a> {
     /// The first characters of the rest.
     pub fn excerpt(&mut self, alloc: Global, at_most: usize) -> Result<String, OutOfMemory>
         ensures same { self.new.text ≡ self.old.text }
+        ensures rises { self.old.looks ≤ self.new.looks }
         ensures few { self.new.looks ≤ self.old.looks + length self.old.rest }
         ensures copied { IfOk result (λ s. string_bytes s ≡ encode_utf8_all (take at_most self.old.rest)) }
     {
@@ -297,6 +309,7 @@ impl<'a> Cursor<'a> {
     /// The rest.
     fn all_of_rest(&mut self, alloc: Global) -> Result<String, OutOfMemory>
         ensures same { self.new.text ≡ self.old.text }
+        ensures rises { self.old.looks ≤ self.new.looks }
         ensures few { self.new.looks ≤ self.old.looks + length self.old.rest }
         ensures copied { IfOk result (λ s. string_bytes s ≡ encode_utf8_all self.old.rest) }
     {
@@ -308,6 +321,7 @@ impl<'a> Cursor<'a> {
     #[tactic(auto, using(crate::proofs::Looking::whites))]
     fn is_white(&mut self) -> bool
         ensures same { self.new.text ≡ self.old.text }
+        ensures rises { self.old.looks ≤ self.new.looks }
         ensures few { self.new.looks ≤ self.old.looks + length self.old.rest + 1 }
         ensures yes { result ≡ true → past is_whitespace self.old.rest ≡ [] }
         ensures no { result ≡ false → past is_whitespace self.old.rest ≢ [] }
@@ -324,6 +338,7 @@ impl<'a> Cursor<'a> {
     /// The rest, unless it is white space only.
     pub fn other_than_white(&mut self, alloc: Global) -> Result<Option<String>, OutOfMemory>
         ensures same { self.new.text ≡ self.old.text }
+        ensures rises { self.old.looks ≤ self.new.looks }
         ensures few { self.new.looks ≤ self.old.looks + 2 * length self.old.rest + 2 }
         ensures found { IfOk result (λ o. MatchOption o (past is_whitespace self.old.rest ≡ [])
             (λ s. (past is_whitespace self.old.rest ≢ []) × (string_bytes s ≡ encode_utf8_all self.old.rest))) }
@@ -341,6 +356,7 @@ impl<'a> Cursor<'a> {
     pub fn take_choice(&mut self) -> bool
         requires { self.old.ahead ≡ self.old.rest }
         ensures same { self.new.text ≡ self.old.text }
+        ensures rises { self.old.looks ≤ self.new.looks }
         ensures together { self.new.ahead ≡ self.new.rest }
         ensures yes { result ≡ true → (lead self.old.rest ≡ Lead.Letter) × (lead (skip (past is_name self.old.rest)) ≡ Lead.Colon)
             × (self.new.rest ≡ tail (skip (past is_name self.old.rest))) × Costs self.old self.new × (length self.new.rest < length self.old.rest) }
@@ -371,6 +387,7 @@ impl<'a> Cursor<'a> {
     fn pass_run(&mut self, run: Run)
         requires { self.old.ahead ≡ self.old.rest }
         ensures same { self.new.text ≡ self.old.text }
+        ensures rises { self.old.looks ≤ self.new.looks }
         ensures cost { Costs self.old self.new }
         ensures together { self.new.ahead ≡ self.new.rest }
         ensures moves { self.new.rest ≡ past (passes run) self.old.rest }

@@ -2,11 +2,14 @@
 use asn_base::OutOfMemory;
 use std::alloc::{AllocError, AllocFailed};
 
-/// Why a text is not read.
+/// Why a value is not read. What is found in place of one is looked for by the caller.
 #[derive(Clone, Copy, Drop, PartialEq, Eq)]
 pub enum Fault {
+    /// The text ahead is not in the notation.
     UnexpectedToken,
+    /// A value is looked for above the greatest level.
     TooDeep,
+    /// Memory ran out.
     OutOfMemory,
 }
 

@@ -1,7 +1,6 @@
 // The items of braces, as they are read.
-ghost use Rattle.std.specs.Prelude.{◌≡◌, ◌⊎◌, [], ◌∷◌, ◌++◌, List, IfOk, OnOk, IfSome, IfNone, Err, ◌≢◌};
+ghost use Rattle.std.specs.Prelude.{◌≡◌, [], ◌∷◌, ◌++◌, List, OnOk, IfSome, IfNone, Err, ◌≢◌};
 ghost use Rattle.avn_grammar.specs.Grammar.{Item, IsGathered};
-ghost use Rattle.avn_grammar.specs.Tree.{sequence, sequence_of};
 ghost use Rattle.avn_value.specs.Gathering.{item_of, Holds};
 ghost use Rattle.avn_value.specs.View.{tree_of};
 
@@ -12,11 +11,14 @@ use std::alloc::Global;
 /// An item of braces.
 #[derive(Drop)]
 pub enum Entry {
+    /// A field: its name and its value.
     Named(String, AvnValue),
+    /// A value without a name.
     Bare(AvnValue),
 }
 
-/// Items that were read so far.
+/// The items of braces that were read so far. A flag says that all of them are Integers without a
+/// name, so that no item is visited again where a comma is missing.
 #[derive(Drop)]
 pub struct Gathered {
     fields: Vec<(String, Option<AvnValue>)>,
@@ -25,6 +27,7 @@ pub struct Gathered {
 }
 
 impl Gathered {
+    /// No items.
     #[inline(always)]
     pub fn new(alloc: Global) -> Gathered
         ensures { Holds result [] }
@@ -36,6 +39,7 @@ impl Gathered {
         }
     }
 
+    /// One item more. Its only error is want of memory.
     #[inline(always)]
     pub fn push(&mut self, entry: Entry) -> Result<(), Fault>
         ensures ok { OnOk result ((before : List Item) → Holds self.old before → Holds self.new (before ++ item_of entry ∷ [])) }
@@ -56,7 +60,7 @@ impl Gathered {
         }
     }
 
-    /// All items are integers.
+    /// All items so far are Integers without a name.
     #[inline(always)]
     pub fn are_integers(&self) -> bool
         ensures { result ≡ self.now.integers }

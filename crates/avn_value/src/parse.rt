@@ -1,5 +1,5 @@
 // A reader of values, by descent.
-ghost use Rattle.std.specs.Prelude.{List, [], ℕ, true, ◌≡◌, ◌≢◌, ◌⊎◌, ◌+◌, ◌*◌, ◌≤◌, ◌<◌, ◌++◌, false, length, Err, IfOk, IfErr, OnOk, string_bytes};
+ghost use Rattle.std.specs.Prelude.{List, [], ℕ, true, ◌≡◌, ◌+◌, ◌*◌, ◌≤◌, ◌<◌, length, Err, IfOk, IfErr, OnOk, string_bytes};
 ghost use Rattle.std.specs.Char.{is_whitespace};
 ghost use Rattle.asn_fault.specs.Stop.{Why, error_stop};
 ghost use Rattle.avn_grammar.specs.Chars.{past, spelled};
@@ -10,7 +10,7 @@ ghost use Rattle.avn_grammar.specs.Unread.{Found, Unread};
 ghost use Rattle.avn_grammar.specs.Print.{print};
 ghost use Rattle.avn_grammar.specs.WellFormed.{is_well_formed};
 ghost use Rattle.avn_grammar.specs.Normal.{normal};
-ghost use Rattle.avn_value.specs.Ahead.{Costs, Paid};
+ghost use Rattle.avn_value.specs.Ahead.{Paid};
 ghost use Rattle.avn_value.specs.Answer.{Explains, IsMoreOrMemory, IsFoundOrMemory, IsValue, IsRefusal};
 ghost use Rattle.avn_value.specs.Gathering.{item_of};
 ghost use Rattle.avn_value.specs.View.{tree_of};
@@ -28,10 +28,12 @@ use avn_grammar::chars::Lead;
 use std::alloc::Global;
 use std::mem;
 
-/// A value at the level.
+/// Reads a value that is looked for at the level. `TooDeep` where a level above 64 is looked for
+/// before any other fault.
 #[cycle(read)]
 fn read_value(alloc: Global, cursor: &mut Cursor<'_>, level: usize) -> Result<AvnValue, Fault>
     ensures same { cursor.new.text ≡ cursor.old.text }
+    ensures rises { cursor.old.looks ≤ cursor.new.looks }
     ensures paid { Paid cursor.old cursor.new }
     ensures ok { IfOk result (λ v. Stands 64 level cursor.old.rest (tree_of v) cursor.new.rest) }
     ensures deep { result ≡ Err Fault.TooDeep → Deep 64 level cursor.old.rest }
@@ -81,10 +83,11 @@ fn read_value(alloc: Global, cursor: &mut Cursor<'_>, level: usize) -> Result<Av
     }
 }
 
-/// An item of braces, whose values are at the level.
+/// Reads an item of braces, whose values are looked for at the level.
 #[cycle(read)]
 fn read_item(alloc: Global, cursor: &mut Cursor<'_>, level: usize) -> Result<Entry, Fault>
     ensures same { cursor.new.text ≡ cursor.old.text }
+    ensures rises { cursor.old.looks ≤ cursor.new.looks }
     ensures paid { Paid cursor.old cursor.new }
     ensures ok { IfOk result (λ x. ItemStands 64 level cursor.old.rest (item_of x) cursor.new.rest) }
     ensures deep { result ≡ Err Fault.TooDeep → ItemDeep 64 level cursor.old.rest }
@@ -120,10 +123,12 @@ fn read_item(alloc: Global, cursor: &mut Cursor<'_>, level: usize) -> Result<Ent
     }
 }
 
-/// The items of braces, to the closing one.
+/// Reads the items of braces, to the closing one. `UnexpectedToken` where a comma is missing other
+/// than between Integers, or where items with a name and without are mixed.
 #[cycle(read)]
 fn read_items(alloc: Global, cursor: &mut Cursor<'_>, level: usize) -> Result<AvnValue, Fault>
     ensures same { cursor.new.text ≡ cursor.old.text }
+    ensures rises { cursor.old.looks ≤ cursor.new.looks }
     ensures paid { Paid cursor.old cursor.new }
     ensures ok { IfOk result (λ v. BracesStand 64 level cursor.old.rest (tree_of v) cursor.new.rest) }
     ensures deep { result ≡ Err Fault.TooDeep → ItemsDeep 64 level [] cursor.old.rest }
@@ -154,10 +159,12 @@ fn read_items(alloc: Global, cursor: &mut Cursor<'_>, level: usize) -> Result<Av
     }
 }
 
-/// What is not read, for an error's text.
+/// What is not read: the first 20 characters ahead, past white space and each identifier with a
+/// colon.
 fn found(alloc: Global, cursor: &mut Cursor<'_>) -> Result<String, OutOfMemory>
     requires { cursor.old.ahead ≡ cursor.old.rest }
     ensures same { cursor.new.text ≡ cursor.old.text }
+    ensures rises { cursor.old.looks ≤ cursor.new.looks }
     ensures few { cursor.new.looks ≤ cursor.old.looks + 2 * length cursor.old.ahead + 1 }
     ensures found { IfOk result (λ s. (e : List ℕ) × Found cursor.old.rest e × (string_bytes s ≡ spelled e)) }
 {
@@ -176,6 +183,7 @@ fn whole_value(
     value: AvnValue,
 ) -> Result<AvnValue, DecodeError>
     ensures same { cursor.new.text ≡ cursor.old.text }
+    ensures rises { cursor.old.looks ≤ cursor.new.looks }
     ensures few { cursor.new.looks ≤ cursor.old.looks + 2 * length cursor.old.rest + 2 }
     ensures ok { IfOk result (λ v. (tree_of v ≡ tree_of value) × (past is_whitespace cursor.old.rest ≡ [])) }
     ensures err { IfErr result (λ e. IsMoreOrMemory cursor.old.rest (error_stop e)) }
@@ -192,6 +200,7 @@ fn whole_value(
 /// The error of a text that is no value: what was found in place of one.
 fn no_value(alloc: Global, cursor: &mut Cursor<'_>) -> DecodeError
     ensures same { cursor.new.text ≡ cursor.old.text }
+    ensures rises { cursor.old.looks ≤ cursor.new.looks }
     ensures few { cursor.new.looks ≤ cursor.old.looks + 2 * length (chars cursor.old.text) + 2 }
     ensures error { IsFoundOrMemory (chars cursor.old.text) (error_stop result) }
 {
@@ -202,11 +211,12 @@ fn no_value(alloc: Global, cursor: &mut Cursor<'_>) -> DecodeError
     }
 }
 
-/// The value that the whole text is.
+/// Reads the value that the whole text is.
 fn read_whole(alloc: Global, cursor: &mut Cursor<'_>) -> Result<AvnValue, DecodeError>
     requires together { cursor.old.ahead ≡ cursor.old.rest }
     requires whole { cursor.old.rest ≡ chars cursor.old.text }
     ensures same { cursor.new.text ≡ cursor.old.text }
+    ensures rises { cursor.old.looks ≤ cursor.new.looks }
     ensures few { cursor.new.looks ≤ cursor.old.looks + 4 * length cursor.old.rest + 2 }
     ensures ok { IfOk result (λ v. Reads 64 cursor.old.rest (tree_of v)) }
     ensures err { IfErr result (λ e. Explains 64 cursor.old.rest (error_stop e)) }
@@ -231,6 +241,7 @@ fn read_whole(alloc: Global, cursor: &mut Cursor<'_>) -> Result<AvnValue, Decode
 /// too deep; and `OutOfMemory`.
 pub fn parse_scan(alloc: Global, scan: &mut Scan<'_>) -> Result<AvnValue, DecodeError>
     ensures text { scan.new.text ≡ scan.old.text }
+    ensures rises { scan.old.looks ≤ scan.new.looks }
     ensures looks { scan.new.looks ≤ scan.old.looks + 16 * (length (chars scan.old.text) + 1) }
 
     ensures ok { IfOk result (λ value. Reads 64 (chars scan.old.text) (tree_of value)) }

@@ -1,5 +1,5 @@
 // The printed text of a value.
-ghost use Rattle.std.specs.Prelude.{◌≡◌, suc};
+ghost use Rattle.std.specs.Prelude.{◌≡◌};
 ghost use Rattle.std.specs.Fmt.{WritesOnOk};
 ghost use Rattle.avn_grammar.specs.Tree.{sequence, sequence_of, octet_string, bit_string, oid, char_string};
 ghost use Rattle.avn_grammar.specs.Chars.{doubled};

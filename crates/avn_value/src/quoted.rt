@@ -2,9 +2,9 @@
 ghost use Rattle.std.specs.Prelude.{◌≡◌, ◌≢◌, ◌+◌, ◌<◌, ◌≤◌, ℕ, List, [], ◌∷◌, true, false, drop, length, Err, IfOk, MatchOption, slice_index_or};
 ghost use Rattle.avn_grammar.specs.Tree.{Tree};
 ghost use Rattle.avn_grammar.specs.Chars.{lead, every};
-ghost use Rattle.avn_grammar.specs.Octets.{is_hex, hex_value, are_pairs, octets_of, is_bit, octet, packed};
+ghost use Rattle.avn_grammar.specs.Octets.{is_hex, hex_value, are_pairs, octets_of, is_bit, packed};
 ghost use Rattle.avn_grammar.specs.Grammar.{Token};
-ghost use Rattle.avn_value.specs.Ahead.{Costs, Paid};
+ghost use Rattle.avn_value.specs.Ahead.{Paid};
 ghost use Rattle.avn_value.specs.Radix.{letter_of};
 ghost use Rattle.avn_value.specs.View.{tree_of};
 
@@ -124,6 +124,7 @@ pub enum Radix {
 fn closing(cursor: &mut Cursor<'_>) -> Option<Radix>
     requires together { cursor.old.ahead ≡ cursor.old.rest }
     ensures same { cursor.new.text ≡ cursor.old.text }
+    ensures rises { cursor.old.looks ≤ cursor.new.looks }
     ensures paid { Paid cursor.old cursor.new }
     ensures together { cursor.new.ahead ≡ cursor.new.rest }
     ensures found { MatchOption result
@@ -140,11 +141,14 @@ fn closing(cursor: &mut Cursor<'_>) -> Option<Radix>
     }
 }
 
-/// Octets in hexadecimal, or bits, whose first apostrophe is ahead.
+/// Reads octets in hexadecimal, or bits, whose first apostrophe is ahead. `UnexpectedToken` where
+/// no apostrophe and `H` or `B` follow, or other characters stand between than these digits and
+/// white space.
 pub fn quoted(alloc: Global, cursor: &mut Cursor<'_>) -> Result<AvnValue, Fault>
     requires together { cursor.old.ahead ≡ cursor.old.rest }
     requires apostrophe { lead cursor.old.rest ≡ Lead.Apostrophe }
     ensures same { cursor.new.text ≡ cursor.old.text }
+    ensures rises { cursor.old.looks ≤ cursor.new.looks }
     ensures paid { Paid cursor.old cursor.new }
     ensures together { cursor.new.ahead ≡ cursor.new.rest }
     ensures ok { IfOk result (λ v. Token cursor.old.rest (tree_of v) cursor.new.rest) }

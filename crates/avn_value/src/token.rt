@@ -1,5 +1,5 @@
 // The tokens of the notation, other than those between apostrophes.
-ghost use Rattle.std.specs.Prelude.{◌≡◌, ◌≢◌, ◌⊎◌, ◌++◌, ◌≤◌, ℕ, List, length, Err, IfOk, OnOk, string_bytes};
+ghost use Rattle.std.specs.Prelude.{◌≡◌, ◌≢◌, ◌⊎◌, ◌≤◌, ℕ, List, length, Err, IfOk, OnOk, string_bytes};
 ghost use Rattle.avn_grammar.specs.Tree.{Tree};
 ghost use Rattle.avn_grammar.specs.Chars.{lead, spelled};
 ghost use Rattle.avn_grammar.specs.Grammar.{number_tree, past_number, word_of, Token, Ident};
@@ -13,12 +13,13 @@ use crate::value::AvnValue;
 use avn_grammar::chars::Lead;
 use std::alloc::{AllocError, Global};
 
-/// An identifier, which is ahead.
+/// Reads an identifier, whose first letter is ahead.
 #[inline(always)]
 pub fn identifier(alloc: Global, cursor: &mut Cursor<'_>) -> Result<String, AllocError>
     requires together { cursor.old.ahead ≡ cursor.old.rest }
     requires letter { lead cursor.old.rest ≡ Lead.Letter }
     ensures same { cursor.new.text ≡ cursor.old.text }
+    ensures rises { cursor.old.looks ≤ cursor.new.looks }
     ensures cost { Costs cursor.old cursor.new }
     ensures together { cursor.new.ahead ≡ cursor.new.rest }
     ensures shorter { length cursor.new.rest ≤ length cursor.old.rest }
@@ -44,11 +45,12 @@ pub fn bare(name: String) -> AvnValue
     }
 }
 
-/// A number, after its sign.
+/// Reads a number after its sign. `UnexpectedToken` where no digit is ahead.
 #[inline(always)]
 fn unsigned(cursor: &mut Cursor<'_>, sign: String) -> Result<AvnValue, Fault>
     requires together { cursor.old.ahead ≡ cursor.old.rest }
     ensures same { cursor.new.text ≡ cursor.old.text }
+    ensures rises { cursor.old.looks ≤ cursor.new.looks }
     ensures paid { Paid cursor.old cursor.new }
     ensures together { cursor.new.ahead ≡ cursor.new.rest }
     ensures digit { OnOk result (lead cursor.old.rest ≡ Lead.Digit) }
@@ -71,12 +73,14 @@ fn unsigned(cursor: &mut Cursor<'_>, sign: String) -> Result<AvnValue, Fault>
     Ok(AvnValue::Real(digits))
 }
 
-/// A number.
+/// Reads a number, whose sign or first digit is ahead. `UnexpectedToken` where no digit follows a
+/// sign.
 #[inline(always)]
 pub fn number(alloc: Global, cursor: &mut Cursor<'_>) -> Result<AvnValue, Fault>
     requires together { cursor.old.ahead ≡ cursor.old.rest }
     requires begins { (lead cursor.old.rest ≡ Lead.Digit) ⊎ (lead cursor.old.rest ≡ Lead.Minus) }
     ensures same { cursor.new.text ≡ cursor.old.text }
+    ensures rises { cursor.old.looks ≤ cursor.new.looks }
     ensures paid { Paid cursor.old cursor.new }
     ensures together { cursor.new.ahead ≡ cursor.new.rest }
     ensures ok { IfOk result (λ v. Token cursor.old.rest (tree_of v) cursor.new.rest) }
@@ -94,12 +98,13 @@ pub fn number(alloc: Global, cursor: &mut Cursor<'_>) -> Result<AvnValue, Fault>
     }
 }
 
-/// A text in quotes, which is ahead.
+/// Reads a text in quotes, whose first quote is ahead. `UnexpectedToken` where no quote ends it.
 #[inline(always)]
 pub fn text(alloc: Global, cursor: &mut Cursor<'_>) -> Result<AvnValue, Fault>
     requires together { cursor.old.ahead ≡ cursor.old.rest }
     requires quote { lead cursor.old.rest ≡ Lead.Quote }
     ensures same { cursor.new.text ≡ cursor.old.text }
+    ensures rises { cursor.old.looks ≤ cursor.new.looks }
     ensures paid { Paid cursor.old cursor.new }
     ensures together { cursor.new.ahead ≡ cursor.new.rest }
     ensures ok { IfOk result (λ v. Token cursor.old.rest (tree_of v) cursor.new.rest) }

@@ -19,4 +19,5 @@ loop-cursor-preserved c =
       cc,
       c.take_choice.ensures.together,
       (omega (arith, i.3.0, i.3.1, c.skip.ensures.cost.0, c.skip.ensures.cost.1, y.3.0, y.3.1), omega (arith, i.3.0, i.3.1, c.skip.ensures.cost.0, c.skip.ensures.cost.1, y.3.0, y.3.1)),
+      omega (arith, i.4, c.skip.ensures.rises, c.take_choice.ensures.rises),
     )

@@ -11,7 +11,7 @@ use Rattle.avn_value.proofs.token.text.Goals as goal
 use Rattle.avn_value.proofs.token.text.Goals.{else-c-eq34-via-then-c-eq34+else-is_none, else-c-eq34-via-else-c-eq34}
 
 pub loop-c-init : goal.loop-c-init
-loop-c-init c = ([], c.new-content.ensures.bytes, open_quote c.args.cursor.now.rest c.requires.quote ∙ ap (λ x. 34 ∷ x) (sym c.take-open.ensures.moves), c.take-open.ensures.shorter, grind (arith, common_steps), grind (arith, common_steps), grind (arith, common_steps))
+loop-c-init c = ([], c.new-content.ensures.bytes, open_quote c.args.cursor.now.rest c.requires.quote ∙ ap (λ x. 34 ∷ x) (sym c.take-open.ensures.moves), c.take-open.ensures.shorter, grind (arith, common_steps), grind (arith, common_steps), grind (arith, common_steps), grind (arith, common_steps))
 
 pub returns-then-is_none-clause-ok : goal.returns-then-is_none-clause-ok
 returns-then-is_none-clause-ok c =
@@ -32,6 +32,10 @@ loop-c-preserved c =
         | else-c-eq34-via-else-c-eq34 w ↦
             let ne : c.in-Some.c ≢ 34 = w.if-c-eq34.false in
             rw w.cursor-is (plain_more _ _ _ i.0 c.in-Some.c i.2 (false_from_ne_true _ (λ h. ne (eqb-true _ _ h))) c.in-Some.ensures.found)
+      ],
+      elim c.else-c-eq34.branch [
+        | else-c-eq34-via-then-c-eq34+else-is_none w ↦ rw w.cursor-is (grind (arith, common_steps))
+        | else-c-eq34-via-else-c-eq34 w ↦ rw w.cursor-is (grind (arith, common_steps))
       ],
       elim c.else-c-eq34.branch [
         | else-c-eq34-via-then-c-eq34+else-is_none w ↦ rw w.cursor-is (grind (arith, common_steps))

@@ -1,12 +1,11 @@
 -- What an input asks for, from its bytes as they were read.
 use Rattle.std.proofs.Common.{◌≡◌, refl, sym, ap, ◌∙◌, subst, ℕ, List, [], ◌++◌, Option, Some, None, append-nil}
 use Rattle.std.specs.Io.KnownBytes.{Consumes, IsAtEnd}
-use Rattle.asn_traits.specs.Notation.{Notation}
-use Rattle.asn_convert.specs.Conversion.{IsConvertible}
+use Rattle.asn_codec.specs.Conversion.{IsConvertible}
 use Rattle.asn_convert.specs.Lines.{request_line, text_part, words}
 use Rattle.asn_convert.specs.Requests.{request_of, sample_shape}
 use Rattle.asn_convert.specs.Run.{AsksValue}
-use Rattle.asn_convert.specs.declared.request.Sample.{Sample}
+use Rattle.asn_convert.specs.declared.request.Request.{Request}
 
 -- what was taken of a known input to its end is the input
 pub whole_input : (old new : Option (List ℕ)) (input taken : List ℕ) → old ≡ Some input → Consumes old new taken → IsAtEnd new → input ≡ taken
@@ -17,13 +16,13 @@ whole_input (Some xs) (Some ys) input taken told h end =
     let is : xs ≡ input = cc same in
     sym is ∙ h ∙ ap (λ zs. taken ++ zs) end ∙ append-nil taken
 
-some_same : (a b : Sample) {o : Option Sample} → o ≡ Some a → o ≡ Some b → a ≡ b
-some_same a b e f = let d : ◌≡◌ {A = Option Sample} (Some a) (Some b) = sym e ∙ f in cc d
+some_same : (a b : Request) {o : Option Request} → o ≡ Some a → o ≡ Some b → a ≡ b
+some_same a b e f = let d : ◌≡◌ {A = Option Request} (Some a) (Some b) = sym e ∙ f in cc d
 
--- the text of an input that asks for a value is converted by the sample that its line names
-pub convertible_text : (input text line rest : List ℕ) (sample : Sample) → AsksValue input → input ≡ text → line ≡ request_line text → rest ≡ text_part text
-    → request_of (words line) ≡ Some sample → IsConvertible Notation.jer Notation.jer (sample_shape sample) rest
-convertible_text input text line rest sample asks same is_line is_rest named =
-    let e : asks.asks ≡ sample = some_same asks.asks sample asks.asked_for (ap (λ l. request_of (words l)) (ap request_line same ∙ sym is_line) ∙ named) in
-    subst (λ r. IsConvertible Notation.jer Notation.jer (sample_shape sample) r) (ap text_part same ∙ sym is_rest)
-    (subst (λ m. IsConvertible Notation.jer Notation.jer (sample_shape m) (text_part input)) e asks.convertible)
+-- the text of an input that asks for a value is converted as its line says
+pub convertible_text : (input text line rest : List ℕ) (request : Request) → AsksValue input → input ≡ text → line ≡ request_line text → rest ≡ text_part text
+    → request_of (words line) ≡ Some request → IsConvertible request.from request.to (sample_shape request.sample) rest
+convertible_text input text line rest request asks same is_line is_rest named =
+    let e : asks.asks ≡ request = some_same asks.asks request asks.asked_for (ap (λ l. request_of (words l)) (ap request_line same ∙ sym is_line) ∙ named) in
+    subst (λ r. IsConvertible request.from request.to (sample_shape request.sample) r) (ap text_part same ∙ sym is_rest)
+    (subst (λ m. IsConvertible m.from m.to (sample_shape m.sample) (text_part input)) e asks.convertible)

@@ -1,6 +1,5 @@
 pub mod Asking
 pub mod Answering
-pub mod Converting
 pub mod CallsLemmas
 pub mod Known
 pub mod Places

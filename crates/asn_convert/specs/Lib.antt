@@ -1,5 +1,4 @@
 pub mod Calls
-pub mod Conversion
 pub mod Due
 pub mod Faults
 pub mod Lines

@@ -1,7 +1,10 @@
 -- What a request line asks for.
-use Rattle.std.specs.Prelude.{ℕ, List, [], ◌∷◌, ◌&&◌, ◌-◌, ◌^◌, bytes_eq, codes, if◌then◌else◌, Option, Some, None, option_map, pos, negsuc}
+use Rattle.std.specs.Prelude.{ℕ, List, [], ◌∷◌, ◌-◌, ◌^◌, bytes_eq, codes, if◌then◌else◌, Option, Some, None, option_map, pos, negsuc}
+use Rattle.asn_base.specs.declared.codec.Codec.{Codec}
+use Rattle.asn_base.specs.declared.codec.Codec.TheVariants.{Jer, Avn}
 use Rattle.asn_traits.specs.Shape.{Shape, Alphabet}
 use Rattle.asn_convert.specs.Lines.{request_line, words}
+use Rattle.asn_convert.specs.declared.request.Request.{Request}
 use Rattle.asn_convert.specs.declared.request.Sample.{Sample}
 use Rattle.asn_convert.specs.declared.request.Sample.TheVariants.{Bool, U8, I64, U64, U128, Integer, Utf8String}
 
@@ -27,14 +30,23 @@ sample_shape Utf8String = Shape.text Alphabet.utf8
 abbrev pub sample : List ℕ → Option Shape
 sample name = option_map sample_shape (sample_named name)
 
--- the sample that these words ask for, from JSON to JSON
-abbrev pub request_of : List (List ℕ) → Option Sample
+-- the text notation of that name
+abbrev pub notation_named : List ℕ → Option Codec
+notation_named name = if bytes_eq name (codes "jer") then Some Jer else (if bytes_eq name (codes "avn") then Some Avn else None)
+
+-- the request for a sample from one notation to another, where all three are there
+abbrev pub request_for : Option Codec → Option Codec → Option Sample → Option Request
+request_for (Some from) (Some to) (Some sample) = Some record { from = from; to = to; sample = sample }
+request_for _ _ _ = None
+
+-- the request that these words are
+abbrev pub request_of : List (List ℕ) → Option Request
 request_of [] = None
 request_of (from ∷ []) = None
 request_of (from ∷ to ∷ []) = None
-request_of (from ∷ to ∷ name ∷ []) = if bytes_eq from (codes "jer") && bytes_eq to (codes "jer") then sample_named name else None
+request_of (from ∷ to ∷ name ∷ []) = request_for (notation_named from) (notation_named to) (sample_named name)
 request_of (from ∷ to ∷ name ∷ other ∷ more) = None
 
--- the sample that an input asks for
-abbrev pub asked : List ℕ → Option Sample
+-- the request that an input makes
+abbrev pub asked : List ℕ → Option Request
 asked input = request_of (words (request_line input))

@@ -1,7 +1,6 @@
 //! The program's work: a request line and a text in, the text's value in canonical form or its refusal out.
 #![tactic(auto)]
 
-mod conversion;
 mod ends;
 mod lines;
 mod memory;
@@ -11,7 +10,6 @@ mod standard;
 mod status;
 mod whole;
 
-pub use conversion::TranscodeError;
 pub use ends::{Failed, Sink, Source};
 pub use memory::{MemorySink, MemorySource, SteadySink, SteadySource};
 pub use program::{convert_as, run};

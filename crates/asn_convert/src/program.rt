@@ -4,18 +4,17 @@ ghost use Rattle.std.specs.Io.KnownBytes.{Consumes, Keeps};
 ghost use Rattle.asn_convert.specs.Faults.{Rose};
 ghost use Rattle.asn_convert.specs.Requests.{asked, sample_shape};
 ghost use Rattle.asn_convert.specs.Due.{Answers, IsAnswer, IsRefusal, Puts, ReadWhole, refusal_line};
-ghost use Rattle.asn_convert.specs.Conversion.{IsConvertible, refusal_of, is_want_of_memory};
-ghost use Rattle.asn_traits.specs.Notation.{Notation};
+ghost use Rattle.asn_codec.specs.Conversion.{IsConvertible, refusal_of, is_want_of_memory};
 ghost use Rattle.asn_convert.specs.Run.{Answered, CutShort, IsRead, AsksValue};
 ghost use Rattle.asn_convert.specs.declared.status.Status.TheVariants.{Done, Refused, BadRequest, ReadFault, WriteFault, WantOfMemory, TooLong, NotText};
 
-use crate::conversion::{TranscodeError, transcode};
 use crate::ends::{Sink, Source};
 use crate::lines::split_request;
-use crate::request::{Sample, requested};
+use crate::request::{Request, Sample, requested};
 use crate::status::Status;
 use crate::whole::{Stopped, read_to_end, write_all};
-use asn_base::Integer;
+use asn_base::{Codec, Integer};
+use asn_codec::{TranscodeError, transcode};
 use asn_traits::{Decode, Encode};
 use std::alloc::Global;
 
@@ -67,34 +66,41 @@ pub fn run<S: Source, K: Sink>(alloc: Global, source: &mut S, sink: &mut K) -> S
     };
     let (line, text) = split_request(text);
     match requested(line) {
-        Some(sample) => convert(alloc, sample, text, sink),
+        Some(request) => convert(alloc, request, text, sink),
         None => Status::BadRequest,
     }
 }
 
-/// The answer to a text as a value of the sample type.
-fn convert<K: Sink>(alloc: Global, sample: Sample, text: &str, sink: &mut K) -> Status
-    ensures answer { Answers (sample_shape sample) text.now (K.written sink.old) (K.written sink.new) (K.faults sink.old) (K.faults sink.new) result }
-    ensures complete { IsConvertible Notation.jer Notation.jer (sample_shape sample) text.now → result ≢ Refused }
+/// The answer to a text as a value of the request's sample type.
+fn convert<K: Sink>(alloc: Global, request: Request, text: &str, sink: &mut K) -> Status
+    ensures answer { Answers request.from request.to (sample_shape request.sample) text.now (K.written sink.old) (K.written sink.new) (K.faults sink.old) (K.faults sink.new) result }
+    ensures complete { IsConvertible request.from request.to (sample_shape request.sample) text.now → result ≢ Refused }
 {
+    let Request { from, to, sample } = request;
     match sample {
-        Sample::Bool => convert_as::<bool, K>(alloc, text, sink),
-        Sample::U8 => convert_as::<u8, K>(alloc, text, sink),
-        Sample::I64 => convert_as::<i64, K>(alloc, text, sink),
-        Sample::U64 => convert_as::<u64, K>(alloc, text, sink),
-        Sample::U128 => convert_as::<u128, K>(alloc, text, sink),
-        Sample::Integer => convert_as::<Integer, K>(alloc, text, sink),
-        Sample::Utf8String => convert_as::<String, K>(alloc, text, sink),
+        Sample::Bool => convert_as::<bool, K>(alloc, from, to, text, sink),
+        Sample::U8 => convert_as::<u8, K>(alloc, from, to, text, sink),
+        Sample::I64 => convert_as::<i64, K>(alloc, from, to, text, sink),
+        Sample::U64 => convert_as::<u64, K>(alloc, from, to, text, sink),
+        Sample::U128 => convert_as::<u128, K>(alloc, from, to, text, sink),
+        Sample::Integer => convert_as::<Integer, K>(alloc, from, to, text, sink),
+        Sample::Utf8String => convert_as::<String, K>(alloc, from, to, text, sink),
     }
 }
 
-/// Writes the canonical text of the value that a text says as a T, or the line of its refusal: `Done`,
-/// `Refused`, `WriteFault` or `WantOfMemory`.
-pub fn convert_as<T: Encode + Decode, K: Sink>(alloc: Global, text: &str, sink: &mut K) -> Status
-    ensures answer { Answers T.shape_of text.now (K.written sink.old) (K.written sink.new) (K.faults sink.old) (K.faults sink.new) result }
-    ensures complete { IsConvertible Notation.jer Notation.jer T.shape_of text.now → result ≢ Refused }
+/// Writes the canonical text under `to` of the value that a text says under `from` as a T, or the line
+/// of its refusal: `Done`, `Refused`, `WriteFault` or `WantOfMemory`.
+pub fn convert_as<T: Encode + Decode, K: Sink>(
+    alloc: Global,
+    from: Codec,
+    to: Codec,
+    input: &str,
+    sink: &mut K,
+) -> Status
+    ensures answer { Answers from to T.shape_of input.now (K.written sink.old) (K.written sink.new) (K.faults sink.old) (K.faults sink.new) result }
+    ensures complete { IsConvertible from to T.shape_of input.now → result ≢ Refused }
 {
-    match transcode::<T>(alloc, text) {
+    match transcode::<T>(alloc, from, to, input) {
         Ok(output) => answer(output, sink),
         Err(fault) => refuse(alloc, &fault, sink),
     }

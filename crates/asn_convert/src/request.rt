@@ -1,9 +1,10 @@
 // Which requests there are.
-ghost use Rattle.std.specs.Prelude.{◌≡◌, option_map};
+ghost use Rattle.std.specs.Prelude.{◌≡◌};
 ghost use Rattle.asn_convert.specs.Lines.{words};
-ghost use Rattle.asn_convert.specs.Requests.{sample_named, request_of};
+ghost use Rattle.asn_convert.specs.Requests.{notation_named, sample_named, request_of};
 
 use crate::lines::next_word;
+use asn_base::Codec;
 
 /// A sample type, whose name is the third word of a request.
 #[derive(Clone, Copy, Debug, PartialEq, Eq, Drop)]
@@ -35,8 +36,27 @@ impl Sample {
     }
 }
 
-/// The sample that a request line asks for, from JSON to JSON. None where the line is no request.
-pub fn requested(line: &str) -> Option<Sample>
+/// A request: convert a value of the sample type from one text notation to another.
+#[derive(Clone, Copy, Debug, PartialEq, Eq, Drop)]
+pub struct Request {
+    pub from: Codec,
+    pub to: Codec,
+    pub sample: Sample,
+}
+
+/// The text notation of that name. None where there is none.
+fn notation(name: &str) -> Option<Codec>
+    ensures { result ≡ notation_named name.now }
+{
+    match name {
+        "jer" => Some(Codec::Jer),
+        "avn" => Some(Codec::Avn),
+        _ => None,
+    }
+}
+
+/// The request that a line is. None where it is none.
+pub fn requested(line: &str) -> Option<Request>
     ensures { result ≡ request_of (words line.now) }
 {
     let (from, rest) = next_word(line)?;
@@ -45,8 +65,8 @@ pub fn requested(line: &str) -> Option<Sample>
     if next_word(rest).is_some() {
         return None;
     }
-    if from != "jer" || to != "jer" {
-        return None;
+    match (notation(from), notation(to), Sample::named(name)) {
+        (Some(from), Some(to), Some(sample)) => Some(Request { from, to, sample }),
+        _ => None,
     }
-    Sample::named(name)
 }

@@ -2,13 +2,15 @@
 use Rattle.std.proofs.Common.{◌≡◌, refl, ap, sym, ◌∙◌, subst, ℕ, ℤ, pos, negsuc, List, Bool, true, false, ◌||◌, Ordering, Less, Equal, Greater, Option, Some, None}
 use Rattle.std.specs.Cmp.Lexicographic.{slice_cmp}
 use Rattle.std.specs.Ordering.{nat_cmp, match_ordering}
-use Rattle.std.specs.Prelude.{option_map}
-use Rattle.serde_json.specs.Data.{Data, Members, put}
+use Rattle.std.specs.Prelude.{option_map, IfSome, ◌≤◌}
+use Rattle.serde_json.specs.Data.{Data, Members, put, depth}
+use Rattle.serde_json.specs.Read.{read, max_depth}
 use Rattle.serde_json.specs.Find.{is_float, of_integer}
 use Rattle.serde_json.specs.Written.{compact_text, has_float, items_have_float, members_have_float}
 use Rattle.asn_traits.specs.Canonical.{jer_data, jer_items, jer_members, canonical_text}
 use Rattle.asn_traits.specs.Notation.{Notation}
 use Rattle.asn_traits.specs.Value.{Value, Values, Slots}
+use Rattle.jer_rules.specs.Text.{ReadsBack}
 
 either-false : (a b : Bool) → a ≡ false → b ≡ false → (a || b) ≡ false
 either-false true b e h = e
@@ -66,3 +68,10 @@ text-held (Some v) d text e h =
     let x : ◌≡◌ {A = Option Data} (Some (jer_data v)) (Some d) = e in
     let same : jer_data v ≡ d = cc x in
     ap Some (sym (h (subst (λ y. has_float y ≡ false) same (written-false v)) ∙ ap compact_text (sym same)))
+
+-- The text of what was written for a value is read as its tree.
+pub back-held : (o : Option Value) (d : Data) (text : List ℕ) → option_map jer_data o ≡ Some d → (depth d ≤ max_depth → read text ≡ Some d) → IfSome o (λ v. ReadsBack v text)
+back-held None d text e h = tt
+back-held (Some v) d text e h =
+    let same : jer_data v ≡ d = cc e in
+    λ within. (subst (λ x. read text ≡ Some x) (sym same) (h (subst (λ x. depth x ≤ max_depth) same within)), written-false v)

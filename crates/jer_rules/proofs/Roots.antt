@@ -1,5 +1,5 @@
 -- Whole texts, read and written.
-use Rattle.std.proofs.Common.{◌≡◌, sym, ◌∙◌, subst, ℕ, List, [], ◌∷◌, Option, Some, None, Result, Ok, Err, ◌⊎◌, inl, inr, String, Global, string_bytes, IfOk, IfErr}
+use Rattle.std.proofs.Common.{◌≡◌, sym, ◌∙◌, subst, ℕ, List, [], ◌∷◌, Option, Some, None, Result, Ok, Err, ◌⊎◌, inl, inr, String, Global, string_bytes, IfOk, IfErr, IfSome}
 use Rattle.std.specs.Prelude.{option_map}
 use Rattle.serde_json.specs.Data.{Data}
 use Rattle.serde_json.specs.Read.{read}
@@ -19,7 +19,7 @@ use Rattle.asn_traits.specs.Value.{Value}
 use Rattle.asn_traits.specs.Writing.{Frame, last_present, CannotWrite}
 use Rattle.asn_traits.proofs.Whole.{root_complete}
 use Rattle.jer_rules.specs.Holding.{Holds}
-use Rattle.jer_rules.specs.Text.{IsJer, RefusesText}
+use Rattle.jer_rules.specs.Text.{IsJer, ReadsBack, RefusesText}
 use Rattle.jer_rules.specs.declared.jer.enc.Encoder.{Encoder}
 
 -- A refusal of the tree is one of its text.
@@ -45,6 +45,12 @@ pub root_text : (e : Encoder) (v : Value) (r : Result (String Global) EncodeErro
     → IfOk r (λ s. (f : Frame) → Holds e (f ∷ []) → option_map (canonical_text Notation.jer) (last_present f) ≡ Some (string_bytes s)) → IfOk r (λ s. string_bytes s ≡ canonical_text Notation.jer v)
 root_text e v (Ok s) h text = some_text v (string_bytes s) (text (Some v ∷ []) h)
 root_text e v (Err error) h text = tt
+
+-- The text of an encoder that holds one value is read as the value's tree.
+pub root_back : (e : Encoder) (v : Value) (r : Result (String Global) EncodeError) → Holds e ((Some v ∷ []) ∷ [])
+    → IfOk r (λ s. (f : Frame) → Holds e (f ∷ []) → IfSome (last_present f) (λ w. ReadsBack w (string_bytes s))) → IfOk r (λ s. ReadsBack v (string_bytes s))
+root_back e v (Ok s) h back = back (Some v ∷ []) h
+root_back e v (Err error) h back = tt
 
 some_none : (v : Value) → Some v ≡ None → ⊥
 some_none v e = cc e

@@ -1,19 +1,25 @@
 -- What a text is in JER.
-use Rattle.std.specs.Prelude.{◌≡◌, ℕ, List, Some, None, true, false, codes}
-use Rattle.serde_json.specs.Data.{Data}
-use Rattle.serde_json.specs.Read.{read}
+use Rattle.std.specs.Prelude.{◌≡◌, ◌≤◌, ℕ, List, Some, None, true, false, codes}
+use Rattle.serde_json.specs.Data.{Data, depth}
+use Rattle.serde_json.specs.Read.{read, max_depth}
 use Rattle.serde_json.specs.Written.{has_float}
 use Rattle.asn_base.specs.declared.codec.Codec.TheVariants.{Jer}
 use Rattle.asn_fault.specs.Stop.{Stop, Why, at_root, is_memory}
+use Rattle.asn_traits.specs.Canonical.{jer_data}
 use Rattle.asn_traits.specs.Notation.{Notation}
 use Rattle.asn_traits.specs.Shape.{Shape}
 use Rattle.asn_traits.specs.Stops.{Stops}
 use Rattle.asn_traits.specs.Tree.{Tree}
+use Rattle.asn_traits.specs.Value.{Value}
 use Rattle.asn_traits.specs.Answer.{Refuses}
 
 -- The text is this JSON value, in which each number is an `i64` or a `u64`.
 abbrev pub IsJer : List ℕ → Data → Type 0
 IsJer text d = (read text ≡ Some d) × (has_float d ≡ false)
+
+-- The text is read as the JSON value that is written for the value, unless that nests deeper than JSON is read.
+abbrev pub ReadsBack : Value → List ℕ → Type 0
+ReadsBack v text = depth (jer_data v) ≤ max_depth → IsJer text (jer_data v)
 
 -- The text is no JSON, or a number in it is a float, and the error says so, or memory ran out.
 pub data NoTree (text : List ℕ) (stop : Stop) : Type 0 where

@@ -8,7 +8,7 @@ ghost use Rattle.asn_traits.specs.Says.{Says};
 ghost use Rattle.asn_traits.specs.Tree.{Tree};
 ghost use Rattle.asn_traits.specs.Value.{Value, Fits};
 ghost use Rattle.asn_traits.specs.Writing.{CannotWrite, Writable};
-ghost use Rattle.jer_rules.specs.Text.{IsJer, RefusesText};
+ghost use Rattle.jer_rules.specs.Text.{IsJer, ReadsBack, RefusesText};
 ghost use Rattle.serde_json.specs.Data.{Data};
 ghost use Rattle.std.specs.Prelude.{◌≡◌, Some, IfOk, IfErr, OnOk, string_bytes};
 
@@ -29,6 +29,7 @@ use std::alloc::Global;
 pub fn encode<T: Encode>(alloc: Global, value: &T) -> Result<String, EncodeError>
     ensures text { IfOk result (λ s. string_bytes s ≡ canonical_text Notation.jer
         (T.value_of value.now)) }
+    ensures reads_back { IfOk result (λ s. ReadsBack (T.value_of value.now) (string_bytes s)) }
     ensures fits { OnOk result (Fits T.shape_of (T.value_of value.now)) }
     ensures writable { OnOk result (Writable Notation.jer (T.value_of value.now)) }
     ensures refused { IfErr result (CannotWrite Notation.jer (T.value_of value.now)) }

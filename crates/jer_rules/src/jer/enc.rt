@@ -5,8 +5,9 @@ ghost use Rattle.asn_fault.specs.Unwritten.{WhyUnwritten, encode_why};
 ghost use Rattle.asn_traits.specs.Canonical.{jer_data, canonical_text};
 ghost use Rattle.asn_traits.specs.Notation.{Notation};
 ghost use Rattle.asn_traits.specs.Writing.{Frame, last_present};
+ghost use Rattle.jer_rules.specs.Text.{ReadsBack};
 ghost use Rattle.serde_json.specs.View.{view};
-ghost use Rattle.std.specs.Prelude.{◌≡◌, ◌⊎◌, ◌∷◌, [], ◌++◌, Option, Some, None, OnOk, IfOk, IfErr, option_map, string_bytes};
+ghost use Rattle.std.specs.Prelude.{◌≡◌, ◌⊎◌, ◌∷◌, [], ◌++◌, Option, Some, None, OnOk, IfOk, IfErr, IfSome, option_map, string_bytes};
 
 use super::build::{add, array_of, first_slot, last_value, object_of, one_member, whole_number};
 use asn_base::{Codec, Constraints, Identifier, IntegerType, Tag, WholeNumber};
@@ -62,6 +63,8 @@ impl Encoder {
     pub fn to_string(self) -> Result<String, EncodeError>
         ensures text { IfOk result (λ s. (f : Frame) → Holds self (f ∷ []) → option_map
             (canonical_text Notation.jer) (last_present f) ≡ Some (string_bytes s)) }
+        ensures reads_back { IfOk result (λ s. (f : Frame) → Holds self (f ∷ [])
+            → IfSome (last_present f) (λ v. ReadsBack v (string_bytes s))) }
         ensures refused { IfErr result (λ e. (e.kind ≡ EncodeErrorKind.OutOfMemory)
             ⊎ ((encode_why e.kind ≡ WhyUnwritten.no_root_value Jer) × ((f : Frame) → Holds self (f ∷ []) → last_present f ≡ None))) }
     {

@@ -1,0 +1,56 @@
+-- What converting a text from one codec to another answers.
+use Rattle.std.specs.Prelude.{◌≡◌, ◌↔◌, ◌≤◌, ℕ, List, Bool, true}
+use Rattle.serde_json.specs.Data.{depth}
+use Rattle.serde_json.specs.Read.{max_depth}
+use Rattle.avn_grammar.specs.Depth.{deepest}
+use Rattle.asn_base.specs.declared.codec.Codec.{Codec}
+use Rattle.asn_fault.specs.Stop.{Stop, is_memory, error_stop}
+use Rattle.asn_fault.specs.Unwritten.{WhyUnwritten, encode_why, is_unwritten_memory}
+use Rattle.asn_fault.specs.Texts.{decode_error_text, encode_error_text}
+use Rattle.asn_traits.specs.Canonical.{canonical_text, jer_data, avn_tree}
+use Rattle.asn_traits.specs.Notation.{Notation, notation_of}
+use Rattle.asn_traits.specs.Shape.{Shape}
+use Rattle.asn_traits.specs.Value.{Value, Fits}
+use Rattle.asn_traits.specs.Writing.{Writable}
+use Rattle.asn_codec.specs.Texts.{SaysValue, IsUnread, IsUnwritten}
+use Rattle.asn_codec.specs.declared.conversion.TranscodeError.{TranscodeError}
+use Rattle.asn_codec.specs.declared.conversion.TranscodeError.TheVariants.{Decode, Encode}
+
+-- the output is the canonical text of the value that the input says, which fits the shape and can be written
+pub record Converts (from to : Codec) (s : Shape) (input output : List ℕ) : Type 0 where
+  pub value : Value
+  pub says : SaysValue (notation_of from) s input value
+  pub fits : Fits s value
+  pub writable : Writable (notation_of to) value
+  pub text : output ≡ canonical_text (notation_of to) value
+
+-- the input says a value by the shape that the other codec can write
+pub record IsConvertible (from to : Codec) (s : Shape) (input : List ℕ) : Type 0 where
+  pub value : Value
+  pub says : SaysValue (notation_of from) s input value
+  pub writable : Writable (notation_of to) value
+
+-- a refusal: of reading, or of writing by the codec that refused
+pub data Refusal : Type 0 where
+  decode : Stop → Refusal
+  encode : WhyUnwritten → Codec → Refusal
+
+-- what an error of converting says
+abbrev pub refusal_of : TranscodeError → Refusal
+refusal_of (Decode e) = Refusal.decode (error_stop e)
+refusal_of (Encode e) = Refusal.encode (encode_why e.kind) e.codec
+
+-- the text of the inner error
+abbrev pub error_text : TranscodeError → List ℕ
+error_text (Decode e) = decode_error_text e
+error_text (Encode e) = encode_error_text e
+
+-- memory ran out
+abbrev pub is_want_of_memory : Refusal → Bool
+is_want_of_memory (Refusal.decode stop) = is_memory stop
+is_want_of_memory (Refusal.encode why codec) = is_unwritten_memory why
+
+-- the input is refused so: it is not read, or the value that it says is not written
+pub data Refuses (from to : Codec) (s : Shape) (input : List ℕ) : Refusal → Type 0 where
+  unread : (stop : Stop) → IsUnread from s input stop → Refuses from to s input (Refusal.decode stop)
+  unwritten : (v : Value) (why : WhyUnwritten) → SaysValue (notation_of from) s input v → IsUnwritten to v why → Refuses from to s input (Refusal.encode why to)

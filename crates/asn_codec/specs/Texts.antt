@@ -1,0 +1,55 @@
+-- What a text is in a notation, and why one is not read or not written.
+use Rattle.std.specs.Prelude.{◌≡◌, ℕ, List, ◌++◌, map, Some, None, true, codes}
+use Rattle.std.specs.Str.{chars}
+use Rattle.serde_json.specs.Data.{Data}
+use Rattle.serde_json.specs.Read.{read}
+use Rattle.serde_json.specs.Written.{has_float}
+use Rattle.avn_grammar.specs.Depth.{Deep}
+use Rattle.avn_grammar.specs.Tree.{Tree as AvnTree}
+use Rattle.avn_grammar.specs.Unread as grammar
+use Rattle.asn_base.specs.Texts.{codec_name}
+use Rattle.asn_base.specs.declared.codec.Codec.{Codec}
+use Rattle.asn_base.specs.declared.codec.Codec.TheVariants.{Jer, Avn, Xer}
+use Rattle.asn_fault.specs.Stop.{Stop, Why, at_root}
+use Rattle.asn_fault.specs.Unwritten.{WhyUnwritten}
+use Rattle.asn_traits.specs.Answer.{OfLevels, OfPlace}
+use Rattle.asn_traits.specs.Notation.{Notation, notation_of}
+use Rattle.asn_traits.specs.Says.{Says}
+use Rattle.asn_traits.specs.Shape.{Shape}
+use Rattle.asn_traits.specs.Stops.{Stops}
+use Rattle.asn_traits.specs.Tree.{Tree}
+use Rattle.asn_traits.specs.Value.{Value}
+use Rattle.asn_traits.specs.Writing.{Blocks}
+use Rattle.jer_rules.specs.Text.{IsJer}
+use Rattle.avn_rules.specs.Text.{IsAvn}
+
+-- the text has this tree in the notation
+pub data HasTree : Notation → List ℕ → Tree → Type 0 where
+  json_tree : {text : List ℕ} {d : Data} → IsJer text d → HasTree Notation.jer text (Tree.json d)
+  avn_tree : {text : List ℕ} {t : AvnTree} → IsAvn text t → HasTree Notation.avn text (Tree.avn t)
+
+-- the text says this value by the shape
+pub record SaysValue (n : Notation) (s : Shape) (text : List ℕ) (value : Value) : Type 0 where
+  pub tree : Tree
+  pub has : HasTree n text tree
+  pub says : Says n s (Some tree) value
+
+-- what the text calls of a codec that is no text notation say, by the call to make instead
+abbrev pub no_text : Codec → List ℕ → List ℕ
+no_text Xer call = codes "XER is not supported."
+no_text codec call = codec_name codec ++ (codes " is a binary-based encoding. Call `Codec::" ++ (call ++ codes "` instead."))
+
+-- reading the text by the shape is refused so: it has no tree, or a number in it is a float, or it nests too deep, or its tree says no value, or the codec is no text notation
+pub data IsUnread (codec : Codec) (s : Shape) (text : List ℕ) : Stop → Type 0 where
+  no_json : codec ≡ Jer → read text ≡ None → IsUnread codec s text (at_root (Why.parser (codes "Error parsing JER JSON")) Jer)
+  has_real : (d : Data) → codec ≡ Jer → read text ≡ Some d → has_float d ≡ true → IsUnread codec s text (at_root Why.real_not_supported Jer)
+  no_avn : (found : List ℕ) → codec ≡ Avn → grammar.Unread 64 (chars text) found → IsUnread codec s text (at_root (Why.unexpected_token found) Avn)
+  too_deep : codec ≡ Avn → Deep 64 0 (chars text) → IsUnread codec s text (at_root Why.exceeds_max_parse_depth Avn)
+  no_value : (t : Tree) (stop : Stop) → HasTree (notation_of codec) text t → Stops (notation_of codec) s (Some t) (map (λ l. l.name) stop.path) stop.why
+      → OfLevels (notation_of codec) stop.path → OfPlace (notation_of codec) stop.why stop.codec → IsUnread codec s text stop
+  not_text : notation_of codec ≡ Notation.other → IsUnread codec s text (at_root (Why.custom (no_text codec (codes "decode_from_binary"))) codec)
+
+-- writing the value is refused so: a part of it cannot be written, or the codec is no text notation
+pub data IsUnwritten (codec : Codec) (v : Value) : WhyUnwritten → Type 0 where
+  blocked : (why : WhyUnwritten) → Blocks (notation_of codec) v why → IsUnwritten codec v why
+  not_text : notation_of codec ≡ Notation.other → IsUnwritten codec v (WhyUnwritten.custom (no_text codec (codes "encode_to_binary")))

@@ -1,0 +1,64 @@
+// A text converted by way of a type's value.
+ghost use Rattle.asn_codec.specs.Conversion.{Converts, IsConvertible, Refuses, refusal_of, is_want_of_memory, error_text};
+ghost use Rattle.std.specs.Prelude.{◌≡◌, ◌⊎◌, true, Some, IfOk, IfErr, string_bytes};
+
+use crate::CodecCalls;
+use asn_base::Codec;
+use asn_fault::{DecodeError, EncodeError};
+use asn_traits::{Decode, Encode};
+use std::alloc::Global;
+use std::fmt;
+
+/// Why a text is not converted: it was not read, or its value was not written.
+#[derive(Debug, Drop)]
+pub enum TranscodeError {
+    Decode(DecodeError),
+    Encode(EncodeError),
+}
+
+impl TranscodeError {
+    /// Whether memory ran out.
+    pub fn is_out_of_memory(&self) -> bool
+        ensures { result ≡ is_want_of_memory (refusal_of self.now) }
+    {
+        match self {
+            TranscodeError::Decode(error) => error.is_out_of_memory(),
+            TranscodeError::Encode(error) => error.is_out_of_memory(),
+        }
+    }
+}
+
+/// The text of the inner error.
+impl fmt::Display for TranscodeError {
+    ghost output = { λ e. Some (error_text e) };
+
+    fn fmt<W: fmt::Write>(&self, f: &mut fmt::Formatter<W>) -> fmt::Result {
+        match self {
+            TranscodeError::Decode(error) => error.fmt(f),
+            TranscodeError::Encode(error) => error.fmt(f),
+        }
+    }
+}
+
+/// The canonical text under `to` of the value that a text says under `from` as a T.
+///
+/// Errors: want of memory; else why the text is not read, or why its value is not written.
+pub fn transcode<T: Encode + Decode>(
+    alloc: Global,
+    from: Codec,
+    to: Codec,
+    input: &str,
+) -> Result<String, TranscodeError>
+    ensures converted { IfOk result (λ s. Converts from to T.shape_of input.now (string_bytes s)) }
+    ensures refused { IfErr result (λ e. (is_want_of_memory (refusal_of e) ≡ true)
+        ⊎ Refuses from to T.shape_of input.now (refusal_of e)) }
+    ensures complete { IsConvertible from to T.shape_of input.now → IfErr result (λ e. is_want_of_memory (refusal_of e) ≡ true) }
+{
+    match from.decode_from_str::<T>(alloc, input) {
+        Ok(value) => match to.encode_to_string(alloc, &value) {
+            Ok(text) => Ok(text),
+            Err(error) => Err(TranscodeError::Encode(error)),
+        },
+        Err(error) => Err(TranscodeError::Decode(error)),
+    }
+}

@@ -1,6 +1,6 @@
 // Texts that are read and written again.
 use crate::jer::{decode, encode};
-use asn_traits::{Decode, Encode};
+use asn_traits::{AsnType, Decode, Encode, Shape};
 use std::alloc::Global;
 use std::test::Fail;
 
@@ -99,6 +99,22 @@ fn refuses_numbers_that_json_lacks(rt: HostRuntime) -> Result<(), Fail> {
                 "JER encoding error: Exceeds supported integer range -2^63..2^64 (-9223372036854775809) (Codec: JER)"
             );
         }
+    }
+    Ok(())
+}
+
+#[test]
+fn tells_the_shapes_of_types(rt: HostRuntime) -> Result<(), Fail> {
+    match bool::shape(rt.alloc()) {
+        Ok(Shape::Bool) => {}
+        _ => return Err(Fail::from("the shape of bool")),
+    }
+    match Vec::<bool>::shape(rt.alloc()) {
+        Ok(Shape::ListOf(element)) => match *element {
+            Shape::Bool => {}
+            _ => return Err(Fail::from("the shape of an element")),
+        },
+        _ => return Err(Fail::from("the shape of a list")),
     }
     Ok(())
 }

@@ -2,4 +2,12 @@
 #![tactic(auto)]
 
 #[cfg(test)]
+mod errors;
+#[cfg(test)]
+mod json;
+#[cfg(test)]
+mod notation;
+#[cfg(test)]
+mod plain_types;
+#[cfg(test)]
 mod program;

@@ -1,3 +1,4 @@
+pub mod Converting
 pub mod CallsLemmas
 pub mod Known
 pub mod Places

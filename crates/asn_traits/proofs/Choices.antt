@@ -15,7 +15,7 @@ use Rattle.asn_traits.specs.Opening.{IsChoice, Chosen, OpensAlternative}
 use Rattle.asn_traits.specs.Scopes.{AlternativeAnswer, NoAlternative, TagAnswer}
 use Rattle.asn_traits.proofs.Steps.{refuses_by, same_head, same_tail}
 
--- the alternative of that name is the one at the place
+-- The alternative of that name is the one at the place.
 record Found (alts : Alternatives) (named : Option (List ℕ × Shape)) (k : ℕ) : Type 0 where
   pub a : List ℕ × Shape
   pub by_name : named ≡ Some a
@@ -80,14 +80,14 @@ place_below Alternatives.no_alternatives k a e = let d : ◌≡◌ {A = Option (
 place_below (Alternatives.alternative i t s alts) zero a e = omega arith
 place_below (Alternatives.alternative i t s alts) (suc k) a e = omega (arith, place_below alts k a e)
 
--- where tags are distinct, the tag at a place tells the alternative at that place
+-- Where tags are distinct, the tag at a place tells the alternative at that place.
 tagged_at : (alts : Alternatives) (k : ℕ) (a : List ℕ × Shape) → tags_distinct (tags alts) ≡ true → alternative_at alts k ≡ Some a → alternative_tagged alts (get_or (tags alts) k end_tag) ≡ Some a
 tagged_at Alternatives.no_alternatives k a d e = let x : ◌≡◌ {A = Option (List ℕ × Shape)} None (Some a) = e in cc x
 tagged_at (Alternatives.alternative i t s alts) zero a d e = rw (tag_eq_refl t) e
 tagged_at (Alternatives.alternative i t s alts) (suc k) a d e =
     rw (other_tag (tags alts) k t (first_distinct (has_tag (tags alts) t) _ d) (place_below alts k a e)) (tagged_at alts k a (rest_distinct (has_tag (tags alts) t) _ d) e)
 
--- the tag that `from_tag` is handed
+-- The tag that `from_tag` is handed.
 abbrev pub place_tag : Alternatives → Option ℕ → Tag
 place_tag alts (Some k) = get_or (tags alts) k end_tag
 place_tag alts None = end_tag
@@ -149,7 +149,7 @@ named_step : (b : Bool) (i : List ℕ) (s : Shape) (names : Option (List ℕ)) (
 named_step true i s names o e = refl
 named_step false i s names o e = e
 
--- the identifier beside a tag is that of the tag's alternative
+-- The identifier beside a tag is that of the tag's alternative.
 pub name_by_tag : (alts : Alternatives) (tag : Tag) → name_tagged (tags alts) (identifiers alts) tag ≡ option_map (λ a. a.0) (alternative_tagged alts tag)
 name_by_tag Alternatives.no_alternatives tag = refl
 name_by_tag (Alternatives.alternative i t s alts) tag = named_step (tag_eq tag t) i s _ _ (name_by_tag alts tag)

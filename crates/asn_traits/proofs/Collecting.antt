@@ -27,7 +27,7 @@ pub blocks-later : {T : Type 0} (n : Notation) (f : T → Value) (xs rest : List
 blocks-later n f [] rest x why ws b = inl b
 blocks-later n f (y ∷ xs) rest x why ws b = inr (ws.0, blocks-later n f xs rest x why ws.1 b)
 
--- the last frame holds these items, each of which fits and can be written
+-- The last frame holds these items, each of which fits and can be written.
 pub record Collected {S T : Type 0} (holds : S → List Frame → Type 0) (n : Notation) (s : Shape) (f : T → Value) (old : S) (xs : List T) (now : S) : Type 0 where
   pub held : Turns holds (λ fs. slots_of f xs ∷ fs) old now
   pub fit : FitsEach s (values f xs)

@@ -8,7 +8,7 @@ use Rattle.asn_traits.specs.Shape.{Shape, Fields, Alternatives, Presence, closed
 use Rattle.asn_traits.specs.Value.{Value, Fits, FitsFields, is_kept, may_lack}
 use Rattle.asn_traits.specs.Writing.{Frame, push, push_all, close, as_members, as_choice, named, Turns, Written, Filled, CannotWrite, ScopeRan, CannotFill, tail_names, Offered}
 
--- on a new frame the slots are the frame
+-- On a new frame the slots are the frame.
 push_all-new : (ss f : Frame) (fs : List Frame) → push_all ss (f ∷ fs) ≡ (f ++ ss) ∷ fs
 push_all-new [] f fs = ap (λ g. g ∷ fs) (sym (append-nil f))
 push_all-new (s ∷ ss) f fs = push_all-new ss (f ++ (s ∷ [])) fs ∙ ap (λ g. g ∷ fs) (append_assoc f (s ∷ []) ss)
@@ -22,7 +22,7 @@ fill_present {holds = holds} {v = v} {ss = ss} {new = new} w kept f = record { a
 pub fill_absent : {S : Type 0} {holds : S → List Frame → Type 0} {n : Notation} {name : List ℕ} {g : Tag} {p : Presence} {s : Shape} {rest : Fields} {names : List (List ℕ)} {ss : Frame} {old mid new : S} → Turns holds (push None) old mid → may_lack p ≡ true → Filled holds n rest names ss mid new → Filled holds n (Fields.field name g p s rest) (name ∷ names) (None ∷ ss) old new
 fill_absent {holds = holds} {ss = ss} {new = new} w lack f = record { added = λ fs h. f.added (push None fs) (w fs h); fit = FitsFields.fits_absent lack f.fit; writable = f.writable }
 
--- what a scope's refusal is for its type
+-- What a scope's refusal is for its type.
 pub refuse_members : {n : Notation} {ss : Frame} {e : EncodeError} (names : List (List ℕ)) → CannotFill n ss e → CannotWrite n (Value.members (named ss names)) e
 refuse_members names (CannotFill.no_memory_left o) = CannotWrite.no_memory o
 refuse_members names (CannotFill.slot_refused (CannotWrite.no_memory o)) = CannotWrite.no_memory o
@@ -31,7 +31,7 @@ refuse_members names (CannotFill.slot_refused (CannotWrite.write_free o)) = Cann
 refuse_members {n} {ss} {e} names (CannotFill.after_slot w r) = elim (refuse_members (tail_names names) r) [ CannotWrite.no_memory o ↦ CannotWrite.no_memory o | CannotWrite.blocked b c ↦ CannotWrite.blocked (inr (w, b)) c | CannotWrite.write_free o ↦ CannotWrite.write_free o ]
 refuse_members names (CannotFill.after_absent r) = elim (refuse_members (tail_names names) r) [ CannotWrite.no_memory o ↦ CannotWrite.no_memory o | CannotWrite.blocked b c ↦ CannotWrite.blocked b c | CannotWrite.write_free o ↦ CannotWrite.write_free o ]
 
--- the whole scope
+-- The whole scope.
 pub scope_members : {S F : Type 0} {g : Once F (MutBor S × Unit {0}) (Result (Unit {0}) EncodeError × (MutBor S × Unit {0}))} {f : F} {holds : S → List Frame → Type 0} {names : List (List ℕ)} {old new : S} (n : Notation) (all : Fields) (slots : Frame)
     → (r : ScopeRan holds (FnOnceReturnsAtMut g f) old (Ok tt) (λ left. Turns holds (close (as_members names)) left new))
     → Filled holds n all names slots r.answered.shown.now r.answered.left.now
@@ -42,7 +42,7 @@ scope_members {holds = holds} {names = names} n all slots r f = record {
   writable = f.writable;
 }
 
--- the scope of a choice
+-- The scope of a choice.
 pub scope_choice : {S F : Type 0} {g : Once F (MutBor S × Unit {0}) (Result Tag EncodeError × (MutBor S × Unit {0}))} {f : F} {holds : S → List Frame → Type 0} {old new : S} {answer : Tag} (n : Notation) (all : Alternatives) (id : List ℕ) (v : Value)
     → (r : ScopeRan holds (FnOnceReturnsAtMut g f) old (Ok answer) (λ left. Turns holds (close (as_choice id)) left new))
     → Offered holds n all id v r.answered.shown.now r.answered.left.now

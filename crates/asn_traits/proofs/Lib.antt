@@ -8,3 +8,5 @@ pub mod Filling
 pub mod Collecting
 pub mod Scopes
 pub mod Whole
+pub mod Apartness
+pub mod Written

@@ -14,7 +14,7 @@ not_other Notation.jer h e = cc e
 not_other Notation.avn h e = cc e
 not_other Notation.other h e = absurd h
 
--- an absent slot says nothing
+-- An absent slot says nothing.
 nothing : {n : Notation} {s : Shape} {v : Value} → IsText n → Says n s None v → ⊥
 nothing {n} t (Says.says_free s slot v e) = not_other n t e
 

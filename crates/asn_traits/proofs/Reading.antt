@@ -11,7 +11,7 @@ use Rattle.asn_traits.specs.Answer.{Answer, Refuses}
 use Rattle.asn_traits.specs.Opening.{OpensList, AllBelow, IsList}
 use Rattle.asn_traits.proofs.Steps.{refuses_by, same_head, same_tail, list_says, list_stops}
 
--- the values of the items and then vs
+-- The values of the items and then vs.
 abbrev pub values_then : {A : Type 0} → (A → Value) → List A → Values → Values
 values_then f [] vs = vs
 values_then f (x ∷ xs) vs = Values.value (f x) (values_then f xs vs)

@@ -10,15 +10,15 @@ use Rattle.asn_traits.specs.Stops.{Stops, Path}
 use Rattle.asn_traits.specs.Answer.{Refuses, OfPlace, AtRoot, TellsBlame}
 use Rattle.asn_traits.proofs.Steps.{refuses_by}
 
--- want of memory
+-- Want of memory.
 pub out_of_memory : {n : Notation} {P : Path → Why → Type 0} (c : Codec) (e : Stop) → e ≡ at_root Why.out_of_memory c → Refuses n P e
 out_of_memory {n} {P} c e is = subst (Refuses n P) (sym is) (Refuses.no_memory refl)
 
--- an error at no field
+-- An error at no field.
 pub at_no_field : {n : Notation} {P : Path → Why → Type 0} (why : Why) (c : Codec) (e : Stop) → e ≡ at_root why c → OfPlace n why c → P [] why → Refuses n P e
 at_no_field {n} {P} why c e is of h = subst (Refuses n P) (sym is) (Refuses.stopped h tt of)
 
--- the slot is absent
+-- The slot is absent.
 pub absent : {n : Notation} (s : Shape) (slot : Slot) (c : Codec) (e : Stop) → slot ≡ None → notation_of c ≡ n → e ≡ at_root (Why.end_of_input c) c → Refuses n (Stops n s slot) e
 absent {n} s slot c e was of is = at_no_field {P = Stops n s slot} (Why.end_of_input c) c e is of (rw was (Stops.stops_absent s c of))
 
@@ -28,18 +28,18 @@ first_stops : {n : Notation} (s : Shape) (t : Tree) (blame : Blame) (before afte
 first_stops {n} s t blame before after e was tells stops =
     refuses_by {P = AtRoot (Blamed n t blame)} {Q = Stops n s (head_slot before)} (λ p w h. rw (was, h.0) (stops w h.1)) e tells
 
--- a tree that says no value of a shape without parts
+-- A tree that says no value of a shape without parts.
 pub no_leaf : {n : Notation} (s : Shape) (t : Tree) (blame : Blame) (before after : List Slot) (e : Stop) → before ≡ Some t ∷ after → leaf n s t ≡ Some (Err blame) → TellsBlame n t blame e
     → Refuses n (Stops n s (head_slot before)) e
 no_leaf s t blame before after e was says tells = first_stops s t blame before after e was tells (λ w h. Stops.stops_leaf s t blame w says h)
 
--- a tree that is no number
+-- A tree that is no number.
 pub no_number : {n : Notation} (least greatest : ℤ) (width : ℕ) (t : Tree) (blame : Blame) (before after : List Slot) (e : Stop) → before ≡ Some t ∷ after → as_number n t ≡ Err blame → TellsBlame n t blame e
     → Refuses n (Stops n (Shape.int least greatest width) (head_slot before)) e
 no_number least greatest width t blame before after e was says tells =
     first_stops (Shape.int least greatest width) t blame before after e was tells (λ w h. Stops.stops_number least greatest width t blame w says h)
 
--- a number out of range
+-- A number out of range.
 pub out_of_range : {n : Notation} (least greatest k : ℤ) (width : ℕ) (c : Codec) (t : Tree) (before after : List Slot) (e : Stop) → before ≡ Some t ∷ after → as_number n t ≡ Ok k → (k <ℤ least) ⊎ (greatest <ℤ k)
     → notation_of c ≡ n → e ≡ at_root (Why.integer_overflow width) c → Refuses n (Stops n (Shape.int least greatest width) (head_slot before)) e
 out_of_range {n} least greatest k width c t before after e was says (inl low) of is =
@@ -47,17 +47,17 @@ out_of_range {n} least greatest k width c t before after e was says (inl low) of
 out_of_range {n} least greatest k width c t before after e was says (inr high) of is =
     at_no_field {P = Stops n (Shape.int least greatest width) (head_slot before)} (Why.integer_overflow width) c e is of (rw was (Stops.stops_above least greatest k width t says high))
 
--- a tree that has no members
+-- A tree that has no members.
 pub no_members : {n : Notation} (fs : Fields) (t : Tree) (before after : List Slot) (e : Stop) → before ≡ Some t ∷ after → as_members n t ≡ None → TellsBlame n t (needs_members n) e
     → Refuses n (Stops n (closed_seq fs) (head_slot before)) e
 no_members fs t before after e was is tells = first_stops (closed_seq fs) t _ before after e was tells (λ w h. Stops.stops_no_members fs t w is h)
 
--- a tree that is no list
+-- A tree that is no list.
 pub no_list : {n : Notation} (s : Shape) (t : Tree) (before after : List Slot) (e : Stop) → before ≡ Some t ∷ after → as_list n t ≡ None → TellsBlame n t (needs_list n) e
     → Refuses n (Stops n (Shape.list_of s) (head_slot before)) e
 no_list s t before after e was is tells = first_stops (Shape.list_of s) t _ before after e was tells (λ w h. Stops.stops_no_list s t w is h)
 
--- a tree that is no choice
+-- A tree that is no choice.
 pub no_choice : {n : Notation} (alts : Alternatives) (t : Tree) (before after : List Slot) (e : Stop) → before ≡ Some t ∷ after → as_choice n t ≡ None → TellsBlame n t (needs_choice n) e
     → Refuses n (Stops n (closed_choice alts) (head_slot before)) e
 no_choice alts t before after e was is tells = first_stops (closed_choice alts) t _ before after e was tells (λ w h. Stops.stops_no_choice alts t w is h)

@@ -12,11 +12,11 @@ use Rattle.asn_traits.specs.Stops.{Stops, StopsFields, Path}
 use Rattle.asn_traits.specs.Answer.{Answer, OptionalAnswer, OptionalStops}
 use Rattle.asn_traits.proofs.Steps.{same_head, same_tail}
 
--- the number of fields
+-- The number of fields.
 abbrev pub field_count : Fields → ℕ
 field_count fs = length (field_names fs)
 
--- the members with a field in front that was read as an optional
+-- The members with a field in front that was read as an optional.
 abbrev pub optional_field : {A : Type 0} → Presence → List ℕ → (A → Value) → Option A → Slots → Slots
 optional_field k name value (Some x) vs = with_field k name (value x) vs
 optional_field k name value None vs = Slots.absent name vs
@@ -50,7 +50,7 @@ module _ (n : Notation) (fs : Fields) (slots rest : List Slot) (name : List ℕ)
         stopped = λ p w h. stopped p w (StopsFields.after_present name g k s todo l left v p w at h);
       }
 
-  -- a present field
+  -- A present field.
   pub takes_present : {A : Type 0} (value : A → Value) (now after : List Slot) (x : A) → Taking n fs slots rest (Fields.field name g k s todo) front now
       → Answer n s value now (Ok x) after → Taking n fs slots rest todo (λ vs. front (with_field k name (value x) vs)) after
   takes_present value now after x taken (t, shown, says) = present_at now after taken.left taken.is taken.count taken.said taken.stopped t shown (value x) says
@@ -86,7 +86,7 @@ module _ (n : Notation) (fs : Fields) (slots rest : List Slot) (name : List ℕ)
         stopped = λ p w h. stopped p w (subst (λ x. StopsFields n (Fields.field name g k s todo) (x ∷ left) p w) at (StopsFields.after_absent name g k s todo left p w lack h));
       }
 
-  -- a field that may be absent, and is taken
+  -- A field that may be absent, and is taken.
   pub takes_optional : {A : Type 0} (value : A → Value) (now after : List Slot) (x : Option A) → Taking n fs slots rest (Fields.field name g k s todo) front now
       → OptionalAnswer n s value now (Ok x) after → Taking n fs slots rest todo (λ vs. front (optional_field k name value x vs)) after
   takes_optional value now after (Some x) taken (t, shown, says) = takes_present n fs slots rest name g k s todo front value now after x taken (Some t, shown, says)
@@ -96,7 +96,7 @@ module _ (n : Notation) (fs : Fields) (slots rest : List Slot) (name : List ℕ)
   none_at now [] is count e = omega (arith, count)
   none_at now (l ∷ left) is count e = let d : [] ≡ l ∷ (left ++ rest) = sym e ∙ is in cc d
 
-  -- a field that may be absent, and is refused
+  -- A field that may be absent, and is refused.
   pub stops_optional : (now : List Slot) → Taking n fs slots rest (Fields.field name g k s todo) front now
       → (p : Path) (w : Why) → OptionalStops n s now p w → StopsFields n fs slots (name ∷ p) w
   stops_optional now taken p w (inl h) = stops_present n fs slots rest name g k s todo front now taken h.0 h.1 h.2 p w h.3
@@ -114,7 +114,7 @@ module _ (n : Notation) (fs : Fields) (slots rest : List Slot) (name : List ℕ)
       let stops : Stops n s (Some t) p w = rw is at h in
       stopped (name ∷ p) w (StopsFields.field_stops name g k s todo t left p w stops)
 
-  -- a field that may not be absent, and is refused
+  -- A field that may not be absent, and is refused.
   pub stops_required : (now : List Slot) → Taking n fs slots rest (Fields.field name g k s todo) front now
       → (p : Path) (w : Why) → Stops n s (head_slot now) p w → StopsFields n fs slots (name ∷ p) w
   stops_required now taken = required_at now taken.left taken.is taken.count taken.stopped

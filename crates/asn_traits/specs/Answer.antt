@@ -12,12 +12,12 @@ use Rattle.asn_traits.specs.Value.{Value, value_under}
 use Rattle.asn_traits.specs.Says.{Says}
 use Rattle.asn_traits.specs.Stops.{Stops, Path}
 
--- the codec of each level is the notation's
+-- The codec of each level is the notation's.
 abbrev pub OfLevels : Notation → List Level → Type 0
 OfLevels n [] = Unit {0}
 OfLevels n (l ∷ ls) = (notation_of l.codec ≡ n) × OfLevels n ls
 
--- the codec at the place is the notation's, but for a date, whose grammar BER has
+-- The codec at the place is the notation's, but for a date, whose grammar BER has.
 abbrev pub OfPlace : Notation → Why → Codec → Type 0
 OfPlace n (Why.invalid_date text) c = c ≡ Ber
 OfPlace n why c = notation_of c ≡ n
@@ -28,11 +28,11 @@ pub data Refuses (n : Notation) (P : Path → Why → Type 0) (s : Stop) : Type 
   stopped : P (map (λ l. l.name) s.path) s.why → OfLevels n s.path → OfPlace n s.why s.codec → Refuses n P s
   refuses_free : n ≡ Notation.other → Refuses n P s
 
--- at no field, for a reason that has P
+-- At no field, for a reason that has P.
 abbrev pub AtRoot : (Why → Type 0) → Path → Why → Type 0
 AtRoot P path why = (path ≡ []) × P why
 
--- the error tells this blame of the tree, or want of memory
+-- The error tells this blame of the tree, or want of memory.
 abbrev pub TellsBlame : Notation → Tree → Blame → Stop → Type 0
 TellsBlame n t blame s = Refuses n (AtRoot (Blamed n t blame)) s
 
@@ -41,15 +41,15 @@ abbrev pub AnswerBy : {A E : Type 0} → (E → Stop) → Notation → Shape →
 AnswerBy stop n s value before (Ok x) after = (slot : Slot) × (before ≡ slot ∷ after) × Says n s slot (value x)
 AnswerBy stop n s value before (Err e) after = Refuses n (Stops n s (head_slot before)) (stop e)
 
--- the same, with the error of every reader
+-- The same, with the error of every reader.
 abbrev pub Answer : {A : Type 0} → Notation → Shape → (A → Value) → List Slot → Result A DecodeError → List Slot → Type 0
 Answer n s value before r after = AnswerBy error_stop n s value before r after
 
--- the same, under constraints that fix this size, or none
+-- The same, under constraints that fix this size, or none.
 abbrev pub AnswerUnder : {A : Type 0} → Notation → Option ℕ → Shape → (A → Value) → List Slot → Result A DecodeError → List Slot → Type 0
 AnswerUnder n size s value before r after = Answer n (shape_under size s) (λ x. value_under size s (value x)) before r after
 
--- nothing is pending
+-- Nothing is pending.
 pub record NonePending (n : Notation) (before : List Slot) (p : Path) (w : Why) : Type 0 where
   pub none : before ≡ []
   pub path : p ≡ []
@@ -67,6 +67,7 @@ TakesAbsent n before (Err e) after = Refuses n (NonePending n before) (error_sto
 abbrev pub OptionalStops : Notation → Shape → List Slot → Path → Why → Type 0
 OptionalStops n s before p w = ((t : Tree) × (rest : List Slot) × (before ≡ Some t ∷ rest) × Stops n s (Some t) p w) ⊎ NonePending n before p w
 
+-- An absent first slot is taken as nothing, a present one is read, or it is refused for a reason that it has.
 abbrev pub OptionalAnswer : {A : Type 0} → Notation → Shape → (A → Value) → List Slot → Result (Option A) DecodeError → List Slot → Type 0
 OptionalAnswer n s value before (Ok (Some x)) after = (t : Tree) × (before ≡ Some t ∷ after) × Says n s (Some t) (value x)
 OptionalAnswer n s value before (Ok None) after = before ≡ None ∷ after

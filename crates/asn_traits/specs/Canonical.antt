@@ -11,7 +11,7 @@ use Rattle.asn_traits.specs.Tree.{Tree}
 use Rattle.asn_traits.specs.Value.{Value, Values, Slots}
 
 abbrev mutual
-  -- the JSON value that JER writes for a value
+  -- The JSON value that JER writes for a value.
   pub jer_data : Value → Data
   jer_data (Value.boolean b) = Data.boolean b
   jer_data (Value.int n) = Data.number (of_integer n)
@@ -22,19 +22,19 @@ abbrev mutual
   jer_data (Value.choice i v) = Data.object (Members.member i (jer_data v) Members.no_members)
   jer_data v = Data.null
 
-  -- the elements of a JSON array
+  -- The elements of a JSON array.
   pub jer_items : Values → Items
   jer_items Values.no_values = Items.no_items
   jer_items (Values.value v vs) = Items.item (jer_data v) (jer_items vs)
 
-  -- the members of a JSON object, which are in byte order of their names; absent ones are left out
+  -- The members of a JSON object, which are in byte order of their names; absent ones are left out.
   pub jer_members : Slots → Members
   jer_members Slots.no_slots = Members.no_members
   jer_members (Slots.absent n ms) = jer_members ms
   jer_members (Slots.present n v ms) = put n (jer_data v) (jer_members ms)
 
 abbrev mutual
-  -- the AVN value that AVN writes for a value
+  -- The AVN value that AVN writes for a value.
   pub avn_tree : Value → AvnTree
   avn_tree (Value.boolean b) = AvnTree.boolean b
   avn_tree (Value.int n) = AvnTree.integer (signed_decimal n)
@@ -45,23 +45,23 @@ abbrev mutual
   avn_tree (Value.choice i v) = AvnTree.choice i (avn_tree v)
   avn_tree v = AvnTree.null
 
-  -- the values of a list in braces
+  -- The values of a list in braces.
   pub avn_trees : Values → AvnTrees
   avn_trees Values.no_values = AvnTrees.no_trees
   avn_trees (Values.value v vs) = AvnTrees.tree (avn_tree v) (avn_trees vs)
 
-  -- the named fields in braces
+  -- The named fields in braces.
   pub avn_fields : Slots → AvnFields
   avn_fields Slots.no_slots = AvnFields.no_fields
   avn_fields (Slots.absent n ms) = AvnFields.absent n (avn_fields ms)
   avn_fields (Slots.present n v ms) = AvnFields.field n (avn_tree v) (avn_fields ms)
 
--- the tree that a notation writes for a value
+-- The tree that a notation writes for a value.
 abbrev pub canonical_tree : Notation → Value → Tree
 canonical_tree Notation.avn v = Tree.avn (avn_tree v)
 canonical_tree _ v = Tree.json (jer_data v)
 
--- the text that a notation writes for a value
+-- The text that a notation writes for a value.
 abbrev pub canonical_text : Notation → Value → List ℕ
 canonical_text Notation.avn v = print 0 (avn_tree v)
 canonical_text _ v = compact_text (jer_data v)

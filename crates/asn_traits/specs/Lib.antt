@@ -11,6 +11,8 @@ pub mod Answer
 pub mod Opening
 pub mod Scopes
 pub mod Writing
+pub mod Readable
+pub mod Writes
 pub mod Tables
 pub mod Root
 pub mod Canonical

@@ -2,19 +2,19 @@
 use Rattle.asn_base.specs.declared.codec.Codec.{Codec}
 use Rattle.asn_base.specs.declared.codec.Codec.TheVariants.{Jer, Avn}
 
--- a text notation, or a codec that is neither, of which the laws say nothing
+-- A text notation, or a codec that is neither, of which the laws say nothing.
 pub data Notation : Type 0 where
   jer : Notation
   avn : Notation
   other : Notation
 
--- the notation that a codec writes and reads
+-- The notation that a codec writes and reads.
 abbrev pub notation_of : Codec → Notation
 notation_of Jer = Notation.jer
 notation_of Avn = Notation.avn
 notation_of _ = Notation.other
 
--- the laws speak of the notation
+-- The laws speak of the notation.
 abbrev pub IsText : Notation → Type 0
 IsText Notation.jer = Unit {0}
 IsText Notation.avn = Unit {0}

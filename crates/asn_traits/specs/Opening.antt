@@ -9,15 +9,17 @@ use Rattle.asn_traits.specs.Tree.{Tree, Slot, slot_nodes, head_slot, as_list, as
 use Rattle.asn_traits.specs.Stops.{Stops}
 use Rattle.asn_traits.specs.Answer.{Refuses}
 
--- each slot has fewer nodes
+-- Each slot has fewer nodes.
 abbrev pub AllBelow : ℕ → List Slot → Type 0
 AllBelow n [] = Unit {0}
 AllBelow n (s ∷ ss) = (slot_nodes s < n) × AllBelow n ss
 
+-- The slot is a list of these elements.
 pub data IsList (n : Notation) : Slot → List Slot → Type 0 where
   is_list : (t : Tree) (slots : List Slot) → as_list n t ≡ Some slots → IsList n (Some t) slots
   list_free : (slot : Slot) (slots : List Slot) → n ≡ Notation.other → IsList n slot slots
 
+-- The slot has these slots at these names.
 pub data HasMembers (n : Notation) : List (List ℕ) → Slot → List Slot → Type 0 where
   has_members : (names : List (List ℕ)) (t : Tree) (look : List ℕ → Slot) → as_members n t ≡ Some look → HasMembers n names (Some t) (map look names)
   members_free : (names : List (List ℕ)) (slot : Slot) (slots : List Slot) → n ≡ Notation.other → HasMembers n names slot slots

@@ -8,7 +8,7 @@ use Rattle.asn_traits.specs.Leaf.{leaf, as_number}
 use Rattle.asn_traits.specs.Value.{Value, Values, Slots, may_lack, with_field}
 
 mutual
-  -- the slot says the value by the shape
+  -- The slot says the value by the shape.
   pub data Says (n : Notation) : Shape → Slot → Value → Type 0 where
     says_leaf : (s : Shape) (t : Tree) (v : Value) → leaf n s t ≡ Some (Ok v) → Says n s (Some t) v
     says_int : (least greatest k : ℤ) (width : ℕ) (t : Tree) → as_number n t ≡ Ok k → least ≤ℤ k → k ≤ℤ greatest → Says n (Shape.int least greatest width) (Some t) (Value.int k)
@@ -19,12 +19,12 @@ mutual
     says_loop : (body : Shape) (t : Tree) (v : Value) → Says n (unfold_loop body) (Some t) v → Says n (Shape.loop body) (Some t) v
     says_free : (s : Shape) (slot : Slot) (v : Value) → n ≡ Notation.other → Says n s slot v
 
-  -- the slots say the elements, one by one
+  -- The slots say the elements, one by one.
   pub data SaysEach (n : Notation) : Shape → List Slot → Values → Type 0 where
     says_none : (s : Shape) → SaysEach n s [] Values.no_values
     says_one : (s : Shape) (slot : Slot) (rest : List Slot) (v : Value) (vs : Values) → Says n s slot v → SaysEach n s rest vs → SaysEach n s (slot ∷ rest) (Values.value v vs)
 
-  -- the slots say the members, field by field; a default counts as absent
+  -- The slots say the members, field by field; a default counts as absent.
   pub data SaysFields (n : Notation) : Fields → List Slot → Slots → Type 0 where
     says_end : SaysFields n Fields.no_fields [] Slots.no_slots
     says_present : (name : List ℕ) (g : Tag) (p : Presence) (s : Shape) (fs : Fields) (slot : Slot) (rest : List Slot) (v : Value) (vs : Slots)

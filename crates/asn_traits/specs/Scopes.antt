@@ -25,7 +25,7 @@ abbrev pub PayloadAnswer : {A : Type 0} → Notation → List ℕ → Shape → 
 PayloadAnswer n id s value before (Ok x) after = (slot : Slot) × (v : Value) × (before ≡ slot ∷ after) × Says n s slot v × (value x ≡ Value.choice id v)
 PayloadAnswer n id s value before (Err e) after = Refuses n (Stops n s (head_slot before)) (error_stop e)
 
--- there is no such alternative; the error names the type by a word of its own
+-- There is no such alternative; the error names the type by a word of its own.
 abbrev pub NoAlternative : Path → Why → Type 0
 NoAlternative p w = (type_name : List ℕ) × (p ≡ []) × (w ≡ Why.no_valid_choice type_name)
 
@@ -35,5 +35,6 @@ AlternativeAnswer n (Some a) value before r after = PayloadAnswer n a.0 a.1 valu
 AlternativeAnswer n None value before (Ok x) after = ⊥
 AlternativeAnswer n None value before (Err e) after = (after ≡ before) × Refuses n NoAlternative (error_stop e)
 
+-- The same, of the alternative of a tag.
 abbrev pub TagAnswer : {A : Type 0} → Notation → Alternatives → (A → Value) → Tag → List Slot → Result A DecodeError → List Slot → Type 0
 TagAnswer n alts value tag before r after = AlternativeAnswer n (alternative_tagged alts tag) value before r after

@@ -5,7 +5,7 @@ use Rattle.asn_base.specs.declared.tag.Class.{Class}
 use Rattle.asn_base.specs.declared.tag.Class.TheVariants.{Universal, Application, Context, Private}
 use Rattle.asn_base.specs.declared.tag.Tag.{Tag}
 
--- the characters of a string type
+-- The characters of a string type.
 pub data Alphabet : Type 0 where
   numeric : Alphabet
   printable : Alphabet
@@ -16,32 +16,32 @@ pub data Alphabet : Type 0 where
   general : Alphabet
   graphic : Alphabet
 
--- whether fields come in their order or by their tags
+-- Whether fields come in their order or by their tags.
 pub data SeqKind : Type 0 where
   sequence : SeqKind
   set : SeqKind
 
--- the value that a DEFAULT names
+-- The value that a DEFAULT names.
 pub data Plain : Type 0 where
   boolean : Bool → Plain
   int : ℤ → Plain
   text : List ℕ → Plain
   item : List ℕ → Plain
 
--- whether a field may be absent, and what then stands for it
+-- Whether a field may be absent, and what then stands for it.
 pub data Presence : Type 0 where
   required : Presence
   optional : Presence
   default : Plain → Presence
 
 mutual
-  -- the kind of a type, with its parts
+  -- The kind of a type, with its parts.
   pub data Shape : Type 0 where
     null : Shape
     boolean : Shape
-    -- from the least to the greatest, in so many bits
+    -- From the least to the greatest, in so many bits.
     int : ℤ → ℤ → ℕ → Shape
-    -- with a fixed number of bits, or with any
+    -- With a fixed number of bits, or with any.
     bits : Option ℕ → Shape
     octets : Shape
     any : Shape
@@ -51,41 +51,41 @@ mutual
     utc : Shape
     gen : Shape
     day : Shape
-    -- a number from 2^63 to 2^64-1, as its digits
+    -- A number from 2^63 to 2^64-1, as its digits.
     decimal : Shape
-    -- the items, and those that were added
+    -- The items, and those that were added.
     enum : List (List ℕ) → Option (List (List ℕ)) → Shape
     seq : SeqKind → Fields → FieldAdditions → Shape
     list_of : Shape → Shape
     set_of : Shape → Shape
-    -- a list of entries in which the last one of a key counts
+    -- A list of entries in which the last one of a key counts.
     table : Shape → Shape
     choice : Alternatives → AlternativeAdditions → Shape
     loop : Shape → Shape
-    -- the k-th loop around it
+    -- The k-th loop around it.
     back : ℕ → Shape
 
-  -- name, smallest tag, presence and shape of each field
+  -- Name, smallest tag, presence and shape of each field.
   pub data Fields : Type 0 where
     no_fields : Fields
     field : List ℕ → Tag → Presence → Shape → Fields → Fields
 
-  -- the fields after the extension marker, if there is one
+  -- The fields after the extension marker, if there is one.
   pub data FieldAdditions : Type 0 where
     closed_fields : FieldAdditions
     extended_fields : Fields → FieldAdditions
 
-  -- identifier, smallest tag and shape of each alternative
+  -- Identifier, smallest tag and shape of each alternative.
   pub data Alternatives : Type 0 where
     no_alternatives : Alternatives
     alternative : List ℕ → Tag → Shape → Alternatives → Alternatives
 
-  -- the alternatives after the extension marker, if there is one
+  -- The alternatives after the extension marker, if there is one.
   pub data AlternativeAdditions : Type 0 where
     closed_alternatives : AlternativeAdditions
     extended_alternatives : Alternatives → AlternativeAdditions
 
--- the shape with r in the place of each `back` that means the k-th loop around it
+-- The shape with r in the place of each `back` that means the k-th loop around it.
 abbrev mutual
   pub fill : Shape → ℕ → Shape → Shape
   fill Shape.null k r = Shape.null
@@ -110,112 +110,116 @@ abbrev mutual
   fill (Shape.loop s) k r = Shape.loop (fill s (suc k) r)
   fill (Shape.back j) k r = if nat_eq j k then r else Shape.back j
 
+  -- The fields, filled in the same way.
   pub fill_fields : Fields → ℕ → Shape → Fields
   fill_fields Fields.no_fields k r = Fields.no_fields
   fill_fields (Fields.field n t p s fs) k r = Fields.field n t p (fill s k r) (fill_fields fs k r)
 
+  -- The added fields, filled in the same way.
   pub fill_added_fields : FieldAdditions → ℕ → Shape → FieldAdditions
   fill_added_fields FieldAdditions.closed_fields k r = FieldAdditions.closed_fields
   fill_added_fields (FieldAdditions.extended_fields fs) k r = FieldAdditions.extended_fields (fill_fields fs k r)
 
+  -- The alternatives, filled in the same way.
   pub fill_alternatives : Alternatives → ℕ → Shape → Alternatives
   fill_alternatives Alternatives.no_alternatives k r = Alternatives.no_alternatives
   fill_alternatives (Alternatives.alternative n t s alts) k r = Alternatives.alternative n t (fill s k r) (fill_alternatives alts k r)
 
+  -- The added alternatives, filled in the same way.
   pub fill_added_alternatives : AlternativeAdditions → ℕ → Shape → AlternativeAdditions
   fill_added_alternatives AlternativeAdditions.closed_alternatives k r = AlternativeAdditions.closed_alternatives
   fill_added_alternatives (AlternativeAdditions.extended_alternatives alts) k r = AlternativeAdditions.extended_alternatives (fill_alternatives alts k r)
 
--- the body of a loop, with the loop in the place of each `back` that means it
+-- The body of a loop, with the loop in the place of each `back` that means it.
 abbrev pub unfold_loop : Shape → Shape
 unfold_loop body = fill body 0 (Shape.loop body)
 
--- an enumeration without an extension marker
+-- An enumeration without an extension marker.
 abbrev pub closed_enum : List (List ℕ) → Shape
 closed_enum items = Shape.enum items None
 
--- a SEQUENCE without an extension marker
+-- A SEQUENCE without an extension marker.
 abbrev pub closed_seq : Fields → Shape
 closed_seq fs = Shape.seq SeqKind.sequence fs FieldAdditions.closed_fields
 
--- a CHOICE without an extension marker
+-- A CHOICE without an extension marker.
 abbrev pub closed_choice : Alternatives → Shape
 closed_choice alts = Shape.choice alts AlternativeAdditions.closed_alternatives
 
--- the shape of a type under constraints that fix this size, or none
+-- The shape of a type under constraints that fix this size, or none.
 abbrev pub shape_under : Option ℕ → Shape → Shape
 shape_under n (Shape.bits m) = Shape.bits n
 shape_under n s = s
 
--- the names of fields, in order
+-- The names of fields, in order.
 abbrev pub field_names : Fields → List (List ℕ)
 field_names Fields.no_fields = []
 field_names (Fields.field n t p s fs) = n ∷ field_names fs
 
--- the identifiers of alternatives, in order
+-- The identifiers of alternatives, in order.
 abbrev pub identifiers : Alternatives → List (List ℕ)
 identifiers Alternatives.no_alternatives = []
 identifiers (Alternatives.alternative n t s alts) = n ∷ identifiers alts
 
--- the tags of alternatives, in order
+-- The tags of alternatives, in order.
 abbrev pub tags : Alternatives → List Tag
 tags Alternatives.no_alternatives = []
 tags (Alternatives.alternative n t s alts) = t ∷ tags alts
 
--- the first alternative of that name
+-- The first alternative of that name.
 abbrev pub alternative_named : (List ℕ → List ℕ → Bool) → Alternatives → List ℕ → Option (List ℕ × Shape)
 alternative_named same Alternatives.no_alternatives name = None
 alternative_named same (Alternatives.alternative n t s alts) name = if same name n then Some (n, s) else alternative_named same alts name
 
--- the k-th alternative
+-- The k-th alternative.
 abbrev pub alternative_at : Alternatives → ℕ → Option (List ℕ × Shape)
 alternative_at Alternatives.no_alternatives k = None
 alternative_at (Alternatives.alternative n t s alts) zero = Some (n, s)
 alternative_at (Alternatives.alternative n t s alts) (suc k) = alternative_at alts k
 
--- the first place of the name
+-- The first place of the name.
 abbrev pub place_named : (List ℕ → List ℕ → Bool) → List (List ℕ) → List ℕ → Option ℕ
 place_named same [] name = None
 place_named same (n ∷ ns) name = if same name n then Some 0 else option_map suc (place_named same ns name)
 
--- the place of a class among the classes
+-- The place of a class among the classes.
 abbrev pub class_number : Class → ℕ
 class_number Universal = 0
 class_number Application = 1
 class_number Context = 2
 class_number Private = 3
 
--- the tags are equal
+-- The tags are equal.
 abbrev pub tag_eq : Tag → Tag → Bool
 tag_eq a b = nat_eq (class_number a.class) (class_number b.class) && nat_eq a.value b.value
 
--- the first alternative of that tag
+-- The first alternative of that tag.
 abbrev pub alternative_tagged : Alternatives → Tag → Option (List ℕ × Shape)
 alternative_tagged Alternatives.no_alternatives tag = None
 alternative_tagged (Alternatives.alternative n t s alts) tag = if tag_eq tag t then Some (n, s) else alternative_tagged alts tag
 
--- the identifier beside the tag
+-- The identifier beside the tag.
 abbrev pub name_tagged : List Tag → List (List ℕ) → Tag → Option (List ℕ)
 name_tagged [] names tag = None
 name_tagged (t ∷ ts) [] tag = None
 name_tagged (t ∷ ts) (n ∷ names) tag = if tag_eq tag t then Some n else name_tagged ts names tag
 
--- the tag is one of these
+-- The tag is one of these.
 abbrev pub has_tag : List Tag → Tag → Bool
 has_tag [] tag = false
 has_tag (t ∷ ts) tag = if tag_eq t tag then true else has_tag ts tag
 
--- no tag stands twice
+-- No tag stands twice.
 abbrev pub tags_distinct : List Tag → Bool
 tags_distinct [] = true
 tags_distinct (t ∷ ts) = if has_tag ts t then false else tags_distinct ts
 
--- the identifier is one of these items
+-- The identifier is one of these items.
 abbrev pub is_item : List (List ℕ) → List ℕ → Bool
 is_item [] i = false
 is_item (n ∷ ns) i = if bytes_eq i n then true else is_item ns i
 
--- no name stands twice
+-- No name stands twice.
 abbrev pub are_distinct : List (List ℕ) → Bool
 are_distinct [] = true
 are_distinct (n ∷ ns) = if is_item ns n then false else are_distinct ns

@@ -10,12 +10,12 @@ use Rattle.asn_traits.specs.Leaf.{Blame, Blamed, leaf, as_number, needs_members,
 use Rattle.asn_traits.specs.Value.{Value, may_lack}
 use Rattle.asn_traits.specs.Says.{Says}
 
--- the names of the fields that lead to a place
+-- The names of the fields that lead to a place.
 abbrev pub Path : Type 0
 Path = List (List ℕ)
 
 mutual
-  -- the slot says no value by the shape: at this path, for this reason
+  -- The slot says no value by the shape: at this path, for this reason.
   pub data Stops (n : Notation) : Shape → Slot → Path → Why → Type 0 where
     stops_absent : (s : Shape) (c : Codec) → notation_of c ≡ n → Stops n s None [] (Why.end_of_input c)
     stops_leaf : (s : Shape) (t : Tree) (b : Blame) (w : Why) → leaf n s t ≡ Some (Err b) → Blamed n t b w → Stops n s (Some t) [] w
@@ -35,12 +35,12 @@ mutual
     stops_loop : (body : Shape) (t : Tree) (p : Path) (w : Why) → Stops n (unfold_loop body) (Some t) p w → Stops n (Shape.loop body) (Some t) p w
     stops_free : (s : Shape) (slot : Slot) (p : Path) (w : Why) → n ≡ Notation.other → Stops n s slot p w
 
-  -- an element stops, and those before it say values
+  -- An element stops, and those before it say values.
   pub data StopsEach (n : Notation) : Shape → List Slot → Path → Why → Type 0 where
     stops_here : (s : Shape) (slot : Slot) (rest : List Slot) (p : Path) (w : Why) → Stops n s slot p w → StopsEach n s (slot ∷ rest) p w
     stops_later : (s : Shape) (slot : Slot) (rest : List Slot) (v : Value) (p : Path) (w : Why) → Says n s slot v → StopsEach n s rest p w → StopsEach n s (slot ∷ rest) p w
 
-  -- a field stops, and the slots of those before it say values or are absent
+  -- A field stops, and the slots of those before it say values or are absent.
   pub data StopsFields (n : Notation) : Fields → List Slot → Path → Why → Type 0 where
     field_stops : (name : List ℕ) (g : Tag) (k : Presence) (s : Shape) (fs : Fields) (t : Tree) (rest : List Slot) (p : Path) (w : Why)
         → Stops n s (Some t) p w → StopsFields n (Fields.field name g k s fs) (Some t ∷ rest) (name ∷ p) w

@@ -6,44 +6,44 @@ use Rattle.asn_base.specs.declared.tag.Tag.{Tag}
 use Rattle.asn_traits.specs.Shape.{Shape, Fields, Alternatives, Alphabet, Plain, Presence, closed_enum, closed_seq, closed_choice, unfold_loop, is_item}
 
 mutual
-  -- the abstract value of an ASN.1 type
+  -- The abstract value of an ASN.1 type.
   pub data Value : Type 0 where
     null : Value
     boolean : Bool → Value
     int : ℤ → Value
-    -- with the size that the type fixes, or none
+    -- With the size that the type fixes, or none.
     bits : List Bool → Option ℕ → Value
     octets : List ℕ → Value
     arcs : List ℕ → Value
-    -- the bytes of a character string
+    -- The bytes of a character string.
     text : List ℕ → Value
-    -- the 16-bit units of a BMPString
+    -- The 16-bit units of a BMPString.
     units : List ℕ → Value
-    -- seconds since 1970-01-01T00:00:00 in UTC
+    -- Seconds since 1970-01-01T00:00:00 in UTC.
     utc : ℤ → Value
-    -- nanoseconds since 1970-01-01T00:00:00 in UTC
+    -- Nanoseconds since 1970-01-01T00:00:00 in UTC.
     gen : ℤ → Value
-    -- days since 1970-01-01
+    -- Days since 1970-01-01.
     day : ℤ → Value
     item : List ℕ → Value
     members : Slots → Value
     list : Values → Value
-    -- sorted, repeats kept
+    -- Sorted, repeats kept.
     bag : Values → Value
     choice : List ℕ → Value → Value
 
-  -- the elements of a list, in order
+  -- The elements of a list, in order.
   pub data Values : Type 0 where
     no_values : Values
     value : Value → Values → Values
 
-  -- the members of a sequence, in order, each absent or present
+  -- The members of a sequence, in order, each absent or present.
   pub data Slots : Type 0 where
     no_slots : Slots
     absent : List ℕ → Slots → Slots
     present : List ℕ → Value → Slots → Slots
 
--- the number of parts of a value, itself included
+-- The number of parts of a value, itself included.
 abbrev mutual
   pub nodes : Value → ℕ
   nodes Value.null = 1
@@ -63,31 +63,33 @@ abbrev mutual
   nodes (Value.bag vs) = 1 + nodes_values vs
   nodes (Value.choice i v) = 1 + nodes v
 
+  -- The nodes of all elements.
   pub nodes_values : Values → ℕ
   nodes_values Values.no_values = 0
   nodes_values (Values.value v vs) = nodes v + nodes_values vs
 
+  -- The nodes of all present members.
   pub nodes_slots : Slots → ℕ
   nodes_slots Slots.no_slots = 0
   nodes_slots (Slots.absent n ms) = nodes_slots ms
   nodes_slots (Slots.present n v ms) = nodes v + nodes_slots ms
 
--- the bits with this size as the one that their type fixes
+-- The bits with this size as the one that their type fixes.
 abbrev pub marked : Option ℕ → Value → Value
 marked n (Value.bits bs m) = Value.bits bs n
 marked n v = v
 
--- the value of a type of this shape under constraints that fix this size, or none
+-- The value of a type of this shape under constraints that fix this size, or none.
 abbrev pub value_under : Option ℕ → Shape → Value → Value
 value_under n (Shape.bits m) v = marked n v
 value_under n s v = v
 
--- the values that f gives of the items
+-- The values that f gives of the items.
 abbrev pub values : {A : Type 0} → (A → Value) → List A → Values
 values f [] = Values.no_values
 values f (x ∷ xs) = Values.value (f x) (values f xs)
 
--- the value is the one that a DEFAULT names
+-- The value is the one that a DEFAULT names.
 abbrev pub is_plain : Plain → Value → Bool
 is_plain (Plain.boolean true) (Value.boolean c) = c
 is_plain (Plain.boolean false) (Value.boolean c) = not c
@@ -96,22 +98,22 @@ is_plain (Plain.text s) (Value.text t) = bytes_eq s t
 is_plain (Plain.item i) (Value.item j) = bytes_eq i j
 is_plain _ _ = false
 
--- a field with this value is written and not left out
+-- A field with this value is written and not left out.
 abbrev pub is_kept : Presence → Value → Bool
 is_kept (Presence.default d) v = not (is_plain d v)
 is_kept p v = true
 
--- a field may be absent
+-- A field may be absent.
 abbrev pub may_lack : Presence → Bool
 may_lack Presence.required = false
 may_lack _ = true
 
--- the members with a field's value in front, which is absent where it is the field's default
+-- The members with a field's value in front, which is absent where it is the field's default.
 abbrev pub with_field : Presence → List ℕ → Value → Slots → Slots
 with_field p name v vs = if is_kept p v then Slots.present name v vs else Slots.absent name vs
 
 mutual
-  -- the value is one of the shape
+  -- The value is one of the shape.
   pub data Fits : Shape → Value → Type 0 where
     fits_null : Fits Shape.null Value.null
     fits_bool : {b : Bool} → Fits Shape.boolean (Value.boolean b)
@@ -123,19 +125,19 @@ mutual
     fits_choice : {alts : Alternatives} {i : List ℕ} {v : Value} → FitsAlternative alts i v → Fits (closed_choice alts) (Value.choice i v)
     fits_loop : {b : Shape} {v : Value} → Fits (unfold_loop b) v → Fits (Shape.loop b) v
 
-  -- each element is a value of the shape
+  -- Each element is a value of the shape.
   pub data FitsEach : Shape → Values → Type 0 where
     fits_none : {s : Shape} → FitsEach s Values.no_values
     fits_one : {s : Shape} {v : Value} {vs : Values} → Fits s v → FitsEach s vs → FitsEach s (Values.value v vs)
 
-  -- each field's slot is absent where it may be, or has a value of the field's shape that isn't its default
+  -- Each field's slot is absent where it may be, or has a value of the field's shape that isn't its default.
   pub data FitsFields : Fields → Slots → Type 0 where
     fits_end : FitsFields Fields.no_fields Slots.no_slots
     fits_present : {n : List ℕ} {t : Tag} {p : Presence} {s : Shape} {fs : Fields} {v : Value} {ms : Slots} → Fits s v → is_kept p v ≡ true → FitsFields fs ms
         → FitsFields (Fields.field n t p s fs) (Slots.present n v ms)
     fits_absent : {n : List ℕ} {t : Tag} {p : Presence} {s : Shape} {fs : Fields} {ms : Slots} → may_lack p ≡ true → FitsFields fs ms → FitsFields (Fields.field n t p s fs) (Slots.absent n ms)
 
-  -- the payload is a value of the alternative of that identifier
+  -- The payload is a value of the alternative of that identifier.
   pub data FitsAlternative : Alternatives → List ℕ → Value → Type 0 where
     fits_here : {i : List ℕ} {t : Tag} {s : Shape} {alts : Alternatives} {v : Value} → Fits s v → FitsAlternative (Alternatives.alternative i t s alts) i v
     fits_later : {i j : List ℕ} {t : Tag} {s : Shape} {alts : Alternatives} {v : Value} → FitsAlternative alts i v → FitsAlternative (Alternatives.alternative j t s alts) i v

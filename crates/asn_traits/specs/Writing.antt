@@ -10,71 +10,78 @@ use Rattle.asn_traits.specs.Notation.{Notation, notation_of}
 use Rattle.asn_traits.specs.Shape.{Shape, Fields, Alternatives, shape_under}
 use Rattle.asn_traits.specs.Value.{Value, Values, Slots, Fits, FitsFields, FitsAlternative, value_under}
 
--- a value, or absent
+-- A value, or absent.
 abbrev pub Frame : Type 0
 Frame = List (Option Value)
 
--- One more slot in the last frame; the frames stand with the last one first. Where none is open, one opens.
+-- One more slot in the last frame, which stands first; where no frame is open, one opens.
 abbrev pub push : Option Value → List Frame → List Frame
 push s [] = (s ∷ []) ∷ []
 push s (f ∷ fs) = (f ++ (s ∷ [])) ∷ fs
 
+-- More slots in the last frame, in order.
 abbrev pub push_all : Frame → List Frame → List Frame
 push_all [] fs = fs
 push_all (s ∷ ss) fs = push_all ss (push s fs)
 
+-- The values of the slots that are present.
 abbrev pub present_values : Frame → Values
 present_values [] = Values.no_values
 present_values (None ∷ ss) = present_values ss
 present_values (Some v ∷ ss) = Values.value v (present_values ss)
 
--- Each slot with its name. A slot past the names has the empty one.
+-- The first name, which past the names is empty.
 abbrev pub head_name : List (List ℕ) → List ℕ
 head_name [] = []
 head_name (n ∷ ns) = n
 
+-- The names after the first.
 abbrev pub tail_names : List (List ℕ) → List (List ℕ)
 tail_names [] = []
 tail_names (n ∷ ns) = ns
 
+-- Each slot with the name at its place.
 abbrev pub named : Frame → List (List ℕ) → Slots
 named [] ns = Slots.no_slots
 named (None ∷ ss) ns = Slots.absent (head_name ns) (named ss (tail_names ns))
 named (Some v ∷ ss) ns = Slots.present (head_name ns) v (named ss (tail_names ns))
 
--- what is there, or else the other
+-- What is there, or else the other.
 abbrev pub or_some : {A : Type 0} → Option A → Option A → Option A
 or_some (Some x) o = Some x
 or_some None o = o
 
--- the last one that is present
+-- The last one that is present.
 abbrev pub last_present : {A : Type 0} → List (Option A) → Option A
 last_present [] = None
 last_present (s ∷ ss) = or_some (last_present ss) s
 
--- the last frame becomes one slot of the frame before it
+-- The last frame becomes one slot of the frame before it.
 abbrev pub close : (Frame → Option Value) → List Frame → List Frame
 close f [] = []
 close f (ss ∷ fs) = push (f ss) fs
 
+-- The list of a frame's present values.
 abbrev pub as_list : Frame → Option Value
 as_list ss = Some (Value.list (present_values ss))
 
+-- The members that a frame's slots are, by these names.
 abbrev pub as_members : List (List ℕ) → Frame → Option Value
 as_members names ss = Some (Value.members (named ss names))
 
+-- The choice of this identifier whose payload is a frame's first slot, if that is present.
 abbrev pub as_choice : List ℕ → Frame → Option Value
 as_choice i [] = None
 as_choice i (None ∷ ss) = None
 as_choice i (Some v ∷ ss) = Some (Value.choice i v)
 
--- the notation has the number
+-- The notation has the number.
 abbrev pub IntStands : Notation → ℤ → Type 0
 IntStands Notation.jer n = (negsuc (2 ^ 63 - 1) ≤ℤ n) × (n ≤ℤ pos (2 ^ 64 - 1))
 IntStands _ n = Unit {0}
 
 abbrev mutual
-  -- the notation can write the value
+  -- The notation can write the value.
   pub Writable : Notation → Value → Type 0
   Writable n (Value.int k) = IntStands n k
   Writable n (Value.text t) = is_utf8 t ≡ true
@@ -83,21 +90,23 @@ abbrev mutual
   Writable n (Value.choice i v) = Writable n v
   Writable n _ = Unit {0}
 
+  -- The notation can write each element.
   pub WritableEach : Notation → Values → Type 0
   WritableEach n Values.no_values = Unit {0}
   WritableEach n (Values.value v vs) = Writable n v × WritableEach n vs
 
+  -- The notation can write each present member.
   pub WritableSlots : Notation → Slots → Type 0
   WritableSlots n Slots.no_slots = Unit {0}
   WritableSlots n (Slots.absent m ms) = WritableSlots n ms
   WritableSlots n (Slots.present m v ms) = Writable n v × WritableSlots n ms
 
--- the number as an error names it
+-- The number as an error names it.
 abbrev pub whole : ℤ → WholeNumber
 whole n = record { negative = is_negative n; magnitude = magnitude n }
 
 abbrev mutual
-  -- the first part of the value that the notation cannot write is refused so
+  -- The first part of the value that the notation cannot write is refused so.
   pub Blocks : Notation → Value → WhyUnwritten → Type 0
   Blocks n (Value.int k) why = (IntStands n k → ⊥) × (why ≡ WhyUnwritten.exceeds_supported_int_size (whole k))
   Blocks n (Value.members ms) why = BlocksSlots n ms why
@@ -105,22 +114,24 @@ abbrev mutual
   Blocks n (Value.choice i v) why = Blocks n v why
   Blocks n _ why = ⊥
 
+  -- The first element that cannot be written is refused so.
   pub BlocksEach : Notation → Values → WhyUnwritten → Type 0
   BlocksEach n Values.no_values why = ⊥
   BlocksEach n (Values.value v vs) why = Blocks n v why ⊎ (Writable n v × BlocksEach n vs why)
 
+  -- The first present member that cannot be written is refused so.
   pub BlocksSlots : Notation → Slots → WhyUnwritten → Type 0
   BlocksSlots n Slots.no_slots why = ⊥
   BlocksSlots n (Slots.absent m ms) why = BlocksSlots n ms why
   BlocksSlots n (Slots.present m v ms) why = Blocks n v why ⊎ (Writable n v × BlocksSlots n ms why)
 
--- memory is out, or the value has a part that the notation cannot write, or the codec is neither notation
+-- Memory is out, or the value has a part that the notation cannot write, or the codec is neither notation.
 pub data CannotWrite (n : Notation) (v : Value) (e : EncodeError) : Type 0 where
   no_memory : e.kind ≡ OutOfMemory → CannotWrite n v e
   blocked : Blocks n v (encode_why e.kind) → notation_of e.codec ≡ n → CannotWrite n v e
   write_free : n ≡ Notation.other → CannotWrite n v e
 
--- the same, under constraints that fix this size, or none
+-- The same, under constraints that fix this size, or none.
 abbrev pub CannotWriteUnder : Notation → Option ℕ → Shape → Value → EncodeError → Type 0
 CannotWriteUnder n size s v e = CannotWrite n (value_under size s v) e
 
@@ -134,7 +145,7 @@ pub record Written {S : Type 0} (holds : S → List Frame → Type 0) (n : Notat
   pub fit : Fits s v
   pub writable : Writable n v
 
--- the same, under constraints that fix this size, or none
+-- The same, under constraints that fix this size, or none.
 abbrev pub WrittenUnder : {S : Type 0} → (S → List Frame → Type 0) → Notation → Option ℕ → Shape → Value → S → S → Type 0
 WrittenUnder holds n size s v old new = Written holds n (shape_under size s) (value_under size s v) old new
 

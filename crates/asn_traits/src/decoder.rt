@@ -1,6 +1,6 @@
 // Reading a value of a type from the slots that a decoder has pending.
 //
-// A codec writes the primitives. The calls that have a bound of this crate's are final, and are proved here once for every codec.
+// A codec writes the calls without a body. The calls that have a bound of this crate's are final, and are proved here once for every codec.
 ghost use Rattle.asn_fault.specs.Stop.{error_stop};
 ghost use Rattle.asn_traits.specs.Fixed.{fixed_size};
 ghost use Rattle.asn_traits.specs.Notation.{Notation, notation_of};
@@ -19,23 +19,33 @@ use asn_base::{Codec, Constraints, IntegerType, Tag};
 use asn_fault::{DecodeError, Refusal};
 use std::alloc::Global;
 
+/// A reader of one notation. It is seen as a list of pending slots: a tree or absent.
+///
+/// Unless said otherwise a call takes the first pending slot and reads it. It refuses with the path and the kind by which the slot says no value of the type,
+/// and else memory alone. What is pending after a refusal isn't told.
 pub trait Decoder {
+    // The notation that is read.
     ghost notation: { Notation };
 
-    /// What the decoder is seen as: the slots that are still to be read.
+    // The slots that are still to be read, the first one first.
     ghost pending: { Self → List Slot };
 
+    /// The codec of its errors.
     fn codec(&self) -> Codec
         ensures { notation_of result ≡ notation };
 
+    /// The allocator that it takes memory from.
     fn allocator(&self) -> Global;
 
+    /// Reads a BOOLEAN.
     fn decode_bool(&mut self, tag: Tag) -> Result<bool, DecodeError>
         ensures { Answer notation Shape.boolean Value.boolean (pending self.old) result (pending self.new) };
 
+    /// Reads a NULL.
     fn decode_null(&mut self, tag: Tag) -> Result<(), DecodeError>
         ensures { Answer notation Shape.null (λ u. Value.null) (pending self.old) result (pending self.new) };
 
+    /// Reads an INTEGER of the type's range.
     fn decode_integer<I: IntegerType>(
         &mut self,
         tag: Tag,
@@ -43,6 +53,7 @@ pub trait Decoder {
     ) -> Result<I, DecodeError>
         ensures { Answer notation (Shape.int I.LEAST (pos I.GREATEST) I.WIDTH) (λ n. Value.int (I.number n)) (pending self.old) result (pending self.new) };
 
+    /// Reads a UTF8String.
     fn decode_utf8_string(
         &mut self,
         tag: Tag,
@@ -50,10 +61,11 @@ pub trait Decoder {
     ) -> Result<String, DecodeError>
         ensures { Answer notation (Shape.text Alphabet.utf8) (λ s. Value.text (string_bytes s)) (pending self.old) result (pending self.new) };
 
+    /// Reads an item of an ENUMERATED type.
     fn decode_enumerated<E: Enumerated>(&mut self, tag: Tag) -> Result<E, DecodeError>
         ensures { Answer notation (closed_enum E.items) (λ x. Value.item (E.item x)) (pending self.old) result (pending self.new) };
 
-    /// Takes the first pending slot if it is absent.
+    /// Takes the first pending slot if it is absent, and tells whether it was. It refuses where none is pending.
     fn take_absent(&mut self) -> Result<bool, DecodeError>
         ensures { TakesAbsent notation (pending self.old) result (pending self.new) };
 
@@ -70,6 +82,7 @@ pub trait Decoder {
     fn open_choice(&mut self, identifiers: &[&'static str]) -> Result<Option<usize>, DecodeError>
         ensures { OpensChoice notation (map (λ s. s.now) identifiers.now) (pending self.old) result (pending self.new) };
 
+    /// Reads a SEQUENCE OF.
     final fn decode_sequence_of<T: Decode>(
         &mut self,
         tag: Tag,
@@ -88,7 +101,7 @@ pub trait Decoder {
         Ok(items)
     }
 
-    /// Reads the slots of a type's fields by `decode_fn`, whose error is a `DecodeError`.
+    /// Reads a SEQUENCE: `decode_fn` starts with one slot per field before the others, and takes them all. Its error is a `DecodeError`.
     final fn decode_sequence<C: Constructed, E: Refusal, F: FnOnce(&mut Self) -> Result<C, E>>(
         &mut self,
         tag: Tag,
@@ -106,7 +119,9 @@ pub trait Decoder {
         }
     }
 
-    /// Opens a choice, and answers the tag of its alternative, or that of the end of contents.
+    /// Puts the payload of the first pending slot, a CHOICE, in its place, and answers the tag of its alternative.
+    ///
+    /// Where it names no alternative, it puts an absent slot there and answers `EOC`.
     final fn open_alternative<C: Choice>(
         &mut self,
         constraints: &Constraints,
@@ -120,6 +135,7 @@ pub trait Decoder {
         }
     }
 
+    /// Reads a CHOICE. Where no alternative is named, the type's `from_tag` refuses.
     final fn decode_choice<C: DecodeChoice>(
         &mut self,
         constraints: &Constraints,
@@ -132,6 +148,7 @@ pub trait Decoder {
         }
     }
 
+    /// Reads an optional field: nothing where the slot is absent.
     final fn decode_optional<T: Decode>(&mut self) -> Result<Option<T>, DecodeError>
         ensures { OptionalAnswer notation T.shape_of T.value_of (pending self.old) result (pending self.new) }
     {
@@ -145,6 +162,7 @@ pub trait Decoder {
         }
     }
 
+    /// Reads a value under an explicit tag, which changes nothing in text.
     final fn decode_explicit_prefix<T: Decode>(&mut self, tag: Tag) -> Result<T, DecodeError>
         ensures { Answer notation T.shape_of T.value_of (pending self.old) result (pending self.new) }
     {
@@ -192,6 +210,7 @@ pub trait Decode: AsnType + Sized + Drop {
 
 /// A choice that is read.
 pub trait DecodeChoice: Choice + Sized + Drop {
+    /// Reads the payload of the alternative of this tag from the first pending slot. Of any other tag it takes no slot and refuses with `NoValidChoice`.
     fn from_tag<D: Decoder>(decoder: &mut D, tag: Tag) -> Result<Self, DecodeError>
         ensures { TagAnswer D.notation Self.alternatives Self.value_of tag (D.pending decoder.old) result (D.pending decoder.new) };
 }

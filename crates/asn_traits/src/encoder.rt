@@ -1,6 +1,6 @@
 // Writing a value of a type as one slot more of what an encoder holds.
 //
-// A codec writes the primitives. The calls that have a bound of this crate's are final, and are proved here once for every codec.
+// A codec writes the calls without a body. The calls that have a bound of this crate's are final, and are proved here once for every codec.
 ghost use Rattle.asn_traits.specs.Fixed.{fixed_size};
 ghost use Rattle.asn_traits.specs.Notation.{Notation, notation_of};
 ghost use Rattle.asn_traits.specs.Shape.{Shape, Alphabet, closed_enum, field_names, alternative_tagged};
@@ -16,17 +16,25 @@ use asn_base::{Codec, Constraints, Identifier, IntegerType, Tag};
 use asn_fault::{EncodeError, EncodeErrorKind};
 use std::alloc::Global;
 
+/// A writer of one notation. It is seen as a list of open frames, each a list of slots: a value or absent.
+///
+/// Unless said otherwise the last frame has one more slot after a call, the value. A call refuses a value that the notation cannot write, by the kind of
+/// the first part that it cannot write, and else memory alone. What it holds after a refusal isn't told.
 pub trait Encoder {
+    // The notation that is written.
     ghost notation: { Notation };
 
-    /// What the encoder is seen as: its open frames, the last one first. A codec's tree need not tell its value, so this is a relation.
+    // The encoder may have these open frames, the last one first. A codec's tree need not tell its value, so this is a relation.
     ghost holds: { Self → List Frame → Type 0 };
 
+    /// The codec of its errors.
     fn codec(&self) -> Codec
         ensures { notation_of result ≡ notation };
 
+    /// The allocator that it takes memory from.
     fn allocator(&self) -> Global;
 
+    /// Writes a BOOLEAN.
     fn encode_bool(
         &mut self,
         tag: Tag,
@@ -36,10 +44,12 @@ pub trait Encoder {
         ensures written { OnOk result (Written holds notation Shape.boolean (Value.boolean value) self.old self.new) }
         ensures refused { IfErr result (CannotWrite notation (Value.boolean value)) };
 
+    /// Writes a NULL.
     fn encode_null(&mut self, tag: Tag, identifier: Identifier) -> Result<(), EncodeError>
         ensures written { OnOk result (Written holds notation Shape.null Value.null self.old self.new) }
         ensures refused { IfErr result (CannotWrite notation Value.null) };
 
+    /// Writes an INTEGER.
     fn encode_integer<I: IntegerType>(
         &mut self,
         tag: Tag,
@@ -50,6 +60,7 @@ pub trait Encoder {
         ensures written { OnOk result (Written holds notation (Shape.int I.LEAST (pos I.GREATEST) I.WIDTH) (Value.int (I.number value.now)) self.old self.new) }
         ensures refused { IfErr result (CannotWrite notation (Value.int (I.number value.now))) };
 
+    /// Writes a UTF8String.
     fn encode_utf8_string(
         &mut self,
         tag: Tag,
@@ -60,6 +71,7 @@ pub trait Encoder {
         ensures written { OnOk result (Written holds notation (Shape.text Alphabet.utf8) (Value.text value.now) self.old self.new) }
         ensures refused { IfErr result (CannotWrite notation (Value.text value.now)) };
 
+    /// Writes an item of an ENUMERATED type.
     fn encode_enumerated<T: Enumerated>(
         &mut self,
         tag: Tag,
@@ -69,27 +81,32 @@ pub trait Encoder {
         ensures written { OnOk result (Written holds notation (closed_enum T.items) (Value.item (T.item value.now)) self.old self.new) }
         ensures refused { IfErr result (CannotWrite notation (Value.item (T.item value.now))) };
 
-    /// An absent slot.
+    /// Puts an absent slot into the last frame. It refuses memory alone.
     fn encode_absent(&mut self) -> Result<(), EncodeError>
         ensures written { OnOk result (Turns holds (push None) self.old self.new) }
         ensures refused { IfErr result (λ e. e.kind ≡ EncodeErrorKind.OutOfMemory) };
 
+    /// Opens a frame. It refuses memory alone.
     fn open_frame(&mut self) -> Result<(), EncodeError>
         ensures opened { OnOk result (Turns holds (λ fs. [] ∷ fs) self.old self.new) }
         ensures refused { IfErr result (λ e. e.kind ≡ EncodeErrorKind.OutOfMemory) };
 
+    /// Puts the last frame into the one before it as a list of its present values. It refuses memory alone.
     fn close_list(&mut self) -> Result<(), EncodeError>
         ensures closed { OnOk result (Turns holds (close as_list) self.old self.new) }
         ensures refused { IfErr result (λ e. e.kind ≡ EncodeErrorKind.OutOfMemory) };
 
+    /// Puts the last frame into the one before it as members, by the names of these fields. It refuses memory alone.
     fn close_members(&mut self, fields: &[Field]) -> Result<(), EncodeError>
         ensures closed { OnOk result (Turns holds (close (as_members (names_of fields.now))) self.old self.new) }
         ensures refused { IfErr result (λ e. e.kind ≡ EncodeErrorKind.OutOfMemory) };
 
+    /// Puts the first slot of the last frame into the one before it as the payload of a choice. It refuses memory alone.
     fn close_choice(&mut self, identifier: &'static str) -> Result<(), EncodeError>
         ensures closed { OnOk result (Turns holds (close (as_choice identifier.now)) self.old self.new) }
         ensures refused { IfErr result (λ e. e.kind ≡ EncodeErrorKind.OutOfMemory) };
 
+    /// Writes the value of an optional field.
     final fn encode_some<T: Encode>(
         &mut self,
         value: &T,
@@ -103,6 +120,7 @@ pub trait Encoder {
         value.encode(self)
     }
 
+    /// Leaves an optional field out: puts an absent slot. It refuses memory alone.
     final fn encode_none<T: Encode>(&mut self, identifier: Identifier) -> Result<(), EncodeError>
     where
         Self: Sized,
@@ -112,6 +130,7 @@ pub trait Encoder {
         self.encode_absent()
     }
 
+    /// Writes a value under an explicit tag, which changes nothing in text.
     final fn encode_explicit_prefix<T: Encode>(
         &mut self,
         tag: Tag,
@@ -126,6 +145,7 @@ pub trait Encoder {
         value.encode(self)
     }
 
+    /// Writes a SEQUENCE OF.
     final fn encode_sequence_of<T: Encode>(
         &mut self,
         tag: Tag,
@@ -145,7 +165,7 @@ pub trait Encoder {
         self.close_list()
     }
 
-    /// The closure leaves one slot per field. What it wrote is told by its own clauses.
+    /// Writes a SEQUENCE: the closure starts on a new frame and leaves one slot per field in it. What it wrote is told by its own clauses.
     final fn encode_sequence<C: Constructed, F: FnOnce(&mut Self) -> Result<(), EncodeError>>(
         &mut self,
         tag: Tag,
@@ -164,7 +184,9 @@ pub trait Encoder {
         self.close_members(C::field_table().items)
     }
 
-    /// The closure leaves the payload's slot and answers the tag. What it wrote is told by its own clauses.
+    /// Writes a CHOICE: the closure starts on a new frame and leaves the payload's slot in it. What it wrote is told by its own clauses.
+    ///
+    /// Errors besides: `VariantNotInChoice` where the tag is that of no alternative, before the closure is called.
     final fn encode_choice<C: Choice, F: FnOnce(&mut Self) -> Result<Tag, EncodeError>>(
         &mut self,
         constraints: &Constraints,

@@ -32,6 +32,7 @@ pub fn tag_at(tags: &[Tag], place: usize) -> Tag
     }
 }
 
+/// Whether the tags are equal.
 pub fn same_tag(a: Tag, b: Tag) -> bool
     ensures { result ≡ tag_eq a b }
 {

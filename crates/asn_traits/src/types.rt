@@ -27,10 +27,60 @@ pub struct Field {
     pub name: &'static str,
 }
 
+impl Field {
+    /// A field that has to be present.
+    pub fn new_required(index: usize, tag: Tag, tag_tree: TagTree, name: &'static str) -> Field
+        ensures { result ≡ record { index = index; tag = tag; tag_tree = tag_tree; presence = Presence.Required; name = name.entry } }
+    {
+        Field {
+            index,
+            tag,
+            tag_tree,
+            presence: Presence::Required,
+            name,
+        }
+    }
+
+    /// A field that may be absent.
+    pub fn new_optional(index: usize, tag: Tag, tag_tree: TagTree, name: &'static str) -> Field
+        ensures { result ≡ record { index = index; tag = tag; tag_tree = tag_tree; presence = Presence.Optional; name = name.entry } }
+    {
+        Field {
+            index,
+            tag,
+            tag_tree,
+            presence: Presence::Optional,
+            name,
+        }
+    }
+
+    /// A field that is absent where it has its default.
+    pub fn new_default(index: usize, tag: Tag, tag_tree: TagTree, name: &'static str) -> Field
+        ensures { result ≡ record { index = index; tag = tag; tag_tree = tag_tree; presence = Presence.Default; name = name.entry } }
+    {
+        Field {
+            index,
+            tag,
+            tag_tree,
+            presence: Presence::Default,
+            name,
+        }
+    }
+}
+
 /// The fields of a type, in order.
 #[derive(Clone, Copy)]
 pub struct Fields {
     pub items: &'static [Field],
+}
+
+impl Fields {
+    /// These fields.
+    pub fn from_static(items: &'static [Field]) -> Fields
+        ensures { result.items.now ≡ items.now }
+    {
+        Fields { items }
+    }
 }
 
 /// An ASN.1 type.

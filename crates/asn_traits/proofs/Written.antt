@@ -1,0 +1,154 @@
+-- What is written says the value that was written.
+use Rattle.std.proofs.Common.{◌≡◌, refl, ap, sym, ◌∙◌, subst, ℕ, ℤ, pos, negsuc, List, [], ◌∷◌, map, Bool, true, false, if◌then◌else◌, Option, Some, None, Ok}
+use Rattle.std.specs.Prelude.{option_map}
+use Rattle.std.specs.Str.{bytes_eq}
+use Rattle.std.specs.Char.{to_ascii_lowercase}
+use Rattle.std.proofs.lemmas.Slice.Eq.{bytes_eq-Decides}
+use Rattle.serde_json.specs.Data.{Data, Members, put}
+use Rattle.serde_json.specs.Find.{get_member}
+use Rattle.serde_json.proofs.Views.{get_member-put, get_member-put_other}
+use Rattle.asn_traits.specs.Canonical.{jer_data, jer_items, jer_members}
+use Rattle.asn_traits.specs.Leaf.{as_number, as_item, result_map}
+use Rattle.asn_traits.specs.Notation.{Notation}
+use Rattle.asn_traits.specs.Readable.{names_apart, fields_apart, alternatives_apart, are_apart, has_identifier}
+use Rattle.asn_traits.specs.Says.{Says, SaysEach, SaysFields}
+use Rattle.asn_traits.specs.Shape.{Shape, Fields, Alternatives, Alphabet, closed_enum, field_names, identifiers, are_distinct, is_item, alternative_named, unfold_loop}
+use Rattle.asn_traits.specs.Tree.{Tree, Slot, as_list, as_members, item_slots, member_slot, same_identifier}
+use Rattle.asn_traits.specs.Value.{Value, Values, Slots, Fits, FitsEach, FitsFields, FitsAlternative, with_field}
+use Rattle.asn_traits.specs.Writes.{Writes, Finds, value_slots, slot_names}
+use Rattle.asn_traits.proofs.Apartness.{and-left, and-right, unfolded-apart}
+
+slot_names-fields : {fs : Fields} {ms : Slots} → FitsFields fs ms → slot_names ms ≡ field_names fs
+slot_names-fields FitsFields.fits_end = refl
+slot_names-fields (FitsFields.fits_present {n} fit kept rest) = ap (λ l. n ∷ l) (slot_names-fields rest)
+slot_names-fields (FitsFields.fits_absent {n} lack rest) = ap (λ l. n ∷ l) (slot_names-fields rest)
+
+same_identifier-itself : (i : List ℕ) → same_identifier i i ≡ true
+same_identifier-itself i = (bytes_eq-Decides (map to_ascii_lowercase i) (map to_ascii_lowercase i)).1 refl
+
+first_apart : (b rest : Bool) → (if b then true else rest) ≡ false → b ≡ false
+first_apart true rest e = let d : true ≡ false = e in cc d
+first_apart false rest e = refl
+
+rest_apart : (b rest : Bool) → (if b then true else rest) ≡ false → rest ≡ false
+rest_apart true rest e = let d : true ≡ false = e in cc d
+rest_apart false rest e = e
+
+none_named : (b rest : Bool) → (if b then false else rest) ≡ true → b ≡ false
+none_named true rest e = let d : false ≡ true = e in cc d
+none_named false rest e = refl
+
+others_named : (b rest : Bool) → (if b then false else rest) ≡ true → rest ≡ true
+others_named true rest e = let d : false ≡ true = e in cc d
+others_named false rest e = e
+
+-- An alternative that is there differs from an identifier that is none of theirs.
+differs : {alts : Alternatives} {i : List ℕ} {v : Value} (j : List ℕ) → FitsAlternative alts i v → has_identifier (identifiers alts) j ≡ false → same_identifier i j ≡ false
+differs j (FitsAlternative.fits_here {i} {t} {s} {alts} fit) h = first_apart (same_identifier i j) (has_identifier (identifiers alts) j) h
+differs j (FitsAlternative.fits_later {i} {j = k} {t} {s} {alts} rest) h = differs j rest (rest_apart (same_identifier k j) (has_identifier (identifiers alts) j) h)
+
+module _ (n : Notation) (tree : Value → Tree) (w : Writes n tree) where
+  mutual
+    -- The tree of a value that fits says that value.
+    pub says_written : {s : Shape} {v : Value} → names_apart s ≡ true → Fits s v → Says n s (Some (tree v)) v
+    says_written a Fits.fits_null = Says.says_leaf Shape.null _ _ (ap Some w.null)
+    says_written a (Fits.fits_bool {b}) = Says.says_leaf Shape.boolean _ _ (ap Some (w.boolean b))
+    says_written a (Fits.fits_int {l} {g} {w = width} {n = k} low high) = Says.says_int l g k width _ (w.int k) low high
+    says_written a (Fits.fits_utf8 {t} e) = Says.says_leaf (Shape.text Alphabet.utf8) _ _ (ap (λ r. Some (result_map Value.text r)) (w.text t))
+    says_written a (Fits.fits_item {items} {i} e) = Says.says_leaf (closed_enum items) _ _ (ap Some (w.item items i e))
+    says_written a (Fits.fits_members {fs} {ms} fit) =
+        let distinct = and-left (are_distinct (field_names fs)) _ a in
+        let parts = and-left (fields_apart fs) true (and-right (are_distinct (field_names fs)) _ a) in
+        let m = w.members ms (ap are_distinct (slot_names-fields fit) ∙ distinct) in
+        Says.says_seq fs _ m.0 ms m.1 (fields_written m.0 parts fit m.2)
+    says_written a (Fits.fits_list {s} {vs} fit) = Says.says_list s _ _ vs (w.list vs) (each_written a fit)
+    says_written a (Fits.fits_choice {alts} {i} {v} fit) =
+        let apart = and-left (are_apart (identifiers alts)) _ a in
+        let parts = and-left (alternatives_apart alts) true (and-right (are_apart (identifiers alts)) _ a) in
+        let c = alternative_written apart parts fit in
+        Says.says_choice alts _ i (tree v) i c.0 v (w.choice i v) c.1 c.2
+    says_written a (Fits.fits_loop {b} {v} fit) = Says.says_loop b _ v (says_written (unfolded-apart b a) fit)
+
+    each_written : {s : Shape} {vs : Values} → names_apart s ≡ true → FitsEach s vs → SaysEach n s (value_slots tree vs) vs
+    each_written a (FitsEach.fits_none {s}) = SaysEach.says_none s
+    each_written a (FitsEach.fits_one {s} {v} {vs} fit rest) = SaysEach.says_one s _ _ v vs (says_written a fit) (each_written a rest)
+
+    fields_written : {fs : Fields} {ms : Slots} (look : List ℕ → Slot) → fields_apart fs ≡ true → FitsFields fs ms → Finds tree look ms → SaysFields n fs (map look (field_names fs)) ms
+    fields_written look a FitsFields.fits_end f = SaysFields.says_end
+    fields_written look a (FitsFields.fits_present {n = name} {t = g} {p} {s} {fs} {v} {ms} fit kept rest) f =
+        let said = subst (λ slot. Says n s slot v) (sym f.0) (says_written (and-left (names_apart s) (fields_apart fs) a) fit) in
+        let others = fields_written look (and-right (names_apart s) (fields_apart fs) a) rest f.1 in
+        subst (SaysFields n (Fields.field name g p s fs) (look name ∷ map look (field_names fs))) (ap (λ b. if b then Slots.present name v ms else Slots.absent name ms) kept)
+        (SaysFields.says_present name g p s fs (look name) (map look (field_names fs)) v ms said others)
+    fields_written look a (FitsFields.fits_absent {n = name} {t = g} {p} {s} {fs} {ms} lack rest) f =
+        let others = fields_written look (and-right (names_apart s) (fields_apart fs) a) rest f.1 in
+        subst (λ slot. SaysFields n (Fields.field name g p s fs) (slot ∷ map look (field_names fs)) (Slots.absent name ms)) (sym f.0)
+        (SaysFields.says_absent name g p s fs (map look (field_names fs)) ms lack others)
+
+    alternative_written : {alts : Alternatives} {i : List ℕ} {v : Value} → are_apart (identifiers alts) ≡ true → alternatives_apart alts ≡ true → FitsAlternative alts i v
+        → (s : Shape) × (alternative_named same_identifier alts i ≡ Some (i, s)) × Says n s (Some (tree v)) v
+    alternative_written apart a (FitsAlternative.fits_here {i} {t} {s} {alts} {v} fit) =
+        (s, ap (λ b. if b then Some (i, s) else alternative_named same_identifier alts i) (same_identifier-itself i), says_written (and-left (names_apart s) (alternatives_apart alts) a) fit)
+    alternative_written apart a (FitsAlternative.fits_later {i} {j} {t} {s} {alts} {v} rest) =
+        let none = none_named (has_identifier (identifiers alts) j) (are_apart (identifiers alts)) apart in
+        let r = alternative_written (others_named (has_identifier (identifiers alts) j) (are_apart (identifiers alts)) apart) (and-right (names_apart s) (alternatives_apart alts) a) rest in
+        (r.0, ap (λ b. if b then Some (j, s) else alternative_named same_identifier alts i) (differs j rest none) ∙ r.1, r.2)
+
+-- The tree that JER writes.
+abbrev pub jer_tree : Value → Tree
+jer_tree v = Tree.json (jer_data v)
+
+number-written : (k : ℤ) → as_number Notation.jer (jer_tree (Value.int k)) ≡ Ok k
+number-written (pos m) = refl
+number-written (negsuc m) = refl
+
+items-written : (vs : Values) → item_slots (jer_items vs) ≡ value_slots jer_tree vs
+items-written Values.no_values = refl
+items-written (Values.value v vs) = ap (λ l. Some (jer_tree v) ∷ l) (items-written vs)
+
+different : (n m : List ℕ) → bytes_eq n m ≡ false → m ≡ n → ⊥
+different n m e same = let d : true ≡ false = sym ((bytes_eq-Decides n m).1 (sym same)) ∙ e in cc d
+
+-- A name that no member has finds nothing.
+lost : (ms : Slots) (n : List ℕ) → is_item (slot_names ms) n ≡ false → get_member n (jer_members ms) ≡ None
+lost Slots.no_slots n e = refl
+lost (Slots.absent m ms) n e = lost ms n (rest_apart (bytes_eq n m) (is_item (slot_names ms) n) e)
+lost (Slots.present m v ms) n e =
+    get_member-put_other n m (jer_data v) (jer_members ms) (λ same. different n m (first_apart (bytes_eq n m) (is_item (slot_names ms) n) e) (sym same))
+    ∙ lost ms n (rest_apart (bytes_eq n m) (is_item (slot_names ms) n) e)
+
+-- A member that is put leaves those of other names.
+finds-put : (n : List ℕ) (d : Data) (all : Members) (ms : Slots) → is_item (slot_names ms) n ≡ false → Finds jer_tree (member_slot all) ms → Finds jer_tree (member_slot (put n d all)) ms
+finds-put n d all Slots.no_slots e f = tt
+finds-put n d all (Slots.absent m ms) e f = (
+  ap (option_map Tree.json) (get_member-put_other m n d all (different n m (first_apart (bytes_eq n m) (is_item (slot_names ms) n) e))) ∙ f.0,
+  finds-put n d all ms (rest_apart (bytes_eq n m) (is_item (slot_names ms) n) e) f.1,
+)
+finds-put n d all (Slots.present m v ms) e f = (
+  ap (option_map Tree.json) (get_member-put_other m n d all (different n m (first_apart (bytes_eq n m) (is_item (slot_names ms) n) e))) ∙ f.0,
+  finds-put n d all ms (rest_apart (bytes_eq n m) (is_item (slot_names ms) n) e) f.1,
+)
+
+finds-written : (ms : Slots) → are_distinct (slot_names ms) ≡ true → Finds jer_tree (member_slot (jer_members ms)) ms
+finds-written Slots.no_slots e = tt
+finds-written (Slots.absent n ms) e = (
+  ap (option_map Tree.json) (lost ms n (none_named (is_item (slot_names ms) n) (are_distinct (slot_names ms)) e)),
+  finds-written ms (others_named (is_item (slot_names ms) n) (are_distinct (slot_names ms)) e),
+)
+finds-written (Slots.present n v ms) e = (
+  ap (option_map Tree.json) (get_member-put n (jer_data v) (jer_members ms)),
+  finds-put n (jer_data v) (jer_members ms) ms (none_named (is_item (slot_names ms) n) (are_distinct (slot_names ms)) e) (finds-written ms (others_named (is_item (slot_names ms) n) (are_distinct (slot_names ms)) e)),
+)
+
+-- JER writes what it reads.
+pub jer_writes : Writes Notation.jer jer_tree
+jer_writes = record {
+  null = refl;
+  boolean = λ b. refl;
+  int = number-written;
+  text = λ t. refl;
+  item = λ items i e. rw e refl;
+  list = λ vs. ap Some (items-written vs);
+  members = λ ms e. (member_slot (jer_members ms), refl, finds-written ms e);
+  choice = λ i v. refl;
+}

@@ -1,0 +1,11 @@
+pub mod Stack
+pub mod Readings
+pub mod Taken
+pub mod Choosing
+pub mod Views
+pub mod Held
+pub mod Building
+pub mod Signs
+pub mod Floats
+pub mod Roots
+pub mod Texts

@@ -1,0 +1,10 @@
+use Rattle.std.proofs.Common.{◌≡◌, length}
+use Rattle.asn_traits.specs.Writing.{last_present}
+use Rattle.jer_rules.proofs.jer.build.last_value.Given as goal
+
+-- The slots that were passed are absent.
+abbrev pub invariant-loop-slot : goal.invariant-loop-slot
+invariant-loop-slot l = last_present l.slots.items ≡ last_present l.fn.slots.items
+
+abbrev pub decreases-loop-slot : goal.decreases-loop-slot
+decreases-loop-slot l = length l.slots.items

@@ -1,0 +1,6 @@
+use Rattle.asn_traits.specs.Writing.{last_present}
+use Rattle.jer_rules.proofs.Floats.{text-held}
+use Rattle.jer_rules.proofs.jer.enc.Encoder.to_string.Goals as goal
+
+pub returns-in-Ok-clause-text : goal.returns-in-Ok-clause-text
+returns-in-Ok-clause-text c = λ f h. text-held (last_present f) _ _ (c.in_ok-value.ensures.tree f h) c.in-Ok.ensures.text

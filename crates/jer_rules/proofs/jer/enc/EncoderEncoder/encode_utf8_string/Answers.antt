@@ -1,0 +1,18 @@
+use Rattle.std.proofs.Common.{ap, Some, ◌∙◌, ◌≡◌, true}
+use Rattle.std.proofs.lemmas.Result.{on_ok_weaker}
+use Rattle.std.proofs.lemmas.Str.{is_utf8-from_IsUtf8}
+use Rattle.std.specs.Str.{is_utf8}
+use Rattle.serde_json.specs.Data.{Data}
+use Rattle.asn_traits.specs.Value.{Fits}
+use Rattle.jer_rules.proofs.Held.{put_turns}
+use Rattle.jer_rules.proofs.Views.{view-String}
+use Rattle.jer_rules.proofs.jer.enc.EncoderEncoder.encode_utf8_string.Goals as goal
+
+pub returns-in-Ok-clause-written : goal.returns-in-Ok-clause-written
+returns-in-Ok-clause-written c =
+    let text : is_utf8 c.args.value.now ≡ true = is_utf8-from_IsUtf8 _ c.utf8.value in
+    on_ok_weaker c.put.result (λ a. record {
+      added = put_turns c.args.self.now c.put.new.self _ _ (ap Some (view-String _ ∙ ap Data.string c.in-Ok.ensures.ok)) a c.put.ensures.kept;
+      fit = Fits.fits_utf8 text;
+      writable = text;
+    }) c.put.ensures.added

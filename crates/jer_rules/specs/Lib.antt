@@ -1,0 +1,5 @@
+pub mod Holding
+pub mod Numbers
+pub mod Payload
+pub mod Pending
+pub mod Text

@@ -1,0 +1,22 @@
+-- What the decoder has still to read.
+use Rattle.std.specs.Prelude.{List, map, reverse, Option, option_map}
+use Rattle.serde_json.specs.View.{view}
+use Rattle.serde_json.specs.declared.value.Value.{Value}
+use Rattle.asn_traits.specs.Tree.{Tree, Slot}
+use Rattle.jer_rules.specs.declared.jer.de.Decoder.{Decoder}
+
+-- The tree of a JSON value.
+abbrev pub tree_of : Value → Tree
+tree_of v = Tree.json (view v)
+
+-- The slot of a JSON value that may be absent.
+abbrev pub slot_of : Option Value → Slot
+slot_of o = option_map tree_of o
+
+-- The slots of a stack, whose last entry is the first one to read.
+abbrev pub slots_of : List (Option Value) → List Slot
+slots_of stack = map slot_of (reverse stack)
+
+-- The slots that are still to be read.
+abbrev pub pending_of : Decoder → List Slot
+pending_of d = slots_of d.stack.items

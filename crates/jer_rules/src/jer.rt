@@ -1,0 +1,54 @@
+// Reading and writing a value of a type as JSON text.
+ghost use Rattle.asn_fault.specs.Stop.{error_stop};
+ghost use Rattle.asn_fault.specs.declared.encode.EncodeErrorKind.TheVariants.{OutOfMemory};
+ghost use Rattle.asn_traits.specs.Canonical.{canonical_text};
+ghost use Rattle.asn_traits.specs.Notation.{Notation};
+ghost use Rattle.asn_traits.specs.Root.{Reads};
+ghost use Rattle.asn_traits.specs.Says.{Says};
+ghost use Rattle.asn_traits.specs.Tree.{Tree};
+ghost use Rattle.asn_traits.specs.Value.{Value, Fits};
+ghost use Rattle.asn_traits.specs.Writing.{CannotWrite, Writable};
+ghost use Rattle.jer_rules.specs.Text.{IsJer, RefusesText};
+ghost use Rattle.serde_json.specs.Data.{Data};
+ghost use Rattle.std.specs.Prelude.{◌≡◌, Some, IfOk, IfErr, OnOk, string_bytes};
+
+mod build;
+pub mod de;
+pub mod enc;
+mod faults;
+mod floats;
+mod parts;
+
+use asn_fault::{DecodeError, EncodeError};
+use asn_traits::{Decode, Encode};
+use std::alloc::Global;
+
+/// Writes a value as compact JSON text, with the members of an object in byte order of their names.
+///
+/// Errors: `OutOfMemory`; else the kind of the first part that JER cannot write.
+pub fn encode<T: Encode>(alloc: Global, value: &T) -> Result<String, EncodeError>
+    ensures text { IfOk result (λ s. string_bytes s ≡ canonical_text Notation.jer (T.value_of value.now)) }
+    ensures fits { OnOk result (Fits T.shape_of (T.value_of value.now)) }
+    ensures writable { OnOk result (Writable Notation.jer (T.value_of value.now)) }
+    ensures refused { IfErr result (CannotWrite Notation.jer (T.value_of value.now)) }
+    // What can be written is written, unless memory runs out.
+    ensures complete { Writable Notation.jer (T.value_of value.now) → IfErr result (λ e. e.kind ≡ OutOfMemory) }
+{
+    let mut encoder = enc::Encoder::new(alloc);
+    value.encode(&mut encoder)?;
+    encoder.to_string()
+}
+
+/// Reads the value that a JSON text says.
+///
+/// Errors: `OutOfMemory`; `Parser` where the text is no JSON; `RealNotSupported` where a number in it is neither an `i64` nor a `u64`;
+/// else why the JSON value is no value of the type, within a `FieldError` for each field on the way.
+pub fn decode<T: Decode>(alloc: Global, input: &str) -> Result<T, DecodeError>
+    ensures value { IfOk result (λ x. (d : Data) × IsJer input.now d × Says Notation.jer T.shape_of (Some (Tree.json d)) (T.value_of x)) }
+    ensures refused { IfErr result (λ e. RefusesText T.shape_of input.now (error_stop e)) }
+    // A text that says a value is read as that value, unless memory runs out.
+    ensures complete { (d : Data) (v : Value) → IsJer input.now d → Says Notation.jer T.shape_of (Some (Tree.json d)) v → Reads T.value_of v result }
+{
+    let mut decoder = de::Decoder::new(alloc, input)?;
+    T::decode(&mut decoder)
+}

@@ -1,0 +1,212 @@
+// Reading a JSON value as a value of a type.
+ghost use Rattle.asn_base.specs.declared.codec.Codec.TheVariants.{Jer};
+ghost use Rattle.asn_fault.specs.Stop.{Why, error_stop, at_root};
+ghost use Rattle.asn_traits.specs.Answer.{Refuses};
+ghost use Rattle.asn_traits.specs.Notation.{Notation};
+ghost use Rattle.asn_traits.specs.Shape.{Shape};
+ghost use Rattle.asn_traits.specs.Stops.{Stops};
+ghost use Rattle.asn_traits.specs.Tree.{Tree, head_slot};
+ghost use Rattle.serde_json.specs.Data.{Data};
+ghost use Rattle.std.specs.Prelude.{◌≡◌, ◌∷◌, [], Some, IfOk, IfErr, MatchResult};
+
+use super::faults::{end_of_input, mismatch, no_item, no_json, no_object};
+use super::floats::holds_float;
+use super::parts::{into_items, into_members, into_payload, into_text, whole_parts};
+use asn_base::{Codec, Constraints, IntegerType, Tag};
+use asn_fault::DecodeError;
+use asn_traits::{Enumerated, Field};
+use serde_json::Value;
+use std::alloc::Global;
+
+/// A reader of one JSON value, which it takes apart as it reads.
+#[derive(Drop)]
+pub struct Decoder {
+    alloc: Global,
+    // The slots to read, the first one last.
+    stack: Vec<Option<Value>>,
+}
+
+impl Decoder {
+    ghost use Rattle.jer_rules.specs.Pending.{tree_of, slot_of, pending_of};
+    ghost use Rattle.jer_rules.specs.Text.{IsJer, NoTree};
+
+    /// A reader of a text.
+    ///
+    /// Errors: `Parser` where the text is no JSON; else `RealNotSupported` where a number in it is neither an `i64` nor a `u64`; `OutOfMemory`.
+    pub fn new(alloc: Global, input: &str) -> Result<Decoder, DecodeError>
+        ensures tree { IfOk result (λ d. (t : Data) × IsJer input.now t × (pending_of d ≡ Some (Tree.json t) ∷ [])) }
+        ensures refused { IfErr result (λ e. NoTree input.now (error_stop e)) }
+    {
+        let value = match Value::from_str(alloc, input) {
+            Ok(value) => value,
+            Err(error) => {
+                return Err(if error.is_memory() {
+                    DecodeError::out_of_memory(Codec::Jer)
+                } else {
+                    no_json(alloc)
+                });
+            }
+        };
+        if holds_float(&value) {
+            return Err(DecodeError::real_not_supported(Codec::Jer));
+        }
+        Decoder::from_value(alloc, value)
+    }
+
+    /// A reader of a JSON value. A float in it is of no kind that a type needs.
+    ///
+    /// Errors: `OutOfMemory`.
+    pub fn from_value(alloc: Global, value: Value) -> Result<Decoder, DecodeError>
+        ensures tree { IfOk result (λ d. pending_of d ≡ Some (tree_of value) ∷ []) }
+        ensures refused { IfErr result (λ e. error_stop e ≡ at_root Why.out_of_memory Jer) }
+    {
+        match Vec::from_array(alloc, [Some(value)]) {
+            Ok(stack) => Ok(Decoder { alloc, stack }),
+            Err(_) => Err(DecodeError::out_of_memory(Codec::Jer)),
+        }
+    }
+
+    // Takes the first pending slot, if it is present.
+    fn take(&mut self) -> Result<Value, DecodeError>
+        ensures { MatchResult result (λ v. pending_of self.old ≡ Some (tree_of v) ∷ pending_of self.new) (λ e. (s : Shape) → Refuses Notation.jer (Stops Notation.jer s (head_slot (pending_of self.old))) (error_stop e)) }
+    {
+        match self.stack.pop() {
+            Some(Some(value)) => Ok(value),
+            Some(None) => Err(end_of_input()),
+            None => Err(end_of_input()),
+        }
+    }
+
+    // Puts a slot before the pending ones.
+    fn put(&mut self, slot: Option<Value>) -> Result<(), DecodeError>
+        ensures { MatchResult result (λ _. pending_of self.new ≡ slot_of slot ∷ pending_of self.old) (λ e. error_stop e ≡ at_root Why.out_of_memory Jer) }
+    {
+        match self.stack.push(slot) {
+            Ok(()) => Ok(()),
+            Err(_) => Err(DecodeError::out_of_memory(Codec::Jer)),
+        }
+    }
+}
+
+impl asn_traits::Decoder for Decoder {
+    ghost use Rattle.jer_rules.specs.Pending.{pending_of};
+
+    ghost notation = { Notation.jer };
+
+    ghost pending = { pending_of };
+
+    fn codec(&self) -> Codec {
+        Codec::Jer
+    }
+
+    fn allocator(&self) -> Global {
+        self.alloc
+    }
+
+    fn decode_bool(&mut self, _tag: Tag) -> Result<bool, DecodeError> {
+        let value = self.take()?;
+        match value.as_bool() {
+            Some(flag) => Ok(flag),
+            None => Err(mismatch(self.alloc, "boolean", &value)),
+        }
+    }
+
+    fn decode_null(&mut self, _tag: Tag) -> Result<(), DecodeError> {
+        let value = self.take()?;
+        match value.as_null() {
+            Some(()) => Ok(()),
+            None => Err(mismatch(self.alloc, "null", &value)),
+        }
+    }
+
+    fn decode_integer<I: IntegerType>(
+        &mut self,
+        _tag: Tag,
+        _constraints: &Constraints,
+    ) -> Result<I, DecodeError> {
+        let value = self.take()?;
+        let Some((negative, magnitude)) = whole_parts(&value) else {
+            return Err(mismatch(self.alloc, "number (supported range -2^63..2^64)", &value));
+        };
+        match I::of_parts(negative, magnitude) {
+            Some(number) => Ok(number),
+            None => Err(DecodeError::integer_overflow(I::WIDTH, Codec::Jer)),
+        }
+    }
+
+    fn decode_utf8_string(
+        &mut self,
+        _tag: Tag,
+        _constraints: &Constraints,
+    ) -> Result<String, DecodeError> {
+        match into_text(self.take()?) {
+            Ok(text) => Ok(text),
+            Err(other) => Err(mismatch(self.alloc, "string", &other)),
+        }
+    }
+
+    fn decode_enumerated<E: Enumerated>(&mut self, _tag: Tag) -> Result<E, DecodeError> {
+        match into_text(self.take()?) {
+            Ok(text) => match E::from_identifier(text.as_str()) {
+                Some(item) => Ok(item),
+                None => Err(no_item(self.alloc, text.as_str())),
+            },
+            Err(other) => Err(mismatch(self.alloc, "enumerated item as string", &other)),
+        }
+    }
+
+    fn take_absent(&mut self) -> Result<bool, DecodeError> {
+        match self.stack.pop() {
+            Some(Some(value)) => {
+                self.stack.push_reserved(Some(value));
+                Ok(false)
+            }
+            Some(None) => Ok(true),
+            None => Err(end_of_input()),
+        }
+    }
+
+    fn open_list(&mut self) -> Result<usize, DecodeError> {
+        match into_items(self.take()?) {
+            Ok(mut items) => {
+                let count = items.len();
+                while let Some(item) = items.pop() {
+                    self.put(Some(item))?;
+                }
+                Ok(count)
+            }
+            Err(other) => Err(mismatch(self.alloc, "array", &other)),
+        }
+    }
+
+    fn open_members(&mut self, fields: &[Field]) -> Result<(), DecodeError> {
+        match into_members(self.take()?) {
+            Ok(mut members) => {
+                let mut left = fields.len();
+                while left > 0 {
+                    left -= 1;
+                    let member = members.remove(fields[left].name);
+                    self.put(member)?;
+                }
+                Ok(())
+            }
+            Err(other) => Err(no_object(self.alloc, &other)),
+        }
+    }
+
+    fn open_choice(&mut self, identifiers: &[&'static str]) -> Result<Option<usize>, DecodeError> {
+        match into_members(self.take()?) {
+            Ok(members) => match into_payload(members, identifiers) {
+                Some((place, payload)) => {
+                    self.put(Some(payload))?;
+                    Ok(Some(place))
+                }
+                None => {
+                    self.put(None)?;
+                    Ok(None)
+                }
+            },
+            Err(other) => Err(mismatch(self.alloc, "object", &other)),
+        }
+    }
+}

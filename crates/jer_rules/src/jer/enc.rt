@@ -1,0 +1,210 @@
+// Writing a value of a type as a JSON value.
+ghost use Rattle.asn_base.specs.Numbers.{signed};
+ghost use Rattle.asn_base.specs.declared.codec.Codec.TheVariants.{Jer};
+ghost use Rattle.asn_fault.specs.Unwritten.{WhyUnwritten, encode_why};
+ghost use Rattle.asn_traits.specs.Canonical.{jer_data, canonical_text};
+ghost use Rattle.asn_traits.specs.Notation.{Notation};
+ghost use Rattle.asn_traits.specs.Writing.{Frame, last_present};
+ghost use Rattle.serde_json.specs.View.{view};
+ghost use Rattle.std.specs.Prelude.{◌≡◌, ◌⊎◌, ◌∷◌, [], ◌++◌, Option, Some, None, OnOk, IfOk, IfErr, option_map, string_bytes};
+
+use super::build::{add, array_of, first_slot, last_value, object_of, one_member, whole_number};
+use asn_base::{Codec, Constraints, Identifier, IntegerType, Tag, WholeNumber};
+use asn_fault::{CodecEncodeError, EncodeError, EncodeErrorKind, JerEncodeErrorKind};
+use asn_traits::{Enumerated, Field};
+use serde_json::Value;
+use std::alloc::Global;
+use std::mem;
+
+/// A writer of one JSON value.
+#[derive(Drop)]
+pub struct Encoder {
+    alloc: Global,
+    // The slots of the last frame.
+    current: Vec<Option<Value>>,
+    // Those of the frames below it, the root's first.
+    below: Vec<Vec<Option<Value>>>,
+}
+
+impl Encoder {
+    ghost use Rattle.jer_rules.specs.Holding.{Holds, join, held, below_of};
+
+    /// A writer that holds nothing at its root.
+    pub fn new(alloc: Global) -> Encoder
+        ensures { Holds result ([] ∷ []) }
+    {
+        Encoder {
+            alloc,
+            current: Vec::new(alloc),
+            below: Vec::new(alloc),
+        }
+    }
+
+    /// The JSON value of the last value that was written at the root.
+    ///
+    /// Errors: `NoRootValueFound` where none was.
+    pub fn to_json(self) -> Result<Value, EncodeError>
+        ensures tree { IfOk result (λ t. (f : Frame) → Holds self (f ∷ []) → option_map jer_data (last_present f) ≡ Some (view t)) }
+        ensures kind { IfErr result (λ e. encode_why e.kind ≡ WhyUnwritten.no_root_value Jer) }
+        ensures none { IfErr result (λ e. (f : Frame) → Holds self (f ∷ []) → last_present f ≡ None) }
+    {
+        match last_value(self.current) {
+            Some(value) => Ok(value),
+            None => Err(jer_error(JerEncodeErrorKind::NoRootValueFound)),
+        }
+    }
+
+    /// The compact text of that JSON value.
+    ///
+    /// Errors: `NoRootValueFound` where there is none; `OutOfMemory`.
+    pub fn to_string(self) -> Result<String, EncodeError>
+        ensures text { IfOk result (λ s. (f : Frame) → Holds self (f ∷ []) → option_map (canonical_text Notation.jer) (last_present f) ≡ Some (string_bytes s)) }
+        ensures refused { IfErr result (λ e. (e.kind ≡ EncodeErrorKind.OutOfMemory)
+            ⊎ ((encode_why e.kind ≡ WhyUnwritten.no_root_value Jer) × ((f : Frame) → Holds self (f ∷ []) → last_present f ≡ None))) }
+    {
+        let alloc = self.alloc;
+        let value = self.to_json()?;
+        match value.to_string(alloc) {
+            Ok(text) => Ok(text),
+            Err(_) => Err(EncodeError::out_of_memory(Codec::Jer)),
+        }
+    }
+
+    // Puts a slot into the last frame.
+    fn put(&mut self, slot: Option<Value>) -> Result<(), EncodeError>
+        ensures added { OnOk result (self.new.current.items ≡ self.old.current.items ++ slot ∷ []) }
+        ensures kept { self.new.below ≡ self.old.below }
+        ensures refused { IfErr result (λ e. e.kind ≡ EncodeErrorKind.OutOfMemory) }
+    {
+        add(&mut self.current, slot)
+    }
+
+    // Takes the last frame away.
+    fn leave(&mut self) -> Vec<Option<Value>>
+        ensures given { result ≡ self.old.current }
+        ensures below { (s : _) → join s (held self.new) ≡ join s (below_of self.old) }
+    {
+        let frame = match self.below.pop() {
+            Some(frame) => frame,
+            None => Vec::new(self.alloc),
+        };
+        mem::replace(&mut self.current, frame)
+    }
+}
+
+// The refusal of this kind.
+fn jer_error(kind: JerEncodeErrorKind) -> EncodeError
+    ensures { result ≡ record { kind = EncodeErrorKind.CodecSpecific (CodecEncodeError.Jer kind); codec = Jer } }
+{
+    EncodeError::from_kind(
+        EncodeErrorKind::CodecSpecific {
+            inner: CodecEncodeError::Jer(kind),
+        },
+        Codec::Jer,
+    )
+}
+
+impl asn_traits::Encoder for Encoder {
+    ghost use Rattle.jer_rules.specs.Holding.{Holds};
+
+    ghost notation = { Notation.jer };
+
+    ghost holds = { Holds };
+
+    fn codec(&self) -> Codec {
+        Codec::Jer
+    }
+
+    fn allocator(&self) -> Global {
+        self.alloc
+    }
+
+    fn encode_bool(
+        &mut self,
+        _tag: Tag,
+        value: bool,
+        _identifier: Identifier,
+    ) -> Result<(), EncodeError> {
+        self.put(Some(Value::Bool(value)))
+    }
+
+    fn encode_null(&mut self, _tag: Tag, _identifier: Identifier) -> Result<(), EncodeError> {
+        self.put(Some(Value::Null))
+    }
+
+    fn encode_integer<I: IntegerType>(
+        &mut self,
+        _tag: Tag,
+        _constraints: &Constraints,
+        value: &I,
+        _identifier: Identifier,
+    ) -> Result<(), EncodeError> {
+        let (negative, magnitude) = value.parts();
+        match whole_number(negative, magnitude) {
+            Some(number) => self.put(Some(Value::Number(number))),
+            None => Err(jer_error(JerEncodeErrorKind::ExceedsSupportedIntSize {
+                value: WholeNumber {
+                    negative,
+                    magnitude,
+                },
+            })),
+        }
+    }
+
+    fn encode_utf8_string(
+        &mut self,
+        _tag: Tag,
+        _constraints: &Constraints,
+        value: &str,
+        _identifier: Identifier,
+    ) -> Result<(), EncodeError> {
+        match String::from_str(self.alloc, value) {
+            Ok(text) => self.put(Some(Value::String(text))),
+            Err(_) => Err(EncodeError::out_of_memory(Codec::Jer)),
+        }
+    }
+
+    fn encode_enumerated<T: Enumerated>(
+        &mut self,
+        _tag: Tag,
+        value: &T,
+        _identifier: Identifier,
+    ) -> Result<(), EncodeError> {
+        match String::from_str(self.alloc, value.identifier()) {
+            Ok(text) => self.put(Some(Value::String(text))),
+            Err(_) => Err(EncodeError::out_of_memory(Codec::Jer)),
+        }
+    }
+
+    fn encode_absent(&mut self) -> Result<(), EncodeError> {
+        self.put(None)
+    }
+
+    fn open_frame(&mut self) -> Result<(), EncodeError> {
+        let frame = mem::replace(&mut self.current, Vec::new(self.alloc));
+        add(&mut self.below, frame)
+    }
+
+    fn close_list(&mut self) -> Result<(), EncodeError> {
+        let slots = self.leave();
+        let items = array_of(self.alloc, slots)?;
+        self.put(Some(Value::Array(items)))
+    }
+
+    fn close_members(&mut self, fields: &[Field]) -> Result<(), EncodeError> {
+        let slots = self.leave();
+        let members = object_of(self.alloc, slots, fields)?;
+        self.put(Some(Value::Object(members)))
+    }
+
+    fn close_choice(&mut self, identifier: &'static str) -> Result<(), EncodeError> {
+        let slots = self.leave();
+        match first_slot(slots) {
+            Some(value) => {
+                let members = one_member(self.alloc, identifier, value)?;
+                self.put(Some(Value::Object(members)))
+            }
+            None => self.put(None),
+        }
+    }
+}

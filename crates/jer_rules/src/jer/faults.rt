@@ -1,0 +1,81 @@
+// What a reader of JSON refuses by.
+ghost use Rattle.asn_base.specs.declared.codec.Codec.TheVariants.{Jer};
+ghost use Rattle.asn_fault.specs.Stop.{Why, error_stop, at_root, codec_why};
+ghost use Rattle.asn_traits.specs.Answer.{TellsBlame};
+ghost use Rattle.asn_traits.specs.Leaf.{Blame, needs_members};
+ghost use Rattle.asn_traits.specs.Notation.{Notation};
+ghost use Rattle.asn_traits.specs.Tree.{Tree};
+ghost use Rattle.serde_json.specs.View.{view};
+ghost use Rattle.std.specs.Prelude.{◌≡◌, ◌⊎◌, codes};
+
+use asn_base::Codec;
+use asn_fault::{CodecDecodeError, DecodeError, DecodeErrorKind, JerDecodeErrorKind};
+use serde_json::Value;
+use std::alloc::Global;
+
+/// A value is due, and there is none.
+pub fn end_of_input() -> DecodeError
+    ensures { error_stop result ≡ at_root (Why.end_of_input Jer) Jer }
+{
+    DecodeError::from_kind(
+        DecodeErrorKind::CodecSpecific {
+            inner: JerDecodeErrorKind::eoi(),
+        },
+        Codec::Jer,
+    )
+}
+
+/// The JSON value is of another kind than the one that is needed. Memory may run out.
+pub fn mismatch(alloc: Global, needed: &'static str, value: &Value) -> DecodeError
+    ensures { TellsBlame Notation.jer (Tree.json (view value.now)) (Blame.mismatch needed.now) (error_stop result) }
+{
+    match value.to_string(alloc) {
+        Ok(found) => jer_error(JerDecodeErrorKind::TypeMismatch { needed, found }),
+        Err(_) => DecodeError::out_of_memory(Codec::Jer),
+    }
+}
+
+/// The JSON value is no object where members are needed. Memory may run out.
+pub fn no_object(alloc: Global, value: &Value) -> DecodeError
+    ensures { TellsBlame Notation.jer (Tree.json (view value.now)) (needs_members Notation.jer) (error_stop result) }
+{
+    match String::from_str(alloc, "unknown") {
+        Ok(found) => jer_error(JerDecodeErrorKind::TypeMismatch {
+            needed: "object",
+            found,
+        }),
+        Err(_) => DecodeError::out_of_memory(Codec::Jer),
+    }
+}
+
+/// The text names no item of the type. Memory may run out.
+pub fn no_item(alloc: Global, text: &str) -> DecodeError
+    ensures { (error_stop result ≡ at_root (Why.invalid_enum_discriminant Jer text.now) Jer) ⊎ (error_stop result ≡ at_root Why.out_of_memory Jer) }
+{
+    match String::from_str(alloc, text) {
+        Ok(discriminant) => jer_error(JerDecodeErrorKind::InvalidEnumDiscriminant { discriminant }),
+        Err(_) => DecodeError::out_of_memory(Codec::Jer),
+    }
+}
+
+/// The text is no JSON. Memory may run out.
+pub fn no_json(alloc: Global) -> DecodeError
+    ensures { (error_stop result ≡ at_root (Why.parser (codes "Error parsing JER JSON")) Jer) ⊎ (error_stop result ≡ at_root Why.out_of_memory Jer) }
+{
+    match String::from_str(alloc, "Error parsing JER JSON") {
+        Ok(msg) => DecodeError::parser_fail(msg, Codec::Jer),
+        Err(_) => DecodeError::out_of_memory(Codec::Jer),
+    }
+}
+
+// The refusal of this kind.
+fn jer_error(kind: JerDecodeErrorKind) -> DecodeError
+    ensures { error_stop result ≡ at_root (codec_why (CodecDecodeError.Jer kind)) Jer }
+{
+    DecodeError::from_kind(
+        DecodeErrorKind::CodecSpecific {
+            inner: CodecDecodeError::Jer(kind),
+        },
+        Codec::Jer,
+    )
+}

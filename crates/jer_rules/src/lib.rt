@@ -1,0 +1,5 @@
+//! JER: values of ASN.1 types as JSON text (X.697).
+#![tactic(auto)]
+
+pub mod jer;
+pub mod laws;

@@ -2,7 +2,7 @@
 use Rattle.std.proofs.Common.{◌≡◌, ℕ, zero, suc, ◌+◌, ◌*◌, ◌/◌, ◌%◌, ◌<◌, List, [], ◌∷◌, refl, take, arith}
 use Rattle.avn_grammar.specs.Octets.{packed, octet, bit_digit, bit_text}
 
-octet-sum : (a b c d e f g h : ℕ) → octet (48 + a) (48 + b) (48 + c) (48 + d) (48 + e) (48 + f) (48 + g) (48 + h) ≡ 128 * a + 64 * b + 32 * c + 16 * d + 8 * e + 4 * f + 2 * g + h
+pub octet-sum : (a b c d e f g h : ℕ) → octet (48 + a) (48 + b) (48 + c) (48 + d) (48 + e) (48 + f) (48 + g) (48 + h) ≡ 128 * a + 64 * b + 32 * c + 16 * d + 8 * e + 4 * f + 2 * g + h
 octet-sum a b c d e f g h = omega arith
 
 pub record Eight (o a b c d e f g h : ℕ) : Type 0 where

@@ -1,5 +1,5 @@
 -- Digits of octets, an octet at a time.
-use Rattle.std.proofs.Common.{◌≡◌, ℕ, zero, suc, ◌+◌, ◌-◌, ◌*◌, ◌/◌, ◌%◌, ◌<◌, List, [], ◌∷◌, ◌++◌, true, false, cond, nat_lt, ◌==◌, ◌||◌, inl, inr, refl, sym, ap, ◌∙◌, take, get_or, length, length-take-le, arith, append_assoc}
+use Rattle.std.proofs.Common.{◌≡◌, ℕ, zero, suc, ◌+◌, ◌-◌, ◌*◌, ◌/◌, ◌%◌, ◌<◌, List, [], ◌∷◌, ◌++◌, true, false, cond, nat_lt, ◌==◌, inl, inr, refl, sym, ap, ◌∙◌, take, get_or, length, length-take-le, arith, append_assoc}
 use Rattle.std.specs.Fmt.{decimal}
 use Rattle.std.proofs.lemmas.List.{take_more, append-nil}
 use Rattle.std.proofs.lemmas.Bool.{and_parts, or_cases, eqb-true}

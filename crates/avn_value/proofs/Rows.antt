@@ -1,14 +1,13 @@
 -- Printed text, a piece at a time.
-use Rattle.std.proofs.Common.{Result, Ok, ◌≡◌, ◌≢◌, ℕ, zero, suc, ◌+◌, ◌<◌, List, [], ◌∷◌, ◌++◌, refl, sym, ap, ◌∙◌, append_assoc, take, get_or, length, length-take-le, rules, arith}
+use Rattle.std.proofs.Common.{Result, Ok, ◌≡◌, ℕ, zero, suc, ◌+◌, ◌<◌, List, [], ◌∷◌, ◌++◌, refl, sym, ap, ◌∙◌, append_assoc, take, get_or, length, length-take-le, rules, arith}
 use Rattle.std.specs.Prelude.{codes, map, IsOk, is_ok}
 use Rattle.std.proofs.lemmas.List.{take_more, append-nil}
-use Rattle.avn_grammar.specs.Tree.{Tree, Trees, char_string, sequence_of, choice, no_trees, tree}
+use Rattle.avn_grammar.specs.Tree.{Tree, Trees, sequence_of, choice, no_trees, tree}
 use Rattle.avn_grammar.specs.Print.{print, print_rows, print_fields, has_fields, separator, indent}
 use Rattle.avn_value.specs.Levels.{depth_of, closing_of}
 use Rattle.std.specs.Borrow.{Bor}
 use Rattle.avn_value.specs.declared.print.Levels.{Levels, Under, the_lemmas}
 use Rattle.avn_value.specs.View.{trees_in, fields_in}
-use Rattle.avn_grammar.specs.Chars.{doubled}
 use Rattle.std.proofs.Common.{Option, Some, None, String, string_bytes, true, false}
 use Rattle.std.specs.Prelude.{option_map}
 use Rattle.std.proofs.lemmas.Bool.{cond-true, cond-false}

@@ -11,7 +11,11 @@ fn hex_digit(number: u8) -> char
     requires { number < 16 }
     ensures { result ≡ hex_digit number }
 {
-    if number < 10 { (b'0' + number) as char } else { (b'A' + (number - 10)) as char }
+    if number < 10 {
+        (b'0' + number) as char
+    } else {
+        (b'A' + (number - 10)) as char
+    }
 }
 
 /// Writes two hexadecimal digits for each octet.
@@ -43,11 +47,7 @@ fn binary_digits(octet: u8) -> [u8; 8]
 }
 
 /// Writes the first binary digits of an octet, at most so many.
-fn write_bits_of<W: fmt::Write>(
-    octet: u8,
-    at_most: usize,
-    f: &mut fmt::Formatter<W>,
-) -> fmt::Result
+fn write_bits_of<W: fmt::Write>(octet: u8, at_most: usize, f: &mut fmt::Formatter<W>) -> fmt::Result
     ensures { WritesOnOk W.write_str_gives f.old result (take at_most (bit_text (octet ∷ []))) f.new }
 {
     let digits = binary_digits(octet);

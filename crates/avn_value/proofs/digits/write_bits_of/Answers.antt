@@ -1,9 +1,8 @@
-use Rattle.std.proofs.Common.{◌≡◌, arith, take, sym, ap, subst, ◌<◌, length, ◌++◌, ◌∷◌, [], get_or, ◌∙◌}
+use Rattle.std.proofs.Common.{◌≡◌, take, sym, subst, ◌<◌, length, ◌∷◌, [], get_or}
 use Rattle.std.specs.Char.{encode_utf8}
 use Rattle.std.proofs.Output.{has_written_of_eq}
 use Rattle.std.proofs.lemmas.Grind.{put_two}
 use Rattle.std.proofs.lemmas.List.{take_more}
-use Rattle.avn_grammar.specs.Octets.{bit_text}
 use Rattle.avn_value.proofs.DigitRows.{bit-char}
 use Rattle.avn_value.proofs.Rows.{was_ok}
 use Rattle.avn_value.proofs.digits.write_bits_of.Goals as goal

@@ -1,7 +1,6 @@
-use Rattle.std.proofs.Common.{◌≡◌, take, ◌-◌, ◌*◌}
+use Rattle.std.proofs.Common.{take}
 use Rattle.std.specs.Fmt.{HasWritten, IsPlainFormatter}
-use Rattle.avn_grammar.specs.Octets.{hex_text, bit_text}
-use Rattle.avn_grammar.specs.Print.{arc_text}
+use Rattle.avn_grammar.specs.Octets.{hex_text}
 use Rattle.avn_value.proofs.digits.write_hex.Given as goal
 
 abbrev pub invariant-loop-octet : goal.invariant-loop-octet

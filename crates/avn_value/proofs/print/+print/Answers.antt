@@ -1,14 +1,13 @@
-use Rattle.std.proofs.Common.{arith, ◌≡◌, ◌<◌, ◌+◌, suc, [], ◌∷◌, ◌++◌, None, Some, List, length, take, get_or, sym, ap, subst, ◌∙◌, string_bytes, rules}
+use Rattle.std.proofs.Common.{arith, ◌≡◌, ◌<◌, ◌+◌, suc, ◌++◌, None, Some, List, length, take, get_or, sym, ap, subst, ◌∙◌, string_bytes, rules}
 use Rattle.std.specs.Prelude.{codes}
 use Rattle.std.proofs.Output.{has_written_of_eq}
 use Rattle.std.specs.Fmt.{HasWritten}
 use Rattle.std.proofs.lemmas.Grind.{put_three, put_four, put_six}
 use Rattle.std.proofs.lemmas.List.{take_all, append-nil}
 use Rattle.avn_grammar.specs.Print.{print, print_rows, print_fields, separator, indent}
-use Rattle.avn_grammar.specs.Tree.{sequence, sequence_of}
 use Rattle.avn_value.specs.declared.value.AvnValue.{AvnValue}
 use Rattle.avn_value.specs.View.{tree_of, list_trees, fields_trees}
-use Rattle.avn_value.specs.Levels.{depth_of, closing_of}
+use Rattle.avn_value.specs.Levels.{depth_of}
 use Rattle.avn_value.proofs.Views.{view-Choice, view-Sequence}
 use Rattle.avn_value.proofs.Rows.{count_of, print-choice, print-list, count-trees, rows-more, was_ok, depth-Under, no-rows, no-field_rows, present, row-some, row-none, present-some, present-none, fields-more, present-more, print-fields}
 use Rattle.avn_value.proofs.print.+print.Goals.{print_fields-in-Some+in_ok-write_str-in-Some+in_ok-write_indent-in-Some+in_ok-write_str-in-Some-2+in_ok-write_str-in-Some-3+in_ok-print_at-in-Some, print_fields-in-None}

@@ -1,0 +1,80 @@
+-- Texts in quotes.
+use Rattle.std.specs.Prelude.{not, is_some}
+use Rattle.std.proofs.Common.{Option, Some, None, MatchOption, ◌≡◌, ◌≢◌, ◌⊎◌, inl, inr, ℕ, List, [], ◌∷◌, ◌++◌, Bool, true, false, cond, ◌==◌, refl, sym, ap, subst, ◌∙◌, append_assoc}
+use Rattle.std.proofs.lemmas.Bool.{cases_Bool, eqb-true, eq-eqb}
+use Rattle.std.proofs.lemmas.List.{append-nil}
+use Rattle.std.proofs.lemmas.Str.{encodes-append}
+use Rattle.std.specs.Char.{encode_utf8}
+use Rattle.avn_grammar.specs.declared.chars.Lead.{Lead}
+use Rattle.avn_grammar.specs.declared.chars.Lead.TheVariants as is
+use Rattle.avn_grammar.specs.Chars.{lead, lead_of, tail, is_space, is_letter, is_digit, begins, doubled, spelled}
+use Rattle.avn_grammar.specs.Grammar.{Token, text_token}
+use Rattle.avn_grammar.specs.Tree.{Tree, char_string}
+
+passed : (b : Bool) (x y q : Lead) → cond b x y ≡ q → (x ≡ q → ⊥) → y ≡ q
+passed true x y q h n = absurd (n h)
+passed false x y q h n = h
+
+failed : (b : Bool) (x y q : Lead) → cond b x y ≡ q → b ≡ false → y ≡ q
+failed true x y q h n = let never : ⊥ = cc in absurd never
+failed false x y q h n = h
+
+pub lead_quote : (c : ℕ) → lead_of c ≡ is.Quote → c ≡ 34
+unfolding lead_of
+lead_quote c h = elim (cases_Bool (c == 34)) [
+    inl e ↦ eqb-true c 34 e
+  | inr e ↦
+      let a = passed (is_space c) _ _ _ h (λ x. let n : ⊥ = cc in n) in
+      let b = passed (is_letter c) _ _ _ a (λ x. let n : ⊥ = cc in n) in
+      let d = passed (is_digit c) _ _ _ b (λ x. let n : ⊥ = cc in n) in
+      let f = passed (c == 45) _ _ _ d (λ x. let n : ⊥ = cc in n) in
+      let g = failed (c == 34) _ _ _ f e in
+      let g' = passed (c == 39) _ _ _ g (λ x. let n : ⊥ = cc in n) in
+      let i = passed (c == 123) _ _ _ g' (λ x. let n : ⊥ = cc in n) in
+      let j = passed (c == 125) _ _ _ i (λ x. let n : ⊥ = cc in n) in
+      let k = passed (c == 44) _ _ _ j (λ x. let n : ⊥ = cc in n) in
+      let l = passed (c == 58) _ _ _ k (λ x. let n : ⊥ = cc in n) in
+      let m : is.Other ≡ is.Quote = passed (c == 95) _ _ _ l (λ x. let n : ⊥ = cc in n) in
+      let n : ⊥ = cc in absurd n ]
+
+pub open_quote : (u : List ℕ) → lead u ≡ is.Quote → u ≡ 34 ∷ tail u
+open_quote [] h = let n : ⊥ = cc in absurd n
+open_quote (c ∷ u) h = ap (λ x. x ∷ u) (lead_quote c h)
+
+pub no_quote : (u : List ℕ) → begins (λ c. c == 34) u ≡ false → lead u ≢ is.Quote
+no_quote [] h e = let n : ⊥ = cc in n
+no_quote (c ∷ u) h e = let t = eq-eqb c 34 (lead_quote c e) in let n : ⊥ = cc in n
+
+pub text_done : (u r n m : List ℕ) (cs : List ℕ) (c : ℕ) → u ≡ (34 ∷ doubled cs) ++ r → c ≡ 34 → r ≡ c ∷ n → m ≡ n → begins (λ c. c == 34) n ≡ false → Token u (char_string (spelled cs)) m
+text_done u r n m cs c e q f g h =
+    subst (λ x. Token u (char_string (spelled cs)) x) (sym g) (text_token cs (e ∙ ap (λ x. (34 ∷ doubled cs) ++ x) (f ∙ ap (λ x. x ∷ n) q)) (no_quote n h))
+
+doubled_plain : (cs : List ℕ) (c : ℕ) → (c == 34) ≡ false → doubled (cs ++ (c ∷ [])) ≡ doubled cs ++ (c ∷ [])
+doubled_plain [] c h = ap (λ b. cond b (34 ∷ 34 ∷ []) (c ∷ [])) h
+doubled_plain (d ∷ cs) c h =
+    elim (d == 34) as (λ b. cond b (34 ∷ 34 ∷ doubled (cs ++ (c ∷ []))) (d ∷ doubled (cs ++ (c ∷ []))) ≡ cond b (34 ∷ 34 ∷ doubled cs) (d ∷ doubled cs) ++ (c ∷ [])) [
+        true ↦ ap (λ x. 34 ∷ 34 ∷ x) (doubled_plain cs c h)
+      | false ↦ ap (λ x. d ∷ x) (doubled_plain cs c h) ]
+
+doubled_quote : (cs : List ℕ) → doubled (cs ++ (34 ∷ [])) ≡ doubled cs ++ (34 ∷ 34 ∷ [])
+doubled_quote [] = refl
+doubled_quote (d ∷ cs) =
+    elim (d == 34) as (λ b. cond b (34 ∷ 34 ∷ doubled (cs ++ (34 ∷ []))) (d ∷ doubled (cs ++ (34 ∷ []))) ≡ cond b (34 ∷ 34 ∷ doubled cs) (d ∷ doubled cs) ++ (34 ∷ 34 ∷ [])) [
+        true ↦ ap (λ x. 34 ∷ 34 ∷ x) (doubled_quote cs)
+      | false ↦ ap (λ x. d ∷ x) (doubled_quote cs) ]
+
+pub plain_more : (u r n cs : List ℕ) (c : ℕ) → u ≡ (34 ∷ doubled cs) ++ r → (c == 34) ≡ false → r ≡ c ∷ n → u ≡ (34 ∷ doubled (cs ++ (c ∷ []))) ++ n
+plain_more u r n cs c e h f =
+    e ∙ ap (λ x. (34 ∷ doubled cs) ++ x) f ∙ sym (append_assoc (34 ∷ doubled cs) (c ∷ []) n) ∙ ap (λ x. (34 ∷ x) ++ n) (sym (doubled_plain cs c h))
+
+pub quote_more : (u r n m cs : List ℕ) (c d : ℕ) → u ≡ (34 ∷ doubled cs) ++ r → c ≡ 34 → d ≡ 34 → r ≡ c ∷ m → m ≡ d ∷ n → u ≡ (34 ∷ doubled (cs ++ (c ∷ []))) ++ n
+quote_more u r n m cs c d e f g h i =
+    e ∙ ap (λ x. (34 ∷ doubled cs) ++ x) (h ∙ ap (λ x. x ∷ m) f ∙ ap (λ x. 34 ∷ x) (i ∙ ap (λ x. x ∷ n) g)) ∙ sym (append_assoc (34 ∷ doubled cs) (34 ∷ 34 ∷ []) n) ∙ ap (λ x. (34 ∷ x) ++ n) (sym (doubled_quote cs))
+    ∙ ap (λ x. (34 ∷ doubled (cs ++ (x ∷ []))) ++ n) (sym f)
+
+pub spelled_more : (a b cs : List ℕ) (c : ℕ) → a ≡ spelled cs → b ≡ a ++ encode_utf8 c → b ≡ spelled (cs ++ (c ∷ []))
+spelled_more a b cs c e f = f ∙ ap (λ x. x ++ encode_utf8 c) e ∙ ap (λ x. spelled cs ++ x) (sym (append-nil (encode_utf8 c))) ∙ sym (encodes-append cs (c ∷ []))
+
+pub taken : (A : Type 0) (B : ℕ → Type 0) (r : Option ℕ) (b : Bool) → is_some r ≡ not b → b ≡ false → MatchOption r A B → (d : ℕ) × B d
+taken A B None b h e m = let n : ⊥ = cc (ap not e) in absurd n
+taken A B (Some d) b h e m = (d, m)

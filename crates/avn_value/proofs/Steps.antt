@@ -1,0 +1,306 @@
+-- Steps of a reader.
+use Rattle.std.proofs.Common.{◌≡◌, ◌≢◌, ◌⊎◌, inl, inr, ℕ, suc, ◌+◌, ◌<◌, ◌≤◌, List, [], ◌∷◌, ◌++◌, Bool, true, false, cond, ◌==◌, ◌&&◌, ◌||◌, refl, sym, ap, subst, ◌∙◌, append_assoc, length, arith, add-one, length-append, Result, Ok, Err, IfOk, OnOk, Option, Some, None}
+use Rattle.std.proofs.lemmas.Bool.{cases_Bool, eqb-true, eq-eqb}
+use Rattle.avn_grammar.specs.declared.chars.Lead.{Lead}
+use Rattle.avn_grammar.specs.declared.chars.Lead.TheVariants as is
+use Rattle.avn_grammar.proofs.Refusals.{no_items, Follows, follows, ends, after_comma, after_number}
+use Rattle.avn_grammar.proofs.Runs.{past-le, skip-le}
+use Rattle.avn_grammar.specs.Chars.{lead, lead_of, tail, front, past, skip, is_space, is_letter, is_digit, is_name, begins, doubled, has_fraction, inside, spelled}
+use Rattle.avn_grammar.specs.Depth.{Deep, ItemDeep, ItemsDeep, deep_payload, deep_braces, deep_choice, deep_field, deep_value, deep_here, deep_after_comma, deep_after_number}
+use Rattle.avn_grammar.specs.Grammar.{word_of, word, Token, number_token, past_number, negative_token, octets_token, bits_token, text_token, Ident, ComesAfterWord, BeginsNumber, Item, named, bare, AllIntegers, AllNamed, AllBare, fields_of, trees_of, IsGathered, BracesStand, Stands, token, bare_word, choose, empty_braces, fields_in_braces, list_in_braces, ItemStands, choice_item, word_item, field_item, value_item, ItemsStand, last_item, comma_item, number_item}
+use Rattle.avn_grammar.specs.Tree.{Tree, Trees, Fields, integer, enumerated, choice, sequence, sequence_of, no_trees}
+use Rattle.avn_value.proofs.Going.{Going}
+use Rattle.avn_value.proofs.NotDeep.{deep_comma_only, deep_number_only}
+use Rattle.avn_value.specs.Gathering.{Holds}
+use Rattle.std.specs.Prelude.{ok_or, IfSome, IfNone}
+use Rattle.avn_value.specs.declared.gathered.Gathered.{Gathered}
+
+passed : (b : Bool) (x y q : Lead) → cond b x y ≡ q → (x ≡ q → ⊥) → y ≡ q
+passed true x y q h n = absurd (n h)
+passed false x y q h n = h
+
+failed : (b : Bool) (x y q : Lead) → cond b x y ≡ q → b ≡ false → y ≡ q
+failed true x y q h n = let never : ⊥ = cc in absurd never
+failed false x y q h n = h
+
+pub lead_letter : (c : ℕ) → lead_of c ≡ is.Letter → is_letter c ≡ true
+unfolding lead_of
+lead_letter c h = elim (cases_Bool (is_letter c)) [
+    inl e ↦ e
+  | inr e ↦
+      let a0 = passed (is_space c) _ _ _ h (λ x. let n : ⊥ = cc in n) in
+      let a1 = failed (is_letter c) _ _ _ a0 e in
+      let a2 = passed (is_digit c) _ _ _ a1 (λ x. let n : ⊥ = cc in n) in
+      let a3 = passed (c == 45) _ _ _ a2 (λ x. let n : ⊥ = cc in n) in
+      let a4 = passed (c == 34) _ _ _ a3 (λ x. let n : ⊥ = cc in n) in
+      let a4' = passed (c == 39) _ _ _ a4 (λ x. let n : ⊥ = cc in n) in
+      let a5 = passed (c == 123) _ _ _ a4' (λ x. let n : ⊥ = cc in n) in
+      let a6 = passed (c == 125) _ _ _ a5 (λ x. let n : ⊥ = cc in n) in
+      let a7 = passed (c == 44) _ _ _ a6 (λ x. let n : ⊥ = cc in n) in
+      let a8 = passed (c == 58) _ _ _ a7 (λ x. let n : ⊥ = cc in n) in
+      let a9 : is.Other ≡ is.Letter = passed (c == 95) _ _ _ a8 (λ x. let n : ⊥ = cc in n) in
+      let n : ⊥ = cc in absurd n ]
+
+pub lead_digit : (c : ℕ) → lead_of c ≡ is.Digit → is_digit c ≡ true
+unfolding lead_of
+lead_digit c h = elim (cases_Bool (is_digit c)) [
+    inl e ↦ e
+  | inr e ↦
+      let a0 = passed (is_space c) _ _ _ h (λ x. let n : ⊥ = cc in n) in
+      let a1 = passed (is_letter c) _ _ _ a0 (λ x. let n : ⊥ = cc in n) in
+      let a2 = failed (is_digit c) _ _ _ a1 e in
+      let a3 = passed (c == 45) _ _ _ a2 (λ x. let n : ⊥ = cc in n) in
+      let a4 = passed (c == 34) _ _ _ a3 (λ x. let n : ⊥ = cc in n) in
+      let a4' = passed (c == 39) _ _ _ a4 (λ x. let n : ⊥ = cc in n) in
+      let a5 = passed (c == 123) _ _ _ a4' (λ x. let n : ⊥ = cc in n) in
+      let a6 = passed (c == 125) _ _ _ a5 (λ x. let n : ⊥ = cc in n) in
+      let a7 = passed (c == 44) _ _ _ a6 (λ x. let n : ⊥ = cc in n) in
+      let a8 = passed (c == 58) _ _ _ a7 (λ x. let n : ⊥ = cc in n) in
+      let a9 : is.Other ≡ is.Digit = passed (c == 95) _ _ _ a8 (λ x. let n : ⊥ = cc in n) in
+      let n : ⊥ = cc in absurd n ]
+
+
+letter-name : (c : ℕ) → is_letter c ≡ true → is_name c ≡ true
+letter-name c h = ap (λ b. b || is_digit c || (c == 45) || (c == 95)) h
+
+past_one : (p : ℕ → Bool) (c : ℕ) (u : List ℕ) → p c ≡ true → length (past p (c ∷ u)) < length (c ∷ u)
+past_one p c u h = let e : past p (c ∷ u) ≡ past p u = ap (λ b. cond b (past p u) (c ∷ u)) h in omega (arith, past-le p u, ap (λ (x : List ℕ). length x) e)
+
+pub ident-shorter : (w id r : List ℕ) → Ident w id r → length r < length w
+ident-shorter [] id r i = let e = i.starts in let n : ⊥ = cc in absurd n
+ident-shorter (c ∷ u) id r i = omega (arith, past_one is_name c u (letter-name c (lead_letter c i.starts)), ap (λ (x : List ℕ). length x) i.left)
+
+pub digits-shorter : (w : List ℕ) → lead w ≡ is.Digit → length (past is_digit w) < length w
+digits-shorter [] e = let n : ⊥ = cc in absurd n
+digits-shorter (c ∷ u) e = past_one is_digit c u (lead_digit c e)
+
+pub tail-le : (w : List ℕ) → length (tail w) ≤ length w
+tail-le [] = omega arith
+tail-le (c ∷ u) = omega arith
+
+pub tail-less : (w : List ℕ) (k : Lead) → lead w ≡ k → k ≢ is.AtEnd → length (tail w) < length w
+tail-less [] k e n = absurd (n (sym e))
+tail-less (c ∷ u) k e n = omega arith
+
+number-shorter : (w : List ℕ) → lead w ≡ is.Digit → length (past_number w) < length w
+number-shorter w e = elim (has_fraction (past is_digit w)) as (λ b. length (cond b (past is_digit (tail (past is_digit w))) (past is_digit w)) < length w) [
+    true ↦ omega (arith, digits-shorter w e, tail-le (past is_digit w), past-le is_digit (tail (past is_digit w)))
+  | false ↦ digits-shorter w e ]
+
+quoted-shorter : (w r : List ℕ) (c : ℕ) → past inside (tail w) ≡ 39 ∷ c ∷ r → length r < length w
+quoted-shorter w r c e = omega (arith, ap (λ (x : List ℕ). length x) e, past-le inside (tail w), tail-le w)
+
+pub token-shorter : {w r : List ℕ} {t : Tree} → Token w t r → length r < length w
+token-shorter (number_token {w = w} a) = number-shorter w a
+token-shorter (negative_token {w = w} a b) = omega (arith, number-shorter (tail w) b, tail-le w)
+token-shorter (octets_token {w = w} {rest = r} a b c) = quoted-shorter w r 72 b
+token-shorter (bits_token {w = w} {rest = r} a b c) = quoted-shorter w r 66 b
+token-shorter (text_token {w = w} {rest = r} cs e n) = omega (arith, ap (λ (x : List ℕ). length x) e, length-append (34 ∷ doubled cs) (34 ∷ r))
+
+-- What the cursor shows, u on.
+module _ (limit level : ℕ) (u w : List ℕ) (at : w ≡ skip u) where
+  ident_at : {id r : List ℕ} → Ident w id r → Ident (skip u) id r
+  ident_at {id = id} {r = r} i = subst (λ x. Ident x id r) at i
+
+  lead_at : {k : Lead} → lead w ≡ k → lead (skip u) ≡ k
+  lead_at {k = k} e = ap lead (sym at) ∙ e
+
+  pub value_choice : (r z n id b : List ℕ) (t p q : Tree) → level ≤ limit → Ident w id r → lead (skip r) ≡ is.Colon → z ≡ tail (skip r) → Stands limit (level + 1) z p n
+      → t ≡ choice b q → b ≡ spelled id → q ≡ p → Stands limit level u t n
+  value_choice r z n id b t p q le i c e d f g h =
+      let d1 : Stands limit (suc level) (tail (skip r)) p n = subst (λ x. Stands limit (suc level) x p n) e (subst (λ x. Stands limit x z p n) (add-one level) d) in
+      let goal : choice (spelled id) p ≡ t = sym (f ∙ ap (λ x. choice x q) g ∙ ap (λ x. choice (spelled id) x) h) in
+      subst (λ x. Stands limit level u x n) goal (choose le (ident_at i) c d1)
+
+  pub value_word : (r n id b : List ℕ) (t : Tree) → level ≤ limit → Ident w id r → lead (skip r) ≢ is.Colon → n ≡ r → t ≡ word_of b → b ≡ spelled id → Stands limit level u t n
+  value_word r n id b t le i c e f g =
+      subst (λ x. Stands limit level u t x) (sym e) (subst (λ x. Stands limit level u x r) (sym (f ∙ ap word_of g)) (bare_word le (ident_at i) c))
+
+  pub value_token : (A E : Type 0) (see : A → Tree) (n v : List ℕ) (r : Result A E) → level ≤ limit → v ≡ w → IfOk r (λ x. Token v (see x) n) → IfOk r (λ x. Stands limit level u (see x) n)
+  value_token A E see n v (Err e) le f k = tt
+  value_token A E see n v (Ok x) le f k = token le (subst (λ y. Token y (see x) n) (f ∙ at) k)
+
+  pub value_empty : (z m : List ℕ) (t : Tree) → level ≤ limit → lead w ≡ is.OpenBrace → z ≡ tail w → lead (skip z) ≡ is.CloseBrace → m ≡ tail (skip z) → t ≡ sequence_of no_trees → Stands limit level u t m
+  value_empty z m t le o e c f g =
+      let e1 : z ≡ tail (skip u) = e ∙ ap tail at in
+      let c1 : lead (skip (tail (skip u))) ≡ is.CloseBrace = subst (λ x. lead (skip x) ≡ is.CloseBrace) e1 c in
+      let d = empty_braces {level = level} {u = u} le (lead_at o) c1 in
+      subst (λ x. Stands limit level u x m) (sym g) (subst (λ x. Stands limit level u (sequence_of no_trees) x) (sym (f ∙ ap (λ x. tail (skip x)) e1)) d)
+
+  pub value_braces : (z n : List ℕ) (t : Tree) → level ≤ limit → lead w ≡ is.OpenBrace → z ≡ tail w → lead (skip z) ≢ is.CloseBrace → BracesStand limit (level + 1) z t n → Stands limit level u t n
+  value_braces z n t le o e c d =
+      let e1 : z ≡ tail (skip u) = e ∙ ap tail at in
+      let c1 : lead (skip (tail (skip u))) ≢ is.CloseBrace = subst (λ x. lead (skip x) ≢ is.CloseBrace) e1 c in
+      let d1 : ItemsStand limit (suc level) [] (tail (skip u)) d.0 n = subst (λ x. ItemsStand limit (suc level) [] x d.0 n) e1 (subst (λ x. ItemsStand limit x [] z d.0 n) (add-one level) d.1) in
+      elim d.2 [
+          inl k ↦ subst (λ x. Stands limit level u x n) (sym k.1) (fields_in_braces le (lead_at o) c1 d1 k.0)
+        | inr k ↦ subst (λ x. Stands limit level u x n) (sym k.1) (list_in_braces le (lead_at o) c1 d1 k.0) ]
+
+  pub item_choice : (r z n id b : List ℕ) (t p q : Tree) → Ident w id r → lead (skip r) ≡ is.Colon → z ≡ tail (skip r) → Stands limit level z p n
+      → t ≡ choice b q → b ≡ spelled id → q ≡ p → ItemStands limit level u (bare t) n
+  item_choice r z n id b t p q i c e d f g h =
+      let goal : choice (spelled id) p ≡ t = sym (f ∙ ap (λ x. choice x q) g ∙ ap (λ x. choice (spelled id) x) h) in
+      subst (λ x. ItemStands limit level u (bare x) n) goal (choice_item (ident_at i) c (subst (λ x. Stands limit level x p n) e d))
+
+  pub item_word : (r n id b : List ℕ) (t : Tree) → Ident w id r → ComesAfterWord (lead (skip r)) → n ≡ r → t ≡ word_of b → b ≡ spelled id → ItemStands limit level u (bare t) n
+  item_word r n id b t i c e f g =
+      subst (λ x. ItemStands limit level u (bare t) x) (sym e) (subst (λ x. ItemStands limit level u (bare x) r) (sym (f ∙ ap word_of g)) (word_item (ident_at i) c))
+
+  pub item_field : (r z n id b : List ℕ) (p : Tree) → Ident w id r → lead (skip r) ≢ is.Colon → lead (skip r) ≢ is.Comma → lead (skip r) ≢ is.CloseBrace → z ≡ r → Stands limit level z p n → b ≡ spelled id
+      → ItemStands limit level u (named b p) n
+  item_field r z n id b p i c k l e d g =
+      subst (λ x. ItemStands limit level u (named x p) n) (sym g)
+      (field_item (ident_at i) c (elim [ inl x ↦ k x | inr x ↦ l x ]) (subst (λ x. Stands limit level x p n) e d))
+
+  pub item_value : (v n : List ℕ) (t : Tree) → v ≡ w → lead w ≢ is.Letter → Stands limit level v t n → ItemStands limit level u (bare t) n
+  item_value v n t e c d = value_item (λ h. c (ap lead at ∙ h)) (subst (λ x. Stands limit level x t n) (e ∙ at) d)
+
+-- A turn of the loop over items, backwards.
+only_on : {m : ℕ} {start now r next : List ℕ} {before : List Item} {x : Item}
+    → ((ys : List Item) (n : List ℕ) → ItemsStand 64 m [] start ys n → (xs : List Item) × (ys ≡ before ++ xs) × ItemsStand 64 m before now xs n)
+    → ItemStands 64 m now x r
+    → ((xs : List Item) (n : List ℕ) → Follows 64 m before x r xs n → (zs : List Item) × (xs ≡ x ∷ zs) × ItemsStand 64 m (before ++ (x ∷ [])) next zs n)
+    → (ys : List Item) (n : List ℕ) → ItemsStand 64 m [] start ys n → (zs : List Item) × (ys ≡ (before ++ (x ∷ [])) ++ zs) × ItemsStand 64 m (before ++ (x ∷ [])) next zs n
+only_on {before = before} {x = x} f k g ys n d =
+    let p = f ys n d in
+    let q = g p.0 n (follows k p.2) in
+    (q.0, p.1 ∙ ap (λ v. before ++ v) q.1 ∙ sym (append_assoc before (x ∷ []) q.0), q.2)
+
+pub close_comma : (k : Lead) → k ≡ is.CloseBrace → k ≡ is.Comma → ⊥
+close_comma k a b = cc
+
+pub number_comma : (k : Lead) → BeginsNumber k → k ≡ is.Comma → ⊥
+number_comma k (inl a) b = cc
+number_comma k (inr a) b = cc
+
+pub number_close : (k : Lead) → BeginsNumber k → k ≡ is.CloseBrace → ⊥
+number_close k (inl a) b = cc
+number_close k (inr a) b = cc
+
+comma_only : {m : ℕ} {before xs : List Item} {x : Item} {r n next : List ℕ} → next ≡ tail (skip r) → lead (skip r) ≡ is.Comma → Follows 64 m before x r xs n → (zs : List Item) × (xs ≡ x ∷ zs) × ItemsStand 64 m (before ++ (x ∷ [])) next zs n
+comma_only e c (ends a b d) = absurd (close_comma _ a c)
+comma_only {m = m} {before = before} {x = x} {n = n} e c (after_comma zs a b d) = (zs, b, subst (λ v. ItemsStand 64 m (before ++ (x ∷ [])) v zs n) (sym e) d)
+comma_only e c (after_number zs a b d f) = absurd (number_comma _ b c)
+
+number_only : {m : ℕ} {before xs : List Item} {x : Item} {r n next : List ℕ} → next ≡ skip r → BeginsNumber (lead (skip r)) → Follows 64 m before x r xs n → (zs : List Item) × (xs ≡ x ∷ zs) × ItemsStand 64 m (before ++ (x ∷ [])) next zs n
+number_only e c (ends a b d) = absurd (number_close _ c a)
+number_only e c (after_comma zs a b d) = absurd (number_comma _ c a)
+number_only {m = m} {before = before} {x = x} {n = n} e c (after_number zs a b d f) = (zs, d, subst (λ v. ItemsStand 64 m (before ++ (x ∷ [])) v zs n) (sym e) f)
+
+-- A turn of the loop over items.
+going_on : {m : ℕ} {start now : List ℕ} {before : List Item} (x : Item) (next : List ℕ)
+    → ((xs : List Item) (rest : List ℕ) → ItemsStand 64 m before now xs rest → ItemsStand 64 m [] start (before ++ xs) rest)
+    → ((xs : List Item) (rest : List ℕ) → ItemsStand 64 m (before ++ (x ∷ [])) next xs rest → ItemsStand 64 m before now (x ∷ xs) rest)
+    → (xs : List Item) (rest : List ℕ) → ItemsStand 64 m (before ++ (x ∷ [])) next xs rest → ItemsStand 64 m [] start ((before ++ (x ∷ [])) ++ xs) rest
+going_on {m = m} {start = start} {before = before} x next f g xs rest d =
+    subst (λ y. ItemsStand 64 m [] start y rest) (sym (append_assoc before (x ∷ []) xs)) (f (x ∷ xs) rest (g xs rest d))
+
+module _ (m : ℕ) (start now r : List ℕ) (g h : Gathered) (x : Item) (going : Going m start now g) (stands : ItemStands 64 m now x r) (pushed : (before : List Item) → Holds g before → Holds h (before ++ (x ∷ []))) where
+  pub going_comma : (next : List ℕ) → next ≡ tail (skip r) → length next ≤ length now → lead (skip r) ≡ is.Comma → Going m start next h
+  going_comma next e le c = record {
+    before = going.before ++ (x ∷ []);
+    holds = pushed going.before going.holds;
+    completes = going_on x next going.completes (λ xs rest d. comma_item stands c (subst (λ y. ItemsStand 64 m (going.before ++ (x ∷ [])) y xs rest) e d));
+    only = only_on going.only stands (λ xs n f. comma_only e c f);
+    deeper = λ d. going.deeper (deep_after_comma stands c (subst (λ y. ItemsDeep 64 m (going.before ++ (x ∷ [])) y) e d));
+    shallower = λ d. deep_comma_only e stands c (going.shallower d);
+    shorter = omega (arith, going.shorter);
+  }
+
+  pub going_number : (next : List ℕ) → next ≡ skip r → length next ≤ length now → BeginsNumber (lead (skip r)) → h.integers ≡ true → Going m start next h
+  going_number next e le c i =
+      let k = pushed going.before going.holds in
+      record {
+        before = going.before ++ (x ∷ []);
+        holds = k;
+        completes = going_on x next going.completes (λ xs rest d. number_item stands (k.integers i) c (subst (λ y. ItemsStand 64 m (going.before ++ (x ∷ [])) y xs rest) e d));
+        only = only_on going.only stands (λ xs n f. number_only e c f);
+        deeper = λ d. going.deeper (deep_after_number stands (k.integers i) c (subst (λ y. ItemsDeep 64 m (going.before ++ (x ∷ [])) y) e d));
+        shallower = λ d. deep_number_only e stands c (going.shallower d);
+        shorter = omega (arith, going.shorter);
+      }
+
+  pub unclosed : lead (skip r) ≡ is.CloseBrace → ((xs : List Item) (t : Tree) → Holds h xs → IsGathered xs t → ⊥) → (t : Tree) (n : List ℕ) → BracesStand 64 m start t n → ⊥
+  unclosed c f t n b =
+      let p = going.only b.0 n b.1 in
+      elim (follows stands p.2) [
+          ends i j k ↦ f (going.before ++ (x ∷ [])) t (pushed going.before going.holds) (subst (λ v. IsGathered v t) (p.1 ∙ ap (λ v. going.before ++ v) j) b.2)
+        | after_comma zs i j k ↦ close_comma _ c i
+        | after_number zs i j k l ↦ number_close _ j c ]
+
+  pub not_going : lead (skip r) ≢ is.CloseBrace → lead (skip r) ≢ is.Comma → (BeginsNumber (lead (skip r)) → h.integers ≢ true) → (t : Tree) (n : List ℕ) → BracesStand 64 m start t n → ⊥
+  not_going c d f t n b =
+      let p = going.only b.0 n b.1 in
+      elim (follows stands p.2) [
+          ends i j k ↦ c i
+        | after_comma zs i j k ↦ d i
+        | after_number zs i j k l ↦ f j ((pushed going.before going.holds).only_integers i) ]
+
+  pub closed : (n : List ℕ) (t : Tree) → n ≡ tail (skip r) → lead (skip r) ≡ is.CloseBrace → ((xs : List Item) → Holds h xs → IsGathered xs t) → BracesStand 64 m start t n
+  closed n t e c f =
+      let xs = going.before ++ (x ∷ []) in
+      (xs, subst (λ y. ItemsStand 64 m [] start xs y) (sym e) (going.completes (x ∷ []) (tail (skip r)) (last_item stands c)), f xs (pushed going.before going.holds))
+
+pub shorter_token : (A E : Type 0) (see : A → Tree) (n u v : List ℕ) (r : Result A E) → v ≡ skip u → IfOk r (λ x. Token v (see x) n) → OnOk r (length n < length u)
+shorter_token A E see n u v (Err e) f k = tt
+shorter_token A E see n u v (Ok x) f k = omega (arith, token-shorter k, skip-le u, ap (λ (x : List ℕ). length x) f)
+
+pub all_closed : (A E : Type 0) (see : A → Tree) (m : ℕ) (start n : List ℕ) (h : Gathered) (e : E) (o : Option A) (r : Result A E) → r ≡ ok_or o e → IfSome o (λ v. (xs : List Item) → Holds h xs → IsGathered xs (see v))
+    → ((t : Tree) → ((xs : List Item) → Holds h xs → IsGathered xs t) → BracesStand 64 m start t n) → IfOk r (λ v. BracesStand 64 m start (see v) n)
+all_closed A E see m start n h e None r f k g = subst (λ r. IfOk r (λ v. BracesStand 64 m start (see v) n)) (sym f) tt
+all_closed A E see m start n h e (Some v) r f k g = subst (λ r. IfOk r (λ v. BracesStand 64 m start (see v) n)) (sym f) (g (see v) k)
+
+pub braces_along : (limit m : ℕ) (v u n : List ℕ) (t : Tree) → v ≡ u → BracesStand limit m v t n → BracesStand limit m u t n
+braces_along limit m v u n t e d = subst (λ x. BracesStand limit m x t n) e d
+
+never_end : (c : ℕ) → lead_of c ≡ is.AtEnd → ⊥
+unfolding lead_of
+never_end c h =
+    let a0 = passed (is_space c) _ _ _ h (λ x. let n : ⊥ = cc in n) in
+    let a1 = passed (is_letter c) _ _ _ a0 (λ x. let n : ⊥ = cc in n) in
+    let a2 = passed (is_digit c) _ _ _ a1 (λ x. let n : ⊥ = cc in n) in
+    let a3 = passed (c == 45) _ _ _ a2 (λ x. let n : ⊥ = cc in n) in
+    let a4 = passed (c == 34) _ _ _ a3 (λ x. let n : ⊥ = cc in n) in
+    let a4' = passed (c == 39) _ _ _ a4 (λ x. let n : ⊥ = cc in n) in
+    let a5 = passed (c == 123) _ _ _ a4' (λ x. let n : ⊥ = cc in n) in
+    let a6 = passed (c == 125) _ _ _ a5 (λ x. let n : ⊥ = cc in n) in
+    let a7 = passed (c == 44) _ _ _ a6 (λ x. let n : ⊥ = cc in n) in
+    let a8 = passed (c == 58) _ _ _ a7 (λ x. let n : ⊥ = cc in n) in
+    let a9 : is.Other ≡ is.AtEnd = passed (c == 95) _ _ _ a8 (λ x. let n : ⊥ = cc in n) in
+    cc
+
+pub at_end : (u : List ℕ) → lead u ≡ is.AtEnd → u ≡ []
+at_end [] h = refl
+at_end (c ∷ u) h = absurd (never_end c h)
+
+pub no_entry : (m : ℕ) (start now : List ℕ) (g : Gathered) → Going m start now g → ((x : Item) (n : List ℕ) → ItemStands 64 m now x n → ⊥) → (t : Tree) (n : List ℕ) → BracesStand 64 m start t n → ⊥
+no_entry m start now g going f t n b = no_items f (going.only b.0 n b.1).2
+
+pub refused : {A E : Type 0} {P : Type 0} {e : E} (o : Option A) (r : Result A E) → r ≡ ok_or o e → r ≡ Err e → IfNone o P → P
+refused None r f g h = h
+refused (Some v) r f g h = let n : ⊥ = cc in absurd n
+
+-- What is looked for too deep.
+module _ (limit level : ℕ) (u w : List ℕ) (at : w ≡ skip u) where
+  ident_from : {id r : List ℕ} → Ident w id r → Ident (skip u) id r
+  ident_from {id = id} {r = r} i = subst (λ x. Ident x id r) at i
+
+  pub payload_deep : (id r z : List ℕ) → level ≤ limit → Ident w id r → lead (skip r) ≡ is.Colon → z ≡ tail (skip r) → Deep limit (level + 1) z → Deep limit level u
+  payload_deep id r z le i c e d = deep_payload le (ident_from i) c (subst (λ x. Deep limit (suc level) x) e (subst (λ x. Deep limit x z) (add-one level) d))
+
+  pub braces_deep : (z : List ℕ) → level ≤ limit → lead w ≡ is.OpenBrace → z ≡ tail w → lead (skip z) ≢ is.CloseBrace → ItemsDeep limit (level + 1) [] z → Deep limit level u
+  braces_deep z le o e c d =
+      let e1 : z ≡ tail (skip u) = e ∙ ap tail at in
+      deep_braces le (ap lead (sym at) ∙ o) (subst (λ x. lead (skip x) ≢ is.CloseBrace) e1 c) (subst (λ x. ItemsDeep limit (suc level) [] x) e1 (subst (λ x. ItemsDeep limit x [] z) (add-one level) d))
+
+  pub choice_deep : (id r z : List ℕ) → Ident w id r → lead (skip r) ≡ is.Colon → z ≡ tail (skip r) → Deep limit level z → ItemDeep limit level u
+  choice_deep id r z i c e d = deep_choice (ident_from i) c (subst (λ x. Deep limit level x) e d)
+
+  pub field_deep : (id r z : List ℕ) → Ident w id r → lead (skip r) ≢ is.Colon → lead (skip r) ≢ is.Comma → lead (skip r) ≢ is.CloseBrace → z ≡ r → Deep limit level z → ItemDeep limit level u
+  field_deep id r z i c k l e d = deep_field (ident_from i) c (elim [ inl x ↦ k x | inr x ↦ l x ]) (subst (λ x. Deep limit level x) e d)
+
+  pub value_deep : (v : List ℕ) → v ≡ w → lead w ≢ is.Letter → Deep limit level v → ItemDeep limit level u
+  value_deep v e c d = deep_value (λ h. c (ap lead at ∙ h)) (subst (λ x. Deep limit level x) (e ∙ at) d)
+
+pub items_deep_along : (m : ℕ) (v u : List ℕ) → v ≡ u → ItemsDeep 64 m [] v → ItemsDeep 64 m [] u
+items_deep_along m v u e d = subst (λ x. ItemsDeep 64 m [] x) e d

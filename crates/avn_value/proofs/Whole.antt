@@ -1,0 +1,61 @@
+-- The answer to a whole text.
+use Rattle.std.proofs.Common.{◌≡◌, ◌⊎◌, inl, inr, ℕ, List, [], sym, ap, subst, refl, Result, Ok, Err, IfOk, IfErr}
+use Rattle.std.specs.Char.{is_whitespace}
+use Rattle.asn_base.specs.declared.codec.Codec.TheVariants.{Avn}
+use Rattle.asn_fault.specs.Stop.{Stop, Why, at_root, error_stop}
+use Rattle.asn_fault.specs.declared.decode.DecodeError.{DecodeError}
+use Rattle.avn_grammar.proofs.OneTree.{same_stands}
+use Rattle.avn_grammar.proofs.OneAnswer.{reads-unread, reads-deep, unread-deep, same_unread}
+use Rattle.avn_grammar.specs.Chars.{past}
+use Rattle.avn_grammar.specs.Tree.{Tree}
+use Rattle.avn_grammar.specs.Grammar.{Stands, Reads}
+use Rattle.avn_grammar.specs.Depth.{Deep}
+use Rattle.avn_grammar.specs.Unread.{Unread, no_value, more_follows}
+use Rattle.avn_value.specs.declared.value.AvnValue.{AvnValue}
+use Rattle.avn_value.specs.View.{tree_of}
+use Rattle.avn_value.specs.Answer.{Explains, unexpected_token, exceeds_depth, out_of_memory, IsValue, IsRefusal, IsMoreOrMemory, more, no_memory, IsFoundOrMemory, excerpt, memory}
+
+pub more_explains : {limit : ℕ} {u n : List ℕ} {stop : Stop} (t : Tree) → Stands limit 0 u t n → IsMoreOrMemory n stop → Explains limit u stop
+more_explains t s (more h) = unexpected_token _ (more_follows t s h)
+more_explains t s no_memory = out_of_memory
+
+pub found_explains : {limit : ℕ} {u : List ℕ} {stop : Stop} → ((t : Tree) (n : List ℕ) → Stands limit 0 u t n → ⊥) → (Deep limit 0 u → ⊥) → IsFoundOrMemory u stop → Explains limit u stop
+found_explains h d (excerpt found f) = unexpected_token _ (no_value (h, d) f)
+found_explains h d memory = out_of_memory
+
+pub whole_reads : {A E : Type 0} (see : A → Tree) (limit : ℕ) (u n : List ℕ) (t : Tree) (r : Result A E) → Stands limit 0 u t n → IfOk r (λ v. (see v ≡ t) × (past is_whitespace n ≡ [])) → IfOk r (λ v. Reads limit u (see v))
+whole_reads see limit u n t (Ok v) s h = (n, subst (λ x. Stands limit 0 u x n) (sym h.0) s, h.1)
+whole_reads see limit u n t (Err e) s h = tt
+
+pub whole_explains : {A E : Type 0} (stop : E → Stop) (limit : ℕ) (u n : List ℕ) (t : Tree) (r : Result A E) → Stands limit 0 u t n → IfErr r (λ e. IsMoreOrMemory n (stop e)) → IfErr r (λ e. Explains limit u (stop e))
+whole_explains stop limit u n t (Ok v) s h = tt
+whole_explains stop limit u n t (Err e) s h = more_explains t s h
+
+-- The answer where the text is read, and where it is refused.
+explains_read : {limit : ℕ} {u : List ℕ} {stop : Stop} {t : Tree} → Explains limit u stop → Reads limit u t → stop ≡ at_root Why.out_of_memory Avn
+explains_read (unexpected_token found k) r = absurd (reads-unread r k)
+explains_read (exceeds_depth d) r = absurd (reads-deep r d)
+explains_read out_of_memory r = refl
+
+explains_unread : {limit : ℕ} {u found : List ℕ} {stop : Stop} → Explains limit u stop → Unread limit u found → (stop ≡ at_root (Why.unexpected_token found) Avn) ⊎ (stop ≡ at_root Why.out_of_memory Avn)
+explains_unread (unexpected_token found k) n = inl (ap (λ b. at_root (Why.unexpected_token b) Avn) (same_unread k n))
+explains_unread (exceeds_depth d) n = absurd (unread-deep n d)
+explains_unread out_of_memory n = inr refl
+
+explains_deep : {limit : ℕ} {u : List ℕ} {stop : Stop} → Explains limit u stop → Deep limit 0 u → (stop ≡ at_root Why.exceeds_max_parse_depth Avn) ⊎ (stop ≡ at_root Why.out_of_memory Avn)
+explains_deep (unexpected_token found k) d = absurd (unread-deep k d)
+explains_deep (exceeds_depth e) d = inl refl
+explains_deep out_of_memory d = inr refl
+
+module _ (limit : ℕ) (u v : List ℕ) (same : u ≡ v) where
+  pub is_value : (r : Result AvnValue DecodeError) → IfOk r (λ x. Reads limit u (tree_of x)) → IfErr r (λ e. Explains limit u (error_stop e)) → (t : Tree) → Reads limit v t → IsValue t r
+  is_value (Ok x) h k t r = let q : Reads limit u t = subst (λ y. Reads limit y t) (sym same) r in (same_stands h.1 q.1).0
+  is_value (Err e) h k t r = explains_read k (subst (λ y. Reads limit y t) (sym same) r)
+
+  pub is_unread : (r : Result AvnValue DecodeError) → IfOk r (λ x. Reads limit u (tree_of x)) → IfErr r (λ e. Explains limit u (error_stop e)) → (found : List ℕ) → Unread limit v found → IsRefusal (Why.unexpected_token found) r
+  is_unread (Ok x) h k found n = reads-unread h (subst (λ y. Unread limit y found) (sym same) n)
+  is_unread (Err e) h k found n = explains_unread k (subst (λ y. Unread limit y found) (sym same) n)
+
+  pub is_deep : (r : Result AvnValue DecodeError) → IfOk r (λ x. Reads limit u (tree_of x)) → IfErr r (λ e. Explains limit u (error_stop e)) → Deep limit 0 v → IsRefusal Why.exceeds_max_parse_depth r
+  is_deep (Ok x) h k d = reads-deep h (subst (λ y. Deep limit 0 y) (sym same) d)
+  is_deep (Err e) h k d = explains_deep k (subst (λ y. Deep limit 0 y) (sym same) d)

@@ -1,0 +1,19 @@
+use Rattle.std.proofs.Common.{◌≡◌, ℕ, ◌+◌, ◌*◌, length}
+use Rattle.avn_value.proofs.Going.{Going}
+use Rattle.avn_value.specs.Ahead.{Paid}
+use Rattle.avn_value.proofs.parse.+read.Given as goal
+
+abbrev pub decreases-read_value : goal.decreases-read_value
+decreases-read_value l = 3 * length l.cursor.now.rest
+
+abbrev pub decreases-read_item : goal.decreases-read_item
+decreases-read_item l = 3 * length l.cursor.now.rest + 1
+
+abbrev pub decreases-read_items : goal.decreases-read_items
+decreases-read_items l = 3 * length l.cursor.now.rest + 2
+
+abbrev pub invariant-read_items-items : goal.invariant-read_items-items
+invariant-read_items-items l = Going l.level l.initial.cursor.rest l.cursor.rest l.gathered × (l.cursor.text ≡ l.initial.cursor.text) × Paid l.initial.cursor l.cursor
+
+abbrev pub decreases-read_items-items : goal.decreases-read_items-items
+decreases-read_items-items l = length l.cursor.rest

@@ -1,0 +1,21 @@
+use Rattle.std.proofs.Common.{sym, subst, ap, ◌∙◌}
+use Rattle.std.specs.Str.{chars}
+use Rattle.asn_fault.specs.Stop.{error_stop}
+use Rattle.avn_value.specs.Answer.{Explains, IsFoundOrMemory, exceeds_depth, out_of_memory}
+use Rattle.avn_value.specs.View.{tree_of}
+use Rattle.avn_value.proofs.Whole.{found_explains, whole_reads, whole_explains}
+use Rattle.avn_value.proofs.parse.read_whole.Goals as goal
+
+pub returns-in-Err-UnexpectedToken-clause-err : goal.returns-in-Err-UnexpectedToken-clause-err
+returns-in-Err-UnexpectedToken-clause-err c =
+    let same = ap chars c.read_value.ensures.same ∙ sym c.requires.whole in
+    found_explains (c.in-Err-UnexpectedToken.ensures.none cc) (c.in-Err-UnexpectedToken.ensures.token cc) (subst (λ u. IsFoundOrMemory u (error_stop c.no_value.result)) same c.no_value.ensures.error)
+
+pub returns-in-Err-TooDeep-clause-err : goal.returns-in-Err-TooDeep-clause-err
+returns-in-Err-TooDeep-clause-err c = subst (λ e. Explains 64 c.args.cursor.now.rest (error_stop e)) (sym c.from_kind.ensures) (exceeds_depth (c.in-Err-TooDeep.ensures.deep cc))
+
+pub returns-in-Ok-clause-err : goal.returns-in-Ok-clause-err
+returns-in-Ok-clause-err c = whole_explains error_stop 64 c.args.cursor.now.rest c.read_value.new.cursor.rest (tree_of c.in-Ok.value) c.whole_value.result c.in-Ok.ensures.ok c.whole_value.ensures.err
+
+pub returns-in-Err-OutOfMemory-clause-err : goal.returns-in-Err-OutOfMemory-clause-err
+returns-in-Err-OutOfMemory-clause-err c = subst (Explains 64 c.args.cursor.now.rest) (sym c.out_of_memory.ensures) out_of_memory

@@ -1,0 +1,58 @@
+use Rattle.std.proofs.Common.{◌≡◌, ◌∷◌, ◌++◌, List, ℕ, length, true, false, MatchOption, sym, ap, subst, ◌∙◌, arith}
+use Rattle.avn_grammar.specs.Chars.{tail, front, past, inside, solid, every}
+use Rattle.avn_grammar.specs.Octets.{are_pairs, octets_of, is_bit, packed}
+use Rattle.avn_value.specs.Radix.{letter_of}
+use Rattle.avn_value.proofs.Tokens.{octets_read, bits_read}
+use Rattle.avn_value.proofs.NoToken.{octets_none, bits_none, unclosed_none}
+use Rattle.avn_value.proofs.Views.{view-OctetString, view-BitString}
+use Rattle.avn_value.proofs.quoted.quoted.Goals as goal
+
+pub returns-clause-ok : goal.returns-clause-ok
+returns-clause-ok c =
+    let w = c.args.cursor.now.rest in
+    let r = c.closing.new.cursor.rest in
+    let digits : c.take_inside.new.out.items ≡ solid (front inside (tail w)) =
+    c.in_ok-take_inside.ensures.found ∙ ap (λ x. x ++ solid (front inside c.take-open.new.self.rest)) c.new-digits.ensures.items ∙ ap (λ u. solid (front inside u)) c.take-open.ensures.moves in
+    let closed : past inside (tail w) ≡ 39 ∷ 66 ∷ r = sym (c.in_ok-take_inside.ensures.moves ∙ ap (past inside) c.take-open.ensures.moves) ∙ c.in-Some.ensures.found ∙ ap (λ k. 39 ∷ letter_of k ∷ r) c.in-Binary.is in
+    let bits : every is_bit (solid (front inside (tail w))) ≡ true = ap (every is_bit) (sym (c.deref-in-Binary.ensures.value ∙ digits)) ∙ sym c.are_bits.ensures ∙ c.if-not-are_bits.false in
+    let n : c.len.result ≡ length (solid (front inside (tail w))) = omega (arith, c.len.ensures, c.deref-in-Binary.ensures.len, ap (λ (x : List ℕ). length x) (c.deref-in-Binary.ensures.value ∙ digits)) in
+    bits_read w r c.in_ok-bytes-in-Binary.bytes.items c.len.result _ c.requires.apostrophe closed bits (c.in_ok-bytes-in-Binary.ensures ∙ ap packed (c.deref-in-Binary-2.ensures.value ∙ digits)) n (view-BitString c.in_ok-bytes-in-Binary.bytes c.len.result)
+
+pub returns-in-Hexadecimal-clause-none : goal.returns-in-Hexadecimal-clause-none
+returns-in-Hexadecimal-clause-none c = λ e.
+    let w = c.args.cursor.now.rest in
+    let r = c.closing.new.cursor.rest in
+    let digits : c.take_inside.new.out.items ≡ solid (front inside (tail w)) =
+    c.in_ok-take_inside.ensures.found ∙ ap (λ x. x ++ solid (front inside c.take-open.new.self.rest)) c.new-digits.ensures.items ∙ ap (λ u. solid (front inside u)) c.take-open.ensures.moves in
+    let closed : past inside (tail w) ≡ 39 ∷ 72 ∷ r = sym (c.in_ok-take_inside.ensures.moves ∙ ap (past inside) c.take-open.ensures.moves) ∙ c.in-Some.ensures.found ∙ ap (λ k. 39 ∷ letter_of k ∷ r) c.in-Hexadecimal.is in
+    let ds = c.deref.result.now in
+    let unpaired : are_pairs ds ≡ false = subst (λ o. MatchOption o (are_pairs ds ≡ false) (λ octets. (are_pairs ds ≡ true) × (octets.items ≡ octets_of ds))) c.in-None.is c.in_ok-octets-in-Hexadecimal.ensures in
+    octets_none w r c.requires.apostrophe closed (ap are_pairs (sym (c.deref.ensures.value ∙ digits)) ∙ unpaired)
+
+pub returns-then-not-are_bits-clause-none : goal.returns-then-not-are_bits-clause-none
+returns-then-not-are_bits-clause-none c = λ e.
+    let w = c.args.cursor.now.rest in
+    let r = c.closing.new.cursor.rest in
+    let digits : c.take_inside.new.out.items ≡ solid (front inside (tail w)) =
+    c.in_ok-take_inside.ensures.found ∙ ap (λ x. x ++ solid (front inside c.take-open.new.self.rest)) c.new-digits.ensures.items ∙ ap (λ u. solid (front inside u)) c.take-open.ensures.moves in
+    let closed : past inside (tail w) ≡ 39 ∷ 66 ∷ r = sym (c.in_ok-take_inside.ensures.moves ∙ ap (past inside) c.take-open.ensures.moves) ∙ c.in-Some.ensures.found ∙ ap (λ k. 39 ∷ letter_of k ∷ r) c.in-Binary.is in
+    bits_none w r c.requires.apostrophe closed (ap (every is_bit) (sym (c.deref-in-Binary.ensures.value ∙ digits)) ∙ sym c.are_bits.ensures ∙ c.if-not-are_bits.true)
+
+pub returns-in-Some-2-clause-ok : goal.returns-in-Some-2-clause-ok
+returns-in-Some-2-clause-ok c =
+    let w = c.args.cursor.now.rest in
+    let r = c.closing.new.cursor.rest in
+    let digits : c.take_inside.new.out.items ≡ solid (front inside (tail w)) =
+    c.in_ok-take_inside.ensures.found ∙ ap (λ x. x ++ solid (front inside c.take-open.new.self.rest)) c.new-digits.ensures.items ∙ ap (λ u. solid (front inside u)) c.take-open.ensures.moves in
+    let closed : past inside (tail w) ≡ 39 ∷ 72 ∷ r = sym (c.in_ok-take_inside.ensures.moves ∙ ap (past inside) c.take-open.ensures.moves) ∙ c.in-Some.ensures.found ∙ ap (λ k. 39 ∷ letter_of k ∷ r) c.in-Hexadecimal.is in
+    let ds = c.deref.result.now in
+    let paired = subst (λ o. MatchOption o (are_pairs ds ≡ false) (λ octets. (are_pairs ds ≡ true) × (octets.items ≡ octets_of ds))) c.in-Some-2.is c.in_ok-octets-in-Hexadecimal.ensures in
+    let same = c.deref.ensures.value ∙ digits in
+    octets_read w r c.in-Some-2.octets.items _ c.requires.apostrophe closed (ap are_pairs (sym same) ∙ paired.0) (paired.1 ∙ ap octets_of same) (view-OctetString c.in-Some-2.octets)
+
+pub returns-in_default-clause-none : goal.returns-in_default-clause-none
+returns-in_default-clause-none c = λ e.
+    let w = c.args.cursor.now.rest in
+    let moved : c.take_inside.new.self.rest ≡ past inside (tail w) = c.in_ok-take_inside.ensures.moves ∙ ap (past inside) c.take-open.ensures.moves in
+    let f = c.in_default.ensures.found in
+    unclosed_none w c.requires.apostrophe (λ r p. f.0 r (moved ∙ p)) (λ r p. f.1 r (moved ∙ p))

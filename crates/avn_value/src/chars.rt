@@ -1,0 +1,59 @@
+// Runs of characters that pass a test.
+ghost use Rattle.std.specs.Prelude.{◌≡◌};
+ghost use Rattle.avn_grammar.specs.Chars.{every, past};
+ghost use Rattle.avn_value.specs.Runs.{passes};
+
+/// The characters that are read as one run.
+#[derive(Clone, Copy, Drop)]
+pub enum Run {
+    /// White space between tokens.
+    Blanks,
+    /// ASCII digits.
+    Digits,
+    /// ASCII letters.
+    Letters,
+    /// Characters of a name after its first.
+    Name,
+    /// Double quotation marks.
+    Quotes,
+    /// Characters other than an apostrophe.
+    Inside,
+}
+
+/// The character belongs to the run.
+#[inline(always)]
+pub fn passes(run: Run, c: char) -> bool
+    ensures { result ≡ passes run c }
+{
+    match run {
+        Run::Blanks => c == ' ' || c == '\t' || c == '\r' || c == '\n',
+        Run::Digits => c.is_ascii_digit(),
+        Run::Letters => c.is_ascii_alphabetic(),
+        Run::Name => c.is_ascii_alphanumeric() || c == '-' || c == '_',
+        Run::Quotes => c == '"',
+        Run::Inside => c != '\'',
+    }
+}
+
+/// All bytes of the text belong to the run.
+pub fn all_pass(run: Run, text: &[u8]) -> bool
+    ensures { result ≡ every (passes run) text.now }
+{
+    for &byte in text {
+        if !passes(run, byte as char) {
+            return false;
+        }
+    }
+    true
+}
+
+/// What follows the longest front of the text whose bytes belong to the run.
+pub fn past_run(run: Run, text: &[u8]) -> &[u8]
+    ensures { result.now ≡ past (passes run) text.now }
+{
+    let mut place = 0;
+    while place < text.len() && passes(run, text[place] as char) {
+        place += 1;
+    }
+    &text[place..]
+}

@@ -1,0 +1,384 @@
+// A place in a scan, and the character there.
+ghost use Rattle.std.specs.Prelude.{◌≡◌, ◌≢◌, ◌+◌, ◌≤◌, ◌∷◌, [], true, false, length, MatchOption, OnOk, string_bytes, ◌++◌, ◌*◌, ◌<◌, IfOk, take};
+ghost use Rattle.std.specs.Str.{encode_utf8_all, chars, IsCharBoundary};
+ghost use Rattle.std.specs.Char.{len_utf8, is_whitespace};
+ghost use Rattle.asn_base.specs.Seen.{after};
+ghost use Rattle.avn_grammar.specs.Chars.{lead, tail, skip, begins, front, past, has_fraction, is_name, inside, solid};
+ghost use Rattle.avn_value.specs.Ahead.{Costs};
+ghost use Rattle.avn_value.specs.Runs.{passes};
+
+use crate::chars::{passes, Run};
+use asn_base::{OutOfMemory, Scan};
+use avn_grammar::chars::{lead_of, Lead};
+use std::alloc::{AllocError, Global};
+use std::marker::Model;
+
+/// The octets of a character.
+#[inline(always)]
+fn width(c: char) -> usize
+    ensures { result ≡ len_utf8 c }
+{
+    if c.is_ascii() {
+        return 1;
+    }
+    wide_width(c)
+}
+
+/// The octets of any character. It stands apart, so that a branch and no arithmetic leads to the
+/// next place.
+#[inline(never)]
+fn wide_width(c: char) -> usize
+    ensures { result ≡ len_utf8 c }
+{
+    c.len_utf8()
+}
+
+/// Puts a character that is no white space to the end of `out`.
+fn push_solid(c: char, out: &mut Vec<char>) -> Result<(), AllocError>
+    ensures { OnOk result (out.new.items ≡ out.old.items ++ solid (c ∷ [])) }
+{
+    if c.is_whitespace() {
+        return Ok(());
+    }
+    out.push(c)?;
+    Ok(())
+}
+
+/// A scan that is read from a mark on. It keeps the character at its place, which is the mark or
+/// past the blanks there, so that no character of what is read is looked at twice.
+#[derive(Drop)]
+pub struct Cursor<'a> {
+    scan: Scan<'a>,
+    kept: Option<char>,
+    mark: usize,
+    place: usize,
+    next: usize,
+}
+
+impl<'a> Model for Cursor<'a> {
+    ghost use Rattle.std.specs.Prelude.{◌≡◌, ◌∷◌, [], MatchOption};
+    ghost use Rattle.std.specs.Str.{IsCharBoundary};
+    ghost use Rattle.avn_value.specs.Ahead.{Ahead, ahead_code};
+    ghost use Rattle.avn_grammar.specs.Chars.{skip};
+    ghost use Rattle.asn_base.specs.Seen.{after};
+
+    ghost Value = { Ahead };
+
+    ghost coded = { ahead_code };
+
+    ghost view = { λ s. record { text = s.scan.text; rest = after s.scan.text s.mark; ahead = after s.scan.text s.place; looks = s.scan.looks } };
+
+    ghost invariant = { λ s. IsCharBoundary s.scan.text s.mark × IsCharBoundary s.scan.text s.place × IsCharBoundary s.scan.text s.next
+        × MatchOption s.kept (after s.scan.text s.place ≡ []) (λ c. after s.scan.text s.place ≡ c ∷ after s.scan.text s.next)
+        × (skip (after s.scan.text s.mark) ≡ skip (after s.scan.text s.place)) };
+}
+
+impl<'a> Cursor<'a> {
+    /// At the text's beginning.
+    pub fn new(scan: Scan<'a>) -> Cursor<'a>
+        ensures text { result.text ≡ scan.entry.text }
+        ensures rest { result.rest ≡ chars scan.entry.text }
+        ensures together { result.ahead ≡ result.rest }
+        ensures looks { result.looks ≤ scan.entry.looks + 1 }
+    {
+        scan.has_edge_at_start();
+        let mut scan = scan;
+        let kept = scan.look(0);
+        let next = match kept {
+            Some(c) => width(c),
+            None => 0,
+        };
+        Cursor {
+            scan,
+            kept,
+            mark: 0,
+            place: 0,
+            next,
+        }
+    }
+
+    /// The scan, with its count.
+    pub fn into_scan(self) -> Scan<'a>
+        ensures text { result.text ≡ self.entry.text }
+        ensures looks { result.looks ≡ self.entry.looks }
+    {
+        self.scan
+    }
+
+    /// The character ahead, and past it.
+    #[inline(always)]
+    pub fn take(&mut self) -> Option<char>
+        requires { self.old.ahead ≡ self.old.rest }
+        ensures same { self.new.text ≡ self.old.text }
+        ensures cost { Costs self.old self.new }
+        ensures together { self.new.ahead ≡ self.new.rest }
+        ensures shorter { length self.new.rest ≤ length self.old.rest }
+        ensures moves { self.new.rest ≡ tail self.old.rest }
+        ensures found { MatchOption result (self.old.rest ≡ [])
+            (λ c. self.old.rest ≡ c ∷ self.new.rest) }
+    {
+        let found = self.kept;
+        if found.is_some() {
+            let place = self.next;
+            self.mark = place;
+            self.place = place;
+            let kept = self.scan.look(place);
+            self.kept = kept;
+            if let Some(c) = kept {
+                self.next = place + width(c);
+            }
+        }
+        found
+    }
+
+    /// The character ahead, and past it, if it belongs to the run.
+    #[inline(always)]
+    pub fn take_if(&mut self, run: Run) -> Option<char>
+        requires { self.old.ahead ≡ self.old.rest }
+        ensures same { self.new.text ≡ self.old.text }
+        ensures cost { Costs self.old self.new }
+        ensures together { self.new.ahead ≡ self.new.rest }
+        ensures found { MatchOption result
+            ((begins (passes run) self.old.rest ≡ false) × (self.new.rest ≡ self.old.rest))
+            (λ c. (passes run c ≡ true) × (self.old.rest ≡ c ∷ self.new.rest)) }
+    {
+        let c = self.kept?;
+        if passes(run, c) {
+            self.take()
+        } else {
+            None
+        }
+    }
+
+    /// What is ahead.
+    #[inline(always)]
+    pub fn lead(&mut self) -> Lead
+        requires { self.old.ahead ≡ self.old.rest }
+        ensures all { self.new ≡ self.old }
+        ensures stays { self.new.rest ≡ self.old.rest }
+        ensures found { result ≡ lead self.old.rest }
+    {
+        match self.kept {
+            Some(c) => lead_of(c),
+            None => Lead::AtEnd,
+        }
+    }
+
+    /// Past the blanks ahead.
+    #[inline(always)]
+    #[tactic(auto, using(crate::proofs::Looking::blanks))]
+    pub fn skip(&mut self)
+        ensures same { self.new.text ≡ self.old.text }
+        ensures cost { Costs self.old self.new }
+        ensures together { self.new.ahead ≡ self.new.rest }
+        ensures shorter { length self.new.rest ≤ length self.old.rest }
+        ensures moves { self.new.rest ≡ skip self.old.rest }
+    {
+        self.mark = self.place;
+        while self.take_if(Run::Blanks).is_some() {}
+    }
+
+    /// What is ahead past blanks.
+    #[inline(always)]
+    #[tactic(auto, using(crate::proofs::Looking::twice))]
+    pub fn lead_past_blanks(&mut self) -> Lead
+        ensures same { self.new.text ≡ self.old.text }
+        ensures cost { Costs self.old self.new }
+        ensures stays { self.new.rest ≡ self.old.rest }
+        ensures past { self.new.ahead ≡ skip self.old.rest }
+        ensures found { result ≡ lead (skip self.old.rest) }
+    {
+        let mark = self.mark;
+        self.skip();
+        let found = self.lead();
+        self.mark = mark;
+        found
+    }
+
+    /// Past the longest run ahead, which goes to the end of `out`.
+    #[inline(always)]
+    #[tactic(auto, using(avn_grammar::proofs::Runs::runs))]
+    pub fn take_run(&mut self, run: Run, out: &mut String) -> Result<(), AllocError>
+        requires { self.old.ahead ≡ self.old.rest }
+        ensures same { self.new.text ≡ self.old.text }
+        ensures cost { Costs self.old self.new }
+        ensures together { self.new.ahead ≡ self.new.rest }
+        ensures shorter { length self.new.rest ≤ length self.old.rest }
+        ensures moves { OnOk result (self.new.rest ≡ past (passes run) self.old.rest) }
+        ensures found { OnOk result (string_bytes out.new
+            ≡ string_bytes out.old ++ encode_utf8_all (front (passes run) self.old.rest)) }
+    {
+        while let Some(c) = self.take_if(run) {
+            out.push(c)?;
+        }
+        Ok(())
+    }
+
+    /// Past the characters ahead up to an apostrophe or the end. Those that are no white space go
+    /// to the end of `out`.
+    #[tactic(auto, using(crate::proofs::Looking::insides))]
+    pub fn take_inside(&mut self, out: &mut Vec<char>) -> Result<(), AllocError>
+        requires { self.old.ahead ≡ self.old.rest }
+        ensures same { self.new.text ≡ self.old.text }
+        ensures cost { Costs self.old self.new }
+        ensures together { self.new.ahead ≡ self.new.rest }
+        ensures moves { OnOk result (self.new.rest ≡ past inside self.old.rest) }
+        ensures found { OnOk result (out.new.items ≡ out.old.items ++ solid (front inside self.old.rest)) }
+    {
+        while let Some(c) = self.take_if(Run::Inside) {
+            push_solid(c, out)?;
+        }
+        Ok(())
+    }
+
+    /// A point and a digit are ahead.
+    #[inline(always)]
+    #[tactic(auto, using(avn_grammar::proofs::Runs::fractions))]
+    pub fn has_fraction(&mut self) -> bool
+        requires { self.old.ahead ≡ self.old.rest }
+        ensures same { self.new.text ≡ self.old.text }
+        ensures few { self.new.looks ≤ self.old.looks + 1 }
+        ensures ahead { self.new.ahead ≡ self.old.ahead }
+        ensures stays { self.new.rest ≡ self.old.rest }
+        ensures found { result ≡ has_fraction self.old.rest }
+    {
+        match self.kept {
+            Some('.') => match self.scan.look(self.next) {
+                Some(c) => passes(Run::Digits, c),
+                None => false,
+            },
+            _ => false,
+        }
+    }
+
+    /// At the place.
+    fn go_to(&mut self, place: usize)
+        requires { IsCharBoundary self.old.text place }
+        ensures same { self.new.text ≡ self.old.text }
+        ensures few { self.new.looks ≤ self.old.looks + 1 }
+        ensures rest { self.new.rest ≡ after self.old.text place }
+        ensures together { self.new.ahead ≡ self.new.rest }
+    {
+        let kept = self.scan.look(place);
+        self.mark = place;
+        self.place = place;
+        self.kept = kept;
+        if let Some(c) = kept {
+            self.next = place + width(c);
+        }
+    }
+
+    /// Back at the mark.
+    fn rewind(&mut self)
+        ensures same { self.new.text ≡ self.old.text }
+        ensures few { self.new.looks ≤ self.old.looks + 1 }
+        ensures stays { self.new.rest ≡ self.old.rest }
+        ensures together { self.new.ahead ≡ self.new.rest }
+    {
+        self.go_to(self.mark);
+    }
+
+    /// Back at the text's beginning.
+    pub fn restart(&mut self)
+        ensures same { self.new.text ≡ self.old.text }
+        ensures few { self.new.looks ≤ self.old.looks + 1 }
+        ensures rest { self.new.rest ≡ chars self.old.text }
+        ensures together { self.new.ahead ≡ self.new.rest }
+    {
+        self.scan.has_edge_at_start();
+        self.go_to(0);
+    }
+
+    /// The first characters of the rest.
+    pub fn excerpt(&mut self, alloc: Global, at_most: usize) -> Result<String, OutOfMemory>
+        ensures same { self.new.text ≡ self.old.text }
+        ensures few { self.new.looks ≤ self.old.looks + length self.old.rest }
+        ensures copied { IfOk result (λ s. string_bytes s ≡ encode_utf8_all (take at_most self.old.rest)) }
+    {
+        self.scan.excerpt(alloc, self.mark, at_most)
+    }
+
+    /// The rest.
+    fn all_of_rest(&mut self, alloc: Global) -> Result<String, OutOfMemory>
+        ensures same { self.new.text ≡ self.old.text }
+        ensures few { self.new.looks ≤ self.old.looks + length self.old.rest }
+        ensures copied { IfOk result (λ s. string_bytes s ≡ encode_utf8_all self.old.rest) }
+    {
+        self.scan.has_short_rest(self.mark);
+        self.excerpt(alloc, usize::MAX)
+    }
+
+    /// The rest is white space only.
+    #[tactic(auto, using(crate::proofs::Looking::whites))]
+    fn is_white(&mut self) -> bool
+        ensures same { self.new.text ≡ self.old.text }
+        ensures few { self.new.looks ≤ self.old.looks + length self.old.rest + 1 }
+        ensures yes { result ≡ true → past is_whitespace self.old.rest ≡ [] }
+        ensures no { result ≡ false → past is_whitespace self.old.rest ≢ [] }
+    {
+        self.rewind();
+        while let Some(c) = self.take() {
+            if !c.is_whitespace() {
+                return false;
+            }
+        }
+        true
+    }
+
+    /// The rest, unless it is white space only.
+    pub fn other_than_white(&mut self, alloc: Global) -> Result<Option<String>, OutOfMemory>
+        ensures same { self.new.text ≡ self.old.text }
+        ensures few { self.new.looks ≤ self.old.looks + 2 * length self.old.rest + 2 }
+        ensures found { IfOk result (λ o. MatchOption o (past is_whitespace self.old.rest ≡ [])
+            (λ s. (past is_whitespace self.old.rest ≢ []) × (string_bytes s ≡ encode_utf8_all self.old.rest))) }
+    {
+        let start = self.mark;
+        if self.is_white() {
+            return Ok(None);
+        }
+        self.go_to(start);
+        let rest = self.all_of_rest(alloc)?;
+        Ok(Some(rest))
+    }
+
+    /// Past an identifier, blanks and a colon, if these are ahead.
+    pub fn take_choice(&mut self) -> bool
+        requires { self.old.ahead ≡ self.old.rest }
+        ensures same { self.new.text ≡ self.old.text }
+        ensures together { self.new.ahead ≡ self.new.rest }
+        ensures yes { result ≡ true → (lead self.old.rest ≡ Lead.Letter) × (lead (skip (past is_name self.old.rest)) ≡ Lead.Colon)
+            × (self.new.rest ≡ tail (skip (past is_name self.old.rest))) × Costs self.old self.new × (length self.new.rest < length self.old.rest) }
+        ensures no { result ≡ false → (self.new.rest ≡ self.old.rest) × (self.new.looks ≤ self.old.looks + length self.old.ahead + 1)
+            × (lead self.old.rest ≡ Lead.Letter → lead (skip (past is_name self.old.rest)) ≡ Lead.Colon → ⊥) }
+    {
+        match self.lead() {
+            Lead::Letter => {}
+            _ => return false,
+        }
+        let start = self.mark;
+        self.pass_run(Run::Name);
+        match self.lead_past_blanks() {
+            Lead::Colon => {
+                self.skip();
+                let _colon = self.take();
+                true
+            }
+            _ => {
+                self.go_to(start);
+                false
+            }
+        }
+    }
+
+    /// Past the longest run ahead.
+    #[tactic(auto, using(avn_grammar::proofs::Runs::runs))]
+    fn pass_run(&mut self, run: Run)
+        requires { self.old.ahead ≡ self.old.rest }
+        ensures same { self.new.text ≡ self.old.text }
+        ensures cost { Costs self.old self.new }
+        ensures together { self.new.ahead ≡ self.new.rest }
+        ensures moves { self.new.rest ≡ past (passes run) self.old.rest }
+    {
+        while self.take_if(run).is_some() {}
+    }
+}

@@ -1,0 +1,44 @@
+// Why a value is not read.
+use asn_base::OutOfMemory;
+use std::alloc::{AllocError, AllocFailed};
+
+/// Why a text is not read.
+#[derive(Clone, Copy, Drop, PartialEq, Eq)]
+pub enum Fault {
+    UnexpectedToken,
+    TooDeep,
+    OutOfMemory,
+}
+
+impl From<AllocError> for Fault {
+    ghost use Rattle.avn_value.specs.declared.fault.Fault.TheVariants.{OutOfMemory};
+    ghost use Rattle.std.specs.Prelude.{◌≡◌};
+
+    ghost from_gives = { λ _ e. e ≡ OutOfMemory };
+
+    fn from(_refused: AllocError) -> Fault {
+        Fault::OutOfMemory
+    }
+}
+
+impl<T: Drop> From<AllocFailed<T>> for Fault {
+    ghost use Rattle.avn_value.specs.declared.fault.Fault.TheVariants.{OutOfMemory};
+    ghost use Rattle.std.specs.Prelude.{◌≡◌};
+
+    ghost from_gives = { λ _ e. e ≡ OutOfMemory };
+
+    fn from(_refused: AllocFailed<T>) -> Fault {
+        Fault::OutOfMemory
+    }
+}
+
+impl From<OutOfMemory> for Fault {
+    ghost use Rattle.avn_value.specs.declared.fault.Fault.TheVariants.{OutOfMemory};
+    ghost use Rattle.std.specs.Prelude.{◌≡◌};
+
+    ghost from_gives = { λ _ e. e ≡ OutOfMemory };
+
+    fn from(_refused: OutOfMemory) -> Fault {
+        Fault::OutOfMemory
+    }
+}

@@ -1,0 +1,265 @@
+// A reader of values, by descent.
+ghost use Rattle.std.specs.Prelude.{List, [], ℕ, true, ◌≡◌, ◌≢◌, ◌⊎◌, ◌+◌, ◌*◌, ◌≤◌, ◌<◌, ◌++◌, false, length, Err, IfOk, IfErr, OnOk, string_bytes};
+ghost use Rattle.std.specs.Char.{is_whitespace};
+ghost use Rattle.asn_fault.specs.Stop.{Why, error_stop};
+ghost use Rattle.avn_grammar.specs.Chars.{past, spelled};
+ghost use Rattle.avn_grammar.specs.Depth.{Deep, ItemDeep, ItemsDeep, deepest};
+ghost use Rattle.avn_grammar.specs.Grammar.{Item, Stands, ItemStands, BracesStand, Reads};
+ghost use Rattle.avn_grammar.specs.Tree.{Tree};
+ghost use Rattle.avn_grammar.specs.Unread.{Found, Unread};
+ghost use Rattle.avn_grammar.specs.Print.{print};
+ghost use Rattle.avn_grammar.specs.WellFormed.{is_well_formed};
+ghost use Rattle.avn_grammar.specs.Normal.{normal};
+ghost use Rattle.avn_value.specs.Ahead.{Costs, Paid};
+ghost use Rattle.avn_value.specs.Answer.{Explains, IsMoreOrMemory, IsFoundOrMemory, IsValue, IsRefusal};
+ghost use Rattle.avn_value.specs.Gathering.{item_of};
+ghost use Rattle.avn_value.specs.View.{tree_of};
+ghost use Rattle.std.specs.Str.{chars};
+
+use crate::cursor::Cursor;
+use crate::fault::Fault;
+use crate::gathered::{Entry, Gathered};
+use crate::quoted::quoted;
+use crate::token::{bare, identifier, number, text};
+use crate::value::AvnValue;
+use asn_base::{Codec, OutOfMemory, Scan};
+use asn_fault::{AvnDecodeErrorKind, DecodeError, DecodeErrorKind};
+use avn_grammar::chars::Lead;
+use std::alloc::Global;
+use std::mem;
+
+/// A value at the level.
+#[cycle(read)]
+fn read_value(alloc: Global, cursor: &mut Cursor<'_>, level: usize) -> Result<AvnValue, Fault>
+    ensures same { cursor.new.text ≡ cursor.old.text }
+    ensures paid { Paid cursor.old cursor.new }
+    ensures ok { IfOk result (λ v. Stands 64 level cursor.old.rest (tree_of v) cursor.new.rest) }
+    ensures deep { result ≡ Err Fault.TooDeep → Deep 64 level cursor.old.rest }
+    ensures token { result ≡ Err Fault.UnexpectedToken → Deep 64 level cursor.old.rest → ⊥ }
+    ensures none { result ≡ Err Fault.UnexpectedToken → (t : Tree) (n : List ℕ) → Stands 64 level cursor.old.rest t n → ⊥ }
+    ensures shorter { OnOk result (length cursor.new.rest < length cursor.old.rest) }
+{
+    if level > 64 {
+        return Err(Fault::TooDeep);
+    }
+    cursor.skip();
+    match cursor.lead() {
+        Lead::Letter => {
+            let name = identifier(alloc, cursor)?;
+            match cursor.lead_past_blanks() {
+                Lead::Colon => {
+                    cursor.skip();
+                    let _colon = cursor.take();
+                    let payload = read_value(alloc, cursor, level + 1)?;
+                    let payload = Box::new(alloc, payload)?;
+                    Ok(AvnValue::Choice {
+                        identifier: name,
+                        value: payload,
+                    })
+                }
+                _ => Ok(bare(name)),
+            }
+        }
+        Lead::OpenBrace => {
+            let _open = cursor.take();
+            match cursor.lead_past_blanks() {
+                Lead::CloseBrace => {
+                    cursor.skip();
+                    let _close = cursor.take();
+                    Ok(AvnValue::SequenceOf(Vec::new(alloc)))
+                }
+                _ => {
+                    let list = read_items(alloc, cursor, level + 1)?;
+                    Ok(list)
+                }
+            }
+        }
+        Lead::Digit | Lead::Minus => number(alloc, cursor),
+        Lead::Quote => text(alloc, cursor),
+        Lead::Apostrophe => quoted(alloc, cursor),
+        _ => Err(Fault::UnexpectedToken),
+    }
+}
+
+/// An item of braces, whose values are at the level.
+#[cycle(read)]
+fn read_item(alloc: Global, cursor: &mut Cursor<'_>, level: usize) -> Result<Entry, Fault>
+    ensures same { cursor.new.text ≡ cursor.old.text }
+    ensures paid { Paid cursor.old cursor.new }
+    ensures ok { IfOk result (λ x. ItemStands 64 level cursor.old.rest (item_of x) cursor.new.rest) }
+    ensures deep { result ≡ Err Fault.TooDeep → ItemDeep 64 level cursor.old.rest }
+    ensures token { result ≡ Err Fault.UnexpectedToken → ItemDeep 64 level cursor.old.rest → ⊥ }
+    ensures none { result ≡ Err Fault.UnexpectedToken → (x : Item) (n : List ℕ) → ItemStands 64 level cursor.old.rest x n → ⊥ }
+    ensures shorter { OnOk result (length cursor.new.rest < length cursor.old.rest) }
+{
+    cursor.skip();
+    match cursor.lead() {
+        Lead::Letter => {}
+        _ => {
+            let bare = read_value(alloc, cursor, level)?;
+            return Ok(Entry::Bare(bare));
+        }
+    }
+    let name = identifier(alloc, cursor)?;
+    match cursor.lead_past_blanks() {
+        Lead::Colon => {
+            cursor.skip();
+            let _colon = cursor.take();
+            let payload = read_value(alloc, cursor, level)?;
+            let payload = Box::new(alloc, payload)?;
+            Ok(Entry::Bare(AvnValue::Choice {
+                identifier: name,
+                value: payload,
+            }))
+        }
+        Lead::Comma | Lead::CloseBrace => Ok(Entry::Bare(bare(name))),
+        _ => {
+            let field = read_value(alloc, cursor, level)?;
+            Ok(Entry::Named(name, field))
+        }
+    }
+}
+
+/// The items of braces, to the closing one.
+#[cycle(read)]
+fn read_items(alloc: Global, cursor: &mut Cursor<'_>, level: usize) -> Result<AvnValue, Fault>
+    ensures same { cursor.new.text ≡ cursor.old.text }
+    ensures paid { Paid cursor.old cursor.new }
+    ensures ok { IfOk result (λ v. BracesStand 64 level cursor.old.rest (tree_of v) cursor.new.rest) }
+    ensures deep { result ≡ Err Fault.TooDeep → ItemsDeep 64 level [] cursor.old.rest }
+    ensures token { result ≡ Err Fault.UnexpectedToken → ItemsDeep 64 level [] cursor.old.rest → ⊥ }
+    ensures none { result ≡ Err Fault.UnexpectedToken → (t : Tree) (n : List ℕ) → BracesStand 64 level cursor.old.rest t n → ⊥ }
+    ensures shorter { OnOk result (length cursor.new.rest < length cursor.old.rest) }
+{
+    let mut gathered = Gathered::new(alloc);
+    'items: loop {
+        let entry = read_item(alloc, cursor, level)?;
+        gathered.push(entry)?;
+        cursor.skip();
+        match cursor.lead() {
+            Lead::Comma => {
+                let _comma = cursor.take();
+            }
+            Lead::CloseBrace => {
+                let _close = cursor.take();
+                return gathered.finish().ok_or(Fault::UnexpectedToken);
+            }
+            Lead::Digit | Lead::Minus => {
+                if !gathered.are_integers() {
+                    return Err(Fault::UnexpectedToken);
+                }
+            }
+            _ => return Err(Fault::UnexpectedToken),
+        }
+    }
+}
+
+/// What is not read, for an error's text.
+fn found(alloc: Global, cursor: &mut Cursor<'_>) -> Result<String, OutOfMemory>
+    requires { cursor.old.ahead ≡ cursor.old.rest }
+    ensures same { cursor.new.text ≡ cursor.old.text }
+    ensures few { cursor.new.looks ≤ cursor.old.looks + 2 * length cursor.old.ahead + 1 }
+    ensures found { IfOk result (λ s. (e : List ℕ) × Found cursor.old.rest e × (string_bytes s ≡ spelled e)) }
+{
+    loop {
+        cursor.skip();
+        if !cursor.take_choice() {
+            return cursor.excerpt(alloc, 20);
+        }
+    }
+}
+
+/// The value, unless more than white space follows it.
+fn whole_value(
+    alloc: Global,
+    cursor: &mut Cursor<'_>,
+    value: AvnValue,
+) -> Result<AvnValue, DecodeError>
+    ensures same { cursor.new.text ≡ cursor.old.text }
+    ensures few { cursor.new.looks ≤ cursor.old.looks + 2 * length cursor.old.rest + 2 }
+    ensures ok { IfOk result (λ v. (tree_of v ≡ tree_of value) × (past is_whitespace cursor.old.rest ≡ [])) }
+    ensures err { IfErr result (λ e. IsMoreOrMemory cursor.old.rest (error_stop e)) }
+{
+    let Ok(found) = cursor.other_than_white(alloc) else {
+        return Err(DecodeError::out_of_memory(Codec::Avn));
+    };
+    match found {
+        Some(found) => Err(AvnDecodeErrorKind::UnexpectedToken { found }.into()),
+        None => Ok(value),
+    }
+}
+
+/// The error of a text that is no value: what was found in place of one.
+fn no_value(alloc: Global, cursor: &mut Cursor<'_>) -> DecodeError
+    ensures same { cursor.new.text ≡ cursor.old.text }
+    ensures few { cursor.new.looks ≤ cursor.old.looks + 2 * length (chars cursor.old.text) + 2 }
+    ensures error { IsFoundOrMemory (chars cursor.old.text) (error_stop result) }
+{
+    cursor.restart();
+    match found(alloc, cursor) {
+        Ok(found) => AvnDecodeErrorKind::UnexpectedToken { found }.into(),
+        Err(_) => DecodeError::out_of_memory(Codec::Avn),
+    }
+}
+
+/// The value that the whole text is.
+fn read_whole(alloc: Global, cursor: &mut Cursor<'_>) -> Result<AvnValue, DecodeError>
+    requires together { cursor.old.ahead ≡ cursor.old.rest }
+    requires whole { cursor.old.rest ≡ chars cursor.old.text }
+    ensures same { cursor.new.text ≡ cursor.old.text }
+    ensures few { cursor.new.looks ≤ cursor.old.looks + 4 * length cursor.old.rest + 2 }
+    ensures ok { IfOk result (λ v. Reads 64 cursor.old.rest (tree_of v)) }
+    ensures err { IfErr result (λ e. Explains 64 cursor.old.rest (error_stop e)) }
+{
+    match read_value(alloc, cursor, 0) {
+        Ok(value) => whole_value(alloc, cursor, value),
+        Err(Fault::UnexpectedToken) => Err(no_value(alloc, cursor)),
+        Err(Fault::TooDeep) => {
+            Err(DecodeError::from_kind(DecodeErrorKind::ExceedsMaxParseDepth, Codec::Avn))
+        }
+        Err(Fault::OutOfMemory) => Err(DecodeError::out_of_memory(Codec::Avn)),
+    }
+}
+
+/// The value that the whole text of the scan is, in the ASN.1 value notation (X.680), where no
+/// value is looked for at a level above 64. White space may follow it. What the scan counts rises
+/// by at most 16 for each character and 16 more, whatever the answer.
+///
+/// The errors, of the codec AVN: `UnexpectedToken` where no value is read and none is looked for
+/// too deep, with the first 20 characters of what is not read, or where more than white space
+/// follows the value, with all that follows it; `ExceedsMaxParseDepth` where a value is looked for
+/// too deep; and `OutOfMemory`.
+pub fn parse_scan(alloc: Global, scan: &mut Scan<'_>) -> Result<AvnValue, DecodeError>
+    ensures text { scan.new.text ≡ scan.old.text }
+    ensures looks { scan.new.looks ≤ scan.old.looks + 16 * (length (chars scan.old.text) + 1) }
+
+    ensures ok { IfOk result (λ value. Reads 64 (chars scan.old.text) (tree_of value)) }
+    ensures err { IfErr result (λ error. Explains 64 (chars scan.old.text) (error_stop error)) }
+
+    // Each of the two errors comes exactly where it says, and a value else, memory aside.
+    ensures reads { (tree : Tree) → Reads 64 (chars scan.old.text) tree → IsValue tree result }
+    ensures unread { (found : List ℕ) → Unread 64 (chars scan.old.text) found → IsRefusal (Why.unexpected_token found) result }
+    ensures deep { Deep 64 0 (chars scan.old.text) → IsRefusal Why.exceeds_max_parse_depth result }
+{
+    let mut cursor = Cursor::new(mem::replace(scan, Scan::new("")));
+    let found = read_whole(alloc, &mut cursor);
+    *scan = cursor.into_scan();
+    found
+}
+
+/// The value that the whole text is, as `parse_scan` reads it, with the same errors. The printed
+/// text of a well-formed value is read as the value's normal form, unless it is too deep.
+pub fn parse_avn(alloc: Global, input: &str) -> Result<AvnValue, DecodeError>
+    ensures ok { IfOk result (λ value. Reads 64 (chars input.now) (tree_of value)) }
+    ensures err { IfErr result (λ error. Explains 64 (chars input.now) (error_stop error)) }
+
+    ensures reads { (tree : Tree) → Reads 64 (chars input.now) tree → IsValue tree result }
+    ensures unread { (found : List ℕ) → Unread 64 (chars input.now) found → IsRefusal (Why.unexpected_token found) result }
+    ensures deep { Deep 64 0 (chars input.now) → IsRefusal Why.exceeds_max_parse_depth result }
+
+    ensures printed { (tree : Tree) → input.now ≡ print 0 tree → is_well_formed tree ≡ true → deepest 0 tree ≤ 64 → IsValue (normal tree) result }
+    ensures printed_deep { (tree : Tree) → input.now ≡ print 0 tree → is_well_formed tree ≡ true → 64 < deepest 0 tree → IsRefusal Why.exceeds_max_parse_depth result }
+{
+    let mut scan = Scan::new(input);
+    parse_scan(alloc, &mut scan)
+}

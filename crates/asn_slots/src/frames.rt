@@ -1,5 +1,5 @@
 // The frames of slots that were written.
-ghost use Rattle.asn_slots.specs.Frames.{join, last_frame, frames_below, last_present};
+ghost use Rattle.asn_slots.specs.Frames.{join, Closes};
 ghost use Rattle.std.specs.Prelude.{◌≡◌, ◌∷◌, [], OnOk, OnErr};
 
 use asn_base::OutOfMemory;
@@ -67,26 +67,12 @@ impl<V: Drop> Frames<V> {
 
     /// Closes the last frame and answers its slots. Where it is the only one, an empty one takes its place.
     pub fn close(&mut self) -> Vec<Option<V>>
-        ensures slots { result.items ≡ last_frame self.old }
-        ensures below { self.new ≡ frames_below self.old }
+        ensures { Closes self.old result.items self.new }
     {
         let frame = match self.below.pop() {
             Some(frame) => frame,
             None => Vec::new(self.alloc),
         };
         mem::replace(&mut self.current, frame)
-    }
-
-    /// The last present value of the last frame. None exactly where none is present there.
-    pub fn into_last(self) -> Option<V>
-        ensures { result ≡ last_present (last_frame self) }
-    {
-        let mut slots = self.current;
-        while let Some(slot) = slots.pop() {
-            if let Some(value) = slot {
-                return Some(value);
-            }
-        }
-        None
     }
 }

@@ -4,9 +4,11 @@
 
 mod frames;
 mod pending;
+mod slots;
 
 pub use frames::Frames;
 pub use pending::Pending;
+pub use slots::{first_slot, last_value, present_values};
 
 #[cfg(test)]
 mod tests;

@@ -1,5 +1,5 @@
 // Each call once with ample memory, at a concrete type.
-use crate::{Frames, Pending};
+use crate::{Frames, Pending, first_slot, last_value, present_values};
 use std::test::Fail;
 
 #[test]
@@ -28,6 +28,18 @@ fn frames_close_from_the_last(rt: HostRuntime) -> Result<(), Fail> {
     frames.add(Some(2))?;
     assert_eq!(rt; frames.close().as_slice(), [None, Some(2)].as_slice());
     frames.add(None)?;
-    assert_eq!(rt; frames.into_last(), Some(1));
+    assert_eq!(rt; last_value(frames.close()), Some(1));
+    Ok(())
+}
+
+#[test]
+fn slots_give_their_values(rt: HostRuntime) -> Result<(), Fail> {
+    let slots = [Some(1), None, Some(2)].to_vec(rt.alloc())?;
+    assert_eq!(rt;
+        present_values(rt.alloc(), slots)?.as_slice(),
+        [1, 2].as_slice()
+    );
+    let slots = [Some(1), None].to_vec(rt.alloc())?;
+    assert_eq!(rt; first_slot(slots), Some(1));
     Ok(())
 }

@@ -1,6 +1,6 @@
 -- Slots in their order.
 use Rattle.std.proofs.Common.{◌≡◌, refl, ap, ◌∙◌, List, [], ◌∷◌, ◌++◌, Option, Some, None}
-use Rattle.asn_slots.specs.Frames.{or_some, last_present}
+use Rattle.asn_slots.specs.Slots.{or_some, last_present}
 
 or_some-assoc : {A : Type 0} (a b c : Option A) → or_some (or_some a b) c ≡ or_some a (or_some b c)
 or_some-assoc (Some x) b c = refl

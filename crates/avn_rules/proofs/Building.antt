@@ -114,3 +114,7 @@ choice_built c slots id v e o f h = ap Some e ∙ chosen id f (tree_of v) (first
 -- Where the first slot is absent, so is the choice.
 pub no_choice_built : (slots : List (Option AvnValue)) (id : List ℕ) → first_of slots ≡ None → (f : Frame) → map (option_map avn_tree) f ≡ trees_of slots → option_map {T = AvnValue} {U = AvnTree} tree_of None ≡ option_map avn_tree (as_choice id f)
 no_choice_built slots id o f h = unchosen id f (first-tree slots f h ∙ ap (option_map tree_of) o)
+
+pub no_items : {A : Type 0} (xs : List A) → length xs ≡ 0 → xs ≡ []
+no_items [] e = refl
+no_items (x ∷ xs) e = absurd (omega (arith, e))

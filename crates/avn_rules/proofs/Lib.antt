@@ -1,5 +1,7 @@
 pub mod Building
 pub mod Held
+pub mod Octets
 pub mod Readings
+pub mod Roots
 pub mod Taken
 pub mod Views

@@ -157,29 +157,24 @@ Entry = String Global × Option AvnValue
 abbrev Put : List ℕ → AvnValue → AvnFields → List (List ℕ) → List (Option AvnValue) → ℕ → Type 0
 Put m v fs names ss k = over (field m (avn_tree_of v) fs) names (map slot_of ss) ≡ over fs names (map slot_of (slice_set ss k (Some v)))
 
-mutual
-  -- A field that is put at the place of its name counts as those before it.
-  put_at : (m : List ℕ) (v : AvnValue) (fs : AvnFields) (names : List (List ℕ)) (ss : List (Option AvnValue)) (k : ℕ) → are_distinct names ≡ true → Some k ≡ place_named bytes_eq names m → Put m v fs names ss k
-  put_at m v fs [] ss k d e = cc e
-  put_at m v fs (n ∷ ns) ss k d e = put_here m v fs n ns ss k (bytes_eq m n) refl d e
+put_here : (m : List ℕ) (v : AvnValue) (fs : AvnFields) (n : List ℕ) (ns : List (List ℕ)) (s : Option AvnValue) (ss : List (Option AvnValue)) (k : ℕ) (b : Bool) → bytes_eq m n ≡ b → are_distinct (n ∷ ns) ≡ true
+    → ((j : ℕ) → are_distinct ns ≡ true → Some j ≡ place_named bytes_eq ns m → Put m v fs ns ss j) → (o : Option ℕ) → o ≡ place_named bytes_eq ns m → Some k ≡ (if b then Some 0 else option_map suc o) → Put m v fs (n ∷ ns) (s ∷ ss) k
+put_here m v fs n ns s ss k true h d later o p e =
+    let x : ◌≡◌ {A = Option ℕ} (Some k) (Some 0) = e in
+    let zeroth : k ≡ 0 = cc x in
+    over-first m n (avn_tree_of v) fs ns (slot_of s) (map slot_of ss) h (distinct_first (is_item ns n) (are_distinct ns) d) ∙ ap (λ j. over fs (n ∷ ns) (map slot_of (slice_set (s ∷ ss) j (Some v)))) (sym zeroth)
+put_here m v fs n ns s ss k false h d later None p e = let x : ◌≡◌ {A = Option ℕ} (Some k) None = e in cc x
+put_here m v fs n ns s ss k false h d later (Some j) p e =
+    let x : ◌≡◌ {A = Option ℕ} (Some k) (Some (suc j)) = e in
+    let next : k ≡ suc j = cc x in
+    over-later m n (avn_tree_of v) fs ns (slot_of s) (map slot_of ss) (map slot_of (slice_set ss j (Some v))) h (later j (distinct_rest (is_item ns n) (are_distinct ns) d) p)
+    ∙ ap (λ i. over fs (n ∷ ns) (map slot_of (slice_set (s ∷ ss) i (Some v)))) (sym next)
 
-  put_here : (m : List ℕ) (v : AvnValue) (fs : AvnFields) (n : List ℕ) (ns : List (List ℕ)) (ss : List (Option AvnValue)) (k : ℕ) (b : Bool) → bytes_eq m n ≡ b → are_distinct (n ∷ ns) ≡ true
-      → Some k ≡ (if b then Some 0 else option_map suc (place_named bytes_eq ns m)) → Put m v fs (n ∷ ns) ss k
-  put_here m v fs n ns [] k b h d e = refl
-  put_here m v fs n ns (s ∷ ss) k true h d e =
-      let x : ◌≡◌ {A = Option ℕ} (Some k) (Some 0) = e in
-      let zeroth : k ≡ 0 = cc x in
-      over-first m n (avn_tree_of v) fs ns (slot_of s) (map slot_of ss) h (distinct_first (is_item ns n) (are_distinct ns) d) ∙ ap (λ j. over fs (n ∷ ns) (map slot_of (slice_set (s ∷ ss) j (Some v)))) (sym zeroth)
-  put_here m v fs n ns (s ∷ ss) k false h d e = put_later m v fs n ns s ss k (place_named bytes_eq ns m) refl h d e
-
-  put_later : (m : List ℕ) (v : AvnValue) (fs : AvnFields) (n : List ℕ) (ns : List (List ℕ)) (s : Option AvnValue) (ss : List (Option AvnValue)) (k : ℕ) (o : Option ℕ) → o ≡ place_named bytes_eq ns m → bytes_eq m n ≡ false
-      → are_distinct (n ∷ ns) ≡ true → Some k ≡ option_map suc o → Put m v fs (n ∷ ns) (s ∷ ss) k
-  put_later m v fs n ns s ss k None p h d e = cc e
-  put_later m v fs n ns s ss k (Some j) p h d e =
-      let x : ◌≡◌ {A = Option ℕ} (Some k) (Some (suc j)) = e in
-      let next : k ≡ suc j = cc x in
-      over-later m n (avn_tree_of v) fs ns (slot_of s) (map slot_of ss) (map slot_of (slice_set ss j (Some v))) h (put_at m v fs ns ss j (distinct_rest (is_item ns n) (are_distinct ns) d) p)
-      ∙ ap (λ i. over fs (n ∷ ns) (map slot_of (slice_set (s ∷ ss) i (Some v)))) (sym next)
+-- A field that is put at the place of its name counts as those before it.
+put_at : (m : List ℕ) (v : AvnValue) (fs : AvnFields) (names : List (List ℕ)) (ss : List (Option AvnValue)) (k : ℕ) → are_distinct names ≡ true → Some k ≡ place_named bytes_eq names m → Put m v fs names ss k
+put_at m v fs [] ss k d e = refl
+put_at m v fs (n ∷ ns) [] k d e = refl
+put_at m v fs (n ∷ ns) (s ∷ ss) k d e = put_here m v fs n ns s ss k (bytes_eq m n) refl d (λ j x y. put_at m v fs ns ss j x y) (place_named bytes_eq ns m) refl e
 
 map_none : (o : Option ℕ) → None ≡ option_map suc o → None ≡ o
 map_none None e = refl

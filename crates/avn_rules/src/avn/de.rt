@@ -68,6 +68,16 @@ impl Decoder {
             None => Err(end_of_input()),
         }
     }
+
+    // Puts a slot before the pending ones.
+    fn put(&mut self, slot: Option<AvnValue>) -> Result<(), DecodeError>
+        ensures { MatchResult result (λ _. pending_of self.new ≡ slot_of slot ∷ pending_of self.old) (λ e. error_stop e ≡ at_root Why.out_of_memory Avn) }
+    {
+        match self.pending.put(slot) {
+            Ok(()) => Ok(()),
+            Err(_) => Err(DecodeError::out_of_memory(Codec::Avn)),
+        }
+    }
 }
 
 impl asn_traits::Decoder for Decoder {
@@ -184,11 +194,15 @@ impl asn_traits::Decoder for Decoder {
             Ok(choice) => choice,
             Err(other) => return Err(mismatch(self.alloc, "choice (identifier : value)", &other)),
         };
-        let place = place_of(identifiers, name.as_str());
-        let slot = if place.is_some() { Some(payload) } else { None };
-        match self.pending.put(slot) {
-            Ok(()) => Ok(place),
-            Err(_) => Err(DecodeError::out_of_memory(Codec::Avn)),
+        match place_of(identifiers, name.as_str()) {
+            Some(place) => {
+                self.put(Some(payload))?;
+                Ok(Some(place))
+            }
+            None => {
+                self.put(None)?;
+                Ok(None)
+            }
         }
     }
 }

@@ -9,8 +9,8 @@ returns-in-Some g c =
     let h = c.in-Some.ensures in
     (_, c.in_ok-take.ensures, item_said _ _ _ _ c.in-Ok.ensures (h.0 ∙ c.as_str.ensures.value) (rw c.as_str.ensures.value at h.1))
 
-pub returns-in-Ok : goal.returns-in-Ok
-returns-in-Ok g c = item_refused g.E.Enumerated.items _ _ _ _ _ c.in_ok-take.ensures c.in-Ok.ensures (rw c.as_str.ensures.value at c.in-None.ensures) c.no_item.ensures
+pub returns-in-None : goal.returns-in-None
+returns-in-None g c = item_refused g.E.Enumerated.items _ _ _ _ _ c.in_ok-take.ensures c.in-Ok.ensures (rw c.as_str.ensures.value at c.in-None.ensures) c.no_item.ensures
 
 pub returns-in-Err : goal.returns-in-Err
 returns-in-Err g c =

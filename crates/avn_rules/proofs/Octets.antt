@@ -1,6 +1,7 @@
 -- Octets as texts, and braces without content.
 use Rattle.std.proofs.Common.{◌≡◌, ◌≢◌, ℕ, zero, suc, refl, ap, sym, ◌∙◌, subst, List, [], ◌∷◌, Option, Some, None, Result, Ok, Err, Bool, true, false, if◌then◌else◌, String, Vec, Global, string_bytes, length, arith}
-use Rattle.std.specs.Prelude.{codes, string_vec, IsOk}
+use Rattle.std.specs.Prelude.{codes, IsOk, ◌==◌}
+use Rattle.std.specs.String.{string_vec}
 use Rattle.std.specs.Str.{is_utf8, IsUtf8}
 use Rattle.std.proofs.lemmas.Str.{IsUtf8-from_is_utf8, is_utf8-from_IsUtf8, IsUtf8-string_bytes}
 use Rattle.asn_fault.specs.Stop.{Why}
@@ -52,3 +53,8 @@ by_first_item (x ∷ vs) h = refl
 -- Values in braces have no names.
 pub items_no_members : (v : AvnValue) (items : Vec AvnValue Global) → v ≡ SequenceOf items → 0 ≢ length items.items → as_members Notation.avn (tree_of v) ≡ None
 items_no_members v items is some = ap (λ x. as_members Notation.avn (tree_of x)) is ∙ ap (λ t. as_members Notation.avn (Tree.avn t)) (view-SequenceOf items) ∙ by_first_item items.items some
+
+-- What is not empty has a length that is not zero.
+pub some_items : {A : Type 0} (xs : List A) (n : ℕ) → n ≡ length xs → (n == 0) ≡ false → 0 ≢ length xs
+some_items [] n e h = λ _. let d : true ≡ false = sym (ap (λ k. k == 0) e) ∙ h in cc d
+some_items (x ∷ xs) n e h = λ k. absurd (omega (arith, k))

@@ -1,9 +1,9 @@
 -- Whole texts, read and written.
-use Rattle.std.proofs.Common.{◌≡◌, sym, ◌∙◌, subst, ℕ, List, [], ◌∷◌, Option, Some, None, Result, Ok, Err, ◌⊎◌, inl, inr, String, Global, string_bytes, IfOk, IfErr}
+use Rattle.std.proofs.Common.{◌≡◌, refl, true, sym, ◌∙◌, subst, ℕ, List, [], ◌∷◌, Option, Some, None, Result, Ok, Err, ◌⊎◌, inl, inr, String, Global, string_bytes, IfOk, IfErr}
 use Rattle.std.specs.Prelude.{option_map}
 use Rattle.std.specs.Str.{chars}
 use Rattle.asn_base.specs.declared.codec.Codec.TheVariants.{Avn}
-use Rattle.asn_fault.specs.Stop.{Why, at_root, error_stop}
+use Rattle.asn_fault.specs.Stop.{Why, Stop, at_root, error_stop, is_memory}
 use Rattle.asn_fault.specs.Unwritten.{WhyUnwritten, encode_why}
 use Rattle.asn_fault.specs.declared.decode.DecodeError.{DecodeError}
 use Rattle.asn_fault.specs.declared.encode.EncodeError.{EncodeError}
@@ -19,6 +19,7 @@ use Rattle.asn_traits.specs.Value.{Value}
 use Rattle.asn_traits.specs.Writing.{Frame, CannotWrite}
 use Rattle.asn_traits.proofs.Whole.{root_complete}
 use Rattle.avn_grammar.specs.Tree.{Tree as AvnTree}
+use Rattle.avn_grammar.proofs.OneAnswer.{reads-unread, reads-deep}
 use Rattle.avn_grammar.proofs.OneTree.{same_stands}
 use Rattle.avn_value.specs.Answer.{Explains}
 use Rattle.avn_rules.specs.Holding.{Holds}
@@ -63,3 +64,9 @@ root_memory e v (Err error) h (inr none) = absurd (some_none v (none.1 (Some v �
 pub memory_refused : (v : Value) (r : Result (String Global) EncodeError) → IfErr r (λ error. error.kind ≡ OutOfMemory) → IfErr r (CannotWrite Notation.avn v)
 memory_refused v (Ok s) h = tt
 memory_refused v (Err error) h = CannotWrite.no_memory h
+
+-- A text that is a value of the notation is refused for want of memory alone.
+pub explained_memory : (text : List ℕ) {stop : Stop} {t : AvnTree} → NoTree text stop → IsAvn text t → is_memory stop ≡ true
+explained_memory text (Explains.unexpected_token found u) r = absurd (reads-unread r u)
+explained_memory text (Explains.exceeds_depth d) r = absurd (reads-deep r d)
+explained_memory text Explains.out_of_memory r = refl

@@ -201,3 +201,7 @@ entry_passed m v rest names ss e = sym (over-other (string_bytes m) (avn_tree_of
 pub all_taken : (rest : List Entry) (names : List (List ℕ)) (ss : List (Option AvnValue)) (all : List Slot) → rest ≡ [] → length ss ≡ length names → over (fields_trees rest) names (map slot_of ss) ≡ all → map slot_of ss ≡ all
 all_taken rest names ss all e long h =
     sym (over-none names (map slot_of ss) (length-map slot_of ss ∙ long)) ∙ ap (λ es. over (fields_trees es) names (map slot_of ss)) (sym e) ∙ h
+
+pub length-replicate : (n : ℕ) → length (replicate {A = Option AvnValue} n None) ≡ n
+length-replicate zero = refl
+length-replicate (suc n) = omega (arith, length-replicate n)

@@ -10,7 +10,7 @@ ghost use Rattle.avn_grammar.specs.Tree.{Tree as AvnTree};
 ghost use Rattle.std.specs.Prelude.{◌≡◌, ◌∷◌, [], Some, IfOk, IfErr, MatchResult};
 
 use super::faults::{end_of_input, mismatch, no_item, no_number, no_utf8};
-use super::numbers::{Whole, whole_number};
+use super::numbers::{Whole, greatest_magnitude, whole_number};
 use super::parts::{
     into_bool, into_choice, into_fields, into_integer, into_item, into_items, into_null, into_text,
     place_of, slots_of,
@@ -118,7 +118,7 @@ impl asn_traits::Decoder for Decoder {
             Ok(text) => text,
             Err(other) => return Err(mismatch(self.alloc, "integer", &other)),
         };
-        match whole_number(text.as_str()) {
+        match whole_number(text.as_str(), greatest_magnitude::<I>()) {
             Whole::Parts {
                 negative,
                 magnitude,
@@ -126,9 +126,7 @@ impl asn_traits::Decoder for Decoder {
                 Some(number) => Ok(number),
                 None => Err(DecodeError::integer_overflow(I::WIDTH, Codec::Avn)),
             },
-            Whole::TooWide { negative: _ } => {
-                Err(DecodeError::integer_overflow(I::WIDTH, Codec::Avn))
-            }
+            Whole::TooGreat => { Err(DecodeError::integer_overflow(I::WIDTH, Codec::Avn)) }
             Whole::NoNumber => Err(no_number(text)),
         }
     }

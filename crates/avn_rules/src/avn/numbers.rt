@@ -1,19 +1,22 @@
 // Whole numbers as texts.
+ghost use Rattle.asn_base.specs.Numbers.{signed};
 ghost use Rattle.avn_rules.specs.Numbers.{Counts, ReadsDigits, ReadsNumber};
-ghost use Rattle.std.specs.Prelude.{ℕ, ◌+◌, ◌*◌};
+ghost use Rattle.std.specs.Prelude.{Bool, ℕ, pos, ◌+◌, ◌*◌, ◌<◌, ◌<ℤ◌, ◌⊎◌};
+
+use asn_base::IntegerType;
 
 /// A whole number as a text has it.
 #[derive(Drop)]
 pub enum Whole {
     Parts { negative: bool, magnitude: u128 },
-    /// The magnitude has more than 128 bits.
-    TooWide { negative: bool },
+    /// The magnitude is above the greatest one that is asked for.
+    TooGreat,
     NoNumber,
 }
 
 /// The whole number of a text: an optional `-` and digits. Each character is looked at once.
-pub fn whole_number(text: &str) -> Whole
-    ensures { ReadsNumber text.now result }
+pub fn whole_number(text: &str, greatest: u128) -> Whole
+    ensures { ReadsNumber greatest text.now result }
 {
     let bytes = text.as_bytes();
     let Some((&first, others)) = bytes.split_first() else {
@@ -22,13 +25,22 @@ pub fn whole_number(text: &str) -> Whole
     let negative = first == b'-';
     let digits = if negative { others } else { bytes };
     match magnitude_of(digits) {
-        Some(Some(magnitude)) => Whole::Parts {
-            negative,
-            magnitude,
-        },
-        Some(None) => Whole::TooWide { negative },
+        Some(Some(magnitude)) if magnitude <= greatest => {
+            Whole::Parts {
+                negative,
+                magnitude,
+            }
+        }
+        Some(_) => Whole::TooGreat,
         None => Whole::NoNumber,
     }
+}
+
+/// The greatest magnitude of a number of the type.
+pub fn greatest_magnitude<I: IntegerType>() -> u128
+    ensures { (negative : Bool) (n : ℕ) → result < n → (signed negative n <ℤ I.LEAST) ⊎ (pos I.GREATEST <ℤ signed negative n) }
+{
+    I::GREATEST.max(I::LEAST.unsigned_abs())
 }
 
 // The number of one or more digits, none inside where it has more than 128 bits. None exactly where the text is not of digits.

@@ -84,7 +84,11 @@ pub fn into_items(alloc: Global, value: AvnValue) -> Result<Vec<AvnValue>, AvnVa
     match value {
         AvnValue::SequenceOf(items) => Ok(items),
         AvnValue::Sequence(fields) => {
-            if fields.is_empty() { Ok(Vec::new(alloc)) } else { Err(AvnValue::Sequence(fields)) }
+            if fields.is_empty() {
+                Ok(Vec::new(alloc))
+            } else {
+                Err(AvnValue::Sequence(fields))
+            }
         }
         other => Err(other),
     }
@@ -101,7 +105,11 @@ pub fn into_fields(
     match value {
         AvnValue::Sequence(fields) => Ok(fields),
         AvnValue::SequenceOf(items) => {
-            if items.is_empty() { Ok(Vec::new(alloc)) } else { Err(AvnValue::SequenceOf(items)) }
+            if items.is_empty() {
+                Ok(Vec::new(alloc))
+            } else {
+                Err(AvnValue::SequenceOf(items))
+            }
         }
         other => Err(other),
     }
@@ -129,11 +137,13 @@ pub fn slots_of(
 {
     let mut slots = absent_slots(alloc, fields.len())?;
     for (name, entry) in entries {
-        if let Some(value) = entry {
-            if let Some(place) = place_of_field(fields, name.as_str()) {
-                slots[place] = Some(value);
-            }
-        }
+        let Some(value) = entry else {
+            continue;
+        };
+        let Some(place) = place_of_field(fields, name.as_str()) else {
+            continue;
+        };
+        slots[place] = Some(value);
     }
     Ok(slots)
 }

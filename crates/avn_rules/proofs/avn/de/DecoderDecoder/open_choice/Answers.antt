@@ -4,13 +4,13 @@ use Rattle.asn_traits.proofs.Refusing.{no_choice}
 use Rattle.avn_rules.proofs.Taken.{payload_below, choice_above}
 use Rattle.avn_rules.proofs.avn.de.DecoderDecoder.open_choice.Goals as goal
 
-pub returns-in_ok-put-in-Some : goal.returns-in_ok-put-in-Some
-returns-in_ok-put-in-Some c =
+pub returns-in-Some : goal.returns-in-Some
+returns-in-Some c =
     let named = rw c.as_str.ensures.value at (sym c.in-Some.ensures.is) in
     (_, _, _, c.in_ok-take.ensures, c.in_ok-put-in-Some.ensures, payload_below _ _ _ c.in-Ok.ensures, IsChoice.is_choice _ _ _ _ _ c.in-Ok.ensures named)
 
-pub returns-in_ok-put-in-None : goal.returns-in_ok-put-in-None
-returns-in_ok-put-in-None c =
+pub returns : goal.returns
+returns c =
     let named = rw c.as_str.ensures.value at (sym c.in-None.ensures.is) in
     (_, _, _, c.in_ok-take.ensures, c.in_ok-put-in-None.ensures, choice_above _ _ _ c.in-Ok.ensures, IsChoice.is_unnamed _ _ _ _ c.in-Ok.ensures named)
 

@@ -19,7 +19,7 @@ returns-in-Ok-put_all c =
       c.in_ok-take.ensures,
       ap (map slot_of) c.in-Ok-put_all.ensures.put ∙ map-append slot_of _ _ ∙ ap (λ l. l ++ pending_of c.take.new.self) c.in-Ok-slots_of.ensures,
       length-map look names,
-      members_below _ _ names c.in-Ok.ensures,
+      members_below _ (fields_trees c.in-Ok.members.items) names c.in-Ok.ensures,
       HasMembers.has_members names _ look c.in-Ok.ensures,
     )
 

@@ -1,5 +1,5 @@
 -- Octets as texts, and braces without content.
-use Rattle.std.proofs.Common.{◌≡◌, ◌≢◌, ℕ, zero, suc, refl, ap, sym, ◌∙◌, subst, List, [], ◌∷◌, Option, Some, None, Result, Ok, Err, Bool, true, false, if◌then◌else◌, String, Vec, Global, string_bytes, length, arith}
+use Rattle.std.proofs.Common.{◌≡◌, ◌≢◌, ℕ, refl, ap, sym, ◌∙◌, List, [], ◌∷◌, Option, Some, None, Result, Ok, Err, Bool, true, false, if◌then◌else◌, String, Vec, Global, string_bytes, length, arith}
 use Rattle.std.specs.Prelude.{codes, IsOk, ◌==◌}
 use Rattle.std.specs.String.{string_vec}
 use Rattle.std.specs.Str.{is_utf8, IsUtf8}

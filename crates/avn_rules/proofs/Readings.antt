@@ -1,6 +1,6 @@
 -- What AVN reads of a value, by its kind.
-use Rattle.std.proofs.Common.{◌≡◌, refl, ap, sym, ◌∙◌, ℕ, ℤ, pos, List, Option, Some, None, Result, Ok, Err, true, false, ◌⊎◌, inl, inr, ◌∷◌}
-use Rattle.std.specs.Prelude.{codes, option_map}
+use Rattle.std.proofs.Common.{◌≡◌, refl, ap, ℕ, ℤ, List, Some, None, Ok, Err, true, false, ◌⊎◌, inl, inr, ◌∷◌}
+use Rattle.std.specs.Prelude.{codes}
 use Rattle.avn_grammar.specs.Tree.{Tree as AvnTree, integer, enumerated}
 use Rattle.asn_base.specs.declared.codec.Codec.TheVariants.{Avn}
 use Rattle.asn_fault.specs.Stop.{Stop, Why, at_root}

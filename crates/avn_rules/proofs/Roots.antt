@@ -1,5 +1,5 @@
 -- Whole texts, read and written.
-use Rattle.std.proofs.Common.{◌≡◌, refl, true, sym, ◌∙◌, subst, ℕ, List, [], ◌∷◌, Option, Some, None, Result, Ok, Err, ◌⊎◌, inl, inr, String, Global, string_bytes, IfOk, IfErr}
+use Rattle.std.proofs.Common.{◌≡◌, refl, true, sym, subst, ℕ, List, [], ◌∷◌, Some, None, Result, Ok, Err, ◌⊎◌, inl, inr, String, Global, string_bytes, IfOk, IfErr}
 use Rattle.std.specs.Prelude.{option_map}
 use Rattle.std.specs.Str.{chars}
 use Rattle.asn_base.specs.declared.codec.Codec.TheVariants.{Avn}

@@ -1,5 +1,5 @@
 -- Lists, sequences and choices that are taken apart.
-use Rattle.std.proofs.Common.{◌≡◌, refl, ap, sym, ◌∙◌, ℕ, zero, suc, ◌+◌, ◌<◌, ◌≤◌, List, [], ◌∷◌, ◌++◌, map, length, Option, Some, None, Bool, true, false, if◌then◌else◌, replicate, String, Global, string_bytes, arith}
+use Rattle.std.proofs.Common.{◌≡◌, refl, ap, sym, ◌∙◌, ℕ, zero, suc, ◌<◌, List, [], ◌∷◌, map, length, Option, Some, None, Bool, true, false, if◌then◌else◌, replicate, String, Global, string_bytes, arith}
 use Rattle.std.specs.Prelude.{option_map, slice_set}
 use Rattle.std.specs.Str.{bytes_eq}
 use Rattle.std.proofs.lemmas.Slice.Eq.{bytes_eq-Decides}
@@ -9,7 +9,7 @@ use Rattle.avn_value.specs.declared.value.AvnValue.{AvnValue}
 use Rattle.asn_traits.specs.Notation.{Notation}
 use Rattle.asn_traits.specs.Opening.{AllBelow}
 use Rattle.asn_traits.specs.Shape.{are_distinct, is_item, place_named}
-use Rattle.asn_traits.specs.Tree.{Tree, Slot, as_list, as_members, as_choice, slot_nodes, nodes, avn_nodes, trees_nodes, fields_nodes, tree_slots, field_slot, or_else}
+use Rattle.asn_traits.specs.Tree.{Tree, Slot, as_list, as_members, as_choice, slot_nodes, nodes, trees_nodes, fields_nodes, tree_slots, field_slot, or_else}
 use Rattle.avn_rules.specs.Pending.{tree_of, slot_of}
 
 -- The elements are present slots.
@@ -205,3 +205,8 @@ all_taken rest names ss all e long h =
 pub length-replicate : (n : ℕ) → length (replicate {A = Option AvnValue} n None) ≡ n
 length-replicate zero = refl
 length-replicate (suc n) = omega (arith, length-replicate n)
+
+pub length-set : {A : Type 0} (xs : List A) (k : ℕ) (x : A) → length (slice_set xs k x) ≡ length xs
+length-set [] k x = refl
+length-set (y ∷ xs) zero x = refl
+length-set (y ∷ xs) (suc k) x = omega (arith, length-set xs k x)

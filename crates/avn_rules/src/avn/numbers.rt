@@ -1,7 +1,8 @@
 // Whole numbers as texts.
 ghost use Rattle.asn_base.specs.Numbers.{signed};
+ghost use Rattle.asn_traits.specs.Digits.{digits, signed_number};
 ghost use Rattle.avn_rules.specs.Numbers.{Counts, ReadsDigits, ReadsNumber};
-ghost use Rattle.std.specs.Prelude.{Bool, ℕ, pos, ◌+◌, ◌*◌, ◌<◌, ◌<ℤ◌, ◌⊎◌};
+ghost use Rattle.std.specs.Prelude.{◌≡◌, option_map, Bool, ℕ, pos, ◌+◌, ◌*◌, ◌<◌, ◌<ℤ◌, ◌⊎◌};
 
 use asn_base::IntegerType;
 
@@ -18,12 +19,7 @@ pub enum Whole {
 pub fn whole_number(text: &str, greatest: u128) -> Whole
     ensures { ReadsNumber greatest text.now result }
 {
-    let bytes = text.as_bytes();
-    let Some((&first, others)) = bytes.split_first() else {
-        return Whole::NoNumber;
-    };
-    let negative = first == b'-';
-    let digits = if negative { others } else { bytes };
+    let (negative, digits) = split_sign(text.as_bytes());
     match magnitude_of(digits) {
         Some(Some(magnitude)) if magnitude <= greatest => {
             Whole::Parts {
@@ -33,6 +29,20 @@ pub fn whole_number(text: &str, greatest: u128) -> Whole
         }
         Some(_) => Whole::TooGreat,
         None => Whole::NoNumber,
+    }
+}
+
+// Whether the text begins with `-`, and what follows it.
+fn split_sign(text: &[u8]) -> (bool, &[u8])
+    ensures { signed_number text.now ≡ option_map (signed result.0) (digits result.1.now) }
+{
+    let Some((&first, others)) = text.split_first() else {
+        return (false, text);
+    };
+    if first == b'-' {
+        (true, others)
+    } else {
+        (false, text)
     }
 }
 

@@ -1,4 +1,4 @@
-use Rattle.std.proofs.Common.{◌≡◌, ap, ◌∙◌, sym, drop, length, suc, arith, [], List}
+use Rattle.std.proofs.Common.{◌≡◌, ap, ◌∙◌, sym, drop, length, suc, arith}
 use Rattle.asn_traits.specs.Tables.{names_of}
 use Rattle.asn_traits.specs.Writing.{head_name}
 use Rattle.avn_value.specs.View.{fields_trees}

@@ -1,4 +1,4 @@
-use Rattle.std.proofs.Common.{◌≡◌, ℕ, Some, drop}
+use Rattle.std.proofs.Common.{◌≡◌, ℕ, drop}
 use Rattle.asn_traits.specs.Digits.{digits, digits_after}
 use Rattle.avn_rules.specs.Numbers.{Counts}
 use Rattle.avn_rules.proofs.avn.numbers.magnitude_of.Given as goal

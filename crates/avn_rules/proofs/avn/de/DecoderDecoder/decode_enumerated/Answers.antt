@@ -1,4 +1,4 @@
-use Rattle.std.proofs.Common.{ap, Some, sym, ◌∙◌}
+use Rattle.std.proofs.Common.{ap, Some, ◌∙◌}
 use Rattle.asn_traits.specs.Shape.{closed_enum}
 use Rattle.asn_traits.proofs.Refusing.{no_leaf}
 use Rattle.avn_rules.proofs.Readings.{item_said, item_refused}

@@ -1,4 +1,4 @@
-use Rattle.std.proofs.Common.{pos, refl, ◌∙◌, sym}
+use Rattle.std.proofs.Common.{pos, refl}
 use Rattle.asn_base.specs.declared.codec.Codec.TheVariants.{Avn}
 use Rattle.asn_traits.specs.Says.{Says}
 use Rattle.asn_traits.proofs.Refusing.{no_number, out_of_range}

@@ -1,4 +1,4 @@
-use Rattle.std.proofs.Common.{arith, sym, subst, ◌∙◌, string_bytes}
+use Rattle.std.proofs.Common.{sym}
 use Rattle.asn_traits.specs.Opening.{IsChoice}
 use Rattle.asn_traits.proofs.Refusing.{no_choice}
 use Rattle.avn_rules.proofs.Taken.{payload_below, choice_above}

@@ -1,4 +1,4 @@
-use Rattle.std.proofs.Common.{◌≡◌, ap, ◌∙◌, length, arith, ◌++◌, map}
+use Rattle.std.proofs.Common.{ap, ◌∙◌, arith, ◌++◌, map}
 use Rattle.std.proofs.lemmas.List.{map-append}
 use Rattle.asn_traits.specs.Opening.{IsList}
 use Rattle.asn_traits.specs.Tree.{tree_slots}

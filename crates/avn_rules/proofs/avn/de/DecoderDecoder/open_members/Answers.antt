@@ -1,4 +1,4 @@
-use Rattle.std.proofs.Common.{◌≡◌, ap, ◌∙◌, length, ◌++◌, map}
+use Rattle.std.proofs.Common.{ap, ◌∙◌, ◌++◌, map}
 use Rattle.std.proofs.lemmas.List.{map-append}
 use Rattle.asn_traits.specs.Opening.{HasMembers}
 use Rattle.asn_traits.specs.Tables.{names_of}

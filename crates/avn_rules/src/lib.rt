@@ -2,3 +2,5 @@
 #![tactic(auto)]
 
 pub mod avn;
+#[cfg(test)]
+mod tests;

@@ -1,5 +1,6 @@
 pub mod Building
 pub mod Held
+pub mod Leaves
 pub mod Numbers
 pub mod Octets
 pub mod Readings

@@ -1,4 +1,5 @@
 pub mod Holding
+pub mod Leaves
 pub mod Numbers
 pub mod Pending
 pub mod Strings

@@ -1,0 +1,7 @@
+//! AVN: values of ASN.1 types as value notation (X.680).
+#![tactic(auto)]
+
+pub mod avn;
+pub mod laws;
+#[cfg(test)]
+mod tests;

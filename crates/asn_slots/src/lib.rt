@@ -9,6 +9,3 @@ mod slots;
 pub use frames::Frames;
 pub use pending::Pending;
 pub use slots::{first_slot, last_value, present_values};
-
-#[cfg(test)]
-mod tests;

@@ -2,6 +2,8 @@
 #![tactic(auto)]
 
 #[cfg(test)]
+mod avn_texts;
+#[cfg(test)]
 mod errors;
 #[cfg(test)]
 mod json;
@@ -11,3 +13,5 @@ mod notation;
 mod plain_types;
 #[cfg(test)]
 mod program;
+#[cfg(test)]
+mod slots;

@@ -3,5 +3,3 @@
 
 pub mod avn;
 pub mod laws;
-#[cfg(test)]
-mod tests;

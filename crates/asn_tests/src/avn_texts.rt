@@ -1,6 +1,6 @@
 // Values of each kind as the text that they have in the value notation, both ways.
-use crate::avn;
 use asn_traits::{Decode, Encode};
+use avn_rules::avn;
 use std::alloc::Global;
 use std::fmt::Debug;
 use std::process::Abort;

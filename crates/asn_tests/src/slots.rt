@@ -1,5 +1,5 @@
 // Each call once with ample memory, at a concrete type.
-use crate::{Frames, Pending, first_slot, last_value, present_values};
+use asn_slots::{Frames, Pending, first_slot, last_value, present_values};
 use std::test::Fail;
 
 #[test]

@@ -20,6 +20,3 @@ pub use scan::Scan;
 pub use tag::{Class, Tag};
 pub use tag_tree::TagTree;
 pub use whole_number::{Integer, WholeNumber};
-
-#[cfg(test)]
-mod tests;

@@ -14,6 +14,3 @@ pub use decode::{CodecDecodeError, DecodeError, DecodeErrorKind};
 pub use encode::{CodecEncodeError, EncodeError, EncodeErrorKind};
 pub use jer::{JerDecodeErrorKind, JerEncodeErrorKind, Utf8Fault};
 pub use refusal::{Cause, Refusal};
-
-#[cfg(test)]
-mod tests;

@@ -2,4 +2,16 @@
 #![tactic(auto)]
 
 #[cfg(test)]
+mod avn_texts;
+#[cfg(test)]
+mod errors;
+#[cfg(test)]
+mod json;
+#[cfg(test)]
+mod notation;
+#[cfg(test)]
+mod plain_types;
+#[cfg(test)]
 mod program;
+#[cfg(test)]
+mod slots;

@@ -1,6 +1,7 @@
 pub mod Fixed
 pub mod Notation
 pub mod Shape
+pub mod ShapeView
 pub mod Value
 pub mod Digits
 pub mod Tree

@@ -1,11 +1,24 @@
 // INTEGER: the integer types of the language (X.680, section 19).
-ghost use Rattle.asn_traits.specs.Shape.{Shape};
+ghost use Rattle.asn_traits.specs.Shape.{Shape as AbstractShape};
+ghost use Rattle.asn_traits.specs.ShapeView.{shape_view};
 ghost use Rattle.asn_traits.specs.Value.{Value};
-ghost use Rattle.std.specs.Prelude.{pos, negsuc, ◌-◌, ◌^◌};
+ghost use Rattle.std.specs.Prelude.{◌≡◌, pos, negsuc, ◌-◌, ◌^◌};
 
-use crate::{AsnType, Decode, Decoder, Encode, Encoder};
-use asn_base::{Constraints, Identifier, Tag, TagTree};
+use crate::{AsnType, Decode, Decoder, Encode, Encoder, Shape};
+use asn_base::{Constraints, Identifier, IntegerType, OutOfMemory, Tag, TagTree};
 use asn_fault::{DecodeError, EncodeError};
+use std::alloc::Global;
+
+/// The shape of INTEGER, with the numbers of an integer type.
+fn integer_shape<I: IntegerType>() -> Shape
+    ensures { shape_view result ≡ AbstractShape.int I.LEAST (pos I.GREATEST) I.WIDTH }
+{
+    Shape::Int {
+        least: I::LEAST,
+        greatest: I::GREATEST,
+        width: I::WIDTH,
+    }
+}
 
 impl AsnType for u8 {
     const TAG: Tag = Tag::INTEGER;
@@ -20,12 +33,16 @@ impl AsnType for u8 {
 
     const RANK: u32 = 0;
 
-    ghost shape_of = { Shape.int (pos 0) (pos (2 ^ 8 - 1)) 8 };
+    ghost shape_of = { AbstractShape.int (pos 0) (pos (2 ^ 8 - 1)) 8 };
 
     ghost value_of = { λ n. Value.int (pos n) };
 
     fn constraint_table() -> Constraints {
         Self::CONSTRAINTS
+    }
+
+    fn shape(_alloc: Global) -> Result<Shape, OutOfMemory> {
+        Ok(integer_shape::<Self>())
     }
 }
 
@@ -64,12 +81,16 @@ impl AsnType for u16 {
 
     const RANK: u32 = 0;
 
-    ghost shape_of = { Shape.int (pos 0) (pos (2 ^ 16 - 1)) 16 };
+    ghost shape_of = { AbstractShape.int (pos 0) (pos (2 ^ 16 - 1)) 16 };
 
     ghost value_of = { λ n. Value.int (pos n) };
 
     fn constraint_table() -> Constraints {
         Self::CONSTRAINTS
+    }
+
+    fn shape(_alloc: Global) -> Result<Shape, OutOfMemory> {
+        Ok(integer_shape::<Self>())
     }
 }
 
@@ -108,12 +129,16 @@ impl AsnType for u32 {
 
     const RANK: u32 = 0;
 
-    ghost shape_of = { Shape.int (pos 0) (pos (2 ^ 32 - 1)) 32 };
+    ghost shape_of = { AbstractShape.int (pos 0) (pos (2 ^ 32 - 1)) 32 };
 
     ghost value_of = { λ n. Value.int (pos n) };
 
     fn constraint_table() -> Constraints {
         Self::CONSTRAINTS
+    }
+
+    fn shape(_alloc: Global) -> Result<Shape, OutOfMemory> {
+        Ok(integer_shape::<Self>())
     }
 }
 
@@ -152,12 +177,16 @@ impl AsnType for u64 {
 
     const RANK: u32 = 0;
 
-    ghost shape_of = { Shape.int (pos 0) (pos (2 ^ 64 - 1)) 64 };
+    ghost shape_of = { AbstractShape.int (pos 0) (pos (2 ^ 64 - 1)) 64 };
 
     ghost value_of = { λ n. Value.int (pos n) };
 
     fn constraint_table() -> Constraints {
         Self::CONSTRAINTS
+    }
+
+    fn shape(_alloc: Global) -> Result<Shape, OutOfMemory> {
+        Ok(integer_shape::<Self>())
     }
 }
 
@@ -196,12 +225,16 @@ impl AsnType for u128 {
 
     const RANK: u32 = 0;
 
-    ghost shape_of = { Shape.int (pos 0) (pos (2 ^ 128 - 1)) 128 };
+    ghost shape_of = { AbstractShape.int (pos 0) (pos (2 ^ 128 - 1)) 128 };
 
     ghost value_of = { λ n. Value.int (pos n) };
 
     fn constraint_table() -> Constraints {
         Self::CONSTRAINTS
+    }
+
+    fn shape(_alloc: Global) -> Result<Shape, OutOfMemory> {
+        Ok(integer_shape::<Self>())
     }
 }
 
@@ -240,12 +273,16 @@ impl AsnType for usize {
 
     const RANK: u32 = 0;
 
-    ghost shape_of = { Shape.int (pos 0) (pos (2 ^ 64 - 1)) 64 };
+    ghost shape_of = { AbstractShape.int (pos 0) (pos (2 ^ 64 - 1)) 64 };
 
     ghost value_of = { λ n. Value.int (pos n) };
 
     fn constraint_table() -> Constraints {
         Self::CONSTRAINTS
+    }
+
+    fn shape(_alloc: Global) -> Result<Shape, OutOfMemory> {
+        Ok(integer_shape::<Self>())
     }
 }
 
@@ -284,12 +321,16 @@ impl AsnType for i8 {
 
     const RANK: u32 = 0;
 
-    ghost shape_of = { Shape.int (negsuc (2 ^ 7 - 1)) (pos (2 ^ 7 - 1)) 8 };
+    ghost shape_of = { AbstractShape.int (negsuc (2 ^ 7 - 1)) (pos (2 ^ 7 - 1)) 8 };
 
     ghost value_of = { Value.int };
 
     fn constraint_table() -> Constraints {
         Self::CONSTRAINTS
+    }
+
+    fn shape(_alloc: Global) -> Result<Shape, OutOfMemory> {
+        Ok(integer_shape::<Self>())
     }
 }
 
@@ -328,12 +369,16 @@ impl AsnType for i16 {
 
     const RANK: u32 = 0;
 
-    ghost shape_of = { Shape.int (negsuc (2 ^ 15 - 1)) (pos (2 ^ 15 - 1)) 16 };
+    ghost shape_of = { AbstractShape.int (negsuc (2 ^ 15 - 1)) (pos (2 ^ 15 - 1)) 16 };
 
     ghost value_of = { Value.int };
 
     fn constraint_table() -> Constraints {
         Self::CONSTRAINTS
+    }
+
+    fn shape(_alloc: Global) -> Result<Shape, OutOfMemory> {
+        Ok(integer_shape::<Self>())
     }
 }
 
@@ -372,12 +417,16 @@ impl AsnType for i32 {
 
     const RANK: u32 = 0;
 
-    ghost shape_of = { Shape.int (negsuc (2 ^ 31 - 1)) (pos (2 ^ 31 - 1)) 32 };
+    ghost shape_of = { AbstractShape.int (negsuc (2 ^ 31 - 1)) (pos (2 ^ 31 - 1)) 32 };
 
     ghost value_of = { Value.int };
 
     fn constraint_table() -> Constraints {
         Self::CONSTRAINTS
+    }
+
+    fn shape(_alloc: Global) -> Result<Shape, OutOfMemory> {
+        Ok(integer_shape::<Self>())
     }
 }
 
@@ -416,12 +465,16 @@ impl AsnType for i64 {
 
     const RANK: u32 = 0;
 
-    ghost shape_of = { Shape.int (negsuc (2 ^ 63 - 1)) (pos (2 ^ 63 - 1)) 64 };
+    ghost shape_of = { AbstractShape.int (negsuc (2 ^ 63 - 1)) (pos (2 ^ 63 - 1)) 64 };
 
     ghost value_of = { Value.int };
 
     fn constraint_table() -> Constraints {
         Self::CONSTRAINTS
+    }
+
+    fn shape(_alloc: Global) -> Result<Shape, OutOfMemory> {
+        Ok(integer_shape::<Self>())
     }
 }
 
@@ -460,12 +513,16 @@ impl AsnType for i128 {
 
     const RANK: u32 = 0;
 
-    ghost shape_of = { Shape.int (negsuc (2 ^ 127 - 1)) (pos (2 ^ 127 - 1)) 128 };
+    ghost shape_of = { AbstractShape.int (negsuc (2 ^ 127 - 1)) (pos (2 ^ 127 - 1)) 128 };
 
     ghost value_of = { Value.int };
 
     fn constraint_table() -> Constraints {
         Self::CONSTRAINTS
+    }
+
+    fn shape(_alloc: Global) -> Result<Shape, OutOfMemory> {
+        Ok(integer_shape::<Self>())
     }
 }
 
@@ -504,12 +561,16 @@ impl AsnType for isize {
 
     const RANK: u32 = 0;
 
-    ghost shape_of = { Shape.int (negsuc (2 ^ 63 - 1)) (pos (2 ^ 63 - 1)) 64 };
+    ghost shape_of = { AbstractShape.int (negsuc (2 ^ 63 - 1)) (pos (2 ^ 63 - 1)) 64 };
 
     ghost value_of = { Value.int };
 
     fn constraint_table() -> Constraints {
         Self::CONSTRAINTS
+    }
+
+    fn shape(_alloc: Global) -> Result<Shape, OutOfMemory> {
+        Ok(integer_shape::<Self>())
     }
 }
 

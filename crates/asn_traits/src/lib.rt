@@ -6,10 +6,14 @@ mod encoder;
 mod integers;
 mod laws;
 mod plain;
+mod shape_type;
 mod tables;
 mod types;
 
 pub use decoder::{Decode, DecodeChoice, Decoder};
 pub use encoder::{Encode, Encoder};
 pub use laws::{no_reason, one_value};
+pub use shape_type::{
+    Alphabet, AlternativeShape, FieldShape, Plain, PresenceShape, SeqKind, Shape,
+};
 pub use types::{AsnType, Choice, Constructed, Enumerated, Field, Fields, Presence};

@@ -1,11 +1,12 @@
 // The types of the language that are ASN.1 types, but for the integers.
-ghost use Rattle.asn_traits.specs.Shape.{Shape, Alphabet};
+ghost use Rattle.asn_traits.specs.Shape.{Shape as AbstractShape, Alphabet as AbstractAlphabet};
 ghost use Rattle.asn_traits.specs.Value.{Value, values};
 ghost use Rattle.std.specs.Prelude.{string_bytes};
 
-use crate::{AsnType, Decode, Decoder, Encode, Encoder};
-use asn_base::{Constraints, Identifier, Tag, TagTree};
+use crate::{Alphabet, AsnType, Decode, Decoder, Encode, Encoder, Shape};
+use asn_base::{Constraints, Identifier, OutOfMemory, Tag, TagTree};
 use asn_fault::{DecodeError, EncodeError};
+use std::alloc::Global;
 
 /// BOOLEAN (X.680, section 18).
 impl AsnType for bool {
@@ -21,12 +22,16 @@ impl AsnType for bool {
 
     const RANK: u32 = 0;
 
-    ghost shape_of = { Shape.boolean };
+    ghost shape_of = { AbstractShape.boolean };
 
     ghost value_of = { Value.boolean };
 
     fn constraint_table() -> Constraints {
         Self::CONSTRAINTS
+    }
+
+    fn shape(_alloc: Global) -> Result<Shape, OutOfMemory> {
+        Ok(Shape::Bool)
     }
 }
 
@@ -66,12 +71,16 @@ impl AsnType for () {
 
     const RANK: u32 = 0;
 
-    ghost shape_of = { Shape.null };
+    ghost shape_of = { AbstractShape.null };
 
     ghost value_of = { λ u. Value.null };
 
     fn constraint_table() -> Constraints {
         Self::CONSTRAINTS
+    }
+
+    fn shape(_alloc: Global) -> Result<Shape, OutOfMemory> {
+        Ok(Shape::Null)
     }
 }
 
@@ -111,12 +120,18 @@ impl AsnType for String {
 
     const RANK: u32 = 0;
 
-    ghost shape_of = { Shape.text Alphabet.utf8 };
+    ghost shape_of = { AbstractShape.text AbstractAlphabet.utf8 };
 
     ghost value_of = { λ s. Value.text (string_bytes s) };
 
     fn constraint_table() -> Constraints {
         Self::CONSTRAINTS
+    }
+
+    fn shape(_alloc: Global) -> Result<Shape, OutOfMemory> {
+        Ok(Shape::Str {
+            alphabet: Alphabet::Utf8,
+        })
     }
 }
 
@@ -156,12 +171,17 @@ impl<T: AsnType> AsnType for Vec<T> {
 
     const RANK: u32 = 0;
 
-    ghost shape_of = { Shape.list_of T.shape_of };
+    ghost shape_of = { AbstractShape.list_of T.shape_of };
 
     ghost value_of = { λ v. Value.list (values T.value_of v.items) };
 
     fn constraint_table() -> Constraints {
         Self::CONSTRAINTS
+    }
+
+    fn shape(alloc: Global) -> Result<Shape, OutOfMemory> {
+        let element = Box::new(alloc, T::shape(alloc)?)?;
+        Ok(Shape::ListOf(element))
     }
 }
 

@@ -1,11 +1,14 @@
 // What every ASN.1 type tells of itself: its shape, its values and its tables of constants.
 ghost use Rattle.asn_traits.specs.Fixed.{fixed_size};
-ghost use Rattle.asn_traits.specs.Shape.{are_distinct, Shape, Fields as FieldShapes, Alternatives, field_names, identifiers, tags, tags_distinct, alternative_tagged, is_item, shape_under};
+ghost use Rattle.asn_traits.specs.Shape.{are_distinct, Shape as AbstractShape, Fields as FieldShapes, Alternatives, field_names, identifiers, tags, tags_distinct, alternative_tagged, is_item, shape_under};
+ghost use Rattle.asn_traits.specs.ShapeView.{shape_view};
 ghost use Rattle.asn_traits.specs.Value.{Value, value_under};
 ghost use Rattle.asn_traits.specs.Tables.{names_of, end_tag};
-ghost use Rattle.std.specs.Prelude.{◌≡◌, ℕ, List, map, true, false, None, MatchOption};
+ghost use Rattle.std.specs.Prelude.{◌≡◌, ℕ, List, map, true, false, None, IfOk, MatchOption};
 
-use asn_base::{Constraints, Identifier, Tag, TagTree};
+use crate::Shape;
+use asn_base::{Constraints, Identifier, OutOfMemory, Tag, TagTree};
+use std::alloc::Global;
 
 /// Whether a field may be absent, and whether it then has a default.
 #[derive(Clone, Copy)]
@@ -101,7 +104,7 @@ pub trait AsnType {
     /// Above that of each type whose reader is handed the same tree.
     const RANK: u32;
 
-    ghost shape_of: { Shape };
+    ghost shape_of: { AbstractShape };
 
     // The value that a Rust value stands for.
     ghost value_of: { Self → Value };
@@ -111,6 +114,10 @@ pub trait AsnType {
         ensures shape { shape_under (fixed_size result) shape_of ≡ shape_of }
         ensures value { (x : Self) → value_under (fixed_size result) shape_of
             (value_of x) ≡ value_of x };
+
+    /// The shape of the type. Its one error is want of memory.
+    fn shape(alloc: Global) -> Result<Shape, OutOfMemory>
+        ensures { IfOk result (λ s. shape_view s ≡ shape_of) };
 }
 
 /// A SEQUENCE or SET.

@@ -1,19 +1,34 @@
--- A text with each quote twice, a character at a time.
-use Rattle.std.proofs.Common.{◌≡◌, ℕ, List, [], ◌∷◌, ◌++◌, sym, ap, ◌∙◌, length, arith, append_assoc}
-use Rattle.std.proofs.lemmas.Str.{inside_one}
-use Rattle.std.specs.Char.{encode_utf8}
+-- A text with each quote twice, a quote at a time.
+use Rattle.std.proofs.Common.{◌≡◌, ℕ, suc, ◌+◌, ◌<◌, List, [], ◌∷◌, ◌++◌, true, false, cond, not, ◌==◌, refl, sym, ap, ◌∙◌, length, take, drop, arith, append_assoc}
+use Rattle.std.specs.List.{position_or_len, before_first, after_first}
 use Rattle.avn_grammar.specs.Chars.{doubled}
-use Rattle.avn_grammar.proofs.PrintedBefore.{doubled-over, nil-right}
 
-pub quote_next : (a r s w : List ℕ) (c : ℕ) → a ++ doubled r ≡ w → r ≡ encode_utf8 c ++ s → c ≡ 34 → (a ++ (34 ∷ 34 ∷ [])) ++ doubled s ≡ w
-unfolding encode_utf8
-quote_next a r s w c h e q = append_assoc a (34 ∷ 34 ∷ []) (doubled s) ∙ ap (λ x. a ++ x) (sym (ap doubled (e ∙ ap (λ x. encode_utf8 x ++ s) q))) ∙ h
+-- A text without a quote stays as it is.
+pub no-quote : (s : List ℕ) → position_or_len (λ b. b == 34) s ≡ length s → doubled s ≡ s
+no-quote [] h = refl
+no-quote (c ∷ s) h =
+    let n = position_or_len (λ b. b == 34) s in
+    (elim (c == 34) as (λ v. cond (not v) (1 + n) 0 ≡ length (c ∷ s) → cond v (34 ∷ 34 ∷ doubled s) (c ∷ doubled s) ≡ c ∷ s) [
+      | true ↦ λ e. absurd (omega (arith, e))
+      | false ↦ λ e. ap (λ z. c ∷ z) (no-quote s (omega (arith, e)))
+    ]) h
 
-pub other_next : (a r s w : List ℕ) (c : ℕ) → a ++ doubled r ≡ w → r ≡ encode_utf8 c ++ s → (c ≡ 34 → ⊥) → (a ++ encode_utf8 c) ++ doubled s ≡ w
-other_next a r s w c h e q =
-    let d = doubled-over (encode_utf8 c) s (λ k l f. q (inside_one c [] (encode_utf8 c) k (nil-right (encode_utf8 c)) l (omega arith) ∙ f)) in
-    append_assoc a (encode_utf8 c) (doubled s) ∙ ap (λ x. a ++ x) (sym (ap doubled e ∙ d)) ∙ h
+to-quote : (s : List ℕ) → position_or_len (λ b. b == 34) s < length s → doubled s ≡ before_first (λ b. b == 34) s ++ (34 ∷ 34 ∷ doubled (after_first (λ b. b == 34) s))
+to-quote [] h = absurd (omega (arith, h))
+to-quote (c ∷ s) h =
+    let n = position_or_len (λ b. b == 34) s in
+    let e : suc n ≡ 1 + n = omega arith in
+    let f : suc (n + 1) ≡ 1 + n + 1 = omega arith in
+    (elim (c == 34) as (λ v. cond (not v) (1 + n) 0 < length (c ∷ s)
+    → cond v (34 ∷ 34 ∷ doubled s) (c ∷ doubled s) ≡ take (cond (not v) (1 + n) 0) (c ∷ s) ++ (34 ∷ 34 ∷ doubled (drop (cond (not v) (1 + n) 0 + 1) (c ∷ s)))) [
+      | true ↦ λ l. refl
+      | false ↦ λ l.
+          ap (λ z. c ∷ z) (to-quote s (omega (arith, l))) ∙ ap (λ k. take k (c ∷ s) ++ (34 ∷ 34 ∷ doubled (drop (suc (n + 1)) (c ∷ s)))) e
+          ∙ ap (λ k. take (1 + n) (c ∷ s) ++ (34 ∷ 34 ∷ doubled (drop k (c ∷ s)))) f
+    ]) h
 
-pub all_done : (a r w : List ℕ) → a ++ doubled r ≡ w → length r ≡ 0 → a ≡ w
-all_done a [] w h e = nil-right a ∙ h
-all_done a (c ∷ r) w h e = absurd (omega arith)
+pub quote-next : (a run r s w : List ℕ) → a ++ doubled r ≡ w → position_or_len (λ b. b == 34) r < length r → run ≡ before_first (λ b. b == 34) r → s ≡ after_first (λ b. b == 34) r
+    → (a ++ (run ++ (34 ∷ 34 ∷ []))) ++ doubled s ≡ w
+quote-next a run r s w h l e f =
+    append_assoc a (run ++ (34 ∷ 34 ∷ [])) (doubled s) ∙ ap (λ x. a ++ x) (append_assoc run (34 ∷ 34 ∷ []) (doubled s) ∙ ap (λ x. x ++ (34 ∷ 34 ∷ doubled s)) e
+    ∙ ap (λ x. before_first (λ b. b == 34) r ++ (34 ∷ 34 ∷ doubled x)) f ∙ sym (to-quote r l)) ∙ h

@@ -1,30 +1,59 @@
 // Octets as hexadecimal and binary digits.
-ghost use Rattle.std.specs.Prelude.{◌≡◌, ◌<◌, [], ◌∷◌, take};
+ghost use Rattle.std.specs.Prelude.{◌≡◌, ◌<◌, ◌≤◌, [], ◌∷◌, length, take};
 ghost use Rattle.std.specs.Fmt.{WritesOnOk};
+ghost use Rattle.std.specs.Str.{IsAscii};
 ghost use Rattle.avn_grammar.specs.Octets.{hex_digit, hex_text, bit_text};
 ghost use Rattle.avn_grammar.specs.Print.{arc_text};
 
 use std::fmt;
 
+/// The most octets whose hexadecimal digits are written together.
+const CHUNK: usize = 256;
+
 /// The hexadecimal digit of a number below 16, in capitals.
-fn hex_digit(number: u8) -> char
+fn hex_digit(number: u8) -> u8
     requires { number < 16 }
     ensures { result ≡ hex_digit number }
 {
     if number < 10 {
-        (b'0' + number) as char
+        b'0' + number
     } else {
-        (b'A' + (number - 10)) as char
+        b'A' + (number - 10)
     }
+}
+
+/// Writes digits together.
+fn write_digits<W: fmt::Write>(digits: &[u8], f: &mut fmt::Formatter<W>) -> fmt::Result
+    requires { IsAscii digits.now }
+    ensures { WritesOnOk W.write_str_gives f.old result digits.now f.new }
+{
+    match str::from_utf8(digits) {
+        Ok(text) => f.write_str(text),
+        Err(_) => unreachable!(),
+    }
+}
+
+/// Writes two hexadecimal digits for each octet of a chunk, together.
+fn write_chunk<W: fmt::Write>(octets: &[u8], f: &mut fmt::Formatter<W>) -> fmt::Result
+    requires { length octets.now ≤ CHUNK }
+    ensures { WritesOnOk W.write_str_gives f.old result (hex_text octets.now) f.new }
+{
+    let mut digits = [0; 2 * CHUNK];
+    let mut end = 0;
+    for &octet in octets {
+        digits[end] = hex_digit(octet / 16);
+        digits[end + 1] = hex_digit(octet % 16);
+        end += 2;
+    }
+    write_digits(&digits[..end], f)
 }
 
 /// Writes two hexadecimal digits for each octet.
 pub fn write_hex<W: fmt::Write>(octets: &[u8], f: &mut fmt::Formatter<W>) -> fmt::Result
     ensures { WritesOnOk W.write_str_gives f.old result (hex_text octets.now) f.new }
 {
-    for &octet in octets {
-        f.write_char(hex_digit(octet / 16))?;
-        f.write_char(hex_digit(octet % 16))?;
+    for chunk in octets.chunks(CHUNK) {
+        write_chunk(chunk, f)?;
     }
     Ok(())
 }
@@ -52,10 +81,7 @@ fn write_bits_of<W: fmt::Write>(octet: u8, at_most: usize, f: &mut fmt::Formatte
 {
     let digits = binary_digits(octet);
     let kept = if at_most < 8 { at_most } else { 8 };
-    for &digit in &digits[..kept] {
-        f.write_char(digit as char)?;
-    }
-    Ok(())
+    write_digits(&digits[..kept], f)
 }
 
 /// Writes the first binary digits of octets, at most so many.

@@ -17,6 +17,3 @@ mod value;
 
 pub use parse::{parse_avn, parse_scan};
 pub use value::AvnValue;
-
-#[cfg(test)]
-mod tests;

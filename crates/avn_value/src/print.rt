@@ -59,14 +59,13 @@ fn write_close<W: fmt::Write>(
 fn write_doubled<W: fmt::Write>(text: &str, f: &mut fmt::Formatter<W>) -> fmt::Result
     ensures { WritesOnOk W.write_str_gives f.old result (doubled text.now) f.new }
 {
-    for c in text.chars() {
-        if c == '"' {
-            f.write_str("\"\"")?;
-        } else {
-            f.write_char(c)?;
-        }
+    let mut rest = text;
+    while let Some((run, after)) = rest.split_once('"') {
+        f.write_str(run)?;
+        f.write_str("\"\"")?;
+        rest = after;
     }
-    Ok(())
+    f.write_str(rest)
 }
 
 /// Writes a text in quotes.

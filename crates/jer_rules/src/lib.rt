@@ -3,5 +3,3 @@
 
 pub mod jer;
 pub mod laws;
-#[cfg(test)]
-mod tests;

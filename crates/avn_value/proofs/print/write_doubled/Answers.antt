@@ -1,29 +1,29 @@
-use Rattle.std.proofs.Common.{rules, ◌++◌, [], ◌∷◌, refl}
-use Rattle.std.specs.Char.{encode_utf8}
-use Rattle.std.proofs.lemmas.Grind.{put_two}
-use Rattle.std.proofs.Output.{has_written_of_eq}
+use Rattle.std.proofs.Common.{rules, arith, ◌++◌, [], ◌∷◌, refl, sym, ap, ◌∙◌}
+use Rattle.std.proofs.lemmas.Grind.{put_two, put_three}
 use Rattle.avn_value.proofs.Rows.{was_ok}
-use Rattle.avn_value.proofs.Doubling.{quote_next, other_next, all_done}
+use Rattle.avn_value.proofs.Doubling.{no-quote, quote-next}
 use Rattle.avn_value.proofs.print.write_doubled.Goals as goal
 
-pub loop-c-init : goal.loop-c-init
-loop-c-init g c = ([], (λ p. search rules), search rules)
+pub loop-run-init : goal.loop-run-init
+loop-run-init g c = ([], (λ p. search rules), search rules, search rules)
 
-pub loop-c-preserved-in-Continue-1 : goal.loop-c-preserved-in-Continue-1
-loop-c-preserved-in-Continue-1 g c =
-    let i = c.loop-c.invariant in (
-      i.0 ++ (34 ∷ 34 ∷ []),
-      (λ p. let h = i.1 p in put_two g.W.Write.write_str_gives _ _ _ _ _ _ h (c.write_str.ensures.writes h.plain (was_ok _ _ c.in_ok-write_str.was)) refl),
-      quote_next i.0 c.loop-c.c-iterator.rest.now c.next.new.self.rest.now _ c.in-Some.c i.2 c.in-Some.ensures.steps.0 c.if-c-eq34.true,
-    )
-
-pub loop-c-preserved : goal.loop-c-preserved
-loop-c-preserved g c =
-    let i = c.loop-c.invariant in (
-      i.0 ++ encode_utf8 c.in-Some.c,
-      (λ p. let h = i.1 p in put_two g.W.Write.write_str_gives _ _ _ _ _ _ h (c.write_char.ensures.writes h.plain (was_ok _ _ c.in_ok-write_char.was)) refl),
-      other_next i.0 c.loop-c.c-iterator.rest.now c.next.new.self.rest.now _ c.in-Some.c i.2 c.in-Some.ensures.steps.0 c.if-c-eq34.false,
+pub loop-run-preserved : goal.loop-run-preserved
+loop-run-preserved g c =
+    let was = c.loop-run.invariant in
+    let cut = c.in-Some.ensures.byte (omega arith) (λ w o f. f) in (
+      was.0 ++ (c.in-Some.run'.now ++ (34 ∷ 34 ∷ [])),
+      (λ p.
+          let h0 = was.1 p in
+          let h1 = c.write_str.ensures.writes h0.plain (was_ok _ _ c.in_ok-write_str.was) in
+          let h2 = c.write_str-in-Some.ensures.writes h1.plain (was_ok _ _ c.in_ok-write_str-2.was) in
+          put_three g.W.Write.write_str_gives _ _ _ _ _ _ _ _ h0 h1 h2 refl),
+      quote-next was.0 c.in-Some.run'.now c.loop-run.rest.now c.in-Some.after.now _ was.2 cut.2 cut.0 cut.1,
+      search rules,
     )
 
 pub returns : goal.returns
-returns g c = λ p ok. let i = c.loop-c.invariant in has_written_of_eq _ _ _ _ _ (all_done i.0 c.loop-c.c-iterator.rest.now _ i.2 c.in-None.ensures.steps.0.0) (i.1 p)
+returns g c = λ p ok.
+    let was = c.loop-run.invariant in
+    let none = c.in_default.ensures.byte (omega arith) (λ w o f. f) in
+    let h0 = was.1 p in
+    put_two g.W.Write.write_str_gives _ _ _ _ _ _ h0 (c.write_str-2.ensures.writes h0.plain ok) (sym (ap (λ x. was.0 ++ x) (no-quote c.loop-run.rest.now none)) ∙ was.2)

@@ -1,5 +1,5 @@
 // Printed bounds, and numbers through the bound of the integer types.
-use crate::{Bounded, Codec, IntegerType, Tag, WholeNumber};
+use asn_base::{Bounded, Codec, IntegerType, Tag, WholeNumber};
 use std::test::Fail;
 
 #[test]

@@ -1,6 +1,6 @@
 // Printed texts, normal forms, copies and readings, with ample memory.
-use crate::*;
 use asn_base::Scan;
+use avn_value::{AvnValue, parse_avn, parse_scan};
 use std::alloc::{AllocError, Global};
 use std::process::Abort;
 use std::test::Fail;

@@ -1,6 +1,6 @@
 // The text of each kind, and chains of errors with ample memory.
-use crate::*;
 use asn_base::{Bounded, Codec, Size, Tag, WholeNumber};
+use asn_fault::*;
 use std::alloc::{AllocError, Global};
 use std::fmt;
 use std::process::Abort;

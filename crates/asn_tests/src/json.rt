@@ -1,6 +1,7 @@
 // Texts that are read and written again.
-use crate::jer::{decode, encode};
-use asn_traits::{Decode, Encode};
+use asn_base::{Identifier, Tag};
+use asn_traits::{AsnType, Decode, Encode, Encoder, Shape};
+use jer_rules::jer::{decode, enc, encode};
 use std::alloc::Global;
 use std::test::Fail;
 
@@ -100,5 +101,41 @@ fn refuses_numbers_that_json_lacks(rt: HostRuntime) -> Result<(), Fail> {
             );
         }
     }
+    Ok(())
+}
+
+#[test]
+fn tells_the_shapes_of_types(rt: HostRuntime) -> Result<(), Fail> {
+    match bool::shape(rt.alloc()) {
+        Ok(Shape::Bool) => {}
+        _ => return Err(Fail::from("the shape of bool")),
+    }
+    match Vec::<bool>::shape(rt.alloc()) {
+        Ok(Shape::ListOf(element)) => match *element {
+            Shape::Bool => {}
+            _ => return Err(Fail::from("the shape of an element")),
+        },
+        _ => return Err(Fail::from("the shape of a list")),
+    }
+    Ok(())
+}
+
+#[test]
+fn tells_what_stands_at_the_root(rt: HostRuntime) -> Result<(), Fail> {
+    let none = "JER encoding error: No encoded JSON root value found (Codec: JER)";
+    match enc::Encoder::new(rt.alloc()).to_string() {
+        Ok(_) => return Err(Fail::from("a text of nothing")),
+        Err(error) => assert_eq!(rt; format!(in rt.alloc(); "{error}")?.as_str(), none),
+    }
+    match enc::Encoder::new(rt.alloc()).to_json() {
+        Ok(_) => return Err(Fail::from("a value of nothing")),
+        Err(error) => assert_eq!(rt; format!(in rt.alloc(); "{error}")?.as_str(), none),
+    }
+    let mut encoder = enc::Encoder::new(rt.alloc());
+    encoder.encode_bool(Tag::BOOL, true, Identifier::EMPTY)?;
+    assert_eq!(rt; encoder.to_string()?.as_str(), "true");
+    let mut encoder = enc::Encoder::new(rt.alloc());
+    encoder.encode_bool(Tag::BOOL, true, Identifier::EMPTY)?;
+    assert!(rt; encoder.to_json()?.as_bool() == Some(true));
     Ok(())
 }

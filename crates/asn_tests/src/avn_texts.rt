@@ -1,0 +1,61 @@
+// Values of each kind as the text that they have in the value notation, both ways.
+use asn_traits::{Decode, Encode};
+use avn_rules::avn;
+use std::alloc::Global;
+use std::fmt::Debug;
+use std::process::Abort;
+use std::test::Fail;
+
+fn is_text_of<T: Encode + Decode + PartialEq + Debug>(
+    rt: &impl Abort,
+    alloc: Global,
+    value: T,
+    text: &str,
+) -> Result<(), Fail> {
+    let written = avn::encode(alloc, &value)?;
+    assert_eq!(rt; written.as_str(), text);
+    let read: T = avn::decode(alloc, text)?;
+    assert_eq!(rt; read, value);
+    Ok(())
+}
+
+#[test]
+fn values_are_their_texts(rt: HostRuntime) -> Result<(), Fail> {
+    let alloc = rt.alloc();
+    is_text_of(&rt, alloc, true, "TRUE")?;
+    is_text_of(&rt, alloc, false, "FALSE")?;
+    is_text_of(&rt, alloc, (), "NULL")?;
+    is_text_of(&rt, alloc, -5i8, "-5")?;
+    is_text_of(&rt, alloc, i64::MIN, "-9223372036854775808")?;
+    is_text_of(
+        &rt,
+        alloc,
+        u128::MAX,
+        "340282366920938463463374607431768211455",
+    )?;
+    is_text_of(
+        &rt,
+        alloc,
+        String::from_str(alloc, "say \"hi\"")?,
+        "\"say \"\"hi\"\"\"",
+    )?;
+    let none: Vec<u8> = Vec::new(alloc);
+    is_text_of(&rt, alloc, none, "{}")?;
+    is_text_of(&rt, alloc, [1u8, 2].to_vec(alloc)?, "{\n  1,\n  2\n}")
+}
+
+// Texts that say no `u8`.
+const NO_OCTETS: [&str; 4] = [
+    "256",
+    "-1",
+    "340282366920938463463374607431768211456",
+    "TRUE",
+];
+
+#[test]
+fn other_values_are_refused(rt: HostRuntime) -> Result<(), Fail> {
+    for &text in &NO_OCTETS {
+        assert!(rt; avn::decode::<u8>(rt.alloc(), text).is_err());
+    }
+    Ok(())
+}

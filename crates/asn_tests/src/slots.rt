@@ -1,0 +1,45 @@
+// Each call once with ample memory, at a concrete type.
+use asn_slots::{Frames, Pending, first_slot, last_value, present_values};
+use std::test::Fail;
+
+#[test]
+fn pending_slots_come_in_order(rt: HostRuntime) -> Result<(), Fail> {
+    let mut pending: Pending<u8> = Pending::new(rt.alloc());
+    pending.put(Some(5))?;
+    pending.put_present([3, 4].to_vec(rt.alloc())?)?;
+    pending.put_all([Some(1), None].to_vec(rt.alloc())?)?;
+    assert_eq!(rt; pending.take_absent(), Some(false));
+    assert_eq!(rt; pending.take(), Some(Some(1)));
+    assert_eq!(rt; pending.take_absent(), Some(true));
+    assert_eq!(rt; pending.take(), Some(Some(3)));
+    assert_eq!(rt; pending.take(), Some(Some(4)));
+    assert_eq!(rt; pending.take(), Some(Some(5)));
+    assert_eq!(rt; pending.take(), None);
+    assert_eq!(rt; pending.take_absent(), None);
+    Ok(())
+}
+
+#[test]
+fn frames_close_from_the_last(rt: HostRuntime) -> Result<(), Fail> {
+    let mut frames: Frames<u8> = Frames::new(rt.alloc());
+    frames.add(Some(1))?;
+    frames.open()?;
+    frames.add(None)?;
+    frames.add(Some(2))?;
+    assert_eq!(rt; frames.close().as_slice(), [None, Some(2)].as_slice());
+    frames.add(None)?;
+    assert_eq!(rt; last_value(frames.close()), Some(1));
+    Ok(())
+}
+
+#[test]
+fn slots_give_their_values(rt: HostRuntime) -> Result<(), Fail> {
+    let slots = [Some(1), None, Some(2)].to_vec(rt.alloc())?;
+    assert_eq!(rt;
+        present_values(rt.alloc(), slots)?.as_slice(),
+        [1, 2].as_slice()
+    );
+    let slots = [Some(1), None].to_vec(rt.alloc())?;
+    assert_eq!(rt; first_slot(slots), Some(1));
+    Ok(())
+}

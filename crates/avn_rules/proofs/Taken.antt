@@ -1,0 +1,212 @@
+-- Lists, sequences and choices that are taken apart.
+use Rattle.std.proofs.Common.{◌≡◌, refl, ap, sym, ◌∙◌, ℕ, zero, suc, ◌<◌, List, [], ◌∷◌, map, length, Option, Some, None, Bool, true, false, if◌then◌else◌, replicate, String, Global, string_bytes, arith}
+use Rattle.std.specs.Prelude.{option_map, slice_set}
+use Rattle.std.specs.Str.{bytes_eq}
+use Rattle.std.proofs.lemmas.Slice.Eq.{bytes_eq-Decides}
+use Rattle.avn_grammar.specs.Tree.{Tree as AvnTree, Trees as AvnTrees, Fields as AvnFields, sequence, sequence_of, choice, tree, no_trees, no_fields, field, absent}
+use Rattle.avn_value.specs.View.{tree_of as avn_tree_of, list_trees, fields_trees}
+use Rattle.avn_value.specs.declared.value.AvnValue.{AvnValue}
+use Rattle.asn_traits.specs.Notation.{Notation}
+use Rattle.asn_traits.specs.Opening.{AllBelow}
+use Rattle.asn_traits.specs.Shape.{are_distinct, is_item, place_named}
+use Rattle.asn_traits.specs.Tree.{Tree, Slot, as_list, as_members, as_choice, slot_nodes, nodes, trees_nodes, fields_nodes, tree_slots, field_slot, or_else}
+use Rattle.avn_rules.specs.Pending.{tree_of, slot_of}
+
+-- The elements are present slots.
+pub present_slots : (vs : List AvnValue) → map slot_of (map Some vs) ≡ tree_slots (list_trees vs)
+present_slots [] = refl
+present_slots (v ∷ vs) = ap (λ l. Some (tree_of v) ∷ l) (present_slots vs)
+
+pub length-tree_slots : (vs : List AvnValue) → length (tree_slots (list_trees vs)) ≡ length vs
+length-tree_slots [] = refl
+length-tree_slots (v ∷ vs) = omega (arith, length-tree_slots vs)
+
+slots_below : (ts : AvnTrees) (n : ℕ) → trees_nodes ts < n → AllBelow n (tree_slots ts)
+slots_below no_trees n h = tt
+slots_below (tree t ts) n h = (omega (arith, h), slots_below ts n (omega (arith, h)))
+
+or_else-below : (a b : Slot) (n : ℕ) → slot_nodes a < n → slot_nodes b < n → slot_nodes (or_else a b) < n
+or_else-below (Some t) b n h k = h
+or_else-below None b n h k = k
+
+if-below : (c : Bool) (t : Tree) (n : ℕ) → nodes t < n → slot_nodes (if c then Some t else None) < n
+if-below true t n h = h
+if-below false t n h = omega (arith, h)
+
+field_below : (fs : AvnFields) (name : List ℕ) (n : ℕ) → fields_nodes fs < n → slot_nodes (field_slot fs name) < n
+field_below no_fields name n h = omega (arith, h)
+field_below (field m t fs) name n h =
+    or_else-below (field_slot fs name) (if bytes_eq name m then Some (Tree.avn t) else None) n (field_below fs name n (omega (arith, h))) (if-below (bytes_eq name m) (Tree.avn t) n (omega (arith, h)))
+field_below (absent m fs) name n h = field_below fs name n h
+
+look_below : (look : List ℕ → Slot) (names : List (List ℕ)) (n : ℕ) → ((name : List ℕ) → slot_nodes (look name) < n) → AllBelow n (map look names)
+look_below look [] n h = tt
+look_below look (name ∷ names) n h = (h name, look_below look names n h)
+
+pub length-map : {A B : Type 0} (f : A → B) (xs : List A) → length (map f xs) ≡ length xs
+length-map f [] = refl
+length-map f (x ∷ xs) = omega (arith, length-map f xs)
+
+some-clash : {A P : Type 0} (x : A) → None ≡ Some x → P
+some-clash x e = cc e
+
+-- Each element of a list has fewer nodes than the list.
+pub list_below : (t : AvnTree) (slots : List Slot) → as_list Notation.avn (Tree.avn t) ≡ Some slots → AllBelow (nodes (Tree.avn t)) slots
+list_below (sequence_of ts) slots e = let x : ◌≡◌ {A = Option (List Slot)} (Some (tree_slots ts)) (Some slots) = e in let same : tree_slots ts ≡ slots = cc x in rw (← same) (slots_below ts _ (omega arith))
+list_below (sequence no_fields) slots e = let x : ◌≡◌ {A = Option (List Slot)} (Some []) (Some slots) = e in let same : [] ≡ slots = cc x in rw (← same) tt
+list_below t slots e = some-clash slots e
+
+-- Each field of a sequence has fewer nodes than the sequence.
+pub members_below : (t : AvnTree) (fs : AvnFields) (names : List (List ℕ)) → as_members Notation.avn (Tree.avn t) ≡ Some (field_slot fs) → AllBelow (nodes (Tree.avn t)) (map (field_slot fs) names)
+members_below (sequence gs) fs names e =
+    let x : ◌≡◌ {A = Option (List ℕ → Slot)} (Some (field_slot gs)) (Some (field_slot fs)) = e in
+    let same : field_slot gs ≡ field_slot fs = cc x in
+    rw (← same) (look_below (field_slot gs) names _ (λ name. field_below gs name _ (omega arith)))
+members_below (sequence_of no_trees) fs names e =
+    let x : ◌≡◌ {A = Option (List ℕ → Slot)} (Some (λ n. None)) (Some (field_slot fs)) = e in
+    let same : (λ n. None) ≡ field_slot fs = cc x in
+    rw (← same) (look_below (λ n. None) names _ (λ name. omega arith))
+members_below t fs names e = some-clash (field_slot fs) e
+
+abbrev payload_or : Tree → Option (Option (List ℕ × Tree)) → Tree
+payload_or u (Some (Some p)) = p.1
+payload_or u _ = u
+
+-- The payload of a choice has fewer nodes than the choice.
+pub payload_below : (t : AvnTree) (name : List ℕ) (u : Tree) → as_choice Notation.avn (Tree.avn t) ≡ Some (Some (name, u)) → nodes u < nodes (Tree.avn t)
+payload_below (choice n s) name u e = let same : Tree.avn s ≡ u = ap (payload_or u) e in rw (← same) (omega arith)
+payload_below t name u e = some-clash (Some (name, u)) e
+
+-- A choice has at least one node.
+pub choice_above : (t : AvnTree) (name : List ℕ) (u : Tree) → as_choice Notation.avn (Tree.avn t) ≡ Some (Some (name, u)) → 0 < nodes (Tree.avn t)
+choice_above t name u e = omega (arith, payload_below t name u e)
+
+-- The slots of the names in further fields, or else those that are there.
+abbrev pub over : AvnFields → List (List ℕ) → List Slot → List Slot
+over fs [] ss = []
+over fs (n ∷ ns) [] = []
+over fs (n ∷ ns) (s ∷ ss) = or_else (field_slot fs n) s ∷ over fs ns ss
+
+or_else-none : (s : Slot) → or_else s None ≡ s
+or_else-none (Some t) = refl
+or_else-none None = refl
+
+-- At first no slot is there.
+pub over-absent : (fs : AvnFields) (names : List (List ℕ)) → over fs names (map slot_of (replicate (length names) None)) ≡ map (field_slot fs) names
+over-absent fs [] = refl
+over-absent fs (n ∷ ns) = ap (λ l. or_else (field_slot fs n) None ∷ l) (over-absent fs ns) ∙ ap (λ s. s ∷ map (field_slot fs) ns) (or_else-none (field_slot fs n))
+
+-- Without further fields the slots are those that are there.
+pub over-none : (names : List (List ℕ)) (ss : List Slot) → length ss ≡ length names → over no_fields names ss ≡ ss
+over-none [] [] e = refl
+over-none [] (s ∷ ss) e = absurd (omega (arith, e))
+over-none (n ∷ ns) [] e = refl
+over-none (n ∷ ns) (s ∷ ss) e = ap (λ l. s ∷ l) (over-none ns ss (omega (arith, e)))
+
+or_else-assoc : (a b c : Slot) → or_else (or_else a b) c ≡ or_else a (or_else b c)
+or_else-assoc (Some t) b c = refl
+or_else-assoc None b c = refl
+
+at_field : (name m : List ℕ) (t : AvnTree) (fs : AvnFields) (s : Slot) (b : Bool) → bytes_eq name m ≡ b → or_else (field_slot (field m t fs) name) s ≡ or_else (field_slot fs name) (if b then Some (Tree.avn t) else s)
+at_field name m t fs s true e = ap (λ b. or_else (or_else (field_slot fs name) (if b then Some (Tree.avn t) else None)) s) e ∙ or_else-assoc (field_slot fs name) (Some (Tree.avn t)) s
+at_field name m t fs s false e = ap (λ b. or_else (or_else (field_slot fs name) (if b then Some (Tree.avn t) else None)) s) e ∙ or_else-assoc (field_slot fs name) None s
+
+same_bytes : (a b : List ℕ) (x : Bool) → bytes_eq a b ≡ x → bytes_eq b a ≡ x
+same_bytes a b true e = (bytes_eq-Decides b a).1 (sym ((bytes_eq-Decides a b).0 e))
+same_bytes a b false e = elim (bytes_eq b a) as (λ x. bytes_eq b a ≡ x → x ≡ false) [ true ↦ λ h. let d : true ≡ false = sym ((bytes_eq-Decides a b).1 (sym ((bytes_eq-Decides b a).0 h))) ∙ e in cc d | false ↦ λ h. refl ] refl
+
+first_other : (b rest : Bool) → (if b then true else rest) ≡ false → b ≡ false
+first_other true rest e = let d : true ≡ false = e in cc d
+first_other false rest e = refl
+
+rest_other : (b rest : Bool) → (if b then true else rest) ≡ false → rest ≡ false
+rest_other true rest e = let d : true ≡ false = e in cc d
+rest_other false rest e = e
+
+distinct_first : (b rest : Bool) → (if b then false else rest) ≡ true → b ≡ false
+distinct_first true rest e = let d : false ≡ true = e in cc d
+distinct_first false rest e = refl
+
+distinct_rest : (b rest : Bool) → (if b then false else rest) ≡ true → rest ≡ true
+distinct_rest true rest e = let d : false ≡ true = e in cc d
+distinct_rest false rest e = e
+
+-- A field of none of the names changes no slot.
+over-other : (m : List ℕ) (t : AvnTree) (fs : AvnFields) (names : List (List ℕ)) (ss : List Slot) → is_item names m ≡ false → over (field m t fs) names ss ≡ over fs names ss
+over-other m t fs [] ss h = refl
+over-other m t fs (n ∷ ns) [] h = refl
+over-other m t fs (n ∷ ns) (s ∷ ss) h =
+    let here : bytes_eq n m ≡ false = same_bytes m n false (first_other (bytes_eq m n) (is_item ns m) h) in
+    ap (λ l. or_else (field_slot (field m t fs) n) s ∷ l) (over-other m t fs ns ss (rest_other (bytes_eq m n) (is_item ns m) h))
+    ∙ ap (λ x. x ∷ over fs ns ss) (at_field n m t fs s false here)
+
+over-first : (m n : List ℕ) (t : AvnTree) (fs : AvnFields) (ns : List (List ℕ)) (s : Slot) (ss : List Slot) → bytes_eq m n ≡ true → is_item ns n ≡ false
+    → over (field m t fs) (n ∷ ns) (s ∷ ss) ≡ or_else (field_slot fs n) (Some (Tree.avn t)) ∷ over fs ns ss
+over-first m n t fs ns s ss here apart =
+    let same : n ≡ m = sym ((bytes_eq-Decides m n).0 here) in
+    ap (λ l. or_else (field_slot (field m t fs) n) s ∷ l) (over-other m t fs ns ss (ap (is_item ns) (sym same) ∙ apart)) ∙ ap (λ x. x ∷ over fs ns ss) (at_field n m t fs s true (same_bytes m n true here))
+
+over-later : (m n : List ℕ) (t : AvnTree) (fs : AvnFields) (ns : List (List ℕ)) (s : Slot) (ss ts : List Slot) → bytes_eq m n ≡ false → over (field m t fs) ns ss ≡ over fs ns ts
+    → over (field m t fs) (n ∷ ns) (s ∷ ss) ≡ over fs (n ∷ ns) (s ∷ ts)
+over-later m n t fs ns s ss ts other e =
+    ap (λ l. or_else (field_slot (field m t fs) n) s ∷ l) e ∙ ap (λ x. x ∷ over fs ns ts) (at_field n m t fs s false (same_bytes m n false other))
+
+abbrev Entry : Type 0
+Entry = String Global × Option AvnValue
+
+abbrev Put : List ℕ → AvnValue → AvnFields → List (List ℕ) → List (Option AvnValue) → ℕ → Type 0
+Put m v fs names ss k = over (field m (avn_tree_of v) fs) names (map slot_of ss) ≡ over fs names (map slot_of (slice_set ss k (Some v)))
+
+put_here : (m : List ℕ) (v : AvnValue) (fs : AvnFields) (n : List ℕ) (ns : List (List ℕ)) (s : Option AvnValue) (ss : List (Option AvnValue)) (k : ℕ) (b : Bool) → bytes_eq m n ≡ b → are_distinct (n ∷ ns) ≡ true
+    → ((j : ℕ) → are_distinct ns ≡ true → Some j ≡ place_named bytes_eq ns m → Put m v fs ns ss j) → (o : Option ℕ) → o ≡ place_named bytes_eq ns m → Some k ≡ (if b then Some 0 else option_map suc o) → Put m v fs (n ∷ ns) (s ∷ ss) k
+put_here m v fs n ns s ss k true h d later o p e =
+    let x : ◌≡◌ {A = Option ℕ} (Some k) (Some 0) = e in
+    let zeroth : k ≡ 0 = cc x in
+    over-first m n (avn_tree_of v) fs ns (slot_of s) (map slot_of ss) h (distinct_first (is_item ns n) (are_distinct ns) d) ∙ ap (λ j. over fs (n ∷ ns) (map slot_of (slice_set (s ∷ ss) j (Some v)))) (sym zeroth)
+put_here m v fs n ns s ss k false h d later None p e = let x : ◌≡◌ {A = Option ℕ} (Some k) None = e in cc x
+put_here m v fs n ns s ss k false h d later (Some j) p e =
+    let x : ◌≡◌ {A = Option ℕ} (Some k) (Some (suc j)) = e in
+    let next : k ≡ suc j = cc x in
+    over-later m n (avn_tree_of v) fs ns (slot_of s) (map slot_of ss) (map slot_of (slice_set ss j (Some v))) h (later j (distinct_rest (is_item ns n) (are_distinct ns) d) p)
+    ∙ ap (λ i. over fs (n ∷ ns) (map slot_of (slice_set (s ∷ ss) i (Some v)))) (sym next)
+
+-- A field that is put at the place of its name counts as those before it.
+put_at : (m : List ℕ) (v : AvnValue) (fs : AvnFields) (names : List (List ℕ)) (ss : List (Option AvnValue)) (k : ℕ) → are_distinct names ≡ true → Some k ≡ place_named bytes_eq names m → Put m v fs names ss k
+put_at m v fs [] ss k d e = refl
+put_at m v fs (n ∷ ns) [] k d e = refl
+put_at m v fs (n ∷ ns) (s ∷ ss) k d e = put_here m v fs n ns s ss k (bytes_eq m n) refl d (λ j x y. put_at m v fs ns ss j x y) (place_named bytes_eq ns m) refl e
+
+map_none : (o : Option ℕ) → None ≡ option_map suc o → None ≡ o
+map_none None e = refl
+map_none (Some k) e = cc e
+
+not_placed : (names : List (List ℕ)) (m : List ℕ) → None ≡ place_named bytes_eq names m → is_item names m ≡ false
+not_placed [] m e = refl
+not_placed (n ∷ ns) m e = elim (bytes_eq m n) as (λ b. None ≡ (if b then Some 0 else option_map suc (place_named bytes_eq ns m)) → (if b then true else is_item ns m) ≡ false) [
+  | true ↦ λ h. cc h
+  | false ↦ λ h. not_placed ns m (map_none (place_named bytes_eq ns m) h)
+] e
+
+-- An entry whose value is put at the place of its name.
+pub entry_put : (m : String Global) (v : AvnValue) (rest : List Entry) (names : List (List ℕ)) (ss : List (Option AvnValue)) (k : ℕ) → are_distinct names ≡ true → Some k ≡ place_named bytes_eq names (string_bytes m)
+    → over (fields_trees rest) names (map slot_of (slice_set ss k (Some v))) ≡ over (fields_trees ((m, Some v) ∷ rest)) names (map slot_of ss)
+entry_put m v rest names ss k d e = sym (put_at (string_bytes m) v (fields_trees rest) names ss k d e)
+
+-- An entry of another name.
+pub entry_passed : (m : String Global) (v : AvnValue) (rest : List Entry) (names : List (List ℕ)) (ss : List (Option AvnValue)) → None ≡ place_named bytes_eq names (string_bytes m)
+    → over (fields_trees rest) names (map slot_of ss) ≡ over (fields_trees ((m, Some v) ∷ rest)) names (map slot_of ss)
+entry_passed m v rest names ss e = sym (over-other (string_bytes m) (avn_tree_of v) (fields_trees rest) names (map slot_of ss) (not_placed names (string_bytes m) e))
+
+-- Once every entry is taken the slots are those of all fields.
+pub all_taken : (rest : List Entry) (names : List (List ℕ)) (ss : List (Option AvnValue)) (all : List Slot) → rest ≡ [] → length ss ≡ length names → over (fields_trees rest) names (map slot_of ss) ≡ all → map slot_of ss ≡ all
+all_taken rest names ss all e long h =
+    sym (over-none names (map slot_of ss) (length-map slot_of ss ∙ long)) ∙ ap (λ es. over (fields_trees es) names (map slot_of ss)) (sym e) ∙ h
+
+pub length-replicate : (n : ℕ) → length (replicate {A = Option AvnValue} n None) ≡ n
+length-replicate zero = refl
+length-replicate (suc n) = omega (arith, length-replicate n)
+
+pub length-set : {A : Type 0} (xs : List A) (k : ℕ) (x : A) → length (slice_set xs k x) ≡ length xs
+length-set [] k x = refl
+length-set (y ∷ xs) zero x = refl
+length-set (y ∷ xs) (suc k) x = omega (arith, length-set xs k x)

@@ -1,0 +1,54 @@
+use Rattle.std.proofs.Common.{◌≡◌, ◌∷◌, ap, ◌∙◌, sym, length, map, arith, Some, None, replicate}
+use Rattle.asn_traits.specs.Tables.{names_of}
+use Rattle.avn_value.specs.View.{fields_trees}
+use Rattle.avn_rules.specs.Pending.{slot_of}
+use Rattle.avn_rules.proofs.Building.{no_items}
+use Rattle.avn_rules.proofs.Taken.{over, entry_put, entry_passed, all_taken, over-absent, length-map, length-replicate, length-set}
+use Rattle.avn_rules.proofs.avn.parts.slots_of.Goals as goal
+
+pub loop-name-init : goal.loop-name-init
+loop-name-init c =
+    let names = names_of c.args.fields.now in
+    let ss = c.in_ok-slots.slots.items in
+    let absent : ss ≡ replicate (length names) None = c.in_ok-slots.ensures ∙ ap (λ k. replicate k None) (sym (length-map (λ f. f.name.now) c.args.fields.now)) in
+    record {
+      taken =
+          ap (λ es. over (fields_trees es) names (map slot_of ss)) c.into_iter-name-iterator.ensures.into_iter_gives.0
+          ∙ ap (λ l. over (fields_trees c.args.entries.items) names (map slot_of l)) absent
+          ∙ over-absent (fields_trees c.args.entries.items) names;
+      each = ap length absent ∙ length-replicate (length names);
+    }
+
+pub returns : goal.returns
+returns c =
+    let rest = c.loop-name.name-iterator.rest in
+    let none : length rest.items ≡ 0 = omega (arith, c.in-None.ensures.steps.0, rest.ok) in
+    all_taken rest.items (names_of c.args.fields.now) _ _ (no_items rest.items none) c.loop-name.invariant.each c.loop-name.invariant.taken
+
+pub loop-name-preserved-in_default-place_of_field : goal.loop-name-preserved-in_default-place_of_field
+loop-name-preserved-in_default-place_of_field c =
+    let names = names_of c.args.fields.now in
+    let rest = c.next.new.self.rest.items in
+    let ss = c.loop-name.slots.items in
+    let first = c.in-Some.ensures.steps.0 ∙ ap (λ e. (c.in-Some.name, e) ∷ rest) c.in-Some-entry.is in
+    record {
+      taken =
+          entry_passed c.in-Some.name c.in-Some-entry.value rest names ss (rw c.as_str.ensures.value at c.in_default-place_of_field.ensures.is)
+          ∙ ap (λ es. over (fields_trees es) names (map slot_of ss)) (sym first)
+          ∙ c.loop-name.invariant.taken;
+      each = c.loop-name.invariant.each;
+    }
+
+pub loop-name-preserved : goal.loop-name-preserved
+loop-name-preserved c =
+    let names = names_of c.args.fields.now in
+    let rest = c.next.new.self.rest.items in
+    let ss = c.loop-name.slots.items in
+    let first = c.in-Some.ensures.steps.0 ∙ ap (λ e. (c.in-Some.name, e) ∷ rest) c.in-Some-entry.is in
+    record {
+      taken =
+          entry_put c.in-Some.name c.in-Some-entry.value rest names ss c.in-Some-place_of_field.place c.requires (rw c.as_str.ensures.value at c.in-Some-place_of_field.ensures.is)
+          ∙ ap (λ es. over (fields_trees es) names (map slot_of ss)) (sym first)
+          ∙ c.loop-name.invariant.taken;
+      each = length-set ss c.in-Some-place_of_field.place (Some c.in-Some-entry.value) ∙ c.loop-name.invariant.each;
+    }

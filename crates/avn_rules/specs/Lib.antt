@@ -1,0 +1,6 @@
+pub mod Holding
+pub mod Leaves
+pub mod Numbers
+pub mod Pending
+pub mod Strings
+pub mod Text

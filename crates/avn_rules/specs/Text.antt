@@ -1,0 +1,25 @@
+-- What a text is in AVN.
+use Rattle.std.specs.Prelude.{ℕ, List, Some}
+use Rattle.std.specs.Str.{chars}
+use Rattle.asn_fault.specs.Stop.{Stop}
+use Rattle.avn_grammar.specs.Grammar.{Reads}
+use Rattle.avn_grammar.specs.Tree.{Tree as AvnTree}
+use Rattle.avn_value.specs.Answer.{Explains}
+use Rattle.asn_traits.specs.Answer.{Refuses}
+use Rattle.asn_traits.specs.Notation.{Notation}
+use Rattle.asn_traits.specs.Shape.{Shape}
+use Rattle.asn_traits.specs.Stops.{Stops}
+use Rattle.asn_traits.specs.Tree.{Tree}
+
+-- The text is this value of the notation, at most 64 levels deep.
+abbrev pub IsAvn : List ℕ → AvnTree → Type 0
+IsAvn text t = Reads 64 (chars text) t
+
+-- The text is no value of the notation, or too deep, and the error says so, or memory ran out.
+abbrev pub NoTree : List ℕ → Stop → Type 0
+NoTree text stop = Explains 64 (chars text) stop
+
+-- The text is no value of the notation, or it is one that says no value of the shape, and the error says why.
+pub data RefusesText (s : Shape) (text : List ℕ) (stop : Stop) : Type 0 where
+  no_tree : NoTree text stop → RefusesText s text stop
+  no_value : (t : AvnTree) → IsAvn text t → Refuses Notation.avn (Stops Notation.avn s (Some (Tree.avn t))) stop → RefusesText s text stop

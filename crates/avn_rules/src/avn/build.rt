@@ -1,0 +1,65 @@
+// AVN values made of slots.
+ghost use Rattle.asn_traits.specs.Tables.{names_of};
+ghost use Rattle.asn_traits.specs.Writing.{head_name};
+ghost use Rattle.avn_grammar.specs.Tree.{integer, choice};
+ghost use Rattle.avn_rules.specs.Holding.{named_fields, trees_of};
+ghost use Rattle.avn_value.specs.View.{tree_of, fields_trees};
+ghost use Rattle.asn_base.specs.Numbers.{signed};
+ghost use Rattle.std.specs.Fmt.{signed_decimal};
+ghost use Rattle.std.specs.Prelude.{◌≡◌, IfOk, drop};
+
+use asn_base::{OutOfMemory, WholeNumber};
+use asn_traits::Field;
+use avn_value::AvnValue;
+use std::alloc::Global;
+
+/// The number with this sign and magnitude. Memory may run out.
+pub fn integer_of(alloc: Global, negative: bool, magnitude: u128) -> Result<AvnValue, OutOfMemory>
+    ensures { IfOk result (λ v. tree_of v ≡ integer (signed_decimal (signed negative magnitude))) }
+{
+    let number = WholeNumber {
+        negative,
+        magnitude,
+    };
+    let text = format!(in alloc; "{number}")?;
+    Ok(AvnValue::Integer(text))
+}
+
+/// The fields of the slots, each with the name of the field at its place. Memory may run out.
+pub fn fields_of(
+    alloc: Global,
+    slots: Vec<Option<AvnValue>>,
+    fields: &[Field],
+) -> Result<Vec<(String, Option<AvnValue>)>, OutOfMemory>
+    ensures { IfOk result (λ v. fields_trees v.items ≡ named_fields (trees_of slots.items) (names_of fields.now)) }
+{
+    let mut named = Vec::new(alloc);
+    for slot in slots {
+        let name = String::from_str(alloc, field_name(fields, named.len()))?;
+        named.push((name, slot))?;
+    }
+    Ok(named)
+}
+
+/// The choice of this alternative and payload. Memory may run out.
+pub fn choice_of(
+    alloc: Global,
+    identifier: &str,
+    payload: AvnValue,
+) -> Result<AvnValue, OutOfMemory>
+    ensures { IfOk result (λ v. tree_of v ≡ choice identifier.now (tree_of payload)) }
+{
+    let identifier = String::from_str(alloc, identifier)?;
+    let value = Box::new(alloc, payload)?;
+    Ok(AvnValue::Choice { identifier, value })
+}
+
+// The name of the field at the place, empty past the fields.
+fn field_name(fields: &[Field], place: usize) -> &'static str
+    ensures { result.now ≡ head_name (drop place (names_of fields.now)) }
+{
+    match fields.get(place) {
+        Some(field) => field.name,
+        None => "",
+    }
+}

@@ -1,0 +1,206 @@
+// Reading an AVN value as a value of a type.
+ghost use Rattle.asn_base.specs.declared.codec.Codec.TheVariants.{Avn};
+ghost use Rattle.asn_fault.specs.Stop.{Why, error_stop, at_root};
+ghost use Rattle.asn_traits.specs.Answer.{Refuses};
+ghost use Rattle.asn_traits.specs.Notation.{Notation};
+ghost use Rattle.asn_traits.specs.Shape.{Shape};
+ghost use Rattle.asn_traits.specs.Stops.{Stops};
+ghost use Rattle.asn_traits.specs.Tree.{Tree, head_slot};
+ghost use Rattle.avn_grammar.specs.Tree.{Tree as AvnTree};
+ghost use Rattle.std.specs.Prelude.{◌≡◌, ◌∷◌, [], Some, IfOk, IfErr, MatchResult};
+
+use super::faults::{end_of_input, mismatch, no_item, no_number, no_utf8};
+use super::numbers::{Whole, greatest_magnitude, whole_number};
+use super::parts::{
+    into_bool, into_choice, into_fields, into_integer, into_item, into_items, into_null, into_text,
+    place_of, slots_of,
+};
+use asn_base::{Codec, Constraints, IntegerType, Tag};
+use asn_fault::DecodeError;
+use asn_slots::Pending;
+use asn_traits::{Enumerated, Field};
+use avn_value::{AvnValue, parse_avn};
+use std::alloc::Global;
+
+/// A reader of one AVN value, which it takes apart as it reads.
+#[derive(Drop)]
+pub struct Decoder {
+    alloc: Global,
+    pending: Pending<AvnValue>,
+}
+
+impl Decoder {
+    ghost use Rattle.avn_rules.specs.Pending.{tree_of, slot_of, pending_of};
+    ghost use Rattle.avn_rules.specs.Text.{IsAvn, NoTree};
+
+    /// A reader of a text.
+    ///
+    /// Errors: `UnexpectedToken` where the text is no value of the notation; `ExceedsMaxParseDepth` where it is deeper than 64 levels; `OutOfMemory`.
+    pub fn new(alloc: Global, input: &str) -> Result<Decoder, DecodeError>
+        ensures tree { IfOk result (λ d. (t : AvnTree) × IsAvn input.now t × (pending_of d ≡ Some (Tree.avn t) ∷ [])) }
+        ensures refused { IfErr result (λ e. NoTree input.now (error_stop e)) }
+    {
+        let value = parse_avn(alloc, input)?;
+        Decoder::from_value(alloc, value)
+    }
+
+    /// A reader of an AVN value.
+    ///
+    /// Errors: `OutOfMemory`.
+    pub fn from_value(alloc: Global, value: AvnValue) -> Result<Decoder, DecodeError>
+        ensures tree { IfOk result (λ d. pending_of d ≡ Some (tree_of value) ∷ []) }
+        ensures refused { IfErr result (λ e. error_stop e ≡ at_root Why.out_of_memory Avn) }
+    {
+        let mut pending = Pending::new(alloc);
+        match pending.put(Some(value)) {
+            Ok(()) => Ok(Decoder { alloc, pending }),
+            Err(_) => Err(DecodeError::out_of_memory(Codec::Avn)),
+        }
+    }
+
+    // Takes the first pending slot, if it is present.
+    fn take(&mut self) -> Result<AvnValue, DecodeError>
+        ensures { MatchResult result (λ v. pending_of self.old ≡ Some (tree_of v) ∷ pending_of self.new) (λ e. (s : Shape) → Refuses Notation.avn (Stops Notation.avn s (head_slot (pending_of self.old))) (error_stop e)) }
+    {
+        match self.pending.take() {
+            Some(Some(value)) => Ok(value),
+            Some(None) => Err(end_of_input()),
+            None => Err(end_of_input()),
+        }
+    }
+
+    // Puts a slot before the pending ones.
+    fn put(&mut self, slot: Option<AvnValue>) -> Result<(), DecodeError>
+        ensures { MatchResult result (λ _. pending_of self.new ≡ slot_of slot ∷ pending_of self.old) (λ e. error_stop e ≡ at_root Why.out_of_memory Avn) }
+    {
+        match self.pending.put(slot) {
+            Ok(()) => Ok(()),
+            Err(_) => Err(DecodeError::out_of_memory(Codec::Avn)),
+        }
+    }
+}
+
+impl asn_traits::Decoder for Decoder {
+    ghost use Rattle.avn_rules.specs.Pending.{pending_of};
+
+    ghost notation = { Notation.avn };
+
+    ghost pending = { pending_of };
+
+    fn codec(&self) -> Codec {
+        Codec::Avn
+    }
+
+    fn allocator(&self) -> Global {
+        self.alloc
+    }
+
+    fn decode_bool(&mut self, _tag: Tag) -> Result<bool, DecodeError> {
+        match into_bool(self.take()?) {
+            Ok(flag) => Ok(flag),
+            Err(other) => Err(mismatch(self.alloc, "boolean", &other)),
+        }
+    }
+
+    fn decode_null(&mut self, _tag: Tag) -> Result<(), DecodeError> {
+        match into_null(self.take()?) {
+            Ok(()) => Ok(()),
+            Err(other) => Err(mismatch(self.alloc, "null", &other)),
+        }
+    }
+
+    fn decode_integer<I: IntegerType>(
+        &mut self,
+        _tag: Tag,
+        _constraints: &Constraints,
+    ) -> Result<I, DecodeError> {
+        let text = match into_integer(self.take()?) {
+            Ok(text) => text,
+            Err(other) => return Err(mismatch(self.alloc, "integer", &other)),
+        };
+        match whole_number(text.as_str(), greatest_magnitude::<I>()) {
+            Whole::Parts {
+                negative,
+                magnitude,
+            } => match I::of_parts(negative, magnitude) {
+                Some(number) => Ok(number),
+                None => Err(DecodeError::integer_overflow(I::WIDTH, Codec::Avn)),
+            },
+            Whole::TooGreat => { Err(DecodeError::integer_overflow(I::WIDTH, Codec::Avn)) }
+            Whole::NoNumber => Err(no_number(text)),
+        }
+    }
+
+    fn decode_utf8_string(
+        &mut self,
+        _tag: Tag,
+        _constraints: &Constraints,
+    ) -> Result<String, DecodeError> {
+        match into_text(self.take()?) {
+            Ok(Some(text)) => Ok(text),
+            Ok(None) => Err(no_utf8(self.alloc)),
+            Err(other) => Err(mismatch(self.alloc, "character string", &other)),
+        }
+    }
+
+    fn decode_enumerated<E: Enumerated>(&mut self, _tag: Tag) -> Result<E, DecodeError> {
+        match into_item(self.take()?) {
+            Ok(text) => match E::from_identifier(text.as_str()) {
+                Some(item) => Ok(item),
+                None => Err(no_item(text)),
+            },
+            Err(other) => Err(mismatch(self.alloc, "enumerated identifier", &other)),
+        }
+    }
+
+    fn take_absent(&mut self) -> Result<bool, DecodeError> {
+        match self.pending.take_absent() {
+            Some(absent) => Ok(absent),
+            None => Err(end_of_input()),
+        }
+    }
+
+    fn open_list(&mut self) -> Result<usize, DecodeError> {
+        match into_items(self.alloc, self.take()?) {
+            Ok(items) => {
+                let count = items.len();
+                match self.pending.put_present(items) {
+                    Ok(()) => Ok(count),
+                    Err(_) => Err(DecodeError::out_of_memory(Codec::Avn)),
+                }
+            }
+            Err(other) => Err(mismatch(self.alloc, "sequence of", &other)),
+        }
+    }
+
+    fn open_members(&mut self, fields: &[Field]) -> Result<(), DecodeError> {
+        let members = match into_fields(self.alloc, self.take()?) {
+            Ok(members) => members,
+            Err(other) => return Err(mismatch(self.alloc, "sequence", &other)),
+        };
+        let Ok(slots) = slots_of(self.alloc, members, fields) else {
+            return Err(DecodeError::out_of_memory(Codec::Avn));
+        };
+        match self.pending.put_all(slots) {
+            Ok(()) => Ok(()),
+            Err(_) => Err(DecodeError::out_of_memory(Codec::Avn)),
+        }
+    }
+
+    fn open_choice(&mut self, identifiers: &[&'static str]) -> Result<Option<usize>, DecodeError> {
+        let (name, payload) = match into_choice(self.take()?) {
+            Ok(choice) => choice,
+            Err(other) => return Err(mismatch(self.alloc, "choice (identifier : value)", &other)),
+        };
+        match place_of(identifiers, name.as_str()) {
+            Some(place) => {
+                self.put(Some(payload))?;
+                Ok(Some(place))
+            }
+            None => {
+                self.put(None)?;
+                Ok(None)
+            }
+        }
+    }
+}

@@ -1,0 +1,199 @@
+// Writing a value of a type as an AVN value.
+ghost use Rattle.asn_base.specs.declared.codec.Codec.TheVariants.{Avn};
+ghost use Rattle.asn_fault.specs.Unwritten.{WhyUnwritten, encode_why};
+ghost use Rattle.asn_slots.specs.Frames.{join};
+ghost use Rattle.asn_slots.specs.Slots.{last_present};
+ghost use Rattle.asn_traits.specs.Canonical.{avn_tree, canonical_text};
+ghost use Rattle.asn_traits.specs.Notation.{Notation};
+ghost use Rattle.asn_traits.specs.Writing.{Frame};
+ghost use Rattle.avn_value.specs.View.{tree_of};
+ghost use Rattle.std.specs.Prelude.{◌≡◌, ◌⊎◌, ◌∷◌, [], Option, Some, None, OnOk, IfOk, IfErr, option_map, string_bytes};
+
+use super::build::{choice_of, fields_of, integer_of};
+use asn_base::{Codec, Constraints, Identifier, IntegerType, Tag};
+use asn_fault::{AvnEncodeErrorKind, CodecEncodeError, EncodeError, EncodeErrorKind};
+use asn_slots::{Frames, first_slot, last_value, present_values};
+use asn_traits::{Enumerated, Field};
+use avn_value::AvnValue;
+use std::alloc::Global;
+
+/// A writer of one AVN value.
+#[derive(Drop)]
+pub struct Encoder {
+    alloc: Global,
+    frames: Frames<AvnValue>,
+}
+
+impl Encoder {
+    ghost use Rattle.avn_rules.specs.Holding.{Holds};
+
+    /// A writer that holds nothing at its root.
+    pub fn new(alloc: Global) -> Encoder
+        ensures { Holds result ([] ∷ []) }
+    {
+        Encoder {
+            alloc,
+            frames: Frames::new(alloc),
+        }
+    }
+
+    /// The AVN value of the last value that was written at the root.
+    ///
+    /// Errors: `AvnNoRootValueFound` where none was.
+    pub fn to_avn(self) -> Result<AvnValue, EncodeError>
+        ensures tree { IfOk result (λ t. (f : Frame) → Holds self (f ∷ []) → option_map avn_tree (last_present f) ≡ Some (tree_of t)) }
+        ensures kind { IfErr result (λ e. encode_why e.kind ≡ WhyUnwritten.no_root_value Avn) }
+        ensures none { IfErr result (λ e. (f : Frame) → Holds self (f ∷ []) → last_present f ≡ None) }
+    {
+        let mut frames = self.frames;
+        match last_value(frames.close()) {
+            Some(value) => Ok(value),
+            None => Err(no_root_value()),
+        }
+    }
+
+    /// The text of that AVN value.
+    ///
+    /// Errors: `AvnNoRootValueFound` where there is none; `OutOfMemory`.
+    pub fn to_string(self) -> Result<String, EncodeError>
+        ensures text { IfOk result (λ s. (f : Frame) → Holds self (f ∷ []) → option_map (canonical_text Notation.avn) (last_present f) ≡ Some (string_bytes s)) }
+        ensures refused { IfErr result (λ e. (e.kind ≡ EncodeErrorKind.OutOfMemory)
+            ⊎ ((encode_why e.kind ≡ WhyUnwritten.no_root_value Avn) × ((f : Frame) → Holds self (f ∷ []) → last_present f ≡ None))) }
+    {
+        let alloc = self.alloc;
+        let value = self.to_avn()?;
+        match format!(in alloc; "{value}") {
+            Ok(text) => Ok(text),
+            Err(_) => Err(EncodeError::out_of_memory(Codec::Avn)),
+        }
+    }
+
+    // Puts a slot into the last frame.
+    fn put(&mut self, slot: Option<AvnValue>) -> Result<(), EncodeError>
+        ensures added { OnOk result (self.new.frames ≡ join slot self.old.frames) }
+        ensures refused { IfErr result (λ e. e.kind ≡ EncodeErrorKind.OutOfMemory) }
+    {
+        match self.frames.add(slot) {
+            Ok(()) => Ok(()),
+            Err(_) => Err(EncodeError::out_of_memory(Codec::Avn)),
+        }
+    }
+}
+
+// Nothing was written at the root.
+fn no_root_value() -> EncodeError
+    ensures { encode_why result.kind ≡ WhyUnwritten.no_root_value Avn }
+{
+    EncodeError::from_kind(
+        EncodeErrorKind::CodecSpecific {
+            inner: CodecEncodeError::Avn(AvnEncodeErrorKind::AvnNoRootValueFound),
+        },
+        Codec::Avn,
+    )
+}
+
+impl asn_traits::Encoder for Encoder {
+    ghost use Rattle.avn_rules.specs.Holding.{Holds};
+
+    ghost notation = { Notation.avn };
+
+    ghost holds = { Holds };
+
+    fn codec(&self) -> Codec {
+        Codec::Avn
+    }
+
+    fn allocator(&self) -> Global {
+        self.alloc
+    }
+
+    fn encode_bool(
+        &mut self,
+        _tag: Tag,
+        value: bool,
+        _identifier: Identifier,
+    ) -> Result<(), EncodeError> {
+        self.put(Some(AvnValue::Boolean(value)))
+    }
+
+    fn encode_null(&mut self, _tag: Tag, _identifier: Identifier) -> Result<(), EncodeError> {
+        self.put(Some(AvnValue::Null))
+    }
+
+    fn encode_integer<I: IntegerType>(
+        &mut self,
+        _tag: Tag,
+        _constraints: &Constraints,
+        value: &I,
+        _identifier: Identifier,
+    ) -> Result<(), EncodeError> {
+        let (negative, magnitude) = value.parts();
+        match integer_of(self.alloc, negative, magnitude) {
+            Ok(number) => self.put(Some(number)),
+            Err(_) => Err(EncodeError::out_of_memory(Codec::Avn)),
+        }
+    }
+
+    fn encode_utf8_string(
+        &mut self,
+        _tag: Tag,
+        _constraints: &Constraints,
+        value: &str,
+        _identifier: Identifier,
+    ) -> Result<(), EncodeError> {
+        match String::from_str(self.alloc, value) {
+            Ok(text) => self.put(Some(AvnValue::CharString(text))),
+            Err(_) => Err(EncodeError::out_of_memory(Codec::Avn)),
+        }
+    }
+
+    fn encode_enumerated<T: Enumerated>(
+        &mut self,
+        _tag: Tag,
+        value: &T,
+        _identifier: Identifier,
+    ) -> Result<(), EncodeError> {
+        match String::from_str(self.alloc, value.identifier()) {
+            Ok(text) => self.put(Some(AvnValue::Enumerated(text))),
+            Err(_) => Err(EncodeError::out_of_memory(Codec::Avn)),
+        }
+    }
+
+    fn encode_absent(&mut self) -> Result<(), EncodeError> {
+        self.put(None)
+    }
+
+    fn open_frame(&mut self) -> Result<(), EncodeError> {
+        match self.frames.open() {
+            Ok(()) => Ok(()),
+            Err(_) => Err(EncodeError::out_of_memory(Codec::Avn)),
+        }
+    }
+
+    fn close_list(&mut self) -> Result<(), EncodeError> {
+        let slots = self.frames.close();
+        match present_values(self.alloc, slots) {
+            Ok(items) => self.put(Some(AvnValue::SequenceOf(items))),
+            Err(_) => Err(EncodeError::out_of_memory(Codec::Avn)),
+        }
+    }
+
+    fn close_members(&mut self, fields: &[Field]) -> Result<(), EncodeError> {
+        let slots = self.frames.close();
+        match fields_of(self.alloc, slots, fields) {
+            Ok(named) => self.put(Some(AvnValue::Sequence(named))),
+            Err(_) => Err(EncodeError::out_of_memory(Codec::Avn)),
+        }
+    }
+
+    fn close_choice(&mut self, identifier: &'static str) -> Result<(), EncodeError> {
+        let slots = self.frames.close();
+        let Some(payload) = first_slot(slots) else {
+            return self.put(None);
+        };
+        match choice_of(self.alloc, identifier, payload) {
+            Ok(choice) => self.put(Some(choice)),
+            Err(_) => Err(EncodeError::out_of_memory(Codec::Avn)),
+        }
+    }
+}

@@ -1,0 +1,71 @@
+// What a reader of AVN refuses by.
+ghost use Rattle.asn_base.specs.declared.codec.Codec.TheVariants.{Avn};
+ghost use Rattle.asn_fault.specs.Stop.{Why, error_stop, at_root, codec_why};
+ghost use Rattle.asn_traits.specs.Answer.{TellsBlame};
+ghost use Rattle.asn_traits.specs.Leaf.{Blame};
+ghost use Rattle.asn_traits.specs.Notation.{Notation};
+ghost use Rattle.avn_rules.specs.Pending.{tree_of};
+ghost use Rattle.std.specs.Prelude.{◌≡◌, ◌⊎◌, codes, string_bytes};
+
+use asn_base::Codec;
+use asn_fault::{AvnDecodeErrorKind, CodecDecodeError, DecodeError, DecodeErrorKind};
+use avn_value::AvnValue;
+use std::alloc::Global;
+
+/// A value is due, and there is none.
+pub fn end_of_input() -> DecodeError
+    ensures { error_stop result ≡ at_root (Why.end_of_input Avn) Avn }
+{
+    DecodeError::from_kind(
+        DecodeErrorKind::CodecSpecific {
+            inner: AvnDecodeErrorKind::eoi(),
+        },
+        Codec::Avn,
+    )
+}
+
+/// The AVN value is of another kind than the one that is needed. Memory may run out.
+pub fn mismatch(alloc: Global, needed: &'static str, value: &AvnValue) -> DecodeError
+    ensures { TellsBlame Notation.avn (tree_of value.now) (Blame.mismatch needed.now) (error_stop result) }
+{
+    match format!(in alloc; "{value}") {
+        Ok(found) => avn_error(AvnDecodeErrorKind::AvnTypeMismatch { needed, found }),
+        Err(_) => DecodeError::out_of_memory(Codec::Avn),
+    }
+}
+
+/// The text names no item of the type.
+pub fn no_item(text: String) -> DecodeError
+    ensures { error_stop result ≡ at_root (Why.invalid_enum_discriminant Avn (string_bytes text)) Avn }
+{
+    avn_error(AvnDecodeErrorKind::AvnInvalidEnumDiscriminant { discriminant: text })
+}
+
+/// The text is no whole number.
+pub fn no_number(text: String) -> DecodeError
+    ensures { error_stop result ≡ at_root (Why.integer_parse_error (string_bytes text)) Avn }
+{
+    avn_error(AvnDecodeErrorKind::IntegerParseError { msg: text })
+}
+
+/// The octets of a character string are no UTF-8. Memory may run out.
+pub fn no_utf8(alloc: Global) -> DecodeError
+    ensures { (error_stop result ≡ at_root (Why.custom (codes "Invalid UTF-8 in AVN string")) Avn) ⊎ (error_stop result ≡ at_root Why.out_of_memory Avn) }
+{
+    match String::from_str(alloc, "Invalid UTF-8 in AVN string") {
+        Ok(msg) => DecodeError::custom(msg, Codec::Avn),
+        Err(_) => DecodeError::out_of_memory(Codec::Avn),
+    }
+}
+
+// The refusal of this kind.
+fn avn_error(kind: AvnDecodeErrorKind) -> DecodeError
+    ensures { error_stop result ≡ at_root (codec_why (CodecDecodeError.Avn kind)) Avn }
+{
+    DecodeError::from_kind(
+        DecodeErrorKind::CodecSpecific {
+            inner: CodecDecodeError::Avn(kind),
+        },
+        Codec::Avn,
+    )
+}

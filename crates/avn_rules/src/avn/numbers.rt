@@ -1,0 +1,78 @@
+// Whole numbers as texts.
+ghost use Rattle.asn_base.specs.Numbers.{signed};
+ghost use Rattle.asn_traits.specs.Digits.{digits, signed_number};
+ghost use Rattle.avn_rules.specs.Numbers.{Counts, ReadsDigits, ReadsNumber};
+ghost use Rattle.std.specs.Prelude.{◌≡◌, option_map, Bool, ℕ, pos, ◌+◌, ◌*◌, ◌<◌, ◌<ℤ◌, ◌⊎◌};
+
+use asn_base::IntegerType;
+
+/// A whole number as a text has it.
+#[derive(Drop)]
+pub enum Whole {
+    Parts { negative: bool, magnitude: u128 },
+    /// The magnitude is above the greatest one that is asked for.
+    TooGreat,
+    NoNumber,
+}
+
+/// The whole number of a text: an optional `-` and digits. Each character is looked at once.
+pub fn whole_number(text: &str, greatest: u128) -> Whole
+    ensures { ReadsNumber greatest text.now result }
+{
+    let (negative, digits) = split_sign(text.as_bytes());
+    match magnitude_of(digits) {
+        Some(Some(magnitude)) if magnitude <= greatest => {
+            Whole::Parts {
+                negative,
+                magnitude,
+            }
+        }
+        Some(_) => Whole::TooGreat,
+        None => Whole::NoNumber,
+    }
+}
+
+// Whether the text begins with `-`, and what follows it.
+fn split_sign(text: &[u8]) -> (bool, &[u8])
+    ensures { signed_number text.now ≡ option_map (signed result.0) (digits result.1.now) }
+{
+    let Some((&first, others)) = text.split_first() else {
+        return (false, text);
+    };
+    if first == b'-' {
+        (true, others)
+    } else {
+        (false, text)
+    }
+}
+
+/// The greatest magnitude of a number of the type.
+pub fn greatest_magnitude<I: IntegerType>() -> u128
+    ensures { (negative : Bool) (n : ℕ) → result < n → (signed negative n <ℤ I.LEAST) ⊎ (pos I.GREATEST <ℤ signed negative n) }
+{
+    I::GREATEST.max(I::LEAST.unsigned_abs())
+}
+
+// The number of one or more digits, none inside where it has more than 128 bits. None exactly where the text is not of digits.
+fn magnitude_of(digits: &[u8]) -> Option<Option<u128>>
+    ensures { ReadsDigits digits.now result }
+{
+    if digits.is_empty() {
+        return None;
+    }
+    let mut magnitude = Some(0);
+    for &digit in digits {
+        if digit < b'0' || digit > b'9' {
+            return None;
+        }
+        magnitude = with_digit(magnitude, digit - b'0');
+    }
+    Some(magnitude)
+}
+
+// The number with a digit after it, none where it has more than 128 bits.
+fn with_digit(magnitude: Option<u128>, digit: u8) -> Option<u128>
+    ensures { (n : ℕ) → Counts n magnitude → Counts (n * 10 + digit) result }
+{
+    magnitude?.checked_mul(10)?.checked_add(digit as u128)
+}

@@ -1,0 +1,184 @@
+// The parts of an AVN value, taken out of it.
+ghost use Rattle.asn_traits.specs.Leaf.{Blame, as_boolean, as_null, as_number, as_text, as_item};
+ghost use Rattle.asn_traits.specs.Notation.{Notation};
+ghost use Rattle.asn_traits.specs.Shape.{are_distinct, place_named};
+ghost use Rattle.asn_traits.specs.Tables.{names_of};
+ghost use Rattle.asn_traits.specs.Tree.{as_list, as_members, as_choice, tree_slots, field_slot, same_identifier};
+ghost use Rattle.asn_traits.specs.Value.{Value};
+ghost use Rattle.avn_grammar.specs.Tree.{integer, enumerated};
+ghost use Rattle.avn_rules.specs.Pending.{tree_of, slot_of};
+ghost use Rattle.avn_rules.specs.Strings.{TextOf};
+ghost use Rattle.avn_value.specs.View.{tree_of as avn_tree_of, list_trees, fields_trees};
+ghost use Rattle.std.specs.Str.{bytes_eq};
+ghost use Rattle.std.specs.Prelude.{true, ◌≡◌, ◌<◌, ℕ, List, Some, None, Ok, Err, IfOk, IfSome, replicate, MatchResult, string_bytes, map, length, codes};
+
+use asn_base::OutOfMemory;
+use asn_traits::Field;
+use avn_value::AvnValue;
+use std::alloc::Global;
+
+/// The truth value, or the value where it is none.
+pub fn into_bool(value: AvnValue) -> Result<bool, AvnValue>
+    ensures { MatchResult result (λ flag. as_boolean Notation.avn (tree_of value) ≡ Ok (Value.boolean flag))
+        (λ v. (v ≡ value) × (as_boolean Notation.avn (tree_of value) ≡ Err (Blame.mismatch (codes "boolean")))) }
+{
+    match value {
+        AvnValue::Boolean(flag) => Ok(flag),
+        other => Err(other),
+    }
+}
+
+/// The null, or the value where it is none.
+pub fn into_null(value: AvnValue) -> Result<(), AvnValue>
+    ensures { MatchResult result (λ u. as_null Notation.avn (tree_of value) ≡ Ok Value.null)
+        (λ v. (v ≡ value) × (as_null Notation.avn (tree_of value) ≡ Err (Blame.mismatch (codes "null")))) }
+{
+    match value {
+        AvnValue::Null => Ok(()),
+        other => Err(other),
+    }
+}
+
+/// The text of a number, or the value where it is no Integer.
+pub fn into_integer(value: AvnValue) -> Result<String, AvnValue>
+    ensures { MatchResult result (λ text. avn_tree_of value ≡ integer (string_bytes text))
+        (λ v. (v ≡ value) × (as_number Notation.avn (tree_of value) ≡ Err (Blame.mismatch (codes "integer")))) }
+{
+    match value {
+        AvnValue::Integer(text) => Ok(text),
+        other => Err(other),
+    }
+}
+
+/// The identifier of an item, or the value where it is no Enumerated.
+pub fn into_item(value: AvnValue) -> Result<String, AvnValue>
+    ensures { MatchResult result (λ text. avn_tree_of value ≡ enumerated (string_bytes text))
+        (λ v. (v ≡ value) × ((items : List (List ℕ)) → as_item Notation.avn items (tree_of value) ≡ Err (Blame.mismatch (codes "enumerated identifier")))) }
+{
+    match value {
+        AvnValue::Enumerated(text) => Ok(text),
+        other => Err(other),
+    }
+}
+
+/// The text of a character string, or none where its octets are no UTF-8, or the value where it is no character string.
+pub fn into_text(value: AvnValue) -> Result<Option<String>, AvnValue>
+    ensures { MatchResult result (TextOf (tree_of value))
+        (λ v. (v ≡ value) × (as_text Notation.avn (tree_of value) ≡ Err (Blame.mismatch (codes "character string")))) }
+{
+    match value {
+        AvnValue::CharString(text) => Ok(Some(text)),
+        AvnValue::OctetString(octets) => match String::from_utf8(octets) {
+            Ok(text) => Ok(Some(text)),
+            Err(_) => Ok(None),
+        },
+        other => Err(other),
+    }
+}
+
+/// The elements, or the value where it is no list. A Sequence without entries is an empty list.
+pub fn into_items(alloc: Global, value: AvnValue) -> Result<Vec<AvnValue>, AvnValue>
+    ensures { MatchResult result (λ items. as_list Notation.avn (tree_of value) ≡ Some (tree_slots (list_trees items.items)))
+        (λ v. (v ≡ value) × (as_list Notation.avn (tree_of value) ≡ None)) }
+{
+    match value {
+        AvnValue::SequenceOf(items) => Ok(items),
+        AvnValue::Sequence(fields) => {
+            if fields.is_empty() {
+                Ok(Vec::new(alloc))
+            } else {
+                Err(AvnValue::Sequence(fields))
+            }
+        }
+        other => Err(other),
+    }
+}
+
+/// The fields, or the value where it has none. A SequenceOf without elements has no fields.
+pub fn into_fields(
+    alloc: Global,
+    value: AvnValue,
+) -> Result<Vec<(String, Option<AvnValue>)>, AvnValue>
+    ensures { MatchResult result (λ fields. as_members Notation.avn (tree_of value) ≡ Some (field_slot (fields_trees fields.items)))
+        (λ v. (v ≡ value) × (as_members Notation.avn (tree_of value) ≡ None)) }
+{
+    match value {
+        AvnValue::Sequence(fields) => Ok(fields),
+        AvnValue::SequenceOf(items) => {
+            if items.is_empty() {
+                Ok(Vec::new(alloc))
+            } else {
+                Err(AvnValue::SequenceOf(items))
+            }
+        }
+        other => Err(other),
+    }
+}
+
+/// The identifier and the payload, or the value where it is no choice.
+pub fn into_choice(value: AvnValue) -> Result<(String, AvnValue), AvnValue>
+    ensures { MatchResult result (λ c. as_choice Notation.avn (tree_of value) ≡ Some (Some (string_bytes c.0, tree_of c.1)))
+        (λ v. (v ≡ value) × (as_choice Notation.avn (tree_of value) ≡ None)) }
+{
+    match value {
+        AvnValue::Choice { identifier, value } => Ok((identifier, Box::into_inner(value))),
+        other => Err(other),
+    }
+}
+
+/// The slot of each field: the value of the last present entry of its name. Entries of other names are passed over. Memory may run out.
+pub fn slots_of(
+    alloc: Global,
+    entries: Vec<(String, Option<AvnValue>)>,
+    fields: &[Field],
+) -> Result<Vec<Option<AvnValue>>, OutOfMemory>
+    requires { are_distinct (names_of fields.now) ≡ true }
+    ensures { IfOk result (λ slots. map slot_of slots.items ≡ map (field_slot (fields_trees entries.items)) (names_of fields.now)) }
+{
+    let mut slots = absent_slots(alloc, fields.len())?;
+    for (name, entry) in entries {
+        let Some(value) = entry else {
+            continue;
+        };
+        let Some(place) = place_of_field(fields, name.as_str()) else {
+            continue;
+        };
+        slots[place] = Some(value);
+    }
+    Ok(slots)
+}
+
+// So many absent slots. Memory may run out.
+fn absent_slots(alloc: Global, count: usize) -> Result<Vec<Option<AvnValue>>, OutOfMemory>
+    ensures { IfOk result (λ slots. slots.items ≡ replicate count None) }
+{
+    let mut slots = Vec::with_capacity(alloc, count)?;
+    for _place in 0..count {
+        slots.push(None)?;
+    }
+    Ok(slots)
+}
+
+// The first place of the field of this name.
+fn place_of_field(fields: &[Field], name: &str) -> Option<usize>
+    ensures is { result ≡ place_named bytes_eq (names_of fields.now) name.now }
+    ensures below { IfSome result (λ k. k < length fields.now) }
+{
+    let (first, others) = fields.split_first()?;
+    if first.name == name {
+        return Some(0);
+    }
+    Some(place_of_field(others, name)? + 1)
+}
+
+/// The first place of the identifier. The case of ASCII letters makes no difference.
+pub fn place_of(identifiers: &[&'static str], name: &str) -> Option<usize>
+    ensures is { result ≡ place_named same_identifier (map (λ s. s.now) identifiers.now) name.now }
+    ensures below { IfSome result (λ k. k < length identifiers.now) }
+{
+    let (first, others) = identifiers.split_first()?;
+    if name.eq_ignore_ascii_case(*first) {
+        return Some(0);
+    }
+    Some(place_of(others, name)? + 1)
+}

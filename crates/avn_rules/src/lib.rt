@@ -1,0 +1,5 @@
+//! AVN: values of ASN.1 types as value notation (X.680).
+#![tactic(auto)]
+
+pub mod avn;
+pub mod laws;

@@ -1,13 +1,14 @@
 -- What a call by a codec's name answers, from what the notation's own call answers.
-use Rattle.std.proofs.Common.{◌≡◌, refl, sym, subst, ap, ℕ, List, Some, Result, Ok, Err, true, ◌⊎◌, inl, inr}
+use Rattle.std.proofs.Common.{◌≡◌, ◌≢◌, refl, sym, subst, ap, ℕ, List, Some, Result, Ok, Err, true, ◌⊎◌, inl, inr}
+use Rattle.std.specs.Prelude.{IfOk, IfErr, codes}
 use Rattle.std.specs.Str.{chars}
 use Rattle.serde_json.specs.Data.{Data}
 use Rattle.avn_grammar.specs.Tree.{Tree as AvnTree}
 use Rattle.avn_value.specs.Answer.{Explains}
 use Rattle.asn_base.specs.declared.codec.Codec.{Codec}
 use Rattle.asn_base.specs.declared.codec.Codec.TheVariants.{Aper, Ber, Cer, Der, Uper, Jer, Oer, Coer, Xer, Avn}
-use Rattle.asn_fault.specs.Stop.{Stop, is_memory}
-use Rattle.asn_fault.specs.Unwritten.{encode_why, is_unwritten_memory}
+use Rattle.asn_fault.specs.Stop.{Stop, Why, at_root, error_stop, is_memory}
+use Rattle.asn_fault.specs.Unwritten.{WhyUnwritten, encode_why, is_unwritten_memory}
 use Rattle.asn_fault.specs.declared.decode.DecodeError.{DecodeError}
 use Rattle.asn_fault.specs.declared.encode.EncodeError.{EncodeError}
 use Rattle.asn_traits.specs.Answer as answer
@@ -20,7 +21,7 @@ use Rattle.asn_traits.specs.Value.{Value}
 use Rattle.asn_traits.specs.Writing.{CannotWrite}
 use Rattle.jer_rules.specs.Text as jer
 use Rattle.avn_rules.specs.Text as avn
-use Rattle.asn_codec.specs.Texts.{HasTree, SaysValue, IsUnread, IsUnwritten}
+use Rattle.asn_codec.specs.Texts.{HasTree, SaysValue, IsUnread, IsUnwritten, no_text}
 
 -- the codec of JER is Jer
 jer_codec : (c : Codec) → notation_of c ≡ Notation.jer → c ≡ Jer
@@ -97,3 +98,52 @@ pub avn_unwritten : (v : Value) (e : EncodeError) → CannotWrite Notation.avn v
 avn_unwritten v e (CannotWrite.no_memory o) = inl (rw o refl)
 avn_unwritten v e (CannotWrite.blocked b c) = inr (IsUnwritten.blocked _ b, avn_codec e.codec c)
 avn_unwritten v e (CannotWrite.write_free o) = cc o
+
+-- a codec that is neither of the two is no text notation
+pub other_codec : (c : Codec) → c ≢ Jer → c ≢ Avn → notation_of c ≡ Notation.other
+other_codec Jer h k = absurd (h refl)
+other_codec Avn h k = absurd (k refl)
+other_codec c h k = refl
+
+-- the call's answer, where its codec is this one
+pub jer_value : {A : Type 0} (c : Codec) (s : Shape) (text : List ℕ) (value : A → Value) (r : Result A DecodeError) → c ≡ Jer
+    → IfOk r (λ x. (d : Data) × jer.IsJer text d × Says Notation.jer s (Some (Tree.json d)) (value x)) → IfOk r (λ x. SaysValue (notation_of c) s text (value x))
+jer_value c s text value (Ok x) is (d, h, says) = subst (λ k. SaysValue (notation_of k) s text (value x)) (sym is) record { tree = Tree.json d; has = HasTree.json_tree h; says = says }
+jer_value c s text value (Err e) is h = tt
+
+pub avn_value_of : {A : Type 0} (c : Codec) (s : Shape) (text : List ℕ) (value : A → Value) (r : Result A DecodeError) → c ≡ Avn
+    → IfOk r (λ x. (t : AvnTree) × avn.IsAvn text t × Says Notation.avn s (Some (Tree.avn t)) (value x)) → IfOk r (λ x. SaysValue (notation_of c) s text (value x))
+avn_value_of c s text value (Ok x) is (t, h, says) = subst (λ k. SaysValue (notation_of k) s text (value x)) (sym is) record { tree = Tree.avn t; has = HasTree.avn_tree h; says = says }
+avn_value_of c s text value (Err e) is h = tt
+
+pub jer_refused : {A : Type 0} (c : Codec) (s : Shape) (text : List ℕ) (r : Result A DecodeError) → c ≡ Jer → IfErr r (λ e. jer.RefusesText s text (error_stop e))
+    → IfErr r (λ e. (is_memory (error_stop e) ≡ true) ⊎ IsUnread c s text (error_stop e))
+jer_refused c s text (Ok x) is h = tt
+jer_refused c s text (Err e) is h = subst (λ k. (is_memory (error_stop e) ≡ true) ⊎ IsUnread k s text (error_stop e)) (sym is) (jer_unread s text (error_stop e) h)
+
+pub avn_refused : {A : Type 0} (c : Codec) (s : Shape) (text : List ℕ) (r : Result A DecodeError) → c ≡ Avn → IfErr r (λ e. avn.RefusesText s text (error_stop e))
+    → IfErr r (λ e. (is_memory (error_stop e) ≡ true) ⊎ IsUnread c s text (error_stop e))
+avn_refused c s text (Ok x) is h = tt
+avn_refused c s text (Err e) is h = subst (λ k. (is_memory (error_stop e) ≡ true) ⊎ IsUnread k s text (error_stop e)) (sym is) (avn_unread s text (error_stop e) h)
+
+pub jer_not_written : {A : Type 0} (c : Codec) (v : Value) (r : Result A EncodeError) → c ≡ Jer → IfErr r (CannotWrite Notation.jer v)
+    → IfErr r (λ e. (is_unwritten_memory (encode_why e.kind) ≡ true) ⊎ (IsUnwritten c v (encode_why e.kind) × (e.codec ≡ c)))
+jer_not_written c v (Ok x) is h = tt
+jer_not_written c v (Err e) is h = subst (λ k. (is_unwritten_memory (encode_why e.kind) ≡ true) ⊎ (IsUnwritten k v (encode_why e.kind) × (e.codec ≡ k))) (sym is) (jer_unwritten v e h)
+
+pub avn_not_written : {A : Type 0} (c : Codec) (v : Value) (r : Result A EncodeError) → c ≡ Avn → IfErr r (CannotWrite Notation.avn v)
+    → IfErr r (λ e. (is_unwritten_memory (encode_why e.kind) ≡ true) ⊎ (IsUnwritten c v (encode_why e.kind) × (e.codec ≡ c)))
+avn_not_written c v (Ok x) is h = tt
+avn_not_written c v (Err e) is h = subst (λ k. (is_unwritten_memory (encode_why e.kind) ≡ true) ⊎ (IsUnwritten k v (encode_why e.kind) × (e.codec ≡ k))) (sym is) (avn_unwritten v e h)
+
+-- what is refused for its codec is so
+pub other_unread : (c : Codec) (s : Shape) (text : List ℕ) (stop : Stop) → notation_of c ≡ Notation.other
+    → (is_memory stop ≡ true) ⊎ (stop ≡ at_root (Why.custom (no_text c (codes "decode_from_binary"))) c) → (is_memory stop ≡ true) ⊎ IsUnread c s text stop
+other_unread c s text stop h (inl m) = inl m
+other_unread c s text stop h (inr e) = inr (subst (IsUnread c s text) (sym e) (IsUnread.not_text h))
+
+pub other_unwritten : (c : Codec) (v : Value) (e : EncodeError) → notation_of c ≡ Notation.other
+    → (is_unwritten_memory (encode_why e.kind) ≡ true) ⊎ (encode_why e.kind ≡ WhyUnwritten.custom (no_text c (codes "encode_to_binary"))) → e.codec ≡ c
+    → (is_unwritten_memory (encode_why e.kind) ≡ true) ⊎ (IsUnwritten c v (encode_why e.kind) × (e.codec ≡ c))
+other_unwritten c v e h (inl m) same = inl m
+other_unwritten c v e h (inr why) same = inr (subst (IsUnwritten c v) (sym why) (IsUnwritten.not_text h), same)

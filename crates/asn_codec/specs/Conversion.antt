@@ -1,14 +1,11 @@
 -- What converting a text from one codec to another answers.
-use Rattle.std.specs.Prelude.{◌≡◌, ◌↔◌, ◌≤◌, ℕ, List, Bool, true}
-use Rattle.serde_json.specs.Data.{depth}
-use Rattle.serde_json.specs.Read.{max_depth}
-use Rattle.avn_grammar.specs.Depth.{deepest}
+use Rattle.std.specs.Prelude.{◌≡◌, ℕ, List, Bool}
 use Rattle.asn_base.specs.declared.codec.Codec.{Codec}
 use Rattle.asn_fault.specs.Stop.{Stop, is_memory, error_stop}
 use Rattle.asn_fault.specs.Unwritten.{WhyUnwritten, encode_why, is_unwritten_memory}
 use Rattle.asn_fault.specs.Texts.{decode_error_text, encode_error_text}
-use Rattle.asn_traits.specs.Canonical.{canonical_text, jer_data, avn_tree}
-use Rattle.asn_traits.specs.Notation.{Notation, notation_of}
+use Rattle.asn_traits.specs.Canonical.{canonical_text}
+use Rattle.asn_traits.specs.Notation.{IsText, notation_of}
 use Rattle.asn_traits.specs.Shape.{Shape}
 use Rattle.asn_traits.specs.Value.{Value, Fits}
 use Rattle.asn_traits.specs.Writing.{Writable}
@@ -24,8 +21,9 @@ pub record Converts (from to : Codec) (s : Shape) (input output : List ℕ) : Ty
   pub writable : Writable (notation_of to) value
   pub text : output ≡ canonical_text (notation_of to) value
 
--- the input says a value by the shape that the other codec can write
+-- the input says a value by the shape that the other codec, a text notation, can write
 pub record IsConvertible (from to : Codec) (s : Shape) (input : List ℕ) : Type 0 where
+  pub notation : IsText (notation_of to)
   pub value : Value
   pub says : SaysValue (notation_of from) s input value
   pub writable : Writable (notation_of to) value

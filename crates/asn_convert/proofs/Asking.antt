@@ -1,9 +1,9 @@
 -- What an input asks for, from its bytes as they were read.
-use Rattle.std.proofs.Common.{◌≡◌, refl, sym, ap, ◌∙◌, subst, ℕ, List, [], ◌++◌, Option, Some, None, append-nil}
+use Rattle.std.proofs.Common.{◌≡◌, refl, sym, ap, ◌∙◌, subst, ℕ, List, [], ◌++◌, Option, Some, None, append-nil, length, ◌≤◌, ◌<◌, arith}
 use Rattle.std.specs.Io.KnownBytes.{Consumes, IsAtEnd}
 use Rattle.asn_codec.specs.Conversion.{IsConvertible}
 use Rattle.asn_convert.specs.Lines.{request_line, text_part, words}
-use Rattle.asn_convert.specs.Requests.{request_of, sample_shape}
+use Rattle.asn_convert.specs.Requests.{asked, request_of, sample_shape}
 use Rattle.asn_convert.specs.Run.{AsksValue}
 use Rattle.asn_convert.specs.declared.request.Request.{Request}
 
@@ -19,10 +19,23 @@ whole_input (Some xs) (Some ys) input taken told h end =
 some_same : (a b : Request) {o : Option Request} → o ≡ Some a → o ≡ Some b → a ≡ b
 some_same a b e f = let d : ◌≡◌ {A = Option Request} (Some a) (Some b) = sym e ∙ f in cc d
 
+-- the request of an input is that of its line
+line_asks : (input text line : List ℕ) (request : Request) → input ≡ text → line ≡ request_line text → request_of (words line) ≡ Some request → asked input ≡ Some request
+line_asks input text line request same is_line named = ap (λ l. request_of (words l)) (ap request_line same ∙ sym is_line) ∙ named
+
+-- an input whose line is a request is one that asks for something
+pub asks_something : (input text line : List ℕ) (request : Request) → input ≡ text → line ≡ request_line text → request_of (words line) ≡ Some request → asked input ≡ None → ⊥
+asks_something input text line request same is_line named none =
+    let d : ◌≡◌ {A = Option Request} None (Some request) = sym none ∙ line_asks input text line request same is_line named in cc d
+
+-- an input within the limit is not above it
+pub within_limit : (input taken : List ℕ) → input ≡ taken → length taken ≤ 16777216 → 16777216 < length input → ⊥
+within_limit input taken same within above = omega (arith, ap length same, within, above)
+
 -- the text of an input that asks for a value is converted as its line says
 pub convertible_text : (input text line rest : List ℕ) (request : Request) → AsksValue input → input ≡ text → line ≡ request_line text → rest ≡ text_part text
     → request_of (words line) ≡ Some request → IsConvertible request.from request.to (sample_shape request.sample) rest
 convertible_text input text line rest request asks same is_line is_rest named =
-    let e : asks.asks ≡ request = some_same asks.asks request asks.asked_for (ap (λ l. request_of (words l)) (ap request_line same ∙ sym is_line) ∙ named) in
+    let e : asks.asks ≡ request = some_same asks.asks request asks.asked_for (line_asks input text line request same is_line named) in
     subst (λ r. IsConvertible request.from request.to (sample_shape request.sample) r) (ap text_part same ∙ sym is_rest)
     (subst (λ m. IsConvertible m.from m.to (sample_shape m.sample) (text_part input)) e asks.convertible)

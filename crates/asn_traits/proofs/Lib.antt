@@ -10,3 +10,4 @@ pub mod Scopes
 pub mod Whole
 pub mod Apartness
 pub mod Written
+pub mod Viewing

@@ -1,5 +1,4 @@
 pub mod Building
-pub mod Held
 pub mod Leaves
 pub mod Numbers
 pub mod Octets

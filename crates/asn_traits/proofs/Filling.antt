@@ -4,7 +4,7 @@ use Rattle.std.specs.Fn.{Once, FnOnceReturnsAtMut}
 use Rattle.asn_base.specs.declared.tag.Tag.{Tag}
 use Rattle.asn_fault.specs.declared.encode.EncodeError.{EncodeError}
 use Rattle.asn_traits.specs.Notation.{Notation}
-use Rattle.asn_traits.specs.Shape.{Shape, Fields, Alternatives, Presence, closed_seq, closed_choice}
+use Rattle.asn_traits.specs.Shape.{Shape, Fields, Alternatives, AlternativeAdditions, Presence, closed_seq, all_alternatives}
 use Rattle.asn_traits.specs.Value.{Value, Fits, FitsFields, is_kept, may_lack}
 use Rattle.asn_traits.specs.Writing.{Frame, push, push_all, close, as_members, as_choice, named, Turns, Written, Filled, CannotWrite, ScopeRan, CannotFill, tail_names, Offered}
 
@@ -43,11 +43,11 @@ scope_members {holds = holds} {names = names} n all slots r f = record {
 }
 
 -- The scope of a choice.
-pub scope_choice : {S F : Type 0} {g : Once F (MutBor S × Unit {0}) (Result Tag EncodeError × (MutBor S × Unit {0}))} {f : F} {holds : S → List Frame → Type 0} {old new : S} {answer : Tag} (n : Notation) (all : Alternatives) (id : List ℕ) (v : Value)
+pub scope_choice : {S F : Type 0} {g : Once F (MutBor S × Unit {0}) (Result Tag EncodeError × (MutBor S × Unit {0}))} {f : F} {holds : S → List Frame → Type 0} {old new : S} {answer : Tag} (n : Notation) (alts : Alternatives) (added : AlternativeAdditions) (id : List ℕ) (v : Value)
     → (r : ScopeRan holds (FnOnceReturnsAtMut g f) old (Ok answer) (λ left. Turns holds (close (as_choice id)) left new))
-    → Offered holds n all id v r.answered.shown.now r.answered.left.now
-    → Written holds n (closed_choice all) (Value.choice id v) old new
-scope_choice {holds = holds} n all id v r f = record {
+    → Offered holds n (all_alternatives alts added) id v r.answered.shown.now r.answered.left.now
+    → Written holds n (Shape.choice alts added) (Value.choice id v) old new
+scope_choice {holds = holds} n alts added id v r f = record {
   added = λ fs h. r.left _ (subst (λ e. holds e (push (Some v) ([] ∷ fs))) r.answered.leaves (f.added ([] ∷ fs) (subst (λ s. holds s ([] ∷ fs)) (sym r.answered.shows) (r.opened fs h))));
   fit = Fits.fits_choice f.fit;
   writable = f.writable;

@@ -8,6 +8,6 @@ pub mod Filling
 pub mod Collecting
 pub mod Scopes
 pub mod Whole
-pub mod Apartness
+pub mod Readables
 pub mod Written
 pub mod Viewing

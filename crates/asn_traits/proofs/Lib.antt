@@ -11,3 +11,8 @@ pub mod Whole
 pub mod Readables
 pub mod Written
 pub mod Viewing
+pub mod Numerals
+pub mod WrittenAvn
+pub mod JerTexts
+pub mod Nesting
+pub mod SameText

@@ -29,19 +29,19 @@ slot_names-fields (FitsFields.fits_absent {n} lack rest) = ap (λ l. n ∷ l) (s
 same_identifier-itself : (i : List ℕ) → same_identifier i i ≡ true
 same_identifier-itself i = (bytes_eq-Decides (map to_ascii_lowercase i) (map to_ascii_lowercase i)).1 refl
 
-first_apart : (b rest : Bool) → (if b then true else rest) ≡ false → b ≡ false
+pub first_apart : (b rest : Bool) → (if b then true else rest) ≡ false → b ≡ false
 first_apart true rest e = let d : true ≡ false = e in cc d
 first_apart false rest e = refl
 
-rest_apart : (b rest : Bool) → (if b then true else rest) ≡ false → rest ≡ false
+pub rest_apart : (b rest : Bool) → (if b then true else rest) ≡ false → rest ≡ false
 rest_apart true rest e = let d : true ≡ false = e in cc d
 rest_apart false rest e = e
 
-none_named : (b rest : Bool) → (if b then false else rest) ≡ true → b ≡ false
+pub none_named : (b rest : Bool) → (if b then false else rest) ≡ true → b ≡ false
 none_named true rest e = let d : false ≡ true = e in cc d
 none_named false rest e = refl
 
-others_named : (b rest : Bool) → (if b then false else rest) ≡ true → rest ≡ true
+pub others_named : (b rest : Bool) → (if b then false else rest) ≡ true → rest ≡ true
 others_named true rest e = let d : false ≡ true = e in cc d
 others_named false rest e = e
 
@@ -51,7 +51,7 @@ differs j (FitsAlternative.fits_here {i} {t} {s} {alts} fit) h = first_apart (sa
 differs j (FitsAlternative.fits_later {i} {j = k} {t} {s} {alts} rest) h = differs j rest (rest_apart (same_identifier k j) (has_identifier (identifiers alts) j) h)
 
 -- A number of a type that has at most 128 bits has no more.
-within_128_bits : (l g k : ℤ) → has_128_bits l g ≡ true → l ≤ℤ k → k ≤ℤ g → (negsuc (2 ^ 127 - 1) ≤ℤ k) × (k ≤ℤ pos (2 ^ 128 - 1))
+pub within_128_bits : (l g k : ℤ) → has_128_bits l g ≡ true → l ≤ℤ k → k ≤ℤ g → (negsuc (2 ^ 127 - 1) ≤ℤ k) × (k ≤ℤ pos (2 ^ 128 - 1))
 within_128_bits l g k e low high =
     let least : negsuc (2 ^ 127 - 1) ≤ℤ l = lt_z_no (T_from_true _ (and-left (at_most (negsuc (2 ^ 127 - 1)) l) (at_most g (pos (2 ^ 128 - 1))) e)) in
     let greatest : g ≤ℤ pos (2 ^ 128 - 1) = lt_z_no (T_from_true _ (and-right (at_most (negsuc (2 ^ 127 - 1)) l) (at_most g (pos (2 ^ 128 - 1))) e)) in
@@ -63,7 +63,7 @@ alternatives_joined (Alternatives.alternative i t s alts) more e f =
     and-both _ _ (and-left (is_readable s) (are_alternatives_readable 0 alts) e) (alternatives_joined alts more (and-right (is_readable s) (are_alternatives_readable 0 alts) e) f)
 
 -- All alternatives can be read.
-all_readable : (alts : Alternatives) (added : AlternativeAdditions) → are_alternatives_readable 0 alts ≡ true → are_added_alternatives_readable 0 added ≡ true → are_alternatives_readable 0 (all_alternatives alts added) ≡ true
+pub all_readable : (alts : Alternatives) (added : AlternativeAdditions) → are_alternatives_readable 0 alts ≡ true → are_added_alternatives_readable 0 added ≡ true → are_alternatives_readable 0 (all_alternatives alts added) ≡ true
 all_readable alts AlternativeAdditions.closed_alternatives e f = e
 all_readable alts (AlternativeAdditions.extended_alternatives more) e f = alternatives_joined alts more e f
 
@@ -134,7 +134,7 @@ items-written : (vs : Values) → item_slots (jer_items vs) ≡ value_slots jer_
 items-written Values.no_values = refl
 items-written (Values.value v vs) = ap (λ l. Some (jer_tree v) ∷ l) (items-written vs)
 
-different : (n m : List ℕ) → bytes_eq n m ≡ false → m ≡ n → ⊥
+pub different : (n m : List ℕ) → bytes_eq n m ≡ false → m ≡ n → ⊥
 different n m e same = let d : true ≡ false = sym ((bytes_eq-Decides n m).1 (sym same)) ∙ e in cc d
 
 -- A name that no member has finds nothing.

@@ -4,7 +4,7 @@
 mod decoder;
 mod encoder;
 mod integers;
-mod laws;
+pub mod laws;
 mod plain;
 mod shape_type;
 mod tables;
@@ -12,7 +12,6 @@ mod types;
 
 pub use decoder::{Decode, DecodeChoice, Decoder};
 pub use encoder::{Encode, Encoder};
-pub use laws::{no_reason, one_value};
 pub use shape_type::{
     Alphabet, AlternativeShape, FieldShape, Plain, PresenceShape, SeqKind, Shape,
 };

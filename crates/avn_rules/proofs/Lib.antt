@@ -1,6 +1,5 @@
 pub mod Building
 pub mod Held
-pub mod Leaves
 pub mod Numbers
 pub mod Octets
 pub mod Readings

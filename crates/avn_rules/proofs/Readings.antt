@@ -1,5 +1,5 @@
 -- What AVN reads of a value, by its kind.
-use Rattle.std.proofs.Common.{◌≡◌, refl, ap, ℕ, ℤ, List, Some, None, Ok, Err, true, false, ◌⊎◌, inl, inr, ◌∷◌}
+use Rattle.std.proofs.Common.{◌≡◌, refl, ap, ℕ, ℤ, List, Option, Some, None, Ok, Err, true, false, ◌⊎◌, inl, inr, ◌∷◌}
 use Rattle.std.specs.Prelude.{codes}
 use Rattle.avn_grammar.specs.Tree.{Tree as AvnTree, integer, enumerated}
 use Rattle.asn_base.specs.declared.codec.Codec.TheVariants.{Avn}

@@ -16,3 +16,4 @@ pub mod WrittenAvn
 pub mod JerTexts
 pub mod Nesting
 pub mod SameText
+pub mod ShapeNames

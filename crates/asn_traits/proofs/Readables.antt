@@ -4,7 +4,7 @@ use Rattle.std.proofs.lemmas.Bool.{leb-true, le-leb, ltb-true, lt-ltb, eq-eqb}
 use Rattle.std.proofs.lemmas.Bool.Decides.{eqb_tells}
 use Rattle.asn_base.specs.declared.tag.Tag.{Tag}
 use Rattle.asn_traits.specs.Shape.{Shape, Fields, FieldAdditions, Alternatives, AlternativeAdditions, Alphabet, SeqKind, Plain, Presence, fill, fill_fields, fill_added_fields, fill_alternatives, fill_added_alternatives, unfold_loop, opened, all_items, all_alternatives, join_alternatives, closed_seq, field_names, identifiers, tags, tag_eq, has_tag, tags_distinct, alternative_tagged, are_distinct, end_tag}
-use Rattle.asn_traits.specs.Readable.{are_apart, are_identifiers, are_words, all_field_names, is_of_shape, suits, has_alternative, are_told_apart, is_entry, is_readable, is_readable_in, are_fields_readable, are_added_fields_readable, are_alternatives_readable, are_added_alternatives_readable}
+use Rattle.asn_traits.specs.Readable.{are_apart, are_identifiers, are_words, all_field_names, is_of_shape, suits, has_alternative, are_told_apart, is_readable, is_readable_in, are_fields_readable, are_added_fields_readable, are_alternatives_readable, are_added_alternatives_readable}
 
 pub and-left : (a b : Bool) → (a && b) ≡ true → a ≡ true
 and-left true b e = refl
@@ -69,10 +69,6 @@ suits-fill (Presence.default p) s k r e = default-fill s p k r e
 suits-fill Presence.required s k r e = refl
 suits-fill Presence.optional s k r e = refl
 
-entry-fill : (s : Shape) (k : ℕ) (r : Shape) → is_entry s ≡ true → is_entry (fill s k r) ≡ true
-entry-fill (Shape.seq SeqKind.sequence (Fields.field key t Presence.required (Shape.text Alphabet.utf8) (Fields.field value u Presence.required s Fields.no_fields)) FieldAdditions.closed_fields) k r e = e
-entry-fill s k r e = let d : false ≡ true = e in cc d
-
 -- There are as many loops or more, and each that a `back` may mean is still one.
 record Looser (loops bare loops2 bare2 : ℕ) : Type 0 where
   pub more : loops ≤ loops2
@@ -98,7 +94,7 @@ mutual
       (loosen_added_fields added l (and-right (are_fields_readable loops fs) (are_added_fields_readable loops added) parts)))
   loosen (Shape.list_of s) l e = loosen s (within_part l) e
   loosen (Shape.set_of s) l e = loosen s (within_part l) e
-  loosen (Shape.table s) {loops} l e = and-both _ _ (and-left (is_entry s) (is_readable_in loops 0 s) e) (loosen s (within_part l) (and-right (is_entry s) (is_readable_in loops 0 s) e))
+  loosen (Shape.table s) l e = loosen s (within_part l) e
   loosen (Shape.choice alts added) {loops} {bare} {loops2} {bare2} l e =
       let names = has_alternative alts && are_told_apart (all_alternatives alts added) in
       let parts = and-right names (are_alternatives_readable loops alts && are_added_alternatives_readable loops added) e in
@@ -154,8 +150,7 @@ mutual
       (added_fields-readable added k r h (and-right (are_fields_readable (suc k) fs) (are_added_fields_readable (suc k) added) parts)))
   fill-readable (Shape.list_of s) k bare bare2 r h l e = fill-readable s k 0 0 r h (omega arith) e
   fill-readable (Shape.set_of s) k bare bare2 r h l e = fill-readable s k 0 0 r h (omega arith) e
-  fill-readable (Shape.table s) k bare bare2 r h l e =
-      and-both _ _ (entry-fill s k r (and-left (is_entry s) (is_readable_in (suc k) 0 s) e)) (fill-readable s k 0 0 r h (omega arith) (and-right (is_entry s) (is_readable_in (suc k) 0 s) e))
+  fill-readable (Shape.table s) k bare bare2 r h l e = fill-readable s k 0 0 r h (omega arith) e
   fill-readable (Shape.choice alts added) k bare bare2 r h l e =
       let names = has_alternative alts && are_told_apart (all_alternatives alts added) in
       let parts = and-right names (are_alternatives_readable (suc k) alts && are_added_alternatives_readable (suc k) added) e in

@@ -17,3 +17,4 @@ pub mod Writes
 pub mod Tables
 pub mod Root
 pub mod Canonical
+pub mod Around

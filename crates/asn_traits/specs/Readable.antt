@@ -1,8 +1,8 @@
 -- When a shape can be read: its names tell its parts apart, AVN can spell them, and its loops end.
-use Rattle.std.specs.Prelude.{ℕ, suc, ℤ, pos, negsuc, ◌-◌, ◌^◌, int_lt, nat_le, nat_lt, List, [], ◌∷◌, ◌++◌, Bool, true, false, not, ◌&&◌, if◌then◌else◌, codes}
-use Rattle.std.specs.Str.{is_utf8, bytes_eq}
+use Rattle.std.specs.Prelude.{ℕ, suc, ℤ, pos, negsuc, ◌-◌, ◌^◌, int_lt, nat_le, nat_lt, List, [], ◌∷◌, ◌++◌, Bool, true, false, not, ◌&&◌, if◌then◌else◌}
+use Rattle.std.specs.Str.{is_utf8}
 use Rattle.avn_grammar.specs.WellFormed.{is_identifier, is_keyword}
-use Rattle.asn_traits.specs.Shape.{Shape, Fields, FieldAdditions, Alternatives, AlternativeAdditions, Alphabet, SeqKind, Plain, Presence, all_items, all_alternatives, are_distinct, is_item, field_names, identifiers, tags, has_tag, tags_distinct, end_tag}
+use Rattle.asn_traits.specs.Shape.{Shape, Fields, FieldAdditions, Alternatives, AlternativeAdditions, Alphabet, Plain, Presence, all_items, all_alternatives, are_distinct, is_item, field_names, identifiers, tags, has_tag, tags_distinct, end_tag}
 use Rattle.asn_traits.specs.Tree.{same_identifier}
 
 -- An identifier is one of these but for the case of ASCII letters.
@@ -60,11 +60,6 @@ has_alternative (Alternatives.alternative i t s alts) = true
 abbrev pub are_told_apart : Alternatives → Bool
 are_told_apart alts = (are_identifiers (identifiers alts) && are_apart (identifiers alts)) && (tags_distinct (tags alts) && not (has_tag (tags alts) end_tag))
 
--- The shape is a SEQUENCE of two required fields, `key`, a UTF8String, and `value`.
-abbrev pub is_entry : Shape → Bool
-is_entry (Shape.seq SeqKind.sequence (Fields.field key k Presence.required (Shape.text Alphabet.utf8) (Fields.field value v Presence.required s Fields.no_fields)) FieldAdditions.closed_fields) = bytes_eq key (codes "key") && bytes_eq value (codes "value")
-is_entry s = false
-
 abbrev mutual
   -- The shape can be read within so many loops, of which the innermost ones, so many, hold it directly and not as a part of a list, sequence, set, table or choice.
   pub is_readable_in : ℕ → ℕ → Shape → Bool
@@ -74,7 +69,7 @@ abbrev mutual
       (are_identifiers (all_field_names fs added) && are_distinct (all_field_names fs added)) && (are_fields_readable loops fs && are_added_fields_readable loops added)
   is_readable_in loops bare (Shape.list_of s) = is_readable_in loops 0 s
   is_readable_in loops bare (Shape.set_of s) = is_readable_in loops 0 s
-  is_readable_in loops bare (Shape.table s) = is_entry s && is_readable_in loops 0 s
+  is_readable_in loops bare (Shape.table s) = is_readable_in loops 0 s
   is_readable_in loops bare (Shape.choice alts added) =
       (has_alternative alts && are_told_apart (all_alternatives alts added)) && (are_alternatives_readable loops alts && are_added_alternatives_readable loops added)
   is_readable_in loops bare (Shape.loop s) = is_readable_in (suc loops) (suc bare) s
@@ -101,6 +96,6 @@ abbrev mutual
   are_added_alternatives_readable loops AlternativeAdditions.closed_alternatives = true
   are_added_alternatives_readable loops (AlternativeAdditions.extended_alternatives alts) = are_alternatives_readable loops alts
 
--- The shape can be read: names are identifiers of AVN and distinct, identifiers of alternatives differ in more than case, their tags are distinct and none is that of the end of contents, no item is a keyword, a choice has an alternative, a default is a value of its field, a table's entry is a key and a value, integers have at most 128 bits, and each `back` means a loop around it, with a list, sequence, set, table or choice between.
+-- The shape can be read: names are identifiers of AVN and distinct, identifiers of alternatives differ in more than case, their tags are distinct and none is that of the end of contents, no item is a keyword, a choice has an alternative, a default is a value of its field, integers have at most 128 bits, and each `back` means a loop around it, with a list, sequence, set, table or choice between.
 abbrev pub is_readable : Shape → Bool
 is_readable s = is_readable_in 0 0 s

@@ -9,6 +9,8 @@ use Rattle.asn_traits.specs.declared.shape_type.Plain.{Plain}
 use Rattle.asn_traits.specs.declared.shape_type.Plain.TheVariants as plain
 use Rattle.asn_traits.specs.declared.shape_type.PresenceShape.{PresenceShape}
 use Rattle.asn_traits.specs.declared.shape_type.PresenceShape.TheVariants as presence
+use Rattle.asn_traits.specs.declared.shape_type.FieldShape.{FieldShape}
+use Rattle.asn_traits.specs.declared.shape_type.AlternativeShape.{AlternativeShape}
 use Rattle.asn_traits.specs.declared.shape_type.Shape.{Shape}
 use Rattle.asn_traits.specs.declared.shape_type.Shape.TheOpen.{Shape-F, FieldShape-F, AlternativeShape-F, Null, Bool, Int, Bits, Octets, Any, Oid, Str, Bmp, Utc, Gen, Day, Decimal, Enum, Seq, ListOf, SetOf, Table, Choice, Loop, Back}
 use Rattle.asn_traits.specs.declared.shape_type.Shape.TheFolds.{fold-Shape}
@@ -97,3 +99,13 @@ shape_step (Back k) = spec.Shape.back k
 -- The shape that a `Shape` is.
 abbrev pub shape_view : Shape → spec.Shape
 shape_view = fold-Shape spec.Shape (spec.Alternatives → spec.Alternatives) (spec.Fields → spec.Fields) shape_step alternative_step field_step
+
+-- The fields that `FieldShape`s are, in order.
+abbrev pub field_views : List FieldShape → spec.Fields
+field_views [] = spec.Fields.no_fields
+field_views (f ∷ fs) = spec.Fields.field (string_bytes f.name) f.tag (presence_view f.presence) (shape_view f.shape) (field_views fs)
+
+-- The alternatives that `AlternativeShape`s are, in order.
+abbrev pub alternative_views : List AlternativeShape → spec.Alternatives
+alternative_views [] = spec.Alternatives.no_alternatives
+alternative_views (a ∷ alts) = spec.Alternatives.alternative (string_bytes a.identifier) a.tag (shape_view a.shape) (alternative_views alts)

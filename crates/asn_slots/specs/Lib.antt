@@ -1,3 +1,4 @@
 pub mod Frames
 pub mod Pending
 pub mod Slots
+pub mod Trees

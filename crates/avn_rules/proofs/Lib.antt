@@ -1,5 +1,4 @@
 pub mod Building
-pub mod Held
 pub mod Numbers
 pub mod Octets
 pub mod Readings

@@ -1,5 +1,5 @@
 -- Whole texts, read and written.
-use Rattle.std.proofs.Common.{◌≡◌, refl, true, sym, subst, ℕ, List, [], ◌∷◌, Some, None, Result, Ok, Err, ◌⊎◌, inl, inr, String, Global, string_bytes, IfOk, IfErr}
+use Rattle.std.proofs.Common.{◌≡◌, refl, true, ap, sym, ◌∙◌, subst, ℕ, List, [], ◌∷◌, Option, Some, None, Result, Ok, Err, ◌⊎◌, inl, inr, String, Global, string_bytes, IfOk, IfErr}
 use Rattle.std.specs.Prelude.{option_map}
 use Rattle.std.specs.Str.{chars}
 use Rattle.asn_base.specs.declared.codec.Codec.TheVariants.{Avn}
@@ -9,7 +9,7 @@ use Rattle.asn_fault.specs.declared.decode.DecodeError.{DecodeError}
 use Rattle.asn_fault.specs.declared.encode.EncodeError.{EncodeError}
 use Rattle.asn_fault.specs.declared.encode.EncodeErrorKind.TheVariants.{OutOfMemory}
 use Rattle.asn_slots.specs.Slots.{last_present}
-use Rattle.asn_traits.specs.Canonical.{canonical_text}
+use Rattle.asn_traits.specs.Canonical.{avn_tree, canonical_text}
 use Rattle.asn_traits.specs.Notation.{Notation}
 use Rattle.asn_traits.specs.Root.{RootAnswer, Reads}
 use Rattle.asn_traits.specs.Says.{Says}
@@ -18,6 +18,7 @@ use Rattle.asn_traits.specs.Tree.{Tree}
 use Rattle.asn_traits.specs.Value.{Value}
 use Rattle.asn_traits.specs.Writing.{Frame, CannotWrite}
 use Rattle.asn_traits.proofs.Whole.{root_complete}
+use Rattle.avn_grammar.specs.Print.{print}
 use Rattle.avn_grammar.specs.Tree.{Tree as AvnTree}
 use Rattle.avn_grammar.proofs.OneAnswer.{reads-unread, reads-deep}
 use Rattle.avn_grammar.proofs.OneTree.{same_stands}
@@ -70,3 +71,11 @@ pub explained_memory : (text : List ℕ) {stop : Stop} {t : AvnTree} → NoTree 
 explained_memory text (Explains.unexpected_token found u) r = absurd (reads-unread r u)
 explained_memory text (Explains.exceeds_depth d) r = absurd (reads-deep r d)
 explained_memory text Explains.out_of_memory r = refl
+
+-- The text of what is written is the canonical one.
+pub text-held : (o : Option Value) (t : AvnTree) (text : List ℕ) → option_map avn_tree o ≡ Some t → text ≡ print 0 t → option_map (canonical_text Notation.avn) o ≡ Some text
+text-held None t text e h = let x : ◌≡◌ {A = Option AvnTree} None (Some t) = e in cc x
+text-held (Some v) t text e h =
+    let x : ◌≡◌ {A = Option AvnTree} (Some (avn_tree v)) (Some t) = e in
+    let same : avn_tree v ≡ t = cc x in
+    ap Some (ap (print 0) same ∙ sym h)

@@ -1,7 +1,8 @@
 -- Lists, sequences and choices that are taken apart.
-use Rattle.std.proofs.Common.{◌≡◌, refl, ap, sym, ◌∙◌, ℕ, zero, suc, ◌<◌, List, [], ◌∷◌, map, length, Option, Some, None, Bool, true, false, if◌then◌else◌, replicate, String, Global, string_bytes, arith}
+use Rattle.std.proofs.Common.{◌≡◌, refl, ap, sym, ◌∙◌, ℕ, suc, ◌<◌, List, [], ◌∷◌, map, length, Option, Some, None, Bool, true, false, if◌then◌else◌, replicate, String, Global, string_bytes, arith}
 use Rattle.std.specs.Prelude.{option_map, slice_set}
 use Rattle.std.specs.Str.{bytes_eq}
+use Rattle.std.proofs.lemmas.List.{length-map}
 use Rattle.std.proofs.lemmas.Slice.Eq.{bytes_eq-Decides}
 use Rattle.avn_grammar.specs.Tree.{Tree as AvnTree, Trees as AvnTrees, Fields as AvnFields, sequence, sequence_of, choice, tree, no_trees, no_fields, field, absent}
 use Rattle.avn_value.specs.View.{tree_of as avn_tree_of, list_trees, fields_trees}
@@ -42,10 +43,6 @@ field_below (absent m fs) name n h = field_below fs name n h
 look_below : (look : List ℕ → Slot) (names : List (List ℕ)) (n : ℕ) → ((name : List ℕ) → slot_nodes (look name) < n) → AllBelow n (map look names)
 look_below look [] n h = tt
 look_below look (name ∷ names) n h = (h name, look_below look names n h)
-
-pub length-map : {A B : Type 0} (f : A → B) (xs : List A) → length (map f xs) ≡ length xs
-length-map f [] = refl
-length-map f (x ∷ xs) = omega (arith, length-map f xs)
 
 some-clash : {A P : Type 0} (x : A) → None ≡ Some x → P
 some-clash x e = cc e
@@ -200,13 +197,4 @@ entry_passed m v rest names ss e = sym (over-other (string_bytes m) (avn_tree_of
 -- Once every entry is taken the slots are those of all fields.
 pub all_taken : (rest : List Entry) (names : List (List ℕ)) (ss : List (Option AvnValue)) (all : List Slot) → rest ≡ [] → length ss ≡ length names → over (fields_trees rest) names (map slot_of ss) ≡ all → map slot_of ss ≡ all
 all_taken rest names ss all e long h =
-    sym (over-none names (map slot_of ss) (length-map slot_of ss ∙ long)) ∙ ap (λ es. over (fields_trees es) names (map slot_of ss)) (sym e) ∙ h
-
-pub length-replicate : (n : ℕ) → length (replicate {A = Option AvnValue} n None) ≡ n
-length-replicate zero = refl
-length-replicate (suc n) = omega (arith, length-replicate n)
-
-pub length-set : {A : Type 0} (xs : List A) (k : ℕ) (x : A) → length (slice_set xs k x) ≡ length xs
-length-set [] k x = refl
-length-set (y ∷ xs) zero x = refl
-length-set (y ∷ xs) (suc k) x = omega (arith, length-set xs k x)
+    sym (over-none names (map slot_of ss) (length-map ss slot_of ∙ long)) ∙ ap (λ es. over (fields_trees es) names (map slot_of ss)) (sym e) ∙ h

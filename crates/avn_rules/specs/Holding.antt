@@ -1,19 +1,15 @@
 -- What the encoder holds.
-use Rattle.std.specs.Prelude.{◌≡◌, ℕ, List, [], ◌∷◌, map, Option, Some, None, option_map}
+use Rattle.std.specs.Prelude.{ℕ, List, [], ◌∷◌, Option, Some, None}
 use Rattle.avn_grammar.specs.Tree.{Tree as AvnTree, Fields as AvnFields, no_fields, field, absent}
 use Rattle.avn_value.specs.View.{tree_of}
-use Rattle.avn_value.specs.declared.value.AvnValue.{AvnValue}
+use Rattle.asn_slots.specs.Trees.{SameTrees}
 use Rattle.asn_traits.specs.Canonical.{avn_tree}
 use Rattle.asn_traits.specs.Writing.{Frame, head_name, tail_names}
 use Rattle.avn_rules.specs.declared.avn.enc.Encoder.{Encoder}
 
--- The trees of slots.
-abbrev pub trees_of : List (Option AvnValue) → List (Option AvnTree)
-trees_of = map (option_map tree_of)
-
 -- The encoder has the AVN values of these frames.
 abbrev pub Holds : Encoder → List Frame → Type 0
-Holds e fs = map (map (option_map avn_tree)) fs ≡ map trees_of e.frames
+Holds e fs = SameTrees avn_tree tree_of fs e.frames
 
 -- The fields of the slots, each with its name.
 abbrev pub named_fields : List (Option AvnTree) → List (List ℕ) → AvnFields

@@ -1,5 +1,6 @@
 -- What JER writes holds no float.
-use Rattle.std.proofs.Common.{◌≡◌, refl, ap, sym, ◌∙◌, subst, ℕ, ℤ, pos, negsuc, List, Bool, true, false, ◌||◌, Ordering, Less, Equal, Greater, Option, Some, None}
+use Rattle.std.proofs.Common.{◌≡◌, refl, ap, sym, ◌∙◌, subst, ℕ, ℤ, pos, negsuc, List, false, ◌||◌, Ordering, Less, Equal, Greater, Option, Some, None}
+use Rattle.std.proofs.lemmas.Bool.{or_from, or_parts}
 use Rattle.std.specs.Cmp.Lexicographic.{slice_cmp}
 use Rattle.std.specs.Ordering.{nat_cmp, match_ordering}
 use Rattle.std.specs.Prelude.{option_map, IfSome, ◌≤◌}
@@ -12,32 +13,19 @@ use Rattle.asn_traits.specs.Notation.{Notation}
 use Rattle.asn_traits.specs.Value.{Value, Values, Slots}
 use Rattle.jer_rules.specs.Text.{ReadsBack}
 
-either-false : (a b : Bool) → a ≡ false → b ≡ false → (a || b) ≡ false
-either-false true b e h = e
-either-false false b e h = h
-
-left-false : (a b : Bool) → (a || b) ≡ false → a ≡ false
-left-false true b e = e
-left-false false b e = refl
-
-right-false : (a b : Bool) → (a || b) ≡ false → b ≡ false
-right-false true b e = let d : true ≡ false = e in cc d
-right-false false b e = e
-
 ordered-false : (o : Ordering) (a b c : Members) → members_have_float a ≡ false → members_have_float b ≡ false → members_have_float c ≡ false → members_have_float (match_ordering o a b c) ≡ false
 ordered-false Less a b c h j k = h
 ordered-false Equal a b c h j k = j
 ordered-false Greater a b c h j k = k
 
 put-false : (n : List ℕ) (d : Data) (ms : Members) → has_float d ≡ false → members_have_float ms ≡ false → members_have_float (put n d ms) ≡ false
-put-false n d Members.no_members h k = either-false (has_float d) false h refl
+put-false n d Members.no_members h k = or_from (has_float d) false h refl
 put-false n d (Members.member m e ms) h k =
-    let first : has_float e ≡ false = left-false (has_float e) (members_have_float ms) k in
-    let others : members_have_float ms ≡ false = right-false (has_float e) (members_have_float ms) k in
+    let (first, others) = or_parts (has_float e) (members_have_float ms) k in
     ordered-false (slice_cmp nat_cmp n m) (Members.member n d (Members.member m e ms)) (Members.member m d ms) (Members.member m e (put n d ms))
-    (either-false (has_float d) (has_float e || members_have_float ms) h k)
-    (either-false (has_float d) (members_have_float ms) h others)
-    (either-false (has_float e) (members_have_float (put n d ms)) first (put-false n d ms h others))
+    (or_from (has_float d) (has_float e || members_have_float ms) h k)
+    (or_from (has_float d) (members_have_float ms) h others)
+    (or_from (has_float e) (members_have_float (put n d ms)) first (put-false n d ms h others))
 
 integer-false : (n : ℤ) → is_float (of_integer n) ≡ false
 integer-false (pos n) = refl
@@ -49,12 +37,12 @@ mutual
   written-false (Value.int n) = integer-false n
   written-false (Value.members ms) = members-false ms
   written-false (Value.list vs) = items-false vs
-  written-false (Value.choice i v) = either-false (has_float (jer_data v)) false (written-false v) refl
+  written-false (Value.choice i v) = or_from (has_float (jer_data v)) false (written-false v) refl
   written-false v = refl
 
   items-false : (vs : Values) → items_have_float (jer_items vs) ≡ false
   items-false Values.no_values = refl
-  items-false (Values.value v vs) = either-false (has_float (jer_data v)) (items_have_float (jer_items vs)) (written-false v) (items-false vs)
+  items-false (Values.value v vs) = or_from (has_float (jer_data v)) (items_have_float (jer_items vs)) (written-false v) (items-false vs)
 
   members-false : (ms : Slots) → members_have_float (jer_members ms) ≡ false
   members-false Slots.no_slots = refl

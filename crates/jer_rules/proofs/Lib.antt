@@ -1,9 +1,7 @@
-pub mod Stack
 pub mod Readings
 pub mod Taken
 pub mod Choosing
 pub mod Views
-pub mod Held
 pub mod Building
 pub mod Signs
 pub mod Floats

@@ -9,6 +9,7 @@ use Rattle.asn_fault.specs.Unwritten.{WhyUnwritten, encode_why}
 use Rattle.asn_fault.specs.declared.decode.DecodeError.{DecodeError}
 use Rattle.asn_fault.specs.declared.encode.EncodeError.{EncodeError}
 use Rattle.asn_fault.specs.declared.encode.EncodeErrorKind.TheVariants.{OutOfMemory}
+use Rattle.asn_slots.specs.Slots.{last_present}
 use Rattle.asn_traits.specs.Canonical.{canonical_text}
 use Rattle.asn_traits.specs.Notation.{Notation}
 use Rattle.asn_traits.specs.Root.{RootAnswer, Reads}
@@ -16,7 +17,7 @@ use Rattle.asn_traits.specs.Says.{Says}
 use Rattle.asn_traits.specs.Shape.{Shape}
 use Rattle.asn_traits.specs.Tree.{Tree}
 use Rattle.asn_traits.specs.Value.{Value}
-use Rattle.asn_traits.specs.Writing.{Frame, last_present, CannotWrite}
+use Rattle.asn_traits.specs.Writing.{Frame, CannotWrite}
 use Rattle.asn_traits.proofs.Whole.{root_complete}
 use Rattle.jer_rules.specs.Holding.{Holds}
 use Rattle.jer_rules.specs.Text.{IsJer, ReadsBack, RefusesText}

@@ -1,5 +1,6 @@
 -- Arrays and objects that are taken apart.
-use Rattle.std.proofs.Common.{◌≡◌, refl, ap, sym, ◌∙◌, ℕ, zero, suc, ◌<◌, List, [], ◌∷◌, ◌++◌, map, drop, get_or, length, Option, Some, None, Bool, true, false, cond, if◌then◌else◌, String, Global, BTreeMap, Ordering, Less, Equal, Greater, arith}
+use Rattle.std.proofs.Common.{◌≡◌, refl, ap, sym, ◌∙◌, ℕ, ◌<◌, List, [], ◌∷◌, ◌++◌, map, length, Option, Some, None, Bool, true, false, cond, if◌then◌else◌, String, Global, BTreeMap, Ordering, Less, Equal, Greater, arith}
+use Rattle.std.proofs.lemmas.Bool.{false_from_ne_true, iff_false}
 use Rattle.std.proofs.lemmas.Map.Text.{btree_map_updates_text}
 use Rattle.std.proofs.lemmas.Slice.Eq.{bytes_eq-Decides}
 use Rattle.std.specs.BTreeMap.{get_by_text, UpdatesBy}
@@ -20,14 +21,10 @@ use Rattle.serde_json.specs.Find.{get_member}
 use Rattle.serde_json.specs.Data.{put}
 use Rattle.jer_rules.specs.Pending.{tree_of, slot_of}
 
--- The last element goes before what follows.
-pub item_slots-last : (vs : List Value) (v : Value) (rest : List Slot) → item_slots (items_view (vs ++ v ∷ [])) ++ rest ≡ item_slots (items_view vs) ++ (Some (tree_of v) ∷ rest)
-item_slots-last [] v rest = refl
-item_slots-last (x ∷ vs) v rest = ap (λ l. Some (tree_of x) ∷ l) (item_slots-last vs v rest)
-
-pub item_slots-empty : (vs : List Value) (rest : List Slot) → length vs ≡ 0 → item_slots (items_view vs) ++ rest ≡ rest
-item_slots-empty [] rest e = refl
-item_slots-empty (v ∷ vs) rest e = absurd (omega (arith, e))
+-- The elements are present slots.
+pub present_slots : (vs : List Value) → map slot_of (map Some vs) ≡ item_slots (items_view vs)
+present_slots [] = refl
+present_slots (v ∷ vs) = ap (λ l. Some (tree_of v) ∷ l) (present_slots vs)
 
 pub length-item_slots : (vs : List Value) → length (item_slots (items_view vs)) ≡ length vs
 length-item_slots [] = refl
@@ -49,47 +46,21 @@ slot_of-get m name = slot_of-view (get_by_text m name) ∙ ap (option_map Tree.j
 abbrev Entries : Type 0
 Entries = BTreeMap (String Global) Value
 
-same_bytes : (a b : List ℕ) → bytes_eq b a ≡ true → bytes_eq a b ≡ true
-same_bytes a b h = (bytes_eq-Decides a b).1 (sym ((bytes_eq-Decides b a).0 h))
-
-other_bytes_at : (a b : List ℕ) (x : Bool) → bytes_eq b a ≡ x → bytes_eq a b ≡ false → x ≡ false
-other_bytes_at a b true e h = let d : true ≡ false = sym (same_bytes a b e) ∙ h in cc d
-other_bytes_at a b false e h = refl
-
 other_bytes : (a b : List ℕ) → bytes_eq a b ≡ false → bytes_eq b a ≡ false
-other_bytes a b h = other_bytes_at a b (bytes_eq b a) refl h
+other_bytes a b e = false_from_ne_true (bytes_eq b a) (λ same. iff_false (bytes_eq-Decides a b) e (sym ((bytes_eq-Decides b a).0 same)))
 
-first_other : (b rest : Bool) → (if b then true else rest) ≡ false → b ≡ false
-first_other true rest e = let d : true ≡ false = e in cc d
-first_other false rest e = refl
+other_parts : (b rest : Bool) → (if b then true else rest) ≡ false → (b ≡ false) × (rest ≡ false)
+other_parts true rest e = let d : true ≡ false = e in cc d
+other_parts false rest e = (refl, e)
 
-rest_other : (b rest : Bool) → (if b then true else rest) ≡ false → rest ≡ false
-rest_other true rest e = let d : true ≡ false = e in cc d
-rest_other false rest e = e
+distinct_parts : (b rest : Bool) → (if b then false else rest) ≡ true → (b ≡ false) × (rest ≡ true)
+distinct_parts true rest e = let d : false ≡ true = e in cc d
+distinct_parts false rest e = (refl, e)
 
-distinct_first : (b rest : Bool) → (if b then false else rest) ≡ true → b ≡ false
-distinct_first true rest e = let d : false ≡ true = e in cc d
-distinct_first false rest e = refl
-
-distinct_rest : (b rest : Bool) → (if b then false else rest) ≡ true → rest ≡ true
-distinct_rest true rest e = let d : false ≡ true = e in cc d
-distinct_rest false rest e = e
-
--- The names from a place on.
-pub drop-names : (fs : List Field) (i : ℕ) (d : Field) → i < length fs → drop i (names_of fs) ≡ (get_or fs i d).name.now ∷ drop (suc i) (names_of fs)
-drop-names [] i d h = absurd (omega (arith, h))
-drop-names (f ∷ fs) zero d h = refl
-drop-names (f ∷ fs) (suc i) d h = drop-names fs i d (omega (arith, h))
-
--- No later name is the same.
-pub none_later : (fs : List Field) (i : ℕ) (d : Field) → are_distinct (names_of fs) ≡ true → i < length fs → is_item (drop (suc i) (names_of fs)) ((get_or fs i d).name.now) ≡ false
-none_later [] i d e h = absurd (omega (arith, h))
-none_later (f ∷ fs) zero d e h = distinct_first (is_item (names_of fs) f.name.now) (are_distinct (names_of fs)) e
-none_later (f ∷ fs) (suc i) d e h = none_later fs i d (distinct_rest (is_item (names_of fs) f.name.now) (are_distinct (names_of fs)) e) (omega (arith, h))
-
-pub drop-all : (fs : List Field) → drop (length fs) (names_of fs) ≡ []
-drop-all [] = refl
-drop-all (f ∷ fs) = drop-all fs
+-- No name after the field is its own.
+pub none_later : (fs : List Field) (f : Field) (later : List Field) → are_distinct (names_of (fs ++ f ∷ later)) ≡ true → is_item (names_of later) f.name.now ≡ false
+none_later [] f later e = (distinct_parts (is_item (names_of later) f.name.now) (are_distinct (names_of later)) e).0
+none_later (g ∷ fs) f later e = none_later fs f later (distinct_parts (is_item (names_of (fs ++ f ∷ later)) g.name.now) (are_distinct (names_of (fs ++ f ∷ later))) e).1
 
 -- Of the fields, the slots of the last ones are put, and members of other names are still there.
 pub record Put (names : List (List ℕ)) (all now : Entries) (before after : List Slot) : Type 0 where
@@ -105,9 +76,10 @@ pub put_more : (name : List ℕ) (names : List (List ℕ)) (all old new : Entrie
 put_more name names all old new before mid after apart p removed put = record {
   slots = put ∙ ap (λ s. s ∷ mid) (ap slot_of (p.others name apart) ∙ slot_of-get all name) ∙ ap (λ l. member_slot (members_view all.entries) name ∷ l) p.slots;
   others = λ other h.
+      let differ = other_parts (bytes_eq other name) (is_item names other) h in
       btree_map_updates_text name old new None removed other
-      ∙ ap (λ b. cond b None (get_by_text old other)) (other_bytes other name (first_other (bytes_eq other name) (is_item names other) h))
-      ∙ p.others other (rest_other (bytes_eq other name) (is_item names other) h);
+      ∙ ap (λ b. cond b None (get_by_text old other)) (other_bytes other name differ.0)
+      ∙ p.others other differ.1;
 }
 
 below_found : (o : Ordering) (d : Data) (rest : Option Data) (n : ℕ) → data_nodes d < n → slot_nodes (option_map Tree.json rest) < n → slot_nodes (option_map Tree.json (match_ordering o rest (Some d) rest)) < n
@@ -123,7 +95,3 @@ member_below (Members.member k d ms) name n h = below_found (slice_cmp nat_cmp n
 pub members_below : (ms : Members) (names : List (List ℕ)) (n : ℕ) → members_nodes ms < n → AllBelow n (map (member_slot ms) names)
 members_below ms [] n h = tt
 members_below ms (name ∷ names) n h = (member_below ms name n h, members_below ms names n h)
-
-pub length-map : {A B : Type 0} (f : A → B) (xs : List A) → length (map f xs) ≡ length xs
-length-map f [] = refl
-length-map f (x ∷ xs) = omega (arith, length-map f xs)

@@ -1,5 +1,5 @@
 -- What the decoder has still to read.
-use Rattle.std.specs.Prelude.{List, map, reverse, Option, option_map}
+use Rattle.std.specs.Prelude.{List, map, Option, option_map}
 use Rattle.serde_json.specs.View.{view}
 use Rattle.serde_json.specs.declared.value.Value.{Value}
 use Rattle.asn_traits.specs.Tree.{Tree, Slot}
@@ -13,10 +13,6 @@ tree_of v = Tree.json (view v)
 abbrev pub slot_of : Option Value → Slot
 slot_of o = option_map tree_of o
 
--- The slots of a stack, whose last entry is the first one to read.
-abbrev pub slots_of : List (Option Value) → List Slot
-slots_of stack = map slot_of (reverse stack)
-
 -- The slots that are still to be read.
 abbrev pub pending_of : Decoder → List Slot
-pending_of d = slots_of d.stack.items
+pending_of d = map slot_of d.pending

@@ -2,7 +2,8 @@
 ghost use Rattle.asn_traits.specs.Tables.{names_of};
 ghost use Rattle.asn_traits.specs.Writing.{head_name};
 ghost use Rattle.avn_grammar.specs.Tree.{integer, choice};
-ghost use Rattle.avn_rules.specs.Holding.{named_fields, trees_of};
+ghost use Rattle.asn_slots.specs.Trees.{trees_of};
+ghost use Rattle.avn_rules.specs.Holding.{named_fields};
 ghost use Rattle.avn_value.specs.View.{tree_of, fields_trees};
 ghost use Rattle.asn_base.specs.Numbers.{signed};
 ghost use Rattle.std.specs.Fmt.{signed_decimal};
@@ -31,7 +32,7 @@ pub fn fields_of(
     slots: Vec<Option<AvnValue>>,
     fields: &[Field],
 ) -> Result<Vec<(String, Option<AvnValue>)>, OutOfMemory>
-    ensures { IfOk result (λ v. fields_trees v.items ≡ named_fields (trees_of slots.items) (names_of fields.now)) }
+    ensures { IfOk result (λ v. fields_trees v.items ≡ named_fields (trees_of tree_of slots.items) (names_of fields.now)) }
 {
     let mut named = Vec::new(alloc);
     for slot in slots {

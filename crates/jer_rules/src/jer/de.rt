@@ -14,6 +14,7 @@ use super::floats::holds_float;
 use super::parts::{into_items, into_members, into_payload, into_text, whole_parts};
 use asn_base::{Codec, Constraints, IntegerType, Tag};
 use asn_fault::DecodeError;
+use asn_slots::Pending;
 use asn_traits::{Enumerated, Field};
 use serde_json::Value;
 use std::alloc::Global;
@@ -22,8 +23,7 @@ use std::alloc::Global;
 #[derive(Drop)]
 pub struct Decoder {
     alloc: Global,
-    // The slots to read, the first one last.
-    stack: Vec<Option<Value>>,
+    pending: Pending<Value>,
 }
 
 impl Decoder {
@@ -61,8 +61,9 @@ impl Decoder {
         ensures tree { IfOk result (λ d. pending_of d ≡ Some (tree_of value) ∷ []) }
         ensures refused { IfErr result (λ e. error_stop e ≡ at_root Why.out_of_memory Jer) }
     {
-        match Vec::from_array(alloc, [Some(value)]) {
-            Ok(stack) => Ok(Decoder { alloc, stack }),
+        let mut pending = Pending::new(alloc);
+        match pending.put(Some(value)) {
+            Ok(()) => Ok(Decoder { alloc, pending }),
             Err(_) => Err(DecodeError::out_of_memory(Codec::Jer)),
         }
     }
@@ -73,7 +74,7 @@ impl Decoder {
             (tree_of v) ∷ pending_of self.new) (λ e. (s : Shape) → Refuses Notation.jer
             (Stops Notation.jer s (head_slot (pending_of self.old))) (error_stop e)) }
     {
-        match self.stack.pop() {
+        match self.pending.take() {
             Some(Some(value)) => Ok(value),
             Some(None) => Err(end_of_input()),
             None => Err(end_of_input()),
@@ -85,7 +86,7 @@ impl Decoder {
         ensures { MatchResult result (λ _. pending_of self.new ≡ slot_of slot ∷ pending_of self.old)
             (λ e. error_stop e ≡ at_root Why.out_of_memory Jer) }
     {
-        match self.stack.push(slot) {
+        match self.pending.put(slot) {
             Ok(()) => Ok(()),
             Err(_) => Err(DecodeError::out_of_memory(Codec::Jer)),
         }
@@ -160,42 +161,35 @@ impl asn_traits::Decoder for Decoder {
     }
 
     fn take_absent(&mut self) -> Result<bool, DecodeError> {
-        match self.stack.pop() {
-            Some(Some(value)) => {
-                self.stack.push_reserved(Some(value));
-                Ok(false)
-            }
-            Some(None) => Ok(true),
+        match self.pending.take_absent() {
+            Some(absent) => Ok(absent),
             None => Err(end_of_input()),
         }
     }
 
     fn open_list(&mut self) -> Result<usize, DecodeError> {
         match into_items(self.take()?) {
-            Ok(mut items) => {
+            Ok(items) => {
                 let count = items.len();
-                while let Some(item) = items.pop() {
-                    self.put(Some(item))?;
+                match self.pending.put_present(items) {
+                    Ok(()) => Ok(count),
+                    Err(_) => Err(DecodeError::out_of_memory(Codec::Jer)),
                 }
-                Ok(count)
             }
             Err(other) => Err(mismatch(self.alloc, "array", &other)),
         }
     }
 
     fn open_members(&mut self, fields: &[Field]) -> Result<(), DecodeError> {
-        match into_members(self.take()?) {
-            Ok(mut members) => {
-                let mut left = fields.len();
-                while left > 0 {
-                    left -= 1;
-                    let member = members.remove(fields[left].name);
-                    self.put(member)?;
-                }
-                Ok(())
-            }
-            Err(other) => Err(no_object(self.alloc, &other)),
+        let mut members = match into_members(self.take()?) {
+            Ok(members) => members,
+            Err(other) => return Err(no_object(self.alloc, &other)),
+        };
+        for field in fields.iter().rev() {
+            let member = members.remove(field.name);
+            self.put(member)?;
         }
+        Ok(())
     }
 
     fn open_choice(&mut self, identifiers: &[&'static str]) -> Result<Option<usize>, DecodeError> {

@@ -4,31 +4,30 @@ ghost use Rattle.asn_base.specs.declared.codec.Codec.TheVariants.{Jer};
 ghost use Rattle.asn_fault.specs.Unwritten.{WhyUnwritten, encode_why};
 ghost use Rattle.asn_traits.specs.Canonical.{jer_data, canonical_text};
 ghost use Rattle.asn_traits.specs.Notation.{Notation};
-ghost use Rattle.asn_traits.specs.Writing.{Frame, last_present};
+ghost use Rattle.asn_slots.specs.Frames.{join};
+ghost use Rattle.asn_slots.specs.Slots.{last_present};
+ghost use Rattle.asn_traits.specs.Writing.{Frame};
 ghost use Rattle.jer_rules.specs.Text.{ReadsBack};
 ghost use Rattle.serde_json.specs.View.{view};
-ghost use Rattle.std.specs.Prelude.{◌≡◌, ◌⊎◌, ◌∷◌, [], ◌++◌, Option, Some, None, OnOk, IfOk, IfErr, IfSome, option_map, string_bytes};
+ghost use Rattle.std.specs.Prelude.{◌≡◌, ◌⊎◌, ◌∷◌, [], Option, Some, None, OnOk, IfOk, IfErr, IfSome, option_map, string_bytes};
 
-use super::build::{add, array_of, first_slot, last_value, object_of, one_member, whole_number};
+use super::build::{choice_of, integer_of, members_of};
 use asn_base::{Codec, Constraints, Identifier, IntegerType, Tag, WholeNumber};
 use asn_fault::{CodecEncodeError, EncodeError, EncodeErrorKind, JerEncodeErrorKind};
+use asn_slots::{Frames, first_slot, last_value, present_values};
 use asn_traits::{Enumerated, Field};
 use serde_json::Value;
 use std::alloc::Global;
-use std::mem;
 
 /// A writer of one JSON value.
 #[derive(Drop)]
 pub struct Encoder {
     alloc: Global,
-    // The slots of the last frame.
-    current: Vec<Option<Value>>,
-    // Those of the frames below it, the root's first.
-    below: Vec<Vec<Option<Value>>>,
+    frames: Frames<Value>,
 }
 
 impl Encoder {
-    ghost use Rattle.jer_rules.specs.Holding.{Holds, join, held, below_of};
+    ghost use Rattle.jer_rules.specs.Holding.{Holds};
 
     /// A writer that holds nothing at its root.
     pub fn new(alloc: Global) -> Encoder
@@ -36,8 +35,7 @@ impl Encoder {
     {
         Encoder {
             alloc,
-            current: Vec::new(alloc),
-            below: Vec::new(alloc),
+            frames: Frames::new(alloc),
         }
     }
 
@@ -51,7 +49,8 @@ impl Encoder {
         ensures none { IfErr result (λ e. (f : Frame) → Holds self (f ∷ [])
             → last_present f ≡ None) }
     {
-        match last_value(self.current) {
+        let mut frames = self.frames;
+        match last_value(frames.close()) {
             Some(value) => Ok(value),
             None => Err(jer_error(JerEncodeErrorKind::NoRootValueFound)),
         }
@@ -78,23 +77,13 @@ impl Encoder {
 
     // Puts a slot into the last frame.
     fn put(&mut self, slot: Option<Value>) -> Result<(), EncodeError>
-        ensures added { OnOk result (self.new.current.items ≡ self.old.current.items ++ slot ∷ []) }
-        ensures kept { self.new.below ≡ self.old.below }
+        ensures added { OnOk result (self.new.frames ≡ join slot self.old.frames) }
         ensures refused { IfErr result (λ e. e.kind ≡ EncodeErrorKind.OutOfMemory) }
     {
-        add(&mut self.current, slot)
-    }
-
-    // Takes the last frame away.
-    fn leave(&mut self) -> Vec<Option<Value>>
-        ensures given { result ≡ self.old.current }
-        ensures below { (s : _) → join s (held self.new) ≡ join s (below_of self.old) }
-    {
-        let frame = match self.below.pop() {
-            Some(frame) => frame,
-            None => Vec::new(self.alloc),
-        };
-        mem::replace(&mut self.current, frame)
+        match self.frames.add(slot) {
+            Ok(()) => Ok(()),
+            Err(_) => Err(EncodeError::out_of_memory(Codec::Jer)),
+        }
     }
 }
 
@@ -150,7 +139,7 @@ impl asn_traits::Encoder for Encoder {
         _identifier: Identifier,
     ) -> Result<(), EncodeError> {
         let (negative, magnitude) = value.parts();
-        match whole_number(negative, magnitude) {
+        match integer_of(negative, magnitude) {
             Some(number) => self.put(Some(Value::Number(number))),
             None => Err(jer_error(JerEncodeErrorKind::ExceedsSupportedIntSize {
                 value: WholeNumber {
@@ -191,30 +180,36 @@ impl asn_traits::Encoder for Encoder {
     }
 
     fn open_frame(&mut self) -> Result<(), EncodeError> {
-        let frame = mem::replace(&mut self.current, Vec::new(self.alloc));
-        add(&mut self.below, frame)
+        match self.frames.open() {
+            Ok(()) => Ok(()),
+            Err(_) => Err(EncodeError::out_of_memory(Codec::Jer)),
+        }
     }
 
     fn close_list(&mut self) -> Result<(), EncodeError> {
-        let slots = self.leave();
-        let items = array_of(self.alloc, slots)?;
-        self.put(Some(Value::Array(items)))
+        let slots = self.frames.close();
+        match present_values(self.alloc, slots) {
+            Ok(items) => self.put(Some(Value::Array(items))),
+            Err(_) => Err(EncodeError::out_of_memory(Codec::Jer)),
+        }
     }
 
     fn close_members(&mut self, fields: &[Field]) -> Result<(), EncodeError> {
-        let slots = self.leave();
-        let members = object_of(self.alloc, slots, fields)?;
-        self.put(Some(Value::Object(members)))
+        let slots = self.frames.close();
+        match members_of(self.alloc, slots, fields) {
+            Ok(members) => self.put(Some(Value::Object(members))),
+            Err(_) => Err(EncodeError::out_of_memory(Codec::Jer)),
+        }
     }
 
     fn close_choice(&mut self, identifier: &'static str) -> Result<(), EncodeError> {
-        let slots = self.leave();
-        match first_slot(slots) {
-            Some(value) => {
-                let members = one_member(self.alloc, identifier, value)?;
-                self.put(Some(Value::Object(members)))
-            }
-            None => self.put(None),
+        let slots = self.frames.close();
+        let Some(payload) = first_slot(slots) else {
+            return self.put(None);
+        };
+        match choice_of(self.alloc, identifier, payload) {
+            Ok(choice) => self.put(Some(choice)),
+            Err(_) => Err(EncodeError::out_of_memory(Codec::Jer)),
         }
     }
 }

@@ -1,11 +1,17 @@
-use Rattle.std.proofs.Common.{ap, ◌∙◌}
-use Rattle.avn_rules.proofs.Building.{name_at-get_or, name_at-past}
+use Rattle.std.proofs.Common.{ap, sym, ◌∙◌, drop-cons}
+use Rattle.std.proofs.Math.ListN.{drop_of_length-le}
+use Rattle.std.proofs.lemmas.List.{drop-map}
+use Rattle.asn_traits.specs.Tables.{names_of}
+use Rattle.asn_traits.specs.Writing.{head_name}
 use Rattle.avn_rules.proofs.avn.build.field_name.Goals as goal
 
 pub returns-in-Some : goal.returns-in-Some
 returns-in-Some c =
+    let fields = c.args.fields.now in
     let found = c.in-Some.ensures.lookup in
-    ap (λ f. f.name.now) found.1 ∙ name_at-get_or c.args.fields.now c.args.place _ found.3.0
+    ap (λ f. f.name.now) found.1 ∙ sym (ap head_name (drop-map (λ f. f.name.now) c.args.place fields ∙ ap names_of (drop-cons fields c.args.place _ found.3.0)))
 
 pub returns-in-None : goal.returns-in-None
-returns-in-None c = name_at-past c.args.fields.now c.args.place c.in-None.ensures.lookup.3
+returns-in-None c =
+    let fields = c.args.fields.now in
+    sym (ap head_name (drop-map (λ f. f.name.now) c.args.place fields ∙ ap names_of (drop_of_length-le fields c.in-None.ensures.lookup.3)))

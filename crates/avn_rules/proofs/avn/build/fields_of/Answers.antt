@@ -1,9 +1,10 @@
 use Rattle.std.proofs.Common.{◌≡◌, ap, ◌∙◌, sym, drop, length, suc, arith}
 use Rattle.asn_traits.specs.Tables.{names_of}
 use Rattle.asn_traits.specs.Writing.{head_name}
-use Rattle.avn_value.specs.View.{fields_trees}
+use Rattle.avn_value.specs.View.{tree_of, fields_trees}
 use Rattle.avn_value.proofs.Joins.{join}
-use Rattle.avn_rules.specs.Holding.{named_fields, trees_of}
+use Rattle.asn_slots.specs.Trees.{trees_of}
+use Rattle.avn_rules.specs.Holding.{named_fields}
 use Rattle.avn_rules.proofs.Building.{fields-named, all-named, no_items}
 use Rattle.avn_rules.proofs.avn.build.fields_of.Goals as goal
 
@@ -16,7 +17,7 @@ loop-slot-preserved c =
     let named = c.in_ok-name.ensures.ok ∙ c.field_name.ensures ∙ ap (λ k. head_name (drop k names)) place in
     let more : length ys.items ≡ suc (length xs.items) = omega (arith, c.in_ok-push.ensures.len, xs.ok.0, ys.ok.0) in
     fields-named xs.items ys.items c.in_ok-name.name c.in-Some.slot c.next.new.self.rest.items names c.in_ok-push.ensures.items named more
-    ∙ ap (λ ss. join (fields_trees xs.items) (named_fields (trees_of ss) (drop (length xs.items) names))) (sym c.in-Some.ensures.steps.0)
+    ∙ ap (λ ss. join (fields_trees xs.items) (named_fields (trees_of tree_of ss) (drop (length xs.items) names))) (sym c.in-Some.ensures.steps.0)
     ∙ c.loop-slot.invariant
 
 pub returns : goal.returns

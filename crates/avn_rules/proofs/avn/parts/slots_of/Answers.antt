@@ -1,22 +1,23 @@
 use Rattle.std.proofs.Common.{◌≡◌, ◌∷◌, ap, ◌∙◌, sym, length, map, arith, Some, None, replicate}
+use Rattle.std.proofs.lemmas.List.{length-map, length-replicate, length-set}
 use Rattle.asn_traits.specs.Tables.{names_of}
 use Rattle.avn_value.specs.View.{fields_trees}
 use Rattle.avn_rules.specs.Pending.{slot_of}
 use Rattle.avn_rules.proofs.Building.{no_items}
-use Rattle.avn_rules.proofs.Taken.{over, entry_put, entry_passed, all_taken, over-absent, length-map, length-replicate, length-set}
+use Rattle.avn_rules.proofs.Taken.{over, entry_put, entry_passed, all_taken, over-absent}
 use Rattle.avn_rules.proofs.avn.parts.slots_of.Goals as goal
 
 pub loop-name-init : goal.loop-name-init
 loop-name-init c =
     let names = names_of c.args.fields.now in
     let ss = c.in_ok-slots.slots.items in
-    let absent : ss ≡ replicate (length names) None = c.in_ok-slots.ensures ∙ ap (λ k. replicate k None) (sym (length-map (λ f. f.name.now) c.args.fields.now)) in
+    let absent : ss ≡ replicate (length names) None = c.in_ok-slots.ensures ∙ ap (λ k. replicate k None) (sym (length-map c.args.fields.now (λ f. f.name.now))) in
     record {
       taken =
           ap (λ es. over (fields_trees es) names (map slot_of ss)) c.into_iter-name-iterator.ensures.into_iter_gives.0
           ∙ ap (λ l. over (fields_trees c.args.entries.items) names (map slot_of l)) absent
           ∙ over-absent (fields_trees c.args.entries.items) names;
-      each = ap length absent ∙ length-replicate (length names);
+      each = ap length absent ∙ length-replicate (length names) None;
     }
 
 pub returns : goal.returns

@@ -4,8 +4,8 @@ use Rattle.serde_json.specs.Data.{put}
 use Rattle.serde_json.specs.View.{view, members_view}
 use Rattle.jer_rules.proofs.jer.build.insert.Goals as goal
 
-pub returns-in-Ok-insert-clause-put : goal.returns-in-Ok-insert-clause-put
-returns-in-Ok-insert-clause-put c =
-    ap members_view c.in-Ok-insert.ensures.entries
-    ∙ members_view-insert_entry c.args.members.now.entries c.in-Ok.key c.args.value
-    ∙ ap (λ k. put k (view c.args.value) (members_view c.args.members.now.entries)) c.in-Ok.ensures.ok
+pub returns : goal.returns
+returns c =
+    ap members_view c.in_ok-insert.ensures.entries
+    ∙ members_view-insert_entry c.args.members.now.entries c.in_ok-key.key c.args.value
+    ∙ ap (λ k. put k (view c.args.value) (members_view c.args.members.now.entries)) c.in_ok-key.ensures.ok

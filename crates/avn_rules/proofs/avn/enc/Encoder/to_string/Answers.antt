@@ -1,4 +1,4 @@
-use Rattle.avn_rules.proofs.Held.{text-held}
+use Rattle.avn_rules.proofs.Roots.{text-held}
 use Rattle.asn_slots.specs.Slots.{last_present}
 use Rattle.avn_rules.proofs.avn.enc.Encoder.to_string.Goals as goal
 

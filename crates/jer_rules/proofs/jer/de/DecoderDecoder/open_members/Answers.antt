@@ -1,47 +1,44 @@
-use Rattle.std.proofs.Common.{arith, refl, length, map, ◌≡◌, [], suc, ◌<◌, ◌-◌}
-use Rattle.asn_base.specs.declared.tag.Class.TheVariants.{Universal}
-use Rattle.asn_base.specs.declared.tag_tree.TagTree.TheVariants.{Leaf}
-use Rattle.asn_traits.specs.declared.types.Field.{Field}
-use Rattle.asn_traits.specs.declared.types.Presence.TheVariants.{Required}
+use Rattle.std.proofs.Common.{◌≡◌, ◌++◌, ◌∷◌, [], ap, ◌∙◌, sym, refl, arith, map, append_assoc, append-nil}
+use Rattle.std.proofs.lemmas.List.{length-map, nil_from_length}
 use Rattle.serde_json.specs.View.{members_view}
 use Rattle.asn_traits.specs.Opening.{HasMembers}
+use Rattle.asn_traits.specs.Shape.{are_distinct}
 use Rattle.asn_traits.specs.Tables.{names_of}
 use Rattle.asn_traits.specs.Tree.{member_slot}
 use Rattle.asn_traits.proofs.Refusing.{no_members}
 use Rattle.jer_rules.specs.Pending.{pending_of}
 use Rattle.jer_rules.proofs.Readings.{members-none}
-use Rattle.jer_rules.proofs.Taken.{put_none, put_more, drop-names, drop-all, none_later, members_below, length-map}
+use Rattle.jer_rules.proofs.Taken.{put_none, put_more, none_later, members_below}
 use Rattle.jer_rules.proofs.jer.de.DecoderDecoder.open_members.Goals as goal
 
-pub loop-left-init : goal.loop-left-init
-loop-left-init c = (omega arith, rw (drop-all c.args.fields.now) (put_none _ _))
+pub loop-field-init : goal.loop-field-init
+loop-field-init c =
+    let rest = ap (λ r. r.iter.rest.now) c.into_iter-field-iterator.ensures.into_iter_gives ∙ ap (λ i. i.rest.now) c.rev-field-items.ensures.source ∙ c.iter.ensures.rest in
+    ([], sym (append-nil _ ∙ rest), put_none _ _)
 
--- What an index past the end would give.
-no_field : Field
-no_field = record { index = 0; tag = record { class = Universal; value = 0 }; tag_tree = Leaf (record { class = Universal; value = 0 }); presence = Required; name = record { ref_ptr = (0, 0); now = [] } }
+pub loop-field-preserved : goal.loop-field-preserved
+loop-field-preserved c =
+    let f = c.in-Some.field.now in
+    let fs = c.next.new.self.iter.rest.now in
+    let inv = c.loop-field.invariant in
+    let later = inv.0 in
+    let all : c.args.fields.now ≡ fs ++ f ∷ later = inv.1 ∙ ap (λ l. l ++ later) c.in-Some.ensures.steps ∙ append_assoc fs (f ∷ []) later in
+    let apart = none_later fs f later (ap (λ l. are_distinct (names_of l)) (sym all) ∙ c.requires) in
+    (f ∷ later, all, put_more _ _ _ _ _ _ _ _ apart inv.2 c.remove-member.ensures.updates (rw c.remove-member.ensures.value at c.in_ok-put.ensures))
 
-pub loop-left-preserved : goal.loop-left-preserved
-unfolding no_field
-loop-left-preserved c =
-    let fields = c.args.fields.now in
-    let i = c.loop-left.left - 1 in
-    let below : i < length fields = omega (arith, c.loop-left.invariant.0, c.loop-left-test.true) in
-    let next : suc i ≡ c.loop-left.left = omega (arith, c.loop-left-test.true) in
-    let before = rw (← next) at c.loop-left.invariant.1 in
-    (omega arith, rw (drop-names fields i no_field below) (put_more _ _ _ _ _ _ _ _ (none_later fields i no_field c.requires below) before c.remove-member.ensures.updates (rw c.remove-member.ensures.value at c.in_ok-put-in-Ok.ensures)))
-
-pub returns-after-loop-left : goal.returns-after-loop-left
-returns-after-loop-left c =
+pub returns : goal.returns
+returns c =
     let es = c.in-Ok.members.entries in
     let names = names_of c.args.fields.now in
-    let none : c.loop-left.left ≡ 0 = omega arith in
-    let put = rw none at c.loop-left.invariant.1 in (
+    let inv = c.loop-field.invariant in
+    let all : inv.0 ≡ c.args.fields.now = sym (inv.1 ∙ ap (λ l. l ++ inv.0) (nil_from_length _ c.in-None.ensures.steps.0)) in
+    let put = rw all at inv.2 in (
       _,
       map (member_slot (members_view es)) names,
       pending_of c.take.new.self,
       rw c.in-Ok.ensures at c.in_ok-take.ensures,
       put.slots,
-      length-map (member_slot (members_view es)) names,
+      length-map names (member_slot (members_view es)),
       members_below (members_view es) names _ (omega arith),
       HasMembers.has_members names _ (member_slot (members_view es)) refl,
     )

@@ -1,4 +1,4 @@
-use Rattle.asn_traits.specs.Writing.{last_present}
+use Rattle.asn_slots.specs.Slots.{last_present}
 use Rattle.jer_rules.proofs.Floats.{text-held, back-held}
 use Rattle.jer_rules.proofs.jer.enc.Encoder.to_string.Goals as goal
 

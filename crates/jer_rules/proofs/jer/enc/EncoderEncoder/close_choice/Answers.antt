@@ -1,18 +1,22 @@
-use Rattle.std.proofs.Common.{ap, ◌∙◌, sym}
+use Rattle.std.proofs.Common.{ap, Some, None, ◌∙◌}
+use Rattle.std.specs.Prelude.{option_map}
 use Rattle.std.proofs.lemmas.Result.{on_ok_weaker}
+use Rattle.serde_json.specs.View.{view}
+use Rattle.asn_slots.proofs.Trees.{frame_closed}
+use Rattle.asn_traits.specs.Canonical.{jer_data}
 use Rattle.asn_traits.specs.Writing.{as_choice}
-use Rattle.jer_rules.specs.Holding.{first_of}
-use Rattle.jer_rules.proofs.Building.{choice_built, no_choice_built}
-use Rattle.jer_rules.proofs.Held.{close_turns}
+use Rattle.jer_rules.specs.Holding.{one_member}
+use Rattle.jer_rules.proofs.Building.{choice_built}
 use Rattle.jer_rules.proofs.jer.enc.EncoderEncoder.close_choice.Goals as goal
 
-pub returns-in_ok-members-in-Some-clause-closed : goal.returns-in_ok-members-in-Some-clause-closed
-returns-in_ok-members-in-Some-clause-closed c =
-    let first = sym (c.in-Some.ensures ∙ ap (λ v. first_of v.items) c.leave-slots.ensures.given) in
-    let built = choice_built _ _ c.args.identifier.now c.in-Some.value c.in_ok-members-in-Some.ensures.member first in
-    on_ok_weaker c.put.result (λ a. close_turns (as_choice c.args.identifier.now) c.args.self.now c.leave-slots.new.self c.put.new.self _ built c.leave-slots.ensures.below a c.put.ensures.kept) c.put.ensures.added
+pub returns-in_default-clause-closed : goal.returns-in_default-clause-closed
+returns-in_default-clause-closed c =
+    let id = c.args.identifier.now in
+    let built = choice_built None _ id (ap (λ o. option_map (one_member id) (option_map view o)) c.in_default.ensures) in
+    on_ok_weaker c.put.result (λ a. frame_closed jer_data view (as_choice id) _ _ _ _ _ c.close-slots.ensures built a) c.put.ensures.added
 
-pub returns-in-None-clause-closed : goal.returns-in-None-clause-closed
-returns-in-None-clause-closed c =
-    let built = no_choice_built _ c.args.identifier.now (sym (c.in-None.ensures ∙ ap (λ v. first_of v.items) c.leave-slots.ensures.given)) in
-    on_ok_weaker c.put-in-None.result (λ a. close_turns (as_choice c.args.identifier.now) c.args.self.now c.leave-slots.new.self c.put-in-None.new.self _ built c.leave-slots.ensures.below a c.put-in-None.ensures.kept) c.put-in-None.ensures.added
+pub returns-in-Ok-clause-closed : goal.returns-in-Ok-clause-closed
+returns-in-Ok-clause-closed c =
+    let id = c.args.identifier.now in
+    let built = choice_built (Some c.in-Ok.choice) _ id (ap Some c.in-Ok.ensures ∙ ap (λ o. option_map (one_member id) (option_map view o)) c.in-Some.ensures) in
+    on_ok_weaker c.put-in-Ok.result (λ a. frame_closed jer_data view (as_choice id) _ _ _ _ _ c.close-slots.ensures built a) c.put-in-Ok.ensures.added

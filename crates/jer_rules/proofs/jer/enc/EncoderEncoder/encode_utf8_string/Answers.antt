@@ -4,7 +4,9 @@ use Rattle.std.proofs.lemmas.Str.{is_utf8-from_IsUtf8}
 use Rattle.std.specs.Str.{is_utf8}
 use Rattle.serde_json.specs.Data.{Data}
 use Rattle.asn_traits.specs.Value.{Fits}
-use Rattle.jer_rules.proofs.Held.{put_turns}
+use Rattle.serde_json.specs.View.{view}
+use Rattle.asn_slots.proofs.Trees.{slot_added}
+use Rattle.asn_traits.specs.Canonical.{jer_data}
 use Rattle.jer_rules.proofs.Views.{view-String}
 use Rattle.jer_rules.proofs.jer.enc.EncoderEncoder.encode_utf8_string.Goals as goal
 
@@ -12,7 +14,7 @@ pub returns-in-Ok-clause-written : goal.returns-in-Ok-clause-written
 returns-in-Ok-clause-written c =
     let text : is_utf8 c.args.value.now ≡ true = is_utf8-from_IsUtf8 _ c.utf8.value in
     on_ok_weaker c.put.result (λ a. record {
-      added = put_turns c.args.self.now c.put.new.self _ _ (ap Some (view-String _ ∙ ap Data.string c.in-Ok.ensures.ok)) a c.put.ensures.kept;
+      added = slot_added jer_data view _ _ _ _ (ap Some (view-String _ ∙ ap Data.string c.in-Ok.ensures.ok)) a;
       fit = Fits.fits_utf8 text;
       writable = text;
     }) c.put.ensures.added

@@ -11,3 +11,4 @@ pub mod Whole
 pub mod Readables
 pub mod Written
 pub mod Viewing
+pub mod FieldSteps

@@ -5,3 +5,6 @@ pub mod Struct
 pub mod Renamed
 pub mod WithNullOpt
 pub mod Nested
+pub mod Inner
+pub mod SimpleChoice
+pub mod ExtChoice

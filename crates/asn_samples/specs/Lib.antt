@@ -8,3 +8,4 @@ pub mod Nested
 pub mod Inner
 pub mod SimpleChoice
 pub mod ExtChoice
+pub mod Nest

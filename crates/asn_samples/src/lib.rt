@@ -4,6 +4,7 @@
 mod ext_choice;
 mod ext_enum;
 mod inner;
+mod nest;
 mod nested;
 mod renamed;
 mod simple_choice;
@@ -14,6 +15,7 @@ mod with_null_opt;
 pub use ext_choice::ExtChoice;
 pub use ext_enum::ExtEnum;
 pub use inner::Inner;
+pub use nest::Nest;
 pub use nested::Nested;
 pub use renamed::Renamed;
 pub use simple_choice::SimpleChoice;

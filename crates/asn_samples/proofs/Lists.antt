@@ -1,5 +1,5 @@
 -- A nest is what its list is.
-use Rattle.std.proofs.Common.{◌≡◌, List, [], ◌∷◌, map, sym, ◌∙◌, ap, refl, subst}
+use Rattle.std.proofs.Common.{◌≡◌, List, ◌∷◌, sym, ◌∙◌, ap, subst}
 use Rattle.asn_fault.specs.declared.encode.EncodeError.{EncodeError}
 use Rattle.asn_traits.specs.Notation.{Notation}
 use Rattle.asn_traits.specs.Shape.{Shape}
@@ -12,7 +12,7 @@ use Rattle.asn_samples.specs.Nest.{nest_shape, nest_step, nest_value}
 use Rattle.asn_samples.specs.declared.nest.Nest.{Nest}
 use Rattle.asn_samples.specs.declared.nest.Nest.TheOpen.{Nest-F}
 use Rattle.asn_samples.specs.declared.nest.Nest.TheViews.{out-Nest, roll-Nest}
-use Rattle.asn_samples.specs.declared.nest.Nest.TheFolds.{fold-Nest, fold_out-Nest, fold-roll-Nest}
+use Rattle.asn_samples.specs.declared.nest.Nest.TheFolds.{fold_out-Nest, fold-roll-Nest}
 use Rattle.asn_traits.proofs.Collecting.{values-map}
 
 value_out : (n : Nest) → nest_value n ≡ Value.list (values nest_value (out-Nest n).0.items)

@@ -9,3 +9,4 @@ pub mod Inner
 pub mod SimpleChoice
 pub mod ExtChoice
 pub mod Nest
+pub mod Samples

@@ -1,5 +1,5 @@
 -- Steps of reading and writing the fields of a SEQUENCE, by the calls on a single field.
-use Rattle.std.proofs.Common.{◌≡◌, refl, ap, sym, ◌∙◌, subst, ℕ, suc, List, [], ◌∷◌, ◌++◌, length, Option, Some, None, Ok, true, false, ◌⊎◌, inl, inr, option_map}
+use Rattle.std.proofs.Common.{◌≡◌, refl, ap, sym, ◌∙◌, ℕ, List, [], ◌∷◌, ◌++◌, length, Option, Some, None, Ok, ◌⊎◌, option_map}
 use Rattle.asn_base.specs.declared.codec.Codec.{Codec}
 use Rattle.asn_base.specs.declared.tag.Tag.{Tag}
 use Rattle.asn_fault.specs.Stop.{Stop, Why, wrapped, at_root}
@@ -8,11 +8,11 @@ use Rattle.asn_traits.specs.Notation.{Notation, notation_of}
 use Rattle.asn_traits.specs.Shape.{Shape, Fields, Presence, field_names}
 use Rattle.asn_traits.specs.Tree.{Slot, head_slot}
 use Rattle.asn_traits.specs.Value.{Value, Slots}
-use Rattle.asn_traits.specs.Says.{Says, SaysFields}
+use Rattle.asn_traits.specs.Says.{SaysFields}
 use Rattle.asn_traits.specs.Stops.{Stops, StopsFields, Path}
 use Rattle.asn_traits.specs.Answer.{OptionalAnswer, OptionalStops, Refuses}
 use Rattle.asn_traits.specs.FieldAnswer.{AddsSlot, TakesSlot, WithinField}
-use Rattle.asn_traits.specs.Writing.{Frame, named, head_name, tail_names, Filled, Written, CannotWrite, CannotFill, Writable}
+use Rattle.asn_traits.specs.Writing.{Frame, named, head_name, tail_names, Filled, CannotFill}
 use Rattle.asn_traits.proofs.Filling.{fill_present, fill_absent}
 use Rattle.asn_traits.proofs.Steps.{refuses_by, within_refuses}
 use Rattle.asn_traits.proofs.Taking.{Taking, taking_starts, taking_ends, takes_present, takes_optional, stops_required, stops_optional}

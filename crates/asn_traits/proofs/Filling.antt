@@ -5,7 +5,7 @@ use Rattle.asn_base.specs.declared.tag.Tag.{Tag}
 use Rattle.asn_fault.specs.declared.encode.EncodeError.{EncodeError}
 use Rattle.asn_traits.specs.Notation.{Notation}
 use Rattle.asn_traits.specs.Shape.{Shape, Fields, Alternatives, AlternativeAdditions, Presence, closed_seq, all_alternatives}
-use Rattle.asn_traits.specs.Value.{Value, Fits, FitsFields, is_kept, may_lack}
+use Rattle.asn_traits.specs.Value.{Value, Fits, FitsFields, FitsAlternative, is_kept, may_lack}
 use Rattle.asn_traits.specs.Writing.{Frame, push, push_all, close, as_members, as_choice, named, Turns, Written, Filled, CannotWrite, ScopeRan, CannotFill, tail_names, Offered}
 
 -- On a new frame the slots are the frame.
@@ -41,6 +41,10 @@ scope_members {holds = holds} {names = names} n all slots r f = record {
   fit = Fits.fits_members f.fit;
   writable = f.writable;
 }
+
+-- What is written as the payload is offered, where it fits its alternative.
+pub offered : {S : Type 0} {holds : S → List Frame → Type 0} {n : Notation} {s : Shape} {v : Value} {all : Alternatives} {id : List ℕ} {old new : S} → Written holds n s v old new → FitsAlternative all id v → Offered holds n all id v old new
+offered w fits = record { added = w.added; fit = fits; writable = w.writable }
 
 -- The scope of a choice.
 pub scope_choice : {S F : Type 0} {g : Once F (MutBor S × Unit {0}) (Result Tag EncodeError × (MutBor S × Unit {0}))} {f : F} {holds : S → List Frame → Type 0} {old new : S} {answer : Tag} (n : Notation) (alts : Alternatives) (added : AlternativeAdditions) (id : List ℕ) (v : Value)

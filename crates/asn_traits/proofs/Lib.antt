@@ -17,3 +17,4 @@ pub mod JerTexts
 pub mod Nesting
 pub mod SameText
 pub mod ShapeNames
+pub mod FieldSteps

@@ -12,6 +12,7 @@ pub mod Answer
 pub mod Opening
 pub mod Scopes
 pub mod Writing
+pub mod FieldAnswer
 pub mod Readable
 pub mod Writes
 pub mod Tables

@@ -9,7 +9,10 @@ use Rattle.asn_samples.specs.declared.ext_choice.ExtChoice.TheVariants.{Test1, T
 
 -- The alternatives of ExtChoice before the extension marker.
 abbrev pub ext_choice_alternatives : Alternatives
-ext_choice_alternatives = Alternatives.alternative (codes "Test1") (context 0) (unsigned 8) (Alternatives.alternative (codes "Test2") (context 1) utf8_string Alternatives.no_alternatives)
+ext_choice_alternatives =
+    Alternatives.alternative (codes "Test1") (context 0) (unsigned 8)
+    (Alternatives.alternative (codes "Test2") (context 1) utf8_string
+    Alternatives.no_alternatives)
 
 -- The alternatives of ExtChoice after the extension marker.
 abbrev pub ext_choice_added : Alternatives

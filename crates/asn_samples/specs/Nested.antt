@@ -9,7 +9,10 @@ use Rattle.asn_samples.specs.declared.nested.Nested.{Nested}
 
 -- The fields of Nested.
 abbrev pub nested_fields : Fields
-nested_fields = Fields.field (codes "very") (context 0) Presence.optional struct_shape (Fields.field (codes "nested") (context 1) Presence.optional Shape.boolean Fields.no_fields)
+nested_fields =
+    Fields.field (codes "very") (context 0) Presence.optional struct_shape
+    (Fields.field (codes "nested") (context 1) Presence.optional Shape.boolean
+    Fields.no_fields)
 
 -- The shape of Nested.
 abbrev pub nested_shape : Shape

@@ -8,7 +8,10 @@ use Rattle.asn_samples.specs.declared.renamed.Renamed.{Renamed}
 
 -- The fields of Renamed.
 abbrev pub renamed_fields : Fields
-renamed_fields = Fields.field (codes "so-very") (context 0) Presence.required (signed 128) (Fields.field (codes "re_named") (context 1) Presence.optional Shape.boolean Fields.no_fields)
+renamed_fields =
+    Fields.field (codes "so-very") (context 0) Presence.required (signed 128)
+    (Fields.field (codes "re_named") (context 1) Presence.optional Shape.boolean
+    Fields.no_fields)
 
 -- The shape of Renamed.
 abbrev pub renamed_shape : Shape

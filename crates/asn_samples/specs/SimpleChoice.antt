@@ -9,7 +9,10 @@ use Rattle.asn_samples.specs.declared.simple_choice.SimpleChoice.TheVariants.{Te
 
 -- The alternatives of SimpleChoice.
 abbrev pub simple_choice_alternatives : Alternatives
-simple_choice_alternatives = Alternatives.alternative (codes "Test1") (context 0) (unsigned 8) (Alternatives.alternative (codes "Test2") (context 1) utf8_string Alternatives.no_alternatives)
+simple_choice_alternatives =
+    Alternatives.alternative (codes "Test1") (context 0) (unsigned 8)
+    (Alternatives.alternative (codes "Test2") (context 1) utf8_string
+    Alternatives.no_alternatives)
 
 -- The shape of SimpleChoice.
 abbrev pub simple_choice_shape : Shape

@@ -8,7 +8,10 @@ use Rattle.asn_samples.specs.declared.with_null_opt.WithNullOpt.{WithNullOpt}
 
 -- The fields of WithNullOpt.
 abbrev pub with_null_opt_fields : Fields
-with_null_opt_fields = Fields.field (codes "name") (context 0) Presence.required utf8_string (Fields.field (codes "flag") (context 1) Presence.optional Shape.null Fields.no_fields)
+with_null_opt_fields =
+    Fields.field (codes "name") (context 0) Presence.required utf8_string
+    (Fields.field (codes "flag") (context 1) Presence.optional Shape.null
+    Fields.no_fields)
 
 -- The shape of WithNullOpt.
 abbrev pub with_null_opt_shape : Shape

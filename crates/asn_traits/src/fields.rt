@@ -1,15 +1,25 @@
 // Reading and writing the fields of a SEQUENCE, one after another.
-ghost use Rattle.asn_fault.specs.Stop.{error_stop};
+ghost use Rattle.asn_base.specs.declared.codec.Codec.{Codec};
+ghost use Rattle.asn_fault.specs.Stop.{Why, at_root, error_stop, wrapped};
 ghost use Rattle.asn_traits.specs.Answer.{OptionalStops, Refuses};
 ghost use Rattle.asn_traits.specs.FieldAnswer.{AddsSlot, TakesSlot, WithinField};
+ghost use Rattle.asn_traits.specs.Notation.{notation_of};
 ghost use Rattle.asn_traits.specs.Stops.{Stops};
 ghost use Rattle.asn_traits.specs.Tree.{head_slot};
 ghost use Rattle.asn_traits.specs.Writing.{CannotFill};
-ghost use Rattle.std.specs.Prelude.{Some, [], ◌∷◌, option_map, IfOk, OnOk, IfErr};
+ghost use Rattle.std.specs.Prelude.{◌≡◌, ◌⊎◌, Some, [], ◌∷◌, option_map, IfOk, OnOk, IfErr};
 
 use crate::{Decode, Decoder, Encode, Encoder};
 use asn_base::Identifier;
 use asn_fault::{DecodeError, EncodeError};
+
+/// The refusal within `FieldError` with the field's name, and by the decoder's codec. Want of memory stays as it is.
+fn within_field<D: Decoder>(decoder: &D, name: &'static str, error: DecodeError) -> DecodeError
+    ensures { (codec : Codec) × (notation_of codec ≡ D.notation) × ((error_stop result ≡ wrapped name.now codec (error_stop error))
+        ⊎ (error_stop result ≡ at_root Why.out_of_memory codec)) }
+{
+    DecodeError::field_error(decoder.allocator(), name, error, decoder.codec())
+}
 
 /// Reads the first pending slot as a field that has to be present.
 ///
@@ -25,12 +35,7 @@ pub fn read_field<T: Decode, D: Decoder>(
 {
     match T::decode(decoder) {
         Ok(value) => Ok(value),
-        Err(error) => Err(DecodeError::field_error(
-            decoder.allocator(),
-            name,
-            error,
-            decoder.codec(),
-        )),
+        Err(error) => Err(within_field(decoder, name, error)),
     }
 }
 
@@ -48,12 +53,7 @@ pub fn read_optional_field<T: Decode, D: Decoder>(
 {
     match decoder.decode_optional::<T>() {
         Ok(value) => Ok(value),
-        Err(error) => Err(DecodeError::field_error(
-            decoder.allocator(),
-            name,
-            error,
-            decoder.codec(),
-        )),
+        Err(error) => Err(within_field(decoder, name, error)),
     }
 }
 

@@ -5,4 +5,4 @@ pub returns-in-Ok-clause-read : goal.returns-in-Ok-clause-read
 returns-in-Ok-clause-read g c = optional_taken g.T.AsnType.value_of c.in-Ok.value c.in-Ok.ensures
 
 pub returns-in-Err-clause-refused : goal.returns-in-Err-clause-refused
-returns-in-Err-clause-refused g c = field_refused c.args.name.now c.codec.result c.codec.ensures _ _ c.field_error.ensures c.in-Err.ensures
+returns-in-Err-clause-refused g c = let w = c.within_field.ensures in field_refused c.args.name.now w.0 w.1 _ _ w.2 c.in-Err.ensures

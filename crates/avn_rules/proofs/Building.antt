@@ -1,5 +1,5 @@
 -- AVN values made of slots.
-use Rattle.std.proofs.Common.{◌≡◌, ℕ, zero, suc, arith, List, [], ◌∷◌, ◌++◌, map, drop, length, Option, Some, None, ap, refl, sym, ◌∙◌, String, Vec, Global, string_bytes}
+use Rattle.std.proofs.Common.{◌≡◌, ℕ, zero, suc, List, [], ◌∷◌, ◌++◌, map, drop, length, Option, Some, None, ap, refl, sym, ◌∙◌, String, Vec, Global, string_bytes}
 use Rattle.std.specs.Prelude.{option_map}
 use Rattle.avn_grammar.specs.Tree.{Fields as AvnFields, sequence, sequence_of, choice, tree, no_fields, field, absent}
 use Rattle.avn_value.specs.View.{tree_of, trees_in, fields_trees}
@@ -80,7 +80,3 @@ chosen id (Some v ∷ ss) = refl
 pub choice_built : (c : Option AvnValue) (slots : List (Option AvnValue)) (id : List ℕ) → option_map tree_of c ≡ option_map (choice id) (option_map tree_of (first_of slots))
     → (f : Frame) → trees_of avn_tree f ≡ trees_of tree_of slots → option_map tree_of c ≡ option_map avn_tree (as_choice id f)
 choice_built c slots id e f h = e ∙ ap (option_map (choice id)) (sym (first_same avn_tree tree_of f slots h)) ∙ chosen id f
-
-pub no_items : {A : Type 0} (xs : List A) → length xs ≡ 0 → xs ≡ []
-no_items [] e = refl
-no_items (x ∷ xs) e = absurd (omega (arith, e))

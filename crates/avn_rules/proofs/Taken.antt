@@ -7,6 +7,8 @@ use Rattle.std.proofs.lemmas.Slice.Eq.{bytes_eq-Decides}
 use Rattle.avn_grammar.specs.Tree.{Tree as AvnTree, Trees as AvnTrees, Fields as AvnFields, sequence, sequence_of, choice, tree, no_trees, no_fields, field, absent}
 use Rattle.avn_value.specs.View.{tree_of as avn_tree_of, list_trees, fields_trees}
 use Rattle.avn_value.specs.declared.value.AvnValue.{AvnValue}
+use Rattle.asn_slots.proofs.Lasts.{or_some-assoc, or_some-none}
+use Rattle.asn_slots.proofs.Names.{same_bytes, other_bytes, other_parts, distinct_parts}
 use Rattle.asn_traits.specs.Notation.{Notation}
 use Rattle.asn_traits.specs.Opening.{AllBelow}
 use Rattle.asn_traits.specs.Shape.{are_distinct, is_item, place_named}
@@ -84,14 +86,10 @@ over fs [] ss = []
 over fs (n ∷ ns) [] = []
 over fs (n ∷ ns) (s ∷ ss) = or_else (field_slot fs n) s ∷ over fs ns ss
 
-or_else-none : (s : Slot) → or_else s None ≡ s
-or_else-none (Some t) = refl
-or_else-none None = refl
-
 -- At first no slot is there.
 pub over-absent : (fs : AvnFields) (names : List (List ℕ)) → over fs names (map slot_of (replicate (length names) None)) ≡ map (field_slot fs) names
 over-absent fs [] = refl
-over-absent fs (n ∷ ns) = ap (λ l. or_else (field_slot fs n) None ∷ l) (over-absent fs ns) ∙ ap (λ s. s ∷ map (field_slot fs) ns) (or_else-none (field_slot fs n))
+over-absent fs (n ∷ ns) = ap (λ l. or_else (field_slot fs n) None ∷ l) (over-absent fs ns) ∙ ap (λ s. s ∷ map (field_slot fs) ns) (or_some-none (field_slot fs n))
 
 -- Without further fields the slots are those that are there.
 pub over-none : (names : List (List ℕ)) (ss : List Slot) → length ss ≡ length names → over no_fields names ss ≡ ss
@@ -100,53 +98,28 @@ over-none [] (s ∷ ss) e = absurd (omega (arith, e))
 over-none (n ∷ ns) [] e = refl
 over-none (n ∷ ns) (s ∷ ss) e = ap (λ l. s ∷ l) (over-none ns ss (omega (arith, e)))
 
-or_else-assoc : (a b c : Slot) → or_else (or_else a b) c ≡ or_else a (or_else b c)
-or_else-assoc (Some t) b c = refl
-or_else-assoc None b c = refl
-
 at_field : (name m : List ℕ) (t : AvnTree) (fs : AvnFields) (s : Slot) (b : Bool) → bytes_eq name m ≡ b → or_else (field_slot (field m t fs) name) s ≡ or_else (field_slot fs name) (if b then Some (Tree.avn t) else s)
-at_field name m t fs s true e = ap (λ b. or_else (or_else (field_slot fs name) (if b then Some (Tree.avn t) else None)) s) e ∙ or_else-assoc (field_slot fs name) (Some (Tree.avn t)) s
-at_field name m t fs s false e = ap (λ b. or_else (or_else (field_slot fs name) (if b then Some (Tree.avn t) else None)) s) e ∙ or_else-assoc (field_slot fs name) None s
-
-same_bytes : (a b : List ℕ) (x : Bool) → bytes_eq a b ≡ x → bytes_eq b a ≡ x
-same_bytes a b true e = (bytes_eq-Decides b a).1 (sym ((bytes_eq-Decides a b).0 e))
-same_bytes a b false e = elim (bytes_eq b a) as (λ x. bytes_eq b a ≡ x → x ≡ false) [ true ↦ λ h. let d : true ≡ false = sym ((bytes_eq-Decides a b).1 (sym ((bytes_eq-Decides b a).0 h))) ∙ e in cc d | false ↦ λ h. refl ] refl
-
-first_other : (b rest : Bool) → (if b then true else rest) ≡ false → b ≡ false
-first_other true rest e = let d : true ≡ false = e in cc d
-first_other false rest e = refl
-
-rest_other : (b rest : Bool) → (if b then true else rest) ≡ false → rest ≡ false
-rest_other true rest e = let d : true ≡ false = e in cc d
-rest_other false rest e = e
-
-distinct_first : (b rest : Bool) → (if b then false else rest) ≡ true → b ≡ false
-distinct_first true rest e = let d : false ≡ true = e in cc d
-distinct_first false rest e = refl
-
-distinct_rest : (b rest : Bool) → (if b then false else rest) ≡ true → rest ≡ true
-distinct_rest true rest e = let d : false ≡ true = e in cc d
-distinct_rest false rest e = e
+at_field name m t fs s true e = ap (λ b. or_else (or_else (field_slot fs name) (if b then Some (Tree.avn t) else None)) s) e ∙ or_some-assoc (field_slot fs name) (Some (Tree.avn t)) s
+at_field name m t fs s false e = ap (λ b. or_else (or_else (field_slot fs name) (if b then Some (Tree.avn t) else None)) s) e ∙ or_some-assoc (field_slot fs name) None s
 
 -- A field of none of the names changes no slot.
 over-other : (m : List ℕ) (t : AvnTree) (fs : AvnFields) (names : List (List ℕ)) (ss : List Slot) → is_item names m ≡ false → over (field m t fs) names ss ≡ over fs names ss
 over-other m t fs [] ss h = refl
 over-other m t fs (n ∷ ns) [] h = refl
 over-other m t fs (n ∷ ns) (s ∷ ss) h =
-    let here : bytes_eq n m ≡ false = same_bytes m n false (first_other (bytes_eq m n) (is_item ns m) h) in
-    ap (λ l. or_else (field_slot (field m t fs) n) s ∷ l) (over-other m t fs ns ss (rest_other (bytes_eq m n) (is_item ns m) h))
-    ∙ ap (λ x. x ∷ over fs ns ss) (at_field n m t fs s false here)
+    let apart = other_parts (bytes_eq m n) (is_item ns m) h in
+    ap (λ l. or_else (field_slot (field m t fs) n) s ∷ l) (over-other m t fs ns ss apart.1) ∙ ap (λ x. x ∷ over fs ns ss) (at_field n m t fs s false (other_bytes m n apart.0))
 
 over-first : (m n : List ℕ) (t : AvnTree) (fs : AvnFields) (ns : List (List ℕ)) (s : Slot) (ss : List Slot) → bytes_eq m n ≡ true → is_item ns n ≡ false
     → over (field m t fs) (n ∷ ns) (s ∷ ss) ≡ or_else (field_slot fs n) (Some (Tree.avn t)) ∷ over fs ns ss
 over-first m n t fs ns s ss here apart =
     let same : n ≡ m = sym ((bytes_eq-Decides m n).0 here) in
-    ap (λ l. or_else (field_slot (field m t fs) n) s ∷ l) (over-other m t fs ns ss (ap (is_item ns) (sym same) ∙ apart)) ∙ ap (λ x. x ∷ over fs ns ss) (at_field n m t fs s true (same_bytes m n true here))
+    ap (λ l. or_else (field_slot (field m t fs) n) s ∷ l) (over-other m t fs ns ss (ap (is_item ns) (sym same) ∙ apart)) ∙ ap (λ x. x ∷ over fs ns ss) (at_field n m t fs s true (same_bytes m n here))
 
 over-later : (m n : List ℕ) (t : AvnTree) (fs : AvnFields) (ns : List (List ℕ)) (s : Slot) (ss ts : List Slot) → bytes_eq m n ≡ false → over (field m t fs) ns ss ≡ over fs ns ts
     → over (field m t fs) (n ∷ ns) (s ∷ ss) ≡ over fs (n ∷ ns) (s ∷ ts)
 over-later m n t fs ns s ss ts other e =
-    ap (λ l. or_else (field_slot (field m t fs) n) s ∷ l) e ∙ ap (λ x. x ∷ over fs ns ts) (at_field n m t fs s false (same_bytes m n false other))
+    ap (λ l. or_else (field_slot (field m t fs) n) s ∷ l) e ∙ ap (λ x. x ∷ over fs ns ts) (at_field n m t fs s false (other_bytes m n other))
 
 abbrev Entry : Type 0
 Entry = String Global × Option AvnValue
@@ -159,12 +132,12 @@ put_here : (m : List ℕ) (v : AvnValue) (fs : AvnFields) (n : List ℕ) (ns : L
 put_here m v fs n ns s ss k true h d later o p e =
     let x : ◌≡◌ {A = Option ℕ} (Some k) (Some 0) = e in
     let zeroth : k ≡ 0 = cc x in
-    over-first m n (avn_tree_of v) fs ns (slot_of s) (map slot_of ss) h (distinct_first (is_item ns n) (are_distinct ns) d) ∙ ap (λ j. over fs (n ∷ ns) (map slot_of (slice_set (s ∷ ss) j (Some v)))) (sym zeroth)
+    over-first m n (avn_tree_of v) fs ns (slot_of s) (map slot_of ss) h (distinct_parts (is_item ns n) (are_distinct ns) d).0 ∙ ap (λ j. over fs (n ∷ ns) (map slot_of (slice_set (s ∷ ss) j (Some v)))) (sym zeroth)
 put_here m v fs n ns s ss k false h d later None p e = let x : ◌≡◌ {A = Option ℕ} (Some k) None = e in cc x
 put_here m v fs n ns s ss k false h d later (Some j) p e =
     let x : ◌≡◌ {A = Option ℕ} (Some k) (Some (suc j)) = e in
     let next : k ≡ suc j = cc x in
-    over-later m n (avn_tree_of v) fs ns (slot_of s) (map slot_of ss) (map slot_of (slice_set ss j (Some v))) h (later j (distinct_rest (is_item ns n) (are_distinct ns) d) p)
+    over-later m n (avn_tree_of v) fs ns (slot_of s) (map slot_of ss) (map slot_of (slice_set ss j (Some v))) h (later j (distinct_parts (is_item ns n) (are_distinct ns) d).1 p)
     ∙ ap (λ i. over fs (n ∷ ns) (map slot_of (slice_set (s ∷ ss) i (Some v)))) (sym next)
 
 -- A field that is put at the place of its name counts as those before it.

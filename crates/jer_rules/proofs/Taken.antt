@@ -1,8 +1,6 @@
 -- Arrays and objects that are taken apart.
-use Rattle.std.proofs.Common.{◌≡◌, refl, ap, sym, ◌∙◌, ℕ, ◌<◌, List, [], ◌∷◌, ◌++◌, map, length, Option, Some, None, Bool, true, false, cond, if◌then◌else◌, String, Global, BTreeMap, Ordering, Less, Equal, Greater, arith}
-use Rattle.std.proofs.lemmas.Bool.{false_from_ne_true, iff_false}
+use Rattle.std.proofs.Common.{◌≡◌, refl, ap, ◌∙◌, ℕ, ◌<◌, List, [], ◌∷◌, ◌++◌, map, length, Option, Some, None, true, false, cond, String, Global, BTreeMap, Ordering, Less, Equal, Greater, arith}
 use Rattle.std.proofs.lemmas.Map.Text.{btree_map_updates_text}
-use Rattle.std.proofs.lemmas.Slice.Eq.{bytes_eq-Decides}
 use Rattle.std.specs.BTreeMap.{get_by_text, UpdatesBy}
 use Rattle.std.specs.Cmp.Lexicographic.{slice_cmp}
 use Rattle.std.specs.Ordering.{nat_cmp, match_ordering}
@@ -12,6 +10,7 @@ use Rattle.serde_json.proofs.Views.{view-lookup}
 use Rattle.serde_json.specs.Data.{Data, Items, Members}
 use Rattle.serde_json.specs.View.{view, items_view, members_view}
 use Rattle.serde_json.specs.declared.value.Value.{Value}
+use Rattle.asn_slots.proofs.Names.{other_bytes, other_parts, distinct_parts}
 use Rattle.asn_traits.specs.Opening.{AllBelow}
 use Rattle.asn_traits.specs.Tables.{names_of}
 use Rattle.asn_traits.specs.declared.types.Field.{Field}
@@ -45,17 +44,6 @@ slot_of-get m name = slot_of-view (get_by_text m name) ∙ ap (option_map Tree.j
 
 abbrev Entries : Type 0
 Entries = BTreeMap (String Global) Value
-
-other_bytes : (a b : List ℕ) → bytes_eq a b ≡ false → bytes_eq b a ≡ false
-other_bytes a b e = false_from_ne_true (bytes_eq b a) (λ same. iff_false (bytes_eq-Decides a b) e (sym ((bytes_eq-Decides b a).0 same)))
-
-other_parts : (b rest : Bool) → (if b then true else rest) ≡ false → (b ≡ false) × (rest ≡ false)
-other_parts true rest e = let d : true ≡ false = e in cc d
-other_parts false rest e = (refl, e)
-
-distinct_parts : (b rest : Bool) → (if b then false else rest) ≡ true → (b ≡ false) × (rest ≡ true)
-distinct_parts true rest e = let d : false ≡ true = e in cc d
-distinct_parts false rest e = (refl, e)
 
 -- No name after the field is its own.
 pub none_later : (fs : List Field) (f : Field) (later : List Field) → are_distinct (names_of (fs ++ f ∷ later)) ≡ true → is_item (names_of later) f.name.now ≡ false

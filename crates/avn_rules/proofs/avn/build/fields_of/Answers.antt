@@ -1,11 +1,12 @@
 use Rattle.std.proofs.Common.{◌≡◌, ap, ◌∙◌, sym, drop, length, suc, arith}
+use Rattle.std.proofs.lemmas.List.{nil_from_length}
 use Rattle.asn_traits.specs.Tables.{names_of}
 use Rattle.asn_traits.specs.Writing.{head_name}
 use Rattle.avn_value.specs.View.{tree_of, fields_trees}
 use Rattle.avn_value.proofs.Joins.{join}
 use Rattle.asn_slots.specs.Trees.{trees_of}
 use Rattle.avn_rules.specs.Holding.{named_fields}
-use Rattle.avn_rules.proofs.Building.{fields-named, all-named, no_items}
+use Rattle.avn_rules.proofs.Building.{fields-named, all-named}
 use Rattle.avn_rules.proofs.avn.build.fields_of.Goals as goal
 
 pub loop-slot-preserved : goal.loop-slot-preserved
@@ -24,4 +25,4 @@ pub returns : goal.returns
 returns c =
     let rest = c.loop-slot.slot-iterator.rest in
     let none : length rest.items ≡ 0 = omega (arith, c.in-None.ensures.steps.0, rest.ok) in
-    all-named c.loop-slot.named.items rest.items (names_of c.args.fields.now) _ (no_items rest.items none) c.loop-slot.invariant
+    all-named c.loop-slot.named.items rest.items (names_of c.args.fields.now) _ (nil_from_length rest.items none) c.loop-slot.invariant

@@ -1,9 +1,8 @@
 use Rattle.std.proofs.Common.{◌≡◌, ◌∷◌, ap, ◌∙◌, sym, length, map, arith, Some, None, replicate}
-use Rattle.std.proofs.lemmas.List.{length-map, length-replicate, length-set}
+use Rattle.std.proofs.lemmas.List.{length-map, length-replicate, length-set, nil_from_length}
 use Rattle.asn_traits.specs.Tables.{names_of}
 use Rattle.avn_value.specs.View.{fields_trees}
 use Rattle.avn_rules.specs.Pending.{slot_of}
-use Rattle.avn_rules.proofs.Building.{no_items}
 use Rattle.avn_rules.proofs.Taken.{over, entry_put, entry_passed, all_taken, over-absent}
 use Rattle.avn_rules.proofs.avn.parts.slots_of.Goals as goal
 
@@ -24,7 +23,7 @@ pub returns : goal.returns
 returns c =
     let rest = c.loop-name.name-iterator.rest in
     let none : length rest.items ≡ 0 = omega (arith, c.in-None.ensures.steps.0, rest.ok) in
-    all_taken rest.items (names_of c.args.fields.now) _ _ (no_items rest.items none) c.loop-name.invariant.each c.loop-name.invariant.taken
+    all_taken rest.items (names_of c.args.fields.now) _ _ (nil_from_length rest.items none) c.loop-name.invariant.each c.loop-name.invariant.taken
 
 pub loop-name-preserved-in_default-place_of_field : goal.loop-name-preserved-in_default-place_of_field
 loop-name-preserved-in_default-place_of_field c =

@@ -1,5 +1,5 @@
 -- One step of a scan over a character.
-use Rattle.std.proofs.Common.{arith, ℕ, ◌≡◌, ◌+◌, ◌≤◌, [], ◌∷◌, ◌++◌, MatchOption, length, List, Option, Some, None, drop, sym, ap, ◌∙◌, refl, length-drop, ◌<◌, get_or, add-one, drop-cons, take, zero, suc, append_assoc}
+use Rattle.std.proofs.Common.{arith, ℕ, ◌≡◌, ◌+◌, ◌≤◌, [], ◌∷◌, ◌++◌, MatchOption, length, List, Option, Some, None, drop, sym, ap, ◌∙◌, length-drop, ◌<◌, get_or, add-one, drop-cons, take, suc, append_assoc}
 use Rattle.std.specs.Str.{IsCharBoundary, IsUtf8, chars, encode_utf8_all}
 use Rattle.std.specs.Char.{len_utf8, encode_utf8}
 use Rattle.std.proofs.lemmas.List.{nil_from_length}
@@ -33,10 +33,6 @@ ascii_steps text p h l = drop-cons text p 0 h ∙ ap (λ x. get_or text p 0 ∷ 
 -- The first m characters, a character on.
 pub take-step : (m k : ℕ) (u v : List ℕ) (c : ℕ) → m ≡ suc k → u ≡ c ∷ v → take m u ≡ c ∷ take k v
 take-step m k u v c e f = ap (λ x. take x u) e ∙ ap (take (suc k)) f
-
-pub take-none : (m : ℕ) (u : List ℕ) → u ≡ [] → take m u ≡ []
-take-none zero u f = refl
-take-none (suc m) u f = ap (take (suc m)) f
 
 pub copy-step : (m k : ℕ) (u v a b w : List ℕ) (c : ℕ) → m ≡ suc k → u ≡ c ∷ v → b ≡ a ++ encode_utf8 c → a ++ encode_utf8_all (take m u) ≡ w → b ++ encode_utf8_all (take k v) ≡ w
 copy-step m k u v a b w c e f g h =

@@ -1,5 +1,6 @@
 -- The order of tags, and the tag by which a type is ordered (X.680, section 8.6).
-use Rattle.std.specs.Prelude.{ℕ, Bool, ◌==◌, nat_lt, ◌&&◌, ◌||◌, if◌then◌else◌, Option, Some, None, fold}
+use Rattle.std.specs.Prelude.{ℕ, Bool, ◌==◌, nat_lt, ◌&&◌, ◌||◌, if◌then◌else◌, Option, Some, None, is_some, List, ◌++◌, fold}
+use Rattle.std.specs.Borrow.{Bor}
 use Rattle.asn_base.specs.declared.tag.Class.{Class}
 use Rattle.asn_base.specs.declared.tag.Class.TheVariants.{Universal, Application, Context, Private}
 use Rattle.asn_base.specs.declared.tag.Tag.{Tag}
@@ -31,3 +32,12 @@ level_tag (Choice parts) = fold smaller_tag None parts.now
 -- The tag by which a type is ordered: its own, or the smallest tag of its alternatives.
 abbrev pub smallest : TagTree → Option Tag
 smallest = fold-TagTree (Option Tag) level_tag
+
+-- Whether there is a tag by which the type is ordered.
+abbrev pub has_tag : TagTree → Bool
+has_tag tree = is_some (smallest tree)
+
+-- The alternatives of a choice: those of its first version, and then those that were added.
+abbrev pub alternatives : List TagTree → Option (Bor (List TagTree)) → List TagTree
+alternatives base None = base
+alternatives base (Some added) = base ++ added.now

@@ -9,6 +9,7 @@ mod memory;
 mod scan;
 mod tag;
 mod tag_tree;
+mod variants;
 mod whole_number;
 
 pub use codec::Codec;
@@ -19,4 +20,5 @@ pub use memory::OutOfMemory;
 pub use scan::Scan;
 pub use tag::{Class, Tag};
 pub use tag_tree::TagTree;
+pub use variants::Variants;
 pub use whole_number::{Integer, WholeNumber};

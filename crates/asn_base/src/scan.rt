@@ -149,28 +149,3 @@ fn whole(text: &str) -> &str
 {
     text
 }
-
-#[cfg(test)]
-mod tests {
-    use super::*;
-    use std::test::Fail;
-
-    #[test]
-    fn looks_and_copies_are_counted(rt: HostRuntime) -> Result<(), Fail> {
-        let mut scan = Scan::new("ab");
-        scan.has_edge_at_start();
-        assert_eq!(rt; scan.count(), 0);
-        assert_eq!(rt; scan.look(0), Some('a'));
-        assert_eq!(rt; scan.count(), 1);
-
-        let copied = scan.excerpt(rt.alloc(), 0, 5)?;
-        assert_eq!(rt; copied.as_str(), "ab");
-        assert_eq!(rt; scan.count(), 3);
-
-        let mut fresh = Scan::new("ab");
-        fresh.has_edge_at_start();
-        assert_eq!(rt; fresh.excerpt(rt.alloc(), 0, 5)?.as_str(), "ab");
-        assert_eq!(rt; fresh.count(), 2);
-        Ok(())
-    }
-}

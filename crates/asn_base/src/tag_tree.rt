@@ -23,7 +23,7 @@ impl TagTree {
     }
 
     /// The least leaf tag, if there is one.
-    fn least_leaf(&self) -> Option<Tag>
+    pub fn least_leaf(&self) -> Option<Tag>
         ensures { result ≡ smallest self.now }
     {
         match self {

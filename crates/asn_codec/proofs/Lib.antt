@@ -1,2 +1,3 @@
 mod Naming
 mod Passing
+pub mod Again

@@ -1,10 +1,10 @@
 -- What a text is in a notation, and why one is not read or not written.
-use Rattle.std.specs.Prelude.{◌≡◌, ℕ, List, ◌++◌, map, Some, None, true, codes}
+use Rattle.std.specs.Prelude.{◌≡◌, ◌≤◌, ℕ, List, ◌++◌, map, Some, None, true, codes}
 use Rattle.std.specs.Str.{chars}
-use Rattle.serde_json.specs.Data.{Data}
-use Rattle.serde_json.specs.Read.{read}
+use Rattle.serde_json.specs.Data.{Data, depth}
+use Rattle.serde_json.specs.Read.{read, max_depth}
 use Rattle.serde_json.specs.Written.{has_float}
-use Rattle.avn_grammar.specs.Depth.{Deep}
+use Rattle.avn_grammar.specs.Depth.{Deep, deepest}
 use Rattle.avn_grammar.specs.Tree.{Tree as AvnTree}
 use Rattle.avn_grammar.specs.Unread as grammar
 use Rattle.asn_base.specs.Texts.{codec_name}
@@ -13,6 +13,7 @@ use Rattle.asn_base.specs.declared.codec.Codec.TheVariants.{Jer, Avn, Xer}
 use Rattle.asn_fault.specs.Stop.{Stop, Why, at_root}
 use Rattle.asn_fault.specs.Unwritten.{WhyUnwritten}
 use Rattle.asn_traits.specs.Answer.{OfLevels, OfPlace}
+use Rattle.asn_traits.specs.Canonical as canonical
 use Rattle.asn_traits.specs.Notation.{Notation, notation_of}
 use Rattle.asn_traits.specs.Says.{Says}
 use Rattle.asn_traits.specs.Shape.{Shape}
@@ -20,7 +21,9 @@ use Rattle.asn_traits.specs.Stops.{Stops}
 use Rattle.asn_traits.specs.Tree.{Tree}
 use Rattle.asn_traits.specs.Value.{Value}
 use Rattle.asn_traits.specs.Writing.{Blocks}
+use Rattle.jer_rules.specs.Text as jer
 use Rattle.jer_rules.specs.Text.{IsJer}
+use Rattle.avn_rules.specs.Text as avn
 use Rattle.avn_rules.specs.Text.{IsAvn}
 
 -- the text has this tree in the notation
@@ -33,6 +36,24 @@ pub record SaysValue (n : Notation) (s : Shape) (text : List ℕ) (value : Value
   pub tree : Tree
   pub has : HasTree n text tree
   pub says : Says n s (Some tree) value
+
+-- The text of the value is read as its tree, where that nests no deeper than texts of the notation are read; and in AVN it is refused for depth where it nests deeper.
+abbrev pub ReadsBack : Notation → Value → List ℕ → Type 0
+ReadsBack Notation.jer v text = jer.ReadsBack v text
+ReadsBack Notation.avn v text = avn.ReadsBack v text
+ReadsBack Notation.other v text = Unit {0}
+
+-- The text says the value by the shape, and no other.
+pub record SaysAlone (n : Notation) (s : Shape) (text : List ℕ) (v : Value) : Type 0 where
+  pub says : SaysValue n s text v
+  pub alone : (w : Value) → SaysValue n s text w → w ≡ v
+
+-- The canonical text of a value that was read nests no deeper than texts are read: in AVN 64 levels, in JSON 127, and always where JSON was read.
+abbrev pub IsShallow : Notation → Notation → Value → Type 0
+IsShallow from Notation.avn v = deepest 0 (canonical.avn_tree v) ≤ 64
+IsShallow Notation.jer Notation.jer v = Unit {0}
+IsShallow from Notation.jer v = depth (canonical.jer_data v) ≤ max_depth
+IsShallow from Notation.other v = ⊥
 
 -- what the text calls of a codec that is no text notation say, by the call to make instead
 abbrev pub no_text : Codec → List ℕ → List ℕ

@@ -7,7 +7,7 @@ ghost use Rattle.asn_traits.specs.Notation.{IsText, notation_of};
 ghost use Rattle.asn_traits.specs.Root.{Reads};
 ghost use Rattle.asn_traits.specs.Value.{Value, Fits};
 ghost use Rattle.asn_traits.specs.Writing.{Writable};
-ghost use Rattle.asn_codec.specs.Texts.{SaysValue, IsUnread, IsUnwritten, no_text};
+ghost use Rattle.asn_codec.specs.Texts.{ReadsBack, SaysValue, IsUnread, IsUnwritten, no_text};
 ghost use Rattle.std.specs.Prelude.{◌≡◌, ◌⊎◌, true, IfOk, IfErr, OnOk, codes, string_bytes};
 
 use asn_base::Codec;
@@ -27,6 +27,8 @@ pub trait CodecCalls: Copy {
     /// part of the value that the notation cannot write.
     fn encode_to_string<T: Encode>(self, alloc: Global, value: &T) -> Result<String, EncodeError>
         ensures text { IfOk result (λ s. string_bytes s ≡ canonical_text (notation_of (codec_of self)) (T.value_of value.now)) }
+        // The text says the value again, unless it nests deeper than texts are read.
+        ensures reads_back { IfOk result (λ s. ReadsBack (notation_of (codec_of self)) (T.value_of value.now) (string_bytes s)) }
         ensures notation { OnOk result (IsText (notation_of (codec_of self))) }
         ensures fits { OnOk result (Fits T.shape_of (T.value_of value.now)) }
         ensures writable { OnOk result (Writable (notation_of (codec_of self)) (T.value_of value.now)) }

@@ -3,7 +3,8 @@ use Rattle.std.proofs.Common.{◌≡◌, refl, sym, ap, ◌∙◌, subst, ℕ, L
 use Rattle.std.specs.Io.KnownBytes.{Consumes, IsAtEnd}
 use Rattle.asn_codec.specs.Conversion.{IsConvertible}
 use Rattle.asn_convert.specs.Lines.{request_line, text_part, words}
-use Rattle.asn_convert.specs.Requests.{asked, request_of, sample_shape}
+use Rattle.asn_samples.specs.Samples.{sample_shape}
+use Rattle.asn_convert.specs.Requests.{asked, request_of}
 use Rattle.asn_convert.specs.Run.{AsksValue}
 use Rattle.asn_convert.specs.declared.request.Request.{Request}
 

@@ -1,34 +1,11 @@
 -- What a request line asks for.
-use Rattle.std.specs.Prelude.{ℕ, List, [], ◌∷◌, ◌-◌, ◌^◌, bytes_eq, codes, if◌then◌else◌, Option, Some, None, option_map, pos, negsuc}
+use Rattle.std.specs.Prelude.{ℕ, List, [], ◌∷◌, bytes_eq, codes, if◌then◌else◌, Option, Some, None}
 use Rattle.asn_base.specs.declared.codec.Codec.{Codec}
 use Rattle.asn_base.specs.declared.codec.Codec.TheVariants.{Jer, Avn}
-use Rattle.asn_traits.specs.Shape.{Shape, Alphabet}
+use Rattle.asn_samples.specs.Samples.{sample_named}
+use Rattle.asn_samples.specs.declared.sample.Sample.{Sample}
 use Rattle.asn_convert.specs.Lines.{request_line, words}
 use Rattle.asn_convert.specs.declared.request.Request.{Request}
-use Rattle.asn_convert.specs.declared.request.Sample.{Sample}
-use Rattle.asn_convert.specs.declared.request.Sample.TheVariants.{Bool, U8, I64, U64, U128, Integer, Utf8String}
-
--- the sample of that name
-abbrev pub sample_named : List ℕ → Option Sample
-sample_named name =
-    if bytes_eq name (codes "bool") then Some Bool else (if bytes_eq name (codes "u8") then Some U8 else
-    (if bytes_eq name (codes "i64") then Some I64 else (if bytes_eq name (codes "u64") then Some U64 else
-    (if bytes_eq name (codes "u128") then Some U128 else (if bytes_eq name (codes "Integer") then Some Integer else
-    (if bytes_eq name (codes "Utf8String") then Some Utf8String else None))))))
-
--- the shape of a sample's type
-abbrev pub sample_shape : Sample → Shape
-sample_shape Bool = Shape.boolean
-sample_shape U8 = Shape.int (pos 0) (pos (2 ^ 8 - 1)) 8
-sample_shape I64 = Shape.int (negsuc (2 ^ 63 - 1)) (pos (2 ^ 63 - 1)) 64
-sample_shape U64 = Shape.int (pos 0) (pos (2 ^ 64 - 1)) 64
-sample_shape U128 = Shape.int (pos 0) (pos (2 ^ 128 - 1)) 128
-sample_shape Integer = Shape.int (negsuc (2 ^ 127 - 1)) (pos (2 ^ 127 - 1)) 128
-sample_shape Utf8String = Shape.text Alphabet.utf8
-
--- the shape of the type of that name
-abbrev pub sample : List ℕ → Option Shape
-sample name = option_map sample_shape (sample_named name)
 
 -- the text notation of that name
 abbrev pub notation_named : List ℕ → Option Codec

@@ -4,7 +4,8 @@ use Rattle.asn_base.specs.declared.codec.Codec.{Codec}
 use Rattle.asn_traits.specs.Shape.{Shape}
 use Rattle.asn_convert.specs.Faults.{Rose}
 use Rattle.asn_convert.specs.Lines.{text_part}
-use Rattle.asn_convert.specs.Requests.{asked, sample_shape}
+use Rattle.asn_samples.specs.Samples.{sample_shape}
+use Rattle.asn_convert.specs.Requests.{asked}
 use Rattle.asn_codec.specs.Conversion.{IsConvertible}
 use Rattle.asn_convert.specs.Due.{Wrote, WroteFront, IsDue}
 use Rattle.asn_convert.specs.declared.request.Request.{Request}

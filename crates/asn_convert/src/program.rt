@@ -2,7 +2,8 @@
 ghost use Rattle.std.specs.Prelude.{◌≡◌, ◌≢◌, ◌<◌, ◌⊎◌, ◌++◌, ◌∷◌, [], ℕ, List, length, IsUtf8, Some, None, true, string_bytes};
 ghost use Rattle.std.specs.Io.KnownBytes.{Consumes, Keeps};
 ghost use Rattle.asn_convert.specs.Faults.{Rose};
-ghost use Rattle.asn_convert.specs.Requests.{asked, sample_shape};
+ghost use Rattle.asn_convert.specs.Requests.{asked};
+ghost use Rattle.asn_samples.specs.Samples.{sample_shape};
 ghost use Rattle.asn_convert.specs.Due.{Answers, IsAnswer, IsRefusal, Puts, ReadWhole, refusal_line};
 ghost use Rattle.asn_codec.specs.Conversion.{IsConvertible, refusal_of, is_want_of_memory};
 ghost use Rattle.asn_convert.specs.Run.{Answered, CutShort, IsRead, AsksValue};
@@ -10,11 +11,15 @@ ghost use Rattle.asn_convert.specs.declared.status.Status.TheVariants.{Done, Ref
 
 use crate::ends::{Sink, Source};
 use crate::lines::split_request;
-use crate::request::{Request, Sample, requested};
+use crate::request::{Request, requested};
 use crate::status::Status;
 use crate::whole::{Stopped, read_to_end, write_all};
 use asn_base::{Codec, Integer};
 use asn_codec::{TranscodeError, transcode};
+use asn_samples::{
+    ExtChoice, ExtEnum, Inner, Nest, Nested, Renamed, Sample, SimpleChoice, SimpleEnum, Struct,
+    WithNullOpt,
+};
 use asn_traits::{Decode, Encode};
 use std::alloc::Global;
 
@@ -79,12 +84,29 @@ fn convert<K: Sink>(alloc: Global, request: Request, text: &str, sink: &mut K) -
     let Request { from, to, sample } = request;
     match sample {
         Sample::Bool => convert_as::<bool, K>(alloc, from, to, text, sink),
+        Sample::Null => convert_as::<(), K>(alloc, from, to, text, sink),
         Sample::U8 => convert_as::<u8, K>(alloc, from, to, text, sink),
         Sample::I64 => convert_as::<i64, K>(alloc, from, to, text, sink),
         Sample::U64 => convert_as::<u64, K>(alloc, from, to, text, sink),
         Sample::U128 => convert_as::<u128, K>(alloc, from, to, text, sink),
         Sample::Integer => convert_as::<Integer, K>(alloc, from, to, text, sink),
         Sample::Utf8String => convert_as::<String, K>(alloc, from, to, text, sink),
+        Sample::SequenceOfU8 => convert_as::<Vec<u8>, K>(alloc, from, to, text, sink),
+        Sample::SequenceOfI64 => convert_as::<Vec<i64>, K>(alloc, from, to, text, sink),
+        Sample::SequenceOfBool => convert_as::<Vec<bool>, K>(alloc, from, to, text, sink),
+        Sample::SequenceOfSimpleChoice => convert_as::<Vec<SimpleChoice>, K>(
+            alloc, from, to, text, sink,
+        ),
+        Sample::Renamed => convert_as::<Renamed, K>(alloc, from, to, text, sink),
+        Sample::Inner => convert_as::<Inner, K>(alloc, from, to, text, sink),
+        Sample::SimpleEnum => convert_as::<SimpleEnum, K>(alloc, from, to, text, sink),
+        Sample::ExtEnum => convert_as::<ExtEnum, K>(alloc, from, to, text, sink),
+        Sample::SimpleChoice => convert_as::<SimpleChoice, K>(alloc, from, to, text, sink),
+        Sample::ExtChoice => convert_as::<ExtChoice, K>(alloc, from, to, text, sink),
+        Sample::Nested => convert_as::<Nested, K>(alloc, from, to, text, sink),
+        Sample::Struct => convert_as::<Struct, K>(alloc, from, to, text, sink),
+        Sample::WithNullOpt => convert_as::<WithNullOpt, K>(alloc, from, to, text, sink),
+        Sample::Nest => convert_as::<Nest, K>(alloc, from, to, text, sink),
     }
 }
 

@@ -1,5 +1,6 @@
-// Printed bounds, and numbers through the bound of the integer types.
-use asn_base::{Bounded, Codec, IntegerType, Tag, WholeNumber};
+// Printed bounds, numbers through the bound of the integer types, tags of alternatives, and looks
+// at a text.
+use asn_base::{Bounded, Class, Codec, IntegerType, Scan, Tag, TagTree, Variants, WholeNumber};
 use std::test::Fail;
 
 #[test]
@@ -67,4 +68,56 @@ fn numbers_through_a_type(rt: HostRuntime) {
     assert_eq!(rt; through::<u128>(false, u128::MAX), Some((false, u128::MAX)));
     assert_eq!(rt; through::<u64>(true, 1), None);
     assert_eq!(rt; through::<i128>(true, u128::MAX), None);
+}
+
+const CONTEXT_0: Tag = Tag {
+    class: Class::Context,
+    value: 0,
+};
+
+const CONTEXT_1: Tag = Tag {
+    class: Class::Context,
+    value: 1,
+};
+
+const CONTEXT_2: Tag = Tag {
+    class: Class::Context,
+    value: 2,
+};
+
+const CONTEXT_7: Tag = Tag {
+    class: Class::Context,
+    value: 7,
+};
+
+const BASE: &'static [TagTree] = &[TagTree::Leaf(CONTEXT_0), TagTree::Leaf(CONTEXT_1)];
+
+// A choice without a tag of its own, whose smallest tag is not the first.
+const ADDED: &'static [TagTree] = &[
+    TagTree::Choice(&[TagTree::Leaf(CONTEXT_7), TagTree::Leaf(Tag::UTF8_STRING)]),
+    TagTree::Leaf(CONTEXT_2),
+];
+
+#[test]
+fn tags_of_alternatives(rt: HostRuntime) -> Result<(), Fail> {
+    let variants = Variants::from_parts(rt.alloc(), BASE, None)?;
+    assert_eq!(rt; variants.tags(), [CONTEXT_0, CONTEXT_1].as_slice());
+
+    let variants = Variants::from_parts(rt.alloc(), BASE, Some(ADDED))?;
+    let want = [CONTEXT_0, CONTEXT_1, Tag::UTF8_STRING, CONTEXT_2];
+    assert_eq!(rt; variants.tags(), want.as_slice());
+    Ok(())
+}
+
+#[test]
+fn looks_and_copies_are_counted(rt: HostRuntime) -> Result<(), Fail> {
+    let mut scan = Scan::new("ab");
+    scan.has_edge_at_start();
+    assert_eq!(rt; scan.count(), 0);
+    assert_eq!(rt; scan.excerpt(rt.alloc(), 0, 5)?.as_str(), "ab");
+    assert_eq!(rt; scan.count(), 2);
+
+    assert_eq!(rt; scan.look(0), Some('a'));
+    assert_eq!(rt; scan.count(), 3);
+    Ok(())
 }

@@ -1,11 +1,14 @@
 -- A choice is what its payload is.
-use Rattle.std.proofs.Common.{◌≡◌, rules, refl, ap, sym, ◌∙◌, Option, Some, None, List, [], ◌∷◌, subst, ℕ, zero, suc, ◌<◌, Bool, true, false, Result, Ok, Err, arith, get_or, length, option_map, if◌then◌else◌, nat_eq, IfSome, IsSome}
+use Rattle.std.proofs.Common.{◌≡◌, rules, refl, ap, sym, ◌∙◌, Option, Some, None, List, [], ◌∷◌, subst, ℕ, zero, suc, ◌<◌, Bool, true, false, Result, Ok, Err, arith, get_or, length, option_map, if◌then◌else◌, nat_eq, IfSome, IsSome, map, ◌++◌, unwrap_or, append-nil}
+use Rattle.std.specs.Borrow.{Bor}
+use Rattle.asn_base.specs.declared.tag_tree.TagTree.{TagTree}
 use Rattle.asn_fault.specs.Stop.{Why, error_stop}
+use Rattle.asn_base.specs.Tags.{smallest}
 use Rattle.asn_base.specs.declared.tag.Tag.{Tag}
 use Rattle.asn_fault.specs.declared.decode.DecodeError.{DecodeError}
 use Rattle.asn_traits.specs.Notation.{Notation}
-use Rattle.asn_traits.specs.Shape.{Shape, Alternatives, alternative_at, alternative_named, alternative_tagged, name_tagged, place_named, identifiers, tags, tag_eq, has_tag, tags_distinct, class_number, closed_choice}
-use Rattle.asn_traits.specs.Tables.{end_tag}
+use Rattle.asn_traits.specs.Shape.{Shape, Alternatives, AlternativeAdditions, all_alternatives, join_alternatives, alternative_at, alternative_named, alternative_tagged, name_tagged, place_named, identifiers, tags, tag_eq, has_tag, tags_distinct, class_number, end_tag}
+use Rattle.asn_traits.specs.Tables.{smallest_tags, root_tags, added_tags, or_end}
 use Rattle.asn_traits.specs.Tree.{Tree, Slot, slot_nodes, head_nodes, head_slot, same_identifier}
 use Rattle.asn_traits.specs.Value.{Value}
 use Rattle.asn_traits.specs.Says.{Says}
@@ -102,47 +105,49 @@ chosen_by_place {n} alts e d z (IsChoice.is_unnamed names t u name is at) =
 chosen_by_place {n} alts e d z (IsChoice.is_empty names t is) = subst (Chosen n alts (Some t) None) (sym z) (Chosen.is_bare t is)
 chosen_by_place alts e d z (IsChoice.choice_free names slot place put is) = Chosen.is_free slot put _ is
 
-module _ {A : Type 0} (n : Notation) (alts : Alternatives) (value : A → Value) (before mid rest after : List Slot) where
+module _ {A : Type 0} (n : Notation) (alts : Alternatives) (added : AlternativeAdditions) (value : A → Value) (before mid rest after : List Slot) where
   shown_head : (slot put : Slot) → mid ≡ put ∷ rest → mid ≡ slot ∷ after → slot ≡ put
   shown_head slot put is shown = same_head _ _ _ _ (sym shown ∙ is)
 
   shown_tail : (slot put : Slot) → mid ≡ put ∷ rest → mid ≡ slot ∷ after → rest ≡ after
   shown_tail slot put is shown = same_tail _ _ _ _ (sym is ∙ shown)
 
-  unknown : (t : Tree) → before ≡ Some t ∷ rest → ((type_name : List ℕ) → Stops n (closed_choice alts) (Some t) [] (Why.no_valid_choice type_name)) → (r : Result A DecodeError) → AlternativeAnswer n None value mid r after → Answer n (closed_choice alts) value before r after
+  unknown : (t : Tree) → before ≡ Some t ∷ rest → ((type_name : List ℕ) → Stops n (Shape.choice alts added) (Some t) [] (Why.no_valid_choice type_name)) → (r : Result A DecodeError) → AlternativeAnswer n None value mid r after → Answer n (Shape.choice alts added) value before r after
   unknown t was stops (Ok x) h = absurd h
   unknown t was stops (Err e) h =
-      refuses_by {P = NoAlternative} {Q = Stops n (closed_choice alts) (head_slot before)} (λ p w k. rw (was, k.1, k.2) (stops k.0)) (error_stop e) h.1
+      refuses_by {P = NoAlternative} {Q = Stops n (Shape.choice alts added) (head_slot before)} (λ p w k. rw (was, k.1, k.2) (stops k.0)) (error_stop e) h.1
 
-  pub choice_answer : {slot put : Slot} {o : Option (List ℕ × Shape)} → Chosen n alts slot put o → before ≡ slot ∷ rest → mid ≡ put ∷ rest → (r : Result A DecodeError) → AlternativeAnswer n o value mid r after → Answer n (closed_choice alts) value before r after
+  pub choice_answer : {slot put : Slot} {o : Option (List ℕ × Shape)} → Chosen n (all_alternatives alts added) slot put o → before ≡ slot ∷ rest → mid ≡ put ∷ rest → (r : Result A DecodeError) → AlternativeAnswer n o value mid r after → Answer n (Shape.choice alts added) value before r after
   choice_answer (Chosen.is_chosen t u name a is at) was put (Ok x) (slot, v, shown, says, e) = (
     Some t,
     was ∙ ap (λ l. Some t ∷ l) (shown_tail slot (Some u) put shown),
-    subst (Says n (closed_choice alts) (Some t)) (sym e) (Says.says_choice alts t name u a.0 a.1 v is at (subst (λ c. Says n a.1 c v) (shown_head slot (Some u) put shown) says)),
+    subst (Says n (Shape.choice alts added) (Some t)) (sym e) (Says.says_choice alts added t name u a.0 a.1 v is at (subst (λ c. Says n a.1 c v) (shown_head slot (Some u) put shown) says)),
   )
   choice_answer (Chosen.is_chosen t u name a is at) was put (Err e) h =
-      refuses_by {P = Stops n a.1 (head_slot mid)} {Q = Stops n (closed_choice alts) (head_slot before)} (λ p w k. rw was (Stops.stops_payload alts t name u a.0 a.1 p w is at (rw put at k))) (error_stop e) h
-  choice_answer (Chosen.is_unknown t u name is at) was put r h = unknown t was (λ r. Stops.stops_unnamed alts t name u r is at) r h
-  choice_answer (Chosen.is_bare t is) was put r h = unknown t was (λ r. Stops.stops_no_member alts t r is) r h
+      refuses_by {P = Stops n a.1 (head_slot mid)} {Q = Stops n (Shape.choice alts added) (head_slot before)} (λ p w k. rw was (Stops.stops_payload alts added t name u a.0 a.1 p w is at (rw put at k))) (error_stop e) h
+  choice_answer (Chosen.is_unknown t u name is at) was put r h = unknown t was (λ r. Stops.stops_unnamed alts added t name u r is at) r h
+  choice_answer (Chosen.is_bare t is) was put r h = unknown t was (λ r. Stops.stops_no_member alts added t r is) r h
   choice_answer (Chosen.is_free slot put (Some a) is) was at (Ok x) (s, v, shown, says, e) = (slot, was ∙ ap (λ l. slot ∷ l) (shown_tail s put at shown), Says.says_free _ slot _ is)
   choice_answer (Chosen.is_free slot put None is) was at (Ok x) h = absurd h
   choice_answer (Chosen.is_free slot put o is) was at (Err e) h = Refuses.refuses_free is
 
 -- An opened choice has put the slot of the alternative whose tag is answered.
-pub opened_by_place : (n : Notation) (alts : Alternatives) (before mid : List Slot) (names : List (List ℕ)) (place : Option ℕ) (tag : Tag)
-    → tag ≡ place_tag alts place → names ≡ identifiers alts → tags_distinct (tags alts) ≡ true → alternative_tagged alts end_tag ≡ None
+pub opened_by_place : (n : Notation) (alts : Alternatives) (added : AlternativeAdditions) (before mid : List Slot) (names : List (List ℕ)) (place : Option ℕ) (tag : Tag)
+    → tag ≡ place_tag (all_alternatives alts added) place → names ≡ identifiers (all_alternatives alts added) → tags_distinct (tags (all_alternatives alts added)) ≡ true
+    → alternative_tagged (all_alternatives alts added) end_tag ≡ None
     → ((slot : Slot) × (put : Slot) × (rest : List Slot) × (before ≡ slot ∷ rest) × (mid ≡ put ∷ rest) × (slot_nodes put < slot_nodes slot) × IsChoice n names slot place put)
-    → OpensAlternative n alts before (Ok tag) mid
-opened_by_place n alts before mid names place tag t e d z (slot, put, rest, was, at, fewer, is) =
-    (slot, put, rest, was, at, fewer, subst (λ u. Chosen n alts slot put (alternative_tagged alts u)) (sym t) (chosen_by_place alts e d z is))
+    → OpensAlternative n alts added before (Ok tag) mid
+opened_by_place n alts added before mid names place tag t e d z (slot, put, rest, was, at, fewer, is) =
+    let all = all_alternatives alts added in
+    (slot, put, rest, was, at, fewer, subst (λ u. Chosen n all slot put (alternative_tagged all u)) (sym t) (chosen_by_place all e d z is))
 
 -- What `from_tag` answers of the payload is what the choice answers.
-pub choice_by_tag : {A : Type 0} (n : Notation) (alts : Alternatives) (value : A → Value) (before mid after : List Slot) (tag : Tag) (r : Result A DecodeError)
-    → OpensAlternative n alts before (Ok tag) mid → TagAnswer n alts value tag mid r after → Answer n (closed_choice alts) value before r after
-choice_by_tag n alts value before mid after tag r (slot, put, rest, was, at, fewer, is) h = choice_answer n alts value before mid rest after is was at r h
+pub choice_by_tag : {A : Type 0} (n : Notation) (alts : Alternatives) (added : AlternativeAdditions) (value : A → Value) (before mid after : List Slot) (tag : Tag) (r : Result A DecodeError)
+    → OpensAlternative n alts added before (Ok tag) mid → TagAnswer n (all_alternatives alts added) value tag mid r after → Answer n (Shape.choice alts added) value before r after
+choice_by_tag n alts added value before mid after tag r (slot, put, rest, was, at, fewer, is) h = choice_answer n alts added value before mid rest after is was at r h
 
-pub opened_below : (n : Notation) (alts : Alternatives) (before mid : List Slot) (tag : Tag) → OpensAlternative n alts before (Ok tag) mid → head_nodes mid < head_nodes before
-opened_below n alts before mid tag (slot, put, rest, was, at, fewer, is) = rw (was, at) fewer
+pub opened_below : (n : Notation) (alts : Alternatives) (added : AlternativeAdditions) (before mid : List Slot) (tag : Tag) → OpensAlternative n alts added before (Ok tag) mid → head_nodes mid < head_nodes before
+opened_below n alts added before mid tag (slot, put, rest, was, at, fewer, is) = rw (was, at) fewer
 
 named_step : (b : Bool) (i : List ℕ) (s : Shape) (names : Option (List ℕ)) (o : Option (List ℕ × Shape)) → names ≡ option_map (λ a. a.0) o
     → (if b then Some i else names) ≡ option_map (λ (a : List ℕ × Shape). a.0) (if b then Some (i, s) else o)
@@ -150,13 +155,13 @@ named_step true i s names o e = refl
 named_step false i s names o e = e
 
 -- The identifier beside a tag is that of the tag's alternative.
-pub name_by_tag : (alts : Alternatives) (tag : Tag) → name_tagged (tags alts) (identifiers alts) tag ≡ option_map (λ a. a.0) (alternative_tagged alts tag)
+pub name_by_tag : (alts : Alternatives) (tag : Tag) → name_tagged (root_tags alts) (identifiers alts) tag ≡ option_map (λ a. a.0) (alternative_tagged alts tag)
 name_by_tag Alternatives.no_alternatives tag = refl
 name_by_tag (Alternatives.alternative i t s alts) tag = named_step (tag_eq tag t) i s _ _ (name_by_tag alts tag)
 
-pub name_found : (alts : Alternatives) (tag : Tag) (ts : List Tag) (names : List (List ℕ)) (found : Option (List ℕ)) → ts ≡ tags alts → names ≡ identifiers alts → found ≡ name_tagged ts names tag
-    → found ≡ option_map (λ a. a.0) (alternative_tagged alts tag)
-name_found alts tag ts names found e d f = rw (e, d) at f ∙ name_by_tag alts tag
+pub name_found : (alts : Alternatives) (tag : Tag) (ts : List (Option Tag)) (names : List (List ℕ)) (named : Option (List ℕ)) → ts ≡ root_tags alts → names ≡ identifiers alts → named ≡ name_tagged ts names tag
+    → named ≡ option_map (λ a. a.0) (alternative_tagged alts tag)
+name_found alts tag ts names named e d f = rw (e, d) at f ∙ name_by_tag alts tag
 
 pub known : (name : List ℕ) (o : Option (List ℕ × Shape)) {P : List ℕ × Shape → Type 0} → Some name ≡ option_map (λ a. a.0) o → ((a : List ℕ × Shape) → name ≡ a.0 → P a) → IfSome o P
 known name (Some a) e f = f a (cc e)
@@ -169,3 +174,37 @@ known_some name None e = let d : ◌≡◌ {A = Option (List ℕ)} (Some name) N
 pub unknown_none : (o : Option (List ℕ × Shape)) → None ≡ option_map (λ a. a.0) o → o ≡ None
 unknown_none (Some a) e = let d : ◌≡◌ {A = Option (List ℕ)} None (Some a.0) = e in cc d
 unknown_none None e = refl
+
+tags-join : (alts more : Alternatives) → root_tags (join_alternatives alts more) ≡ root_tags alts ++ root_tags more
+tags-join Alternatives.no_alternatives more = refl
+tags-join (Alternatives.alternative i t s alts) more = ap (λ l. Some t ∷ l) (tags-join alts more)
+
+no_table : {A : Type 0} {P : Type 0} {x : A} → ◌≡◌ {A = Option A} None (Some x) → P
+no_table e = cc e
+
+some_table : {A : Type 0} {x y : A} → ◌≡◌ {A = Option A} (Some x) (Some y) → x ≡ y
+some_table e = cc e
+
+-- The smallest tags of both tables of alternatives are those of all alternatives.
+pub all_tags : (variants more : List TagTree) (table : Option (Bor (List TagTree))) (alts : Alternatives) (added : AlternativeAdditions)
+    → smallest_tags variants ≡ root_tags alts → option_map (λ t. smallest_tags t.now) table ≡ added_tags added → more ≡ unwrap_or (option_map (λ t. t.now) table) []
+    → smallest_tags variants ++ smallest_tags more ≡ root_tags (all_alternatives alts added)
+all_tags variants more None alts AlternativeAdditions.closed_alternatives e f g = rw (e, g) (append-nil (root_tags alts))
+all_tags variants more None alts (AlternativeAdditions.extended_alternatives others) e f g = no_table f
+all_tags variants more (Some t) alts AlternativeAdditions.closed_alternatives e f g = no_table (sym f)
+all_tags variants more (Some t) alts (AlternativeAdditions.extended_alternatives others) e f g = rw (e, g, some_table f) (sym (tags-join alts others))
+
+tags-end : (alts : Alternatives) → map or_end (root_tags alts) ≡ tags alts
+tags-end Alternatives.no_alternatives = refl
+tags-end (Alternatives.alternative i t s alts) = ap (λ l. t ∷ l) (tags-end alts)
+
+-- The tag at a place of both tables is the one at that place of all alternatives.
+pub tag_there : (alts : Alternatives) (place : ℕ) (all : List (Option Tag)) (tag : Tag) → all ≡ root_tags alts → tag ≡ get_or (map or_end all) place end_tag → tag ≡ get_or (tags alts) place end_tag
+tag_there alts place all tag e f = rw (e, tags-end alts) at f
+
+-- The smallest tag of the tree at a place of a table.
+pub tag_of_tree : (trees : List TagTree) (place : ℕ) (tree : TagTree) (least : Option Tag) → place < length trees → tree ≡ get_or trees place tree → least ≡ smallest tree
+    → or_end least ≡ get_or (map or_end (smallest_tags trees)) place end_tag
+tag_of_tree [] place tree least below at is = absurd (omega (arith, below))
+tag_of_tree (t ∷ ts) zero tree least below at is = ap or_end (is ∙ ap smallest at)
+tag_of_tree (t ∷ ts) (suc place) tree least below at is = tag_of_tree ts place tree least (omega (arith, below)) at is

@@ -27,6 +27,11 @@ pub blocks-later : {T : Type 0} (n : Notation) (f : T → Value) (xs rest : List
 blocks-later n f [] rest x why ws b = inl b
 blocks-later n f (y ∷ xs) rest x why ws b = inr (ws.0, blocks-later n f xs rest x why ws.1 b)
 
+-- The values of what h makes of the items.
+pub values-map : {A B : Type 0} (f : B → Value) (h : A → B) (xs : List A) → values f (map h xs) ≡ values (λ x. f (h x)) xs
+values-map f h [] = refl
+values-map f h (x ∷ xs) = ap (Values.value (f (h x))) (values-map f h xs)
+
 -- The last frame holds these items, each of which fits and can be written.
 pub record Collected {S T : Type 0} (holds : S → List Frame → Type 0) (n : Notation) (s : Shape) (f : T → Value) (old : S) (xs : List T) (now : S) : Type 0 where
   pub held : Turns holds (λ fs. slots_of f xs ∷ fs) old now

@@ -4,8 +4,8 @@ use Rattle.std.specs.Fn.{Once, FnOnceReturnsAtMut}
 use Rattle.asn_base.specs.declared.tag.Tag.{Tag}
 use Rattle.asn_fault.specs.declared.encode.EncodeError.{EncodeError}
 use Rattle.asn_traits.specs.Notation.{Notation}
-use Rattle.asn_traits.specs.Shape.{Shape, Fields, Alternatives, Presence, closed_seq, closed_choice}
-use Rattle.asn_traits.specs.Value.{Value, Fits, FitsFields, is_kept, may_lack}
+use Rattle.asn_traits.specs.Shape.{Shape, Fields, Alternatives, AlternativeAdditions, Presence, closed_seq, all_alternatives}
+use Rattle.asn_traits.specs.Value.{Value, Fits, FitsFields, FitsAlternative, is_kept, may_lack}
 use Rattle.asn_traits.specs.Writing.{Frame, push, push_all, close, as_members, as_choice, named, Turns, Written, Filled, CannotWrite, ScopeRan, CannotFill, tail_names, Offered}
 
 -- On a new frame the slots are the frame.
@@ -42,12 +42,16 @@ scope_members {holds = holds} {names = names} n all slots r f = record {
   writable = f.writable;
 }
 
+-- What is written as the payload is offered, where it fits its alternative.
+pub offered : {S : Type 0} {holds : S → List Frame → Type 0} {n : Notation} {s : Shape} {v : Value} {all : Alternatives} {id : List ℕ} {old new : S} → Written holds n s v old new → FitsAlternative all id v → Offered holds n all id v old new
+offered w fits = record { added = w.added; fit = fits; writable = w.writable }
+
 -- The scope of a choice.
-pub scope_choice : {S F : Type 0} {g : Once F (MutBor S × Unit {0}) (Result Tag EncodeError × (MutBor S × Unit {0}))} {f : F} {holds : S → List Frame → Type 0} {old new : S} {answer : Tag} (n : Notation) (all : Alternatives) (id : List ℕ) (v : Value)
+pub scope_choice : {S F : Type 0} {g : Once F (MutBor S × Unit {0}) (Result Tag EncodeError × (MutBor S × Unit {0}))} {f : F} {holds : S → List Frame → Type 0} {old new : S} {answer : Tag} (n : Notation) (alts : Alternatives) (added : AlternativeAdditions) (id : List ℕ) (v : Value)
     → (r : ScopeRan holds (FnOnceReturnsAtMut g f) old (Ok answer) (λ left. Turns holds (close (as_choice id)) left new))
-    → Offered holds n all id v r.answered.shown.now r.answered.left.now
-    → Written holds n (closed_choice all) (Value.choice id v) old new
-scope_choice {holds = holds} n all id v r f = record {
+    → Offered holds n (all_alternatives alts added) id v r.answered.shown.now r.answered.left.now
+    → Written holds n (Shape.choice alts added) (Value.choice id v) old new
+scope_choice {holds = holds} n alts added id v r f = record {
   added = λ fs h. r.left _ (subst (λ e. holds e (push (Some v) ([] ∷ fs))) r.answered.leaves (f.added ([] ∷ fs) (subst (λ s. holds s ([] ∷ fs)) (sym r.answered.shows) (r.opened fs h))));
   fit = Fits.fits_choice f.fit;
   writable = f.writable;

@@ -8,6 +8,13 @@ pub mod Filling
 pub mod Collecting
 pub mod Scopes
 pub mod Whole
-pub mod Apartness
+pub mod Readables
 pub mod Written
 pub mod Viewing
+pub mod Numerals
+pub mod WrittenAvn
+pub mod JerTexts
+pub mod Nesting
+pub mod SameText
+pub mod ShapeNames
+pub mod FieldSteps

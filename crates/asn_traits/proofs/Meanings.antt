@@ -53,25 +53,25 @@ mutual
   one {n} x (Says.says_int l g k w t e a b) (Says.says_free s2 slot v f) = absurd (not_other n x f)
   one {n} x (Says.says_seq fs t look vs e h) (Says.says_free s2 slot v f) = absurd (not_other n x f)
   one {n} x (Says.says_list s t slots vs e h) (Says.says_free s2 slot v f) = absurd (not_other n x f)
-  one {n} x (Says.says_choice alts t name u id s v e f h) (Says.says_free s2 slot w g) = absurd (not_other n x g)
+  one {n} x (Says.says_choice alts added t name u id s v e f h) (Says.says_free s2 slot w g) = absurd (not_other n x g)
   one {n} x (Says.says_loop body t v h) (Says.says_free s2 slot w f) = absurd (not_other n x f)
   one x (Says.says_leaf s t v e) (Says.says_leaf s2 t2 w f) = ok_same e f
   one x (Says.says_leaf s t v e) (Says.says_int l g k w t2 f a b) = absurd (none_some refl e)
   one x (Says.says_leaf s t v e) (Says.says_seq fs t2 look vs f h) = absurd (none_some refl e)
   one x (Says.says_leaf s t v e) (Says.says_list s2 t2 slots vs f h) = absurd (none_some refl e)
-  one x (Says.says_leaf s t v e) (Says.says_choice alts t2 name u id s2 w f g h) = absurd (none_some refl e)
+  one x (Says.says_leaf s t v e) (Says.says_choice alts added t2 name u id s2 w f g h) = absurd (none_some refl e)
   one x (Says.says_leaf s t v e) (Says.says_loop body t2 w h) = absurd (none_some refl e)
   one x (Says.says_int l g k w t e a b) (Says.says_leaf s2 t2 v f) = absurd (none_some refl f)
   one x (Says.says_seq fs t look vs e h) (Says.says_leaf s2 t2 v f) = absurd (none_some refl f)
   one x (Says.says_list s t slots vs e h) (Says.says_leaf s2 t2 v f) = absurd (none_some refl f)
-  one x (Says.says_choice alts t name u id s v e f h) (Says.says_leaf s2 t2 w g) = absurd (none_some refl g)
+  one x (Says.says_choice alts added t name u id s v e f h) (Says.says_leaf s2 t2 w g) = absurd (none_some refl g)
   one x (Says.says_loop body t v h) (Says.says_leaf s2 t2 w f) = absurd (none_some refl f)
   one x (Says.says_int l g k w t e a b) (Says.says_int l2 g2 k2 w2 t2 f c d) = ap Value.int (number_same e f)
   one {n} x (Says.says_seq fs t look vs e h) (Says.says_seq fs2 t2 look2 ws f k) =
       ap Value.members (one_fields x h (subst (λ m. SaysFields n fs2 (map m (field_names fs2)) ws) (some_same f e) k))
   one {n} x (Says.says_list s t slots vs e h) (Says.says_list s2 t2 slots2 ws f k) =
       ap Value.list (one_each x h (subst (λ m. SaysEach n s2 m ws) (some_same f e) k))
-  one {n} x (Says.says_choice alts t name u id s v e f h) (Says.says_choice alts2 t2 name2 u2 id2 s2 w g i k) =
+  one {n} x (Says.says_choice alts added t name u id s v e f h) (Says.says_choice alts2 added2 t2 name2 u2 id2 s2 w g i k) =
       let m : ◌≡◌ {A = Member} (name2, u2) (name, u) = named g e in
       let c : ◌≡◌ {A = List ℕ × Shape} (id2, s2) (id, s) = some_same (rw (ap (λ (r : Member). r.0) m) at i) f in
       ap (λ j. Value.choice j v) (sym (ap (λ (r : List ℕ × Shape). r.0) c))
@@ -99,7 +99,7 @@ mutual
   apart {n} x (Says.says_int l g k w t e a b) (Stops.stops_free s2 slot p y f) = not_other n x f
   apart {n} x (Says.says_seq fs t look vs e h) (Stops.stops_free s2 slot p y f) = not_other n x f
   apart {n} x (Says.says_list s t slots vs e h) (Stops.stops_free s2 slot p y f) = not_other n x f
-  apart {n} x (Says.says_choice alts t name u id s v e f h) (Stops.stops_free s2 slot p y g) = not_other n x g
+  apart {n} x (Says.says_choice alts added t name u id s v e f h) (Stops.stops_free s2 slot p y g) = not_other n x g
   apart {n} x (Says.says_loop body t v h) (Stops.stops_free s2 slot p y f) = not_other n x f
   apart x (Says.says_leaf s t v e) (Stops.stops_leaf s2 t2 blame w f blamed) = ok_err e f
   apart x (Says.says_leaf s t v e) (Stops.stops_number l g y t2 blame w f blamed) = none_some refl e
@@ -109,10 +109,10 @@ mutual
   apart x (Says.says_leaf s t v e) (Stops.stops_seq fs t2 look p w f h) = none_some refl e
   apart x (Says.says_leaf s t v e) (Stops.stops_no_list s2 t2 w f blamed) = none_some refl e
   apart x (Says.says_leaf s t v e) (Stops.stops_list s2 t2 slots p w f h) = none_some refl e
-  apart x (Says.says_leaf s t v e) (Stops.stops_no_choice alts t2 w f blamed) = none_some refl e
-  apart x (Says.says_leaf s t v e) (Stops.stops_no_member alts t2 r f) = none_some refl e
-  apart x (Says.says_leaf s t v e) (Stops.stops_unnamed alts t2 name u r f g) = none_some refl e
-  apart x (Says.says_leaf s t v e) (Stops.stops_payload alts t2 name u id s2 p w f g h) = none_some refl e
+  apart x (Says.says_leaf s t v e) (Stops.stops_no_choice alts added t2 w f blamed) = none_some refl e
+  apart x (Says.says_leaf s t v e) (Stops.stops_no_member alts added t2 r f) = none_some refl e
+  apart x (Says.says_leaf s t v e) (Stops.stops_unnamed alts added t2 name u r f g) = none_some refl e
+  apart x (Says.says_leaf s t v e) (Stops.stops_payload alts added t2 name u id s2 p w f g h) = none_some refl e
   apart x (Says.says_leaf s t v e) (Stops.stops_loop body t2 p w h) = none_some refl e
   apart x (Says.says_int l g k w t e a b) (Stops.stops_leaf s2 t2 blame y f blamed) = none_some refl f
   apart x (Says.says_int l g k w t e a b) (Stops.stops_number l2 g2 y t2 blame z f blamed) = number_err e f
@@ -124,13 +124,13 @@ mutual
   apart x (Says.says_list s t slots vs e h) (Stops.stops_leaf s2 t2 blame y f blamed) = none_some refl f
   apart x (Says.says_list s t slots vs e h) (Stops.stops_no_list s2 t2 w f blamed) = none_some f e
   apart {n} x (Says.says_list s t slots vs e h) (Stops.stops_list s2 t2 slots2 p w f k) = apart_each x h (subst (λ m. StopsEach n s2 m p w) (some_same f e) k)
-  apart x (Says.says_choice alts t name u id s v e f h) (Stops.stops_leaf s2 t2 blame y g blamed) = none_some refl g
-  apart x (Says.says_choice alts t name u id s v e f h) (Stops.stops_no_choice alts2 t2 w g blamed) = none_some g e
-  apart x (Says.says_choice alts t name u id s v e f h) (Stops.stops_no_member alts2 t2 r g) = empty_named g e
-  apart x (Says.says_choice alts t name u id s v e f h) (Stops.stops_unnamed alts2 t2 name2 u2 r g i) =
+  apart x (Says.says_choice alts added t name u id s v e f h) (Stops.stops_leaf s2 t2 blame y g blamed) = none_some refl g
+  apart x (Says.says_choice alts added t name u id s v e f h) (Stops.stops_no_choice alts2 added2 t2 w g blamed) = none_some g e
+  apart x (Says.says_choice alts added t name u id s v e f h) (Stops.stops_no_member alts2 added2 t2 r g) = empty_named g e
+  apart x (Says.says_choice alts added t name u id s v e f h) (Stops.stops_unnamed alts2 added2 t2 name2 u2 r g i) =
       let m : ◌≡◌ {A = Member} (name2, u2) (name, u) = named g e in
       none_some (rw (ap (λ (r : Member). r.0) m) at i) f
-  apart {n} x (Says.says_choice alts t name u id s v e f h) (Stops.stops_payload alts2 t2 name2 u2 id2 s2 p w g i k) =
+  apart {n} x (Says.says_choice alts added t name u id s v e f h) (Stops.stops_payload alts2 added2 t2 name2 u2 id2 s2 p w g i k) =
       let m : ◌≡◌ {A = Member} (name2, u2) (name, u) = named g e in
       let c : ◌≡◌ {A = List ℕ × Shape} (id2, s2) (id, s) = some_same (rw (ap (λ (r : Member). r.0) m) at i) f in
       apart x h (subst (λ r. Stops n r (Some u) p w) (ap (λ (r : List ℕ × Shape). r.1) c) (subst (λ r. Stops n s2 (Some r) p w) (ap (λ (r : Member). r.1) m) k))

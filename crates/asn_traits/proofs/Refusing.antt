@@ -3,7 +3,7 @@ use Rattle.std.proofs.Common.{◌≡◌, sym, subst, refl, ℕ, ℤ, ◌<ℤ◌,
 use Rattle.asn_base.specs.declared.codec.Codec.{Codec}
 use Rattle.asn_fault.specs.Stop.{Stop, Why, at_root}
 use Rattle.asn_traits.specs.Notation.{Notation, notation_of}
-use Rattle.asn_traits.specs.Shape.{Shape, Fields, Alternatives, closed_seq, closed_choice}
+use Rattle.asn_traits.specs.Shape.{Shape, Fields, Alternatives, AlternativeAdditions, closed_seq}
 use Rattle.asn_traits.specs.Tree.{Tree, Slot, head_slot, as_list, as_members, as_choice}
 use Rattle.asn_traits.specs.Leaf.{Blame, Blamed, leaf, as_number, needs_members, needs_list, needs_choice}
 use Rattle.asn_traits.specs.Stops.{Stops, Path}
@@ -58,6 +58,6 @@ pub no_list : {n : Notation} (s : Shape) (t : Tree) (before after : List Slot) (
 no_list s t before after e was is tells = first_stops (Shape.list_of s) t _ before after e was tells (λ w h. Stops.stops_no_list s t w is h)
 
 -- A tree that is no choice.
-pub no_choice : {n : Notation} (alts : Alternatives) (t : Tree) (before after : List Slot) (e : Stop) → before ≡ Some t ∷ after → as_choice n t ≡ None → TellsBlame n t (needs_choice n) e
-    → Refuses n (Stops n (closed_choice alts) (head_slot before)) e
-no_choice alts t before after e was is tells = first_stops (closed_choice alts) t _ before after e was tells (λ w h. Stops.stops_no_choice alts t w is h)
+pub no_choice : {n : Notation} (alts : Alternatives) (added : AlternativeAdditions) (t : Tree) (before after : List Slot) (e : Stop) → before ≡ Some t ∷ after → as_choice n t ≡ None → TellsBlame n t (needs_choice n) e
+    → Refuses n (Stops n (Shape.choice alts added) (head_slot before)) e
+no_choice alts added t before after e was is tells = first_stops (Shape.choice alts added) t _ before after e was tells (λ w h. Stops.stops_no_choice alts added t w is h)

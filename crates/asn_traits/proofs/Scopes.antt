@@ -1,5 +1,5 @@
 -- A sequence is what its slots are.
-use Rattle.std.proofs.Common.{◌≡◌, sym, ◌∙◌, ap, subst, ℕ, List, ◌∷◌, Result, Ok, Err}
+use Rattle.std.proofs.Common.{◌≡◌, refl, sym, ◌∙◌, ap, subst, ℕ, suc, List, [], ◌∷◌, map, Result, Ok, Err}
 use Rattle.asn_fault.specs.Stop.{Stop}
 use Rattle.asn_traits.specs.Notation.{Notation}
 use Rattle.asn_traits.specs.Shape.{Fields, field_names, closed_seq}
@@ -10,7 +10,21 @@ use Rattle.asn_traits.specs.Stops.{Stops}
 use Rattle.asn_traits.specs.Answer.{AnswerBy}
 use Rattle.asn_traits.specs.Opening.{HasMembers}
 use Rattle.asn_traits.specs.Scopes.{ScopeAnswer}
+use Rattle.asn_traits.specs.Tables.{Row, names_of, rows_of, field_rows}
+use Rattle.asn_traits.specs.declared.types.Field.{Field}
 use Rattle.asn_traits.proofs.Steps.{refuses_by, members_say, members_stop}
+
+names_of-rows : (fields : List Field) → map (λ (r : Row). r.name) (rows_of fields) ≡ names_of fields
+names_of-rows [] = refl
+names_of-rows (f ∷ fs) = ap (λ l. f.name.now ∷ l) (names_of-rows fs)
+
+field_names-rows : (k : ℕ) (fs : Fields) → map (λ (r : Row). r.name) (field_rows k fs) ≡ field_names fs
+field_names-rows k Fields.no_fields = refl
+field_names-rows k (Fields.field n t p s fs) = ap (λ l. n ∷ l) (field_names-rows (suc k) fs)
+
+-- The names in the table of a type's fields are those of the fields of its shape.
+pub table_names : (fields : List Field) (fs : Fields) → rows_of fields ≡ field_rows 0 fs → names_of fields ≡ field_names fs
+table_names fields fs e = sym (names_of-rows fields) ∙ ap (map (λ (r : Row). r.name)) e ∙ field_names-rows 0 fs
 
 pub sequence_answer : {A E : Type 0} (stop : E → Stop) (n : Notation) (fs : Fields) (value : A → Value) (before after rest slots : List Slot) (slot : Slot) (names : List (List ℕ)) (r : Result A E)
     → names ≡ field_names fs → before ≡ slot ∷ rest → HasMembers n names slot slots → ScopeAnswer stop n fs value slots rest r after → AnswerBy stop n (closed_seq fs) value before r after

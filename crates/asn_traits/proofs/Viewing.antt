@@ -1,8 +1,8 @@
 -- What the shape of a SEQUENCE, SET or CHOICE is, by the shapes of its parts.
-use Rattle.std.proofs.Common.{◌≡◌, refl, ap, sym, ◌∙◌, List, [], ◌∷◌, map, Option, Some, None, string_bytes}
+use Rattle.std.proofs.Common.{◌≡◌, refl, ap, sym, ◌∙◌, List, [], ◌∷◌, ◌++◌, map, Option, Some, None, string_bytes}
 use Rattle.std.specs.Global.{Vec}
 use Rattle.asn_traits.specs.Shape as spec
-use Rattle.asn_traits.specs.ShapeView.{shape_view, shape_step, field_step, alternative_step, fields_of, alternatives_of, kind_view, presence_view}
+use Rattle.asn_traits.specs.ShapeView.{shape_view, shape_step, field_step, alternative_step, fields_of, alternatives_of, kind_view, presence_view, field_views, alternative_views, with_last_field, with_last_alternative}
 use Rattle.asn_traits.specs.declared.shape_type.SeqKind.{SeqKind}
 use Rattle.asn_traits.specs.declared.shape_type.FieldShape.{FieldShape}
 use Rattle.asn_traits.specs.declared.shape_type.AlternativeShape.{AlternativeShape}
@@ -11,20 +11,10 @@ use Rattle.asn_traits.specs.declared.shape_type.Shape.TheVariants.{rolls-Seq, ro
 use Rattle.asn_traits.specs.declared.shape_type.Shape.TheViews.{Seq, Choice}
 use Rattle.asn_traits.specs.declared.shape_type.Shape.TheFolds.{fold-FieldShape, fold-AlternativeShape, fold-roll-Shape, fold_out-FieldShape, fold_out-AlternativeShape}
 
--- The fields that `FieldShape`s are.
-abbrev pub field_views : List FieldShape → spec.Fields
-field_views [] = spec.Fields.no_fields
-field_views (f ∷ fs) = spec.Fields.field (string_bytes f.name) f.tag (presence_view f.presence) (shape_view f.shape) (field_views fs)
-
 -- The added fields that `FieldShape`s are, if there is an extension marker.
 abbrev pub added_field_views : Option (Vec FieldShape) → spec.FieldAdditions
 added_field_views None = spec.FieldAdditions.closed_fields
 added_field_views (Some fs) = spec.FieldAdditions.extended_fields (field_views fs.items)
-
--- The alternatives that `AlternativeShape`s are.
-abbrev pub alternative_views : List AlternativeShape → spec.Alternatives
-alternative_views [] = spec.Alternatives.no_alternatives
-alternative_views (a ∷ alts) = spec.Alternatives.alternative (string_bytes a.identifier) a.tag (shape_view a.shape) (alternative_views alts)
 
 -- The added alternatives that `AlternativeShape`s are, if there is an extension marker.
 abbrev pub added_alternative_views : Option (Vec AlternativeShape) → spec.AlternativeAdditions
@@ -70,3 +60,13 @@ choice_viewed alts None = ap shape_view (sym (rolls-Choice alts None)) ∙ fold-
 choice_viewed alts (Some bs) = ap shape_view (sym (rolls-Choice alts (Some bs))) ∙ fold-roll-Shape spec.Shape AlternativeInFront FieldInFront shape_step alternative_step field_step (layer.Choice alts (Some bs))
     ∙ ap (λ l. spec.Shape.choice l (spec.AlternativeAdditions.extended_alternatives (alternatives_of (map alternative_fold bs.items)))) (alternatives_viewed alts.items)
     ∙ ap (λ l. spec.Shape.choice (alternative_views alts.items) (spec.AlternativeAdditions.extended_alternatives l)) (alternatives_viewed bs.items)
+
+-- The fields with one more behind the others.
+pub field_views-push : (fs : List FieldShape) (f : FieldShape) → field_views (fs ++ f ∷ []) ≡ with_last_field (field_views fs) (string_bytes f.name) f.tag (presence_view f.presence) (shape_view f.shape)
+field_views-push [] f = refl
+field_views-push (g ∷ fs) f = ap (spec.Fields.field (string_bytes g.name) g.tag (presence_view g.presence) (shape_view g.shape)) (field_views-push fs f)
+
+-- The alternatives with one more behind the others.
+pub alternative_views-push : (alts : List AlternativeShape) (a : AlternativeShape) → alternative_views (alts ++ a ∷ []) ≡ with_last_alternative (alternative_views alts) (string_bytes a.identifier) a.tag (shape_view a.shape)
+alternative_views-push [] a = refl
+alternative_views-push (b ∷ alts) a = ap (spec.Alternatives.alternative (string_bytes b.identifier) b.tag (shape_view b.shape)) (alternative_views-push alts a)

@@ -10,7 +10,7 @@ use Rattle.asn_base.specs.declared.codec.Codec.TheVariants.{Jer, Avn}
 use Rattle.asn_fault.specs.Stop.{Why}
 use Rattle.asn_traits.specs.Digits.{signed_number}
 use Rattle.asn_traits.specs.Notation.{Notation}
-use Rattle.asn_traits.specs.Shape.{Shape, Alphabet, is_item}
+use Rattle.asn_traits.specs.Shape.{Shape, Alphabet, all_items, is_item}
 use Rattle.asn_traits.specs.Tree.{Tree}
 use Rattle.asn_traits.specs.Value.{Value}
 
@@ -107,5 +107,5 @@ abbrev pub leaf : Notation → Shape → Tree → Option (Result Value Blame)
 leaf n Shape.null t = Some (as_null n t)
 leaf n Shape.boolean t = Some (as_boolean n t)
 leaf n (Shape.text Alphabet.utf8) t = Some (result_map Value.text (as_text n t))
-leaf n (Shape.enum items None) t = Some (as_item n items t)
+leaf n (Shape.enum items added) t = Some (as_item n (all_items items added) t)
 leaf n _ t = None

@@ -12,8 +12,10 @@ pub mod Answer
 pub mod Opening
 pub mod Scopes
 pub mod Writing
+pub mod FieldAnswer
 pub mod Readable
 pub mod Writes
 pub mod Tables
 pub mod Root
 pub mod Canonical
+pub mod Around

@@ -4,7 +4,7 @@ use Rattle.asn_fault.specs.Stop.{error_stop}
 use Rattle.asn_fault.specs.declared.decode.DecodeError.{DecodeError}
 use Rattle.asn_base.specs.declared.tag.Tag.{Tag}
 use Rattle.asn_traits.specs.Notation.{Notation}
-use Rattle.asn_traits.specs.Shape.{Shape, Fields, Alternatives, place_named, alternative_named, alternative_tagged, closed_seq, closed_choice}
+use Rattle.asn_traits.specs.Shape.{Shape, Fields, Alternatives, AlternativeAdditions, place_named, alternative_named, alternative_tagged, closed_seq, all_alternatives}
 use Rattle.asn_traits.specs.Tree.{Tree, Slot, slot_nodes, head_slot, as_list, as_members, as_choice, same_identifier}
 use Rattle.asn_traits.specs.Stops.{Stops}
 use Rattle.asn_traits.specs.Answer.{Refuses}
@@ -44,7 +44,7 @@ OpensMembers n names before (Err e) after = (fs : Fields) → Refuses n (Stops n
 -- A choice's payload stands in its place, or an absent slot, or it is no choice.
 abbrev pub OpensChoice : Notation → List (List ℕ) → List Slot → Result (Option ℕ) DecodeError → List Slot → Type 0
 OpensChoice n names before (Ok place) after = (slot : Slot) × (put : Slot) × (rest : List Slot) × (before ≡ slot ∷ rest) × (after ≡ put ∷ rest) × (slot_nodes put < slot_nodes slot) × IsChoice n names slot place put
-OpensChoice n names before (Err e) after = (alts : Alternatives) → Refuses n (Stops n (closed_choice alts) (head_slot before)) (error_stop e)
+OpensChoice n names before (Err e) after = (alts : Alternatives) (added : AlternativeAdditions) → Refuses n (Stops n (Shape.choice alts added) (head_slot before)) (error_stop e)
 
 -- What a choice's slot and the slot put for it say of the alternative.
 pub data Chosen (n : Notation) (alts : Alternatives) : Slot → Slot → Option (List ℕ × Shape) → Type 0 where
@@ -54,6 +54,7 @@ pub data Chosen (n : Notation) (alts : Alternatives) : Slot → Slot → Option 
   is_free : (slot put : Slot) (o : Option (List ℕ × Shape)) → n ≡ Notation.other → Chosen n alts slot put o
 
 -- The same, by the tag of the alternative.
-abbrev pub OpensAlternative : Notation → Alternatives → List Slot → Result Tag DecodeError → List Slot → Type 0
-OpensAlternative n alts before (Ok tag) after = (slot : Slot) × (put : Slot) × (rest : List Slot) × (before ≡ slot ∷ rest) × (after ≡ put ∷ rest) × (slot_nodes put < slot_nodes slot) × Chosen n alts slot put (alternative_tagged alts tag)
-OpensAlternative n alts before (Err e) after = Refuses n (Stops n (closed_choice alts) (head_slot before)) (error_stop e)
+abbrev pub OpensAlternative : Notation → Alternatives → AlternativeAdditions → List Slot → Result Tag DecodeError → List Slot → Type 0
+OpensAlternative n alts added before (Ok tag) after = (slot : Slot) × (put : Slot) × (rest : List Slot) × (before ≡ slot ∷ rest) × (after ≡ put ∷ rest) × (slot_nodes put < slot_nodes slot)
+    × Chosen n (all_alternatives alts added) slot put (alternative_tagged (all_alternatives alts added) tag)
+OpensAlternative n alts added before (Err e) after = Refuses n (Stops n (Shape.choice alts added) (head_slot before)) (error_stop e)

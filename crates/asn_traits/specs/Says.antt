@@ -2,7 +2,7 @@
 use Rattle.std.specs.Prelude.{◌≡◌, ℕ, ℤ, ◌≤ℤ◌, List, [], ◌∷◌, map, Some, None, Ok, true}
 use Rattle.asn_base.specs.declared.tag.Tag.{Tag}
 use Rattle.asn_traits.specs.Notation.{Notation}
-use Rattle.asn_traits.specs.Shape.{Shape, Fields, Alternatives, Presence, closed_seq, closed_choice, unfold_loop, alternative_named, field_names}
+use Rattle.asn_traits.specs.Shape.{Shape, Fields, Alternatives, AlternativeAdditions, Presence, closed_seq, all_alternatives, unfold_loop, alternative_named, field_names}
 use Rattle.asn_traits.specs.Tree.{Tree, Slot, as_list, as_members, as_choice, same_identifier}
 use Rattle.asn_traits.specs.Leaf.{leaf, as_number}
 use Rattle.asn_traits.specs.Value.{Value, Values, Slots, may_lack, with_field}
@@ -14,8 +14,8 @@ mutual
     says_int : (least greatest k : ℤ) (width : ℕ) (t : Tree) → as_number n t ≡ Ok k → least ≤ℤ k → k ≤ℤ greatest → Says n (Shape.int least greatest width) (Some t) (Value.int k)
     says_seq : (fs : Fields) (t : Tree) (look : List ℕ → Slot) (vs : Slots) → as_members n t ≡ Some look → SaysFields n fs (map look (field_names fs)) vs → Says n (closed_seq fs) (Some t) (Value.members vs)
     says_list : (s : Shape) (t : Tree) (slots : List Slot) (vs : Values) → as_list n t ≡ Some slots → SaysEach n s slots vs → Says n (Shape.list_of s) (Some t) (Value.list vs)
-    says_choice : (alts : Alternatives) (t : Tree) (name : List ℕ) (u : Tree) (id : List ℕ) (s : Shape) (v : Value)
-        → as_choice n t ≡ Some (Some (name, u)) → alternative_named same_identifier alts name ≡ Some (id, s) → Says n s (Some u) v → Says n (closed_choice alts) (Some t) (Value.choice id v)
+    says_choice : (alts : Alternatives) (added : AlternativeAdditions) (t : Tree) (name : List ℕ) (u : Tree) (id : List ℕ) (s : Shape) (v : Value)
+        → as_choice n t ≡ Some (Some (name, u)) → alternative_named same_identifier (all_alternatives alts added) name ≡ Some (id, s) → Says n s (Some u) v → Says n (Shape.choice alts added) (Some t) (Value.choice id v)
     says_loop : (body : Shape) (t : Tree) (v : Value) → Says n (unfold_loop body) (Some t) v → Says n (Shape.loop body) (Some t) v
     says_free : (s : Shape) (slot : Slot) (v : Value) → n ≡ Notation.other → Says n s slot v
 

@@ -1,5 +1,5 @@
 -- The shape of a type: what ASN.1 says of its values.
-use Rattle.std.specs.Prelude.{ℕ, zero, suc, ℤ, List, [], ◌∷◌, Bool, true, false, nat_eq, ◌&&◌, if◌then◌else◌, Option, Some, None, option_map}
+use Rattle.std.specs.Prelude.{ℕ, zero, suc, ℤ, List, [], ◌∷◌, ◌++◌, Bool, true, false, nat_eq, ◌&&◌, if◌then◌else◌, Option, Some, None, option_map}
 use Rattle.std.specs.Str.{bytes_eq}
 use Rattle.asn_base.specs.declared.tag.Class.{Class}
 use Rattle.asn_base.specs.declared.tag.Class.TheVariants.{Universal, Application, Context, Private}
@@ -134,6 +134,26 @@ abbrev mutual
 abbrev pub unfold_loop : Shape → Shape
 unfold_loop body = fill body 0 (Shape.loop body)
 
+-- The items of an enumeration, added ones last.
+abbrev pub all_items : List (List ℕ) → Option (List (List ℕ)) → List (List ℕ)
+all_items items None = items
+all_items items (Some more) = items ++ more
+
+-- The alternatives of both, in order.
+abbrev pub join_alternatives : Alternatives → Alternatives → Alternatives
+join_alternatives Alternatives.no_alternatives more = more
+join_alternatives (Alternatives.alternative n t s alts) more = Alternatives.alternative n t s (join_alternatives alts more)
+
+-- The alternatives of a choice, added ones last.
+abbrev pub all_alternatives : Alternatives → AlternativeAdditions → Alternatives
+all_alternatives alts AlternativeAdditions.closed_alternatives = alts
+all_alternatives alts (AlternativeAdditions.extended_alternatives more) = join_alternatives alts more
+
+-- A loop as its body, with the loop in the place of each `back` that means it; any other shape as it is.
+abbrev pub opened : Shape → Shape
+opened (Shape.loop body) = unfold_loop body
+opened s = s
+
 -- An enumeration without an extension marker.
 abbrev pub closed_enum : List (List ℕ) → Shape
 closed_enum items = Shape.enum items None
@@ -182,6 +202,10 @@ abbrev pub place_named : (List ℕ → List ℕ → Bool) → List (List ℕ) �
 place_named same [] name = None
 place_named same (n ∷ ns) name = if same name n then Some 0 else option_map suc (place_named same ns name)
 
+-- The tag of the end of contents, which no alternative has.
+abbrev pub end_tag : Tag
+end_tag = record { class = Universal; value = 0 }
+
 -- The place of a class among the classes.
 abbrev pub class_number : Class → ℕ
 class_number Universal = 0
@@ -198,11 +222,16 @@ abbrev pub alternative_tagged : Alternatives → Tag → Option (List ℕ × Sha
 alternative_tagged Alternatives.no_alternatives tag = None
 alternative_tagged (Alternatives.alternative n t s alts) tag = if tag_eq tag t then Some (n, s) else alternative_tagged alts tag
 
+-- The tag is there and is this one.
+abbrev pub is_tag : Option Tag → Tag → Bool
+is_tag None tag = false
+is_tag (Some t) tag = tag_eq tag t
+
 -- The identifier beside the tag.
-abbrev pub name_tagged : List Tag → List (List ℕ) → Tag → Option (List ℕ)
+abbrev pub name_tagged : List (Option Tag) → List (List ℕ) → Tag → Option (List ℕ)
 name_tagged [] names tag = None
 name_tagged (t ∷ ts) [] tag = None
-name_tagged (t ∷ ts) (n ∷ names) tag = if tag_eq tag t then Some n else name_tagged ts names tag
+name_tagged (t ∷ ts) (n ∷ names) tag = if is_tag t tag then Some n else name_tagged ts names tag
 
 -- The tag is one of these.
 abbrev pub has_tag : List Tag → Tag → Bool

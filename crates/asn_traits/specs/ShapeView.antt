@@ -1,5 +1,6 @@
 -- The shape that a `Shape` is.
-use Rattle.std.specs.Prelude.{pos, List, [], ◌∷◌, map, Option, Some, None, option_map, string_bytes}
+use Rattle.std.specs.Prelude.{ℕ, pos, List, [], ◌∷◌, map, Option, Some, None, option_map, string_bytes}
+use Rattle.asn_base.specs.declared.tag.Tag.{Tag}
 use Rattle.asn_traits.specs.Shape as spec
 use Rattle.asn_traits.specs.declared.shape_type.Alphabet.{Alphabet}
 use Rattle.asn_traits.specs.declared.shape_type.Alphabet.TheVariants as alphabet
@@ -9,6 +10,8 @@ use Rattle.asn_traits.specs.declared.shape_type.Plain.{Plain}
 use Rattle.asn_traits.specs.declared.shape_type.Plain.TheVariants as plain
 use Rattle.asn_traits.specs.declared.shape_type.PresenceShape.{PresenceShape}
 use Rattle.asn_traits.specs.declared.shape_type.PresenceShape.TheVariants as presence
+use Rattle.asn_traits.specs.declared.shape_type.FieldShape.{FieldShape}
+use Rattle.asn_traits.specs.declared.shape_type.AlternativeShape.{AlternativeShape}
 use Rattle.asn_traits.specs.declared.shape_type.Shape.{Shape}
 use Rattle.asn_traits.specs.declared.shape_type.Shape.TheOpen.{Shape-F, FieldShape-F, AlternativeShape-F, Null, Bool, Int, Bits, Octets, Any, Oid, Str, Bmp, Utc, Gen, Day, Decimal, Enum, Seq, ListOf, SetOf, Table, Choice, Loop, Back}
 use Rattle.asn_traits.specs.declared.shape_type.Shape.TheFolds.{fold-Shape}
@@ -97,3 +100,23 @@ shape_step (Back k) = spec.Shape.back k
 -- The shape that a `Shape` is.
 abbrev pub shape_view : Shape → spec.Shape
 shape_view = fold-Shape spec.Shape (spec.Alternatives → spec.Alternatives) (spec.Fields → spec.Fields) shape_step alternative_step field_step
+
+-- The fields that `FieldShape`s are, in order.
+abbrev pub field_views : List FieldShape → spec.Fields
+field_views [] = spec.Fields.no_fields
+field_views (f ∷ fs) = spec.Fields.field (string_bytes f.name) f.tag (presence_view f.presence) (shape_view f.shape) (field_views fs)
+
+-- The alternatives that `AlternativeShape`s are, in order.
+abbrev pub alternative_views : List AlternativeShape → spec.Alternatives
+alternative_views [] = spec.Alternatives.no_alternatives
+alternative_views (a ∷ alts) = spec.Alternatives.alternative (string_bytes a.identifier) a.tag (shape_view a.shape) (alternative_views alts)
+
+-- The fields with one more at the end.
+abbrev pub with_last_field : spec.Fields → List ℕ → Tag → spec.Presence → spec.Shape → spec.Fields
+with_last_field spec.Fields.no_fields name tag presence shape = spec.Fields.field name tag presence shape spec.Fields.no_fields
+with_last_field (spec.Fields.field n t p s fs) name tag presence shape = spec.Fields.field n t p s (with_last_field fs name tag presence shape)
+
+-- The alternatives with one more at the end.
+abbrev pub with_last_alternative : spec.Alternatives → List ℕ → Tag → spec.Shape → spec.Alternatives
+with_last_alternative spec.Alternatives.no_alternatives identifier tag shape = spec.Alternatives.alternative identifier tag shape spec.Alternatives.no_alternatives
+with_last_alternative (spec.Alternatives.alternative i t s alts) identifier tag shape = spec.Alternatives.alternative i t s (with_last_alternative alts identifier tag shape)

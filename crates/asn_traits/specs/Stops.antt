@@ -4,7 +4,7 @@ use Rattle.asn_base.specs.declared.codec.Codec.{Codec}
 use Rattle.asn_base.specs.declared.tag.Tag.{Tag}
 use Rattle.asn_fault.specs.Stop.{Why}
 use Rattle.asn_traits.specs.Notation.{Notation, notation_of}
-use Rattle.asn_traits.specs.Shape.{Shape, Fields, Alternatives, Presence, closed_seq, closed_choice, unfold_loop, alternative_named, field_names}
+use Rattle.asn_traits.specs.Shape.{Shape, Fields, Alternatives, AlternativeAdditions, Presence, closed_seq, all_alternatives, unfold_loop, alternative_named, field_names}
 use Rattle.asn_traits.specs.Tree.{Tree, Slot, as_list, as_members, as_choice, same_identifier}
 use Rattle.asn_traits.specs.Leaf.{Blame, Blamed, leaf, as_number, needs_members, needs_list, needs_choice}
 use Rattle.asn_traits.specs.Value.{Value, may_lack}
@@ -26,12 +26,12 @@ mutual
     stops_seq : (fs : Fields) (t : Tree) (look : List ℕ → Slot) (p : Path) (w : Why) → as_members n t ≡ Some look → StopsFields n fs (map look (field_names fs)) p w → Stops n (closed_seq fs) (Some t) p w
     stops_no_list : (s : Shape) (t : Tree) (w : Why) → as_list n t ≡ None → Blamed n t (needs_list n) w → Stops n (Shape.list_of s) (Some t) [] w
     stops_list : (s : Shape) (t : Tree) (slots : List Slot) (p : Path) (w : Why) → as_list n t ≡ Some slots → StopsEach n s slots p w → Stops n (Shape.list_of s) (Some t) p w
-    stops_no_choice : (alts : Alternatives) (t : Tree) (w : Why) → as_choice n t ≡ None → Blamed n t (needs_choice n) w → Stops n (closed_choice alts) (Some t) [] w
-    stops_no_member : (alts : Alternatives) (t : Tree) (type_name : List ℕ) → as_choice n t ≡ Some None → Stops n (closed_choice alts) (Some t) [] (Why.no_valid_choice type_name)
-    stops_unnamed : (alts : Alternatives) (t : Tree) (name : List ℕ) (u : Tree) (type_name : List ℕ) → as_choice n t ≡ Some (Some (name, u)) → alternative_named same_identifier alts name ≡ None
-        → Stops n (closed_choice alts) (Some t) [] (Why.no_valid_choice type_name)
-    stops_payload : (alts : Alternatives) (t : Tree) (name : List ℕ) (u : Tree) (id : List ℕ) (s : Shape) (p : Path) (w : Why)
-        → as_choice n t ≡ Some (Some (name, u)) → alternative_named same_identifier alts name ≡ Some (id, s) → Stops n s (Some u) p w → Stops n (closed_choice alts) (Some t) p w
+    stops_no_choice : (alts : Alternatives) (added : AlternativeAdditions) (t : Tree) (w : Why) → as_choice n t ≡ None → Blamed n t (needs_choice n) w → Stops n (Shape.choice alts added) (Some t) [] w
+    stops_no_member : (alts : Alternatives) (added : AlternativeAdditions) (t : Tree) (type_name : List ℕ) → as_choice n t ≡ Some None → Stops n (Shape.choice alts added) (Some t) [] (Why.no_valid_choice type_name)
+    stops_unnamed : (alts : Alternatives) (added : AlternativeAdditions) (t : Tree) (name : List ℕ) (u : Tree) (type_name : List ℕ) → as_choice n t ≡ Some (Some (name, u)) → alternative_named same_identifier (all_alternatives alts added) name ≡ None
+        → Stops n (Shape.choice alts added) (Some t) [] (Why.no_valid_choice type_name)
+    stops_payload : (alts : Alternatives) (added : AlternativeAdditions) (t : Tree) (name : List ℕ) (u : Tree) (id : List ℕ) (s : Shape) (p : Path) (w : Why)
+        → as_choice n t ≡ Some (Some (name, u)) → alternative_named same_identifier (all_alternatives alts added) name ≡ Some (id, s) → Stops n s (Some u) p w → Stops n (Shape.choice alts added) (Some t) p w
     stops_loop : (body : Shape) (t : Tree) (p : Path) (w : Why) → Stops n (unfold_loop body) (Some t) p w → Stops n (Shape.loop body) (Some t) p w
     stops_free : (s : Shape) (slot : Slot) (p : Path) (w : Why) → n ≡ Notation.other → Stops n s slot p w
 

@@ -3,7 +3,7 @@ use Rattle.std.specs.Prelude.{◌≡◌, ℕ, ℤ, ◌≤ℤ◌, ◌+◌, List, 
 use Rattle.std.specs.Str.{bytes_eq, is_utf8}
 use Rattle.std.specs.Ordering.{int_eq}
 use Rattle.asn_base.specs.declared.tag.Tag.{Tag}
-use Rattle.asn_traits.specs.Shape.{Shape, Fields, Alternatives, Alphabet, Plain, Presence, closed_enum, closed_seq, closed_choice, unfold_loop, is_item}
+use Rattle.asn_traits.specs.Shape.{Shape, Fields, Alternatives, AlternativeAdditions, Alphabet, Plain, Presence, closed_seq, all_items, all_alternatives, unfold_loop, is_item}
 
 mutual
   -- The abstract value of an ASN.1 type.
@@ -119,10 +119,10 @@ mutual
     fits_bool : {b : Bool} → Fits Shape.boolean (Value.boolean b)
     fits_int : {l g : ℤ} {w : ℕ} {n : ℤ} → l ≤ℤ n → n ≤ℤ g → Fits (Shape.int l g w) (Value.int n)
     fits_utf8 : {t : List ℕ} → is_utf8 t ≡ true → Fits (Shape.text Alphabet.utf8) (Value.text t)
-    fits_item : {items : List (List ℕ)} {i : List ℕ} → is_item items i ≡ true → Fits (closed_enum items) (Value.item i)
+    fits_item : {items : List (List ℕ)} {added : Option (List (List ℕ))} {i : List ℕ} → is_item (all_items items added) i ≡ true → Fits (Shape.enum items added) (Value.item i)
     fits_members : {fs : Fields} {ms : Slots} → FitsFields fs ms → Fits (closed_seq fs) (Value.members ms)
     fits_list : {s : Shape} {vs : Values} → FitsEach s vs → Fits (Shape.list_of s) (Value.list vs)
-    fits_choice : {alts : Alternatives} {i : List ℕ} {v : Value} → FitsAlternative alts i v → Fits (closed_choice alts) (Value.choice i v)
+    fits_choice : {alts : Alternatives} {added : AlternativeAdditions} {i : List ℕ} {v : Value} → FitsAlternative (all_alternatives alts added) i v → Fits (Shape.choice alts added) (Value.choice i v)
     fits_loop : {b : Shape} {v : Value} → Fits (unfold_loop b) v → Fits (Shape.loop b) v
 
   -- Each element is a value of the shape.

@@ -1,5 +1,5 @@
 -- What makes written trees readable.
-use Rattle.std.specs.Prelude.{◌≡◌, ℕ, ℤ, List, [], ◌∷◌, Bool, true, Some, None, Ok}
+use Rattle.std.specs.Prelude.{◌≡◌, ℕ, ◌-◌, ◌^◌, ℤ, pos, negsuc, ◌≤ℤ◌, List, [], ◌∷◌, Bool, true, Some, None, Ok}
 use Rattle.asn_traits.specs.Leaf.{as_null, as_boolean, as_text, as_item, as_number}
 use Rattle.asn_traits.specs.Notation.{Notation}
 use Rattle.asn_traits.specs.Shape.{is_item, are_distinct}
@@ -23,11 +23,11 @@ Finds tree look Slots.no_slots = Unit {0}
 Finds tree look (Slots.absent n ms) = (look n ≡ None) × Finds tree look ms
 Finds tree look (Slots.present n v ms) = (look n ≡ Some (tree v)) × Finds tree look ms
 
--- Each kind of value is written as a tree that the notation looks at as that kind.
+-- Each kind of value is written as a tree that the notation looks at as that kind; of numbers, those of at most 128 bits.
 pub record Writes (n : Notation) (tree : Value → Tree) : Type 0 where
   pub null : as_null n (tree Value.null) ≡ Ok Value.null
   pub boolean : (b : Bool) → as_boolean n (tree (Value.boolean b)) ≡ Ok (Value.boolean b)
-  pub int : (k : ℤ) → as_number n (tree (Value.int k)) ≡ Ok k
+  pub int : (k : ℤ) → negsuc (2 ^ 127 - 1) ≤ℤ k → k ≤ℤ pos (2 ^ 128 - 1) → as_number n (tree (Value.int k)) ≡ Ok k
   pub text : (t : List ℕ) → as_text n (tree (Value.text t)) ≡ Ok t
   pub item : (items : List (List ℕ)) (i : List ℕ) → is_item items i ≡ true → as_item n items (tree (Value.item i)) ≡ Ok (Value.item i)
   pub list : (vs : Values) → as_list n (tree (Value.list vs)) ≡ Some (value_slots tree vs)

@@ -4,7 +4,7 @@
 ghost use Rattle.asn_fault.specs.Stop.{error_stop};
 ghost use Rattle.asn_traits.specs.Fixed.{fixed_size};
 ghost use Rattle.asn_traits.specs.Notation.{Notation, notation_of};
-ghost use Rattle.asn_traits.specs.Shape.{are_distinct, Shape, Alphabet, closed_enum, closed_seq, closed_choice, field_names};
+ghost use Rattle.asn_traits.specs.Shape.{are_distinct, Shape, Alphabet, all_alternatives, closed_seq, field_names};
 ghost use Rattle.asn_traits.specs.Tree.{Slot, head_nodes, slot_nodes};
 ghost use Rattle.asn_traits.specs.Value.{Value, values};
 ghost use Rattle.asn_traits.specs.Answer.{Answer, AnswerBy, AnswerUnder, TakesAbsent, OptionalAnswer};
@@ -13,7 +13,7 @@ ghost use Rattle.asn_traits.specs.Scopes.{ScopeAnswer, TagAnswer};
 ghost use Rattle.asn_traits.specs.Tables.{names_of};
 ghost use Rattle.std.specs.Prelude.{true, ◌≡◌, ℕ, pos, List, ◌∷◌, ◌++◌, ◌<◌, map, length, string_bytes};
 
-use crate::tables::tag_at;
+use crate::tables::{listed, tag_at};
 use crate::{AsnType, Choice, Constructed, Enumerated, Field};
 use asn_base::{Codec, Constraints, IntegerType, Tag};
 use asn_fault::{DecodeError, Refusal};
@@ -67,7 +67,7 @@ pub trait Decoder {
 
     /// Reads an item of an ENUMERATED type.
     fn decode_enumerated<E: Enumerated>(&mut self, tag: Tag) -> Result<E, DecodeError>
-        ensures { Answer notation (closed_enum E.items) (λ x. Value.item (E.item x))
+        ensures { Answer notation (Shape.enum E.items E.added) (λ x. Value.item (E.item x))
             (pending self.old) result (pending self.new) };
 
     /// Takes the first pending slot if it is absent, and tells whether it was. It refuses where none is pending.
@@ -138,11 +138,14 @@ pub trait Decoder {
         &mut self,
         constraints: &Constraints,
     ) -> Result<Tag, DecodeError>
-        ensures { OpensAlternative notation C.alternatives (pending self.old) result
+        ensures { OpensAlternative notation C.alternatives C.added (pending self.old) result
             (pending self.new) }
     {
         match self.open_choice(C::identifier_table()) {
-            Ok(Some(place)) => Ok(tag_at(C::variant_table(), place)),
+            Ok(Some(place)) => {
+                let added = listed(C::extended_variant_table());
+                Ok(tag_at(C::variant_table(), added, place))
+            }
             Ok(None) => Ok(Tag::EOC),
             Err(error) => Err(error),
         }
@@ -153,7 +156,7 @@ pub trait Decoder {
         &mut self,
         constraints: &Constraints,
     ) -> Result<C, DecodeError>
-        ensures { Answer notation (closed_choice C.alternatives) C.value_of
+        ensures { Answer notation (Shape.choice C.alternatives C.added) C.value_of
             (pending self.old) result (pending self.new) }
     {
         match self.open_alternative::<C>(constraints) {
@@ -175,6 +178,51 @@ pub trait Decoder {
             },
             Err(error) => Err(error),
         }
+    }
+
+    /// Reads an optional field under an explicit tag, which changes nothing: nothing where the slot is absent.
+    final fn decode_optional_with_explicit_prefix<T: Decode>(
+        &mut self,
+        tag: Tag,
+    ) -> Result<Option<T>, DecodeError>
+        ensures { OptionalAnswer notation T.shape_of T.value_of (pending self.old) result
+            (pending self.new) }
+    {
+        self.decode_optional()
+    }
+
+    /// Reads an optional field under a tag, which changes nothing: nothing where the slot is absent.
+    final fn decode_optional_with_tag<T: Decode>(
+        &mut self,
+        tag: Tag,
+    ) -> Result<Option<T>, DecodeError>
+        ensures { OptionalAnswer notation T.shape_of T.value_of (pending self.old) result
+            (pending self.new) }
+    {
+        self.decode_optional()
+    }
+
+    /// Reads an optional field under constraints, which change nothing: nothing where the slot is absent.
+    final fn decode_optional_with_constraints<T: Decode>(
+        &mut self,
+        constraints: &Constraints,
+    ) -> Result<Option<T>, DecodeError>
+        ensures { OptionalAnswer notation T.shape_of T.value_of (pending self.old) result
+            (pending self.new) }
+    {
+        self.decode_optional()
+    }
+
+    /// Reads an optional field under a tag and constraints, which change nothing: nothing where the slot is absent.
+    final fn decode_optional_with_tag_and_constraints<T: Decode>(
+        &mut self,
+        tag: Tag,
+        constraints: &Constraints,
+    ) -> Result<Option<T>, DecodeError>
+        ensures { OptionalAnswer notation T.shape_of T.value_of (pending self.old) result
+            (pending self.new) }
+    {
+        self.decode_optional()
     }
 
     /// Reads a value under an explicit tag, which changes nothing in text.
@@ -232,6 +280,6 @@ pub trait Decode: AsnType + Sized + Drop {
 pub trait DecodeChoice: Choice + Sized + Drop {
     /// Reads the payload of the alternative of this tag from the first pending slot. Of any other tag it takes no slot and refuses with `NoValidChoice`.
     fn from_tag<D: Decoder>(decoder: &mut D, tag: Tag) -> Result<Self, DecodeError>
-        ensures { TagAnswer D.notation Self.alternatives Self.value_of tag
+        ensures { TagAnswer D.notation (all_alternatives Self.alternatives Self.added) Self.value_of tag
             (D.pending decoder.old) result (D.pending decoder.new) };
 }

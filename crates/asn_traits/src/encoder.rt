@@ -3,14 +3,14 @@
 // A codec writes the calls without a body. The calls that have a bound of this crate's are final, and are proved here once for every codec.
 ghost use Rattle.asn_traits.specs.Fixed.{fixed_size};
 ghost use Rattle.asn_traits.specs.Notation.{Notation, notation_of};
-ghost use Rattle.asn_traits.specs.Shape.{Shape, Alphabet, closed_enum, field_names, alternative_tagged};
+ghost use Rattle.asn_traits.specs.Shape.{Shape, Alphabet, all_alternatives, field_names, alternative_tagged};
 ghost use Rattle.asn_traits.specs.Tables.{names_of};
 ghost use Rattle.asn_traits.specs.Value.{Value, values};
 ghost use Rattle.asn_traits.specs.Writing.{Frame, push, close, as_list, as_members, as_choice, Written, WrittenUnder, CannotWrite, CannotWriteUnder, ScopeRan, Turns};
 ghost use Rattle.std.specs.Fn.{FnOnceReturnsAtMut};
 ghost use Rattle.std.specs.Prelude.{◌≡◌, ◌⊎◌, pos, ◌∷◌, [], ℕ, List, Option, Some, None, Ok, Err, map, option_map, OnOk, IfErr, IfSome, IsOk, IsSome, ⊤};
 
-use crate::tables::identifier_of;
+use crate::tables::{identifier_of, listed};
 use crate::{AsnType, Choice, Constructed, Enumerated, Field};
 use asn_base::{Codec, Constraints, Identifier, IntegerType, Tag};
 use asn_fault::{EncodeError, EncodeErrorKind};
@@ -82,7 +82,7 @@ pub trait Encoder {
         value: &T,
         identifier: Identifier,
     ) -> Result<(), EncodeError>
-        ensures written { OnOk result (Written holds notation (closed_enum T.items)
+        ensures written { OnOk result (Written holds notation (Shape.enum T.items T.added)
             (Value.item (T.item value.now)) self.old self.new) }
         ensures refused { IfErr result (CannotWrite notation (Value.item (T.item value.now))) };
 
@@ -126,6 +126,37 @@ pub trait Encoder {
         ensures refused { IfErr result (CannotWrite notation (T.value_of value.now)) }
     {
         value.encode(self)
+    }
+
+    /// Writes the value of an optional field under a tag and constraints, which change nothing: it is written by its type's own.
+    final fn encode_some_with_tag_and_constraints<T: Encode>(
+        &mut self,
+        tag: Tag,
+        constraints: &Constraints,
+        value: &T,
+        identifier: Identifier,
+    ) -> Result<(), EncodeError>
+    where
+        Self: Sized,
+        ensures written { OnOk result (Written holds notation T.shape_of
+            (T.value_of value.now) self.old self.new) }
+        ensures refused { IfErr result (CannotWrite notation (T.value_of value.now)) }
+    {
+        value.encode(self)
+    }
+
+    /// Leaves an optional field out under a tag, which changes nothing. It refuses memory alone.
+    final fn encode_none_with_tag(
+        &mut self,
+        tag: Tag,
+        identifier: Identifier,
+    ) -> Result<(), EncodeError>
+    where
+        Self: Sized,
+        ensures written { OnOk result (Turns holds (push None) self.old self.new) }
+        ensures refused { IfErr result (λ e. e.kind ≡ EncodeErrorKind.OutOfMemory) }
+    {
+        self.encode_absent()
     }
 
     /// Leaves an optional field out: puts an absent slot. It refuses memory alone.
@@ -208,15 +239,16 @@ pub trait Encoder {
     where
         Self: Sized,
         requires { F.IsAlwaysCallable encode_fn }
-        ensures written { OnOk result (IfSome (alternative_tagged C.alternatives tag)
+        ensures written { OnOk result (IfSome (alternative_tagged (all_alternatives C.alternatives C.added) tag)
             (λ a. (answer : _) × ScopeRan holds (FnOnceReturnsAtMut F.FnOnce encode_fn) self.old
             (Ok answer) (λ left. Turns holds (close (as_choice a.0)) left self.new))) }
-        ensures listed { IsOk result → IsSome (alternative_tagged C.alternatives tag) }
+        ensures listed { IsOk result → IsSome (alternative_tagged (all_alternatives C.alternatives C.added) tag) }
         ensures refused { IfErr result (λ e. (e.kind ≡ EncodeErrorKind.OutOfMemory)
-            ⊎ (((e.kind ≡ EncodeErrorKind.VariantNotInChoice) × (alternative_tagged C.alternatives tag ≡ None))
+            ⊎ (((e.kind ≡ EncodeErrorKind.VariantNotInChoice) × (alternative_tagged (all_alternatives C.alternatives C.added) tag ≡ None))
             ⊎ ScopeRan holds (FnOnceReturnsAtMut F.FnOnce encode_fn) self.old (Err e) (λ left. ⊤))) }
     {
-        let Some(name) = identifier_of(C::variant_table(), C::identifier_table(), tag) else {
+        let added = listed(C::extended_variant_table());
+        let Some(name) = identifier_of(C::variant_table(), added, C::identifier_table(), tag) else {
             return Err(EncodeError::variant_not_in_choice(self.codec()));
         };
         self.open_frame()?;

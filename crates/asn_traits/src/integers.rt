@@ -2,7 +2,7 @@
 ghost use Rattle.asn_traits.specs.Shape.{Shape as AbstractShape};
 ghost use Rattle.asn_traits.specs.ShapeView.{shape_view};
 ghost use Rattle.asn_traits.specs.Value.{Value};
-ghost use Rattle.std.specs.Prelude.{◌≡◌, pos, negsuc, ◌-◌, ◌^◌};
+ghost use Rattle.std.specs.Prelude.{◌≡◌, refl, pos, negsuc, ◌-◌, ◌^◌};
 
 use crate::{AsnType, Decode, Decoder, Encode, Encoder, Shape};
 use asn_base::{Constraints, Identifier, IntegerType, OutOfMemory, Tag, TagTree};
@@ -44,6 +44,8 @@ impl AsnType for u8 {
     fn shape(_alloc: Global) -> Result<Shape, OutOfMemory> {
         Ok(integer_shape::<Self>())
     }
+
+    ghost readable = { refl };
 }
 
 impl Encode for u8 {
@@ -92,6 +94,8 @@ impl AsnType for u16 {
     fn shape(_alloc: Global) -> Result<Shape, OutOfMemory> {
         Ok(integer_shape::<Self>())
     }
+
+    ghost readable = { refl };
 }
 
 impl Encode for u16 {
@@ -140,6 +144,8 @@ impl AsnType for u32 {
     fn shape(_alloc: Global) -> Result<Shape, OutOfMemory> {
         Ok(integer_shape::<Self>())
     }
+
+    ghost readable = { refl };
 }
 
 impl Encode for u32 {
@@ -188,6 +194,8 @@ impl AsnType for u64 {
     fn shape(_alloc: Global) -> Result<Shape, OutOfMemory> {
         Ok(integer_shape::<Self>())
     }
+
+    ghost readable = { refl };
 }
 
 impl Encode for u64 {
@@ -236,6 +244,8 @@ impl AsnType for u128 {
     fn shape(_alloc: Global) -> Result<Shape, OutOfMemory> {
         Ok(integer_shape::<Self>())
     }
+
+    ghost readable = { refl };
 }
 
 impl Encode for u128 {
@@ -284,6 +294,8 @@ impl AsnType for usize {
     fn shape(_alloc: Global) -> Result<Shape, OutOfMemory> {
         Ok(integer_shape::<Self>())
     }
+
+    ghost readable = { refl };
 }
 
 impl Encode for usize {
@@ -332,6 +344,8 @@ impl AsnType for i8 {
     fn shape(_alloc: Global) -> Result<Shape, OutOfMemory> {
         Ok(integer_shape::<Self>())
     }
+
+    ghost readable = { refl };
 }
 
 impl Encode for i8 {
@@ -380,6 +394,8 @@ impl AsnType for i16 {
     fn shape(_alloc: Global) -> Result<Shape, OutOfMemory> {
         Ok(integer_shape::<Self>())
     }
+
+    ghost readable = { refl };
 }
 
 impl Encode for i16 {
@@ -428,6 +444,8 @@ impl AsnType for i32 {
     fn shape(_alloc: Global) -> Result<Shape, OutOfMemory> {
         Ok(integer_shape::<Self>())
     }
+
+    ghost readable = { refl };
 }
 
 impl Encode for i32 {
@@ -476,6 +494,8 @@ impl AsnType for i64 {
     fn shape(_alloc: Global) -> Result<Shape, OutOfMemory> {
         Ok(integer_shape::<Self>())
     }
+
+    ghost readable = { refl };
 }
 
 impl Encode for i64 {
@@ -524,6 +544,8 @@ impl AsnType for i128 {
     fn shape(_alloc: Global) -> Result<Shape, OutOfMemory> {
         Ok(integer_shape::<Self>())
     }
+
+    ghost readable = { refl };
 }
 
 impl Encode for i128 {
@@ -572,6 +594,8 @@ impl AsnType for isize {
     fn shape(_alloc: Global) -> Result<Shape, OutOfMemory> {
         Ok(integer_shape::<Self>())
     }
+
+    ghost readable = { refl };
 }
 
 impl Encode for isize {

@@ -1,7 +1,7 @@
 // The types of the language that are ASN.1 types, but for the integers.
 ghost use Rattle.asn_traits.specs.Shape.{Shape as AbstractShape, Alphabet as AbstractAlphabet};
 ghost use Rattle.asn_traits.specs.Value.{Value, values};
-ghost use Rattle.std.specs.Prelude.{string_bytes};
+ghost use Rattle.std.specs.Prelude.{refl, string_bytes};
 
 use crate::{Alphabet, AsnType, Decode, Decoder, Encode, Encoder, Shape};
 use asn_base::{Constraints, Identifier, OutOfMemory, Tag, TagTree};
@@ -33,6 +33,8 @@ impl AsnType for bool {
     fn shape(_alloc: Global) -> Result<Shape, OutOfMemory> {
         Ok(Shape::Bool)
     }
+
+    ghost readable = { refl };
 }
 
 impl Encode for bool {
@@ -82,6 +84,8 @@ impl AsnType for () {
     fn shape(_alloc: Global) -> Result<Shape, OutOfMemory> {
         Ok(Shape::Null)
     }
+
+    ghost readable = { refl };
 }
 
 impl Encode for () {
@@ -133,6 +137,8 @@ impl AsnType for String {
             alphabet: Alphabet::Utf8,
         })
     }
+
+    ghost readable = { refl };
 }
 
 impl Encode for String {
@@ -183,6 +189,8 @@ impl<T: AsnType> AsnType for Vec<T> {
         let element = Box::new(alloc, T::shape(alloc)?)?;
         Ok(Shape::ListOf(element))
     }
+
+    ghost readable = { T.readable };
 }
 
 impl<T: Encode> Encode for Vec<T> {

@@ -1,35 +1,79 @@
 // Looking things up in tables of constants.
-ghost use Rattle.asn_traits.specs.Shape.{tag_eq, name_tagged, class_number};
-ghost use Rattle.asn_traits.specs.Tables.{end_tag};
-ghost use Rattle.std.specs.Prelude.{◌≡◌, map, option_map, get_or};
+ghost use Rattle.asn_base.specs.Tags.{smallest};
+ghost use Rattle.asn_traits.specs.Shape.{tag_eq, is_tag, name_tagged, class_number, end_tag};
+ghost use Rattle.asn_traits.specs.Tables.{smallest_tags, or_end};
+ghost use Rattle.std.specs.Prelude.{◌≡◌, ◌++◌, [], map, option_map, get_or, Option, Some, None, unwrap_or};
 
-use asn_base::{Class, Tag};
+use asn_base::{Class, Tag, TagTree};
 
-/// The identifier beside the tag.
-pub fn identifier_of(tags: &[Tag], identifiers: &[&'static str], tag: Tag) -> Option<&'static str>
-    ensures { option_map (λ s. s.now) result ≡ name_tagged tags.now
+/// The items of a table, and none where there is no table.
+pub fn listed<T: Copy>(table: Option<&'static [T]>) -> &'static [T]
+    ensures { result.now ≡ unwrap_or (option_map (λ t. t.now) table.entry) [] }
+{
+    match table {
+        Some(items) => items,
+        None => &[],
+    }
+}
+
+/// The identifier beside the alternative of this smallest tag, where added alternatives come last.
+pub fn identifier_of(
+    variants: &[TagTree],
+    added: &[TagTree],
+    identifiers: &[&'static str],
+    tag: Tag,
+) -> Option<&'static str>
+    ensures { option_map (λ s. s.now) result ≡ name_tagged (smallest_tags variants.now ++ smallest_tags added.now)
         (map (λ s. s.now) identifiers.now) tag }
 {
-    let Some((first, other_tags)) = tags.split_first() else {
-        return None;
+    let Some((first, other_variants)) = variants.split_first() else {
+        return if added.is_empty() {
+            None
+        } else {
+            identifier_of(added, &[], identifiers, tag)
+        };
     };
     let Some((name, other_names)) = identifiers.split_first() else {
         return None;
     };
-    if same_tag(tag, *first) {
+    if has_tag(first, tag) {
         Some(*name)
     } else {
-        identifier_of(other_tags, other_names, tag)
+        identifier_of(other_variants, added, other_names, tag)
     }
 }
 
-/// The tag at the place, or that of the end of contents.
-pub fn tag_at(tags: &[Tag], place: usize) -> Tag
-    ensures { result ≡ get_or tags.now place end_tag }
+/// The smallest tag of the alternative at the place, where added ones come last. `EOC` where there is none.
+pub fn tag_at(variants: &[TagTree], added: &[TagTree], place: usize) -> Tag
+    ensures { result ≡ get_or (map or_end (smallest_tags variants.now ++ smallest_tags added.now)) place end_tag }
 {
-    match tags.get(place) {
-        Some(tag) => *tag,
+    if place < variants.len() {
+        least_at(variants, place)
+    } else {
+        least_at(added, place - variants.len())
+    }
+}
+
+/// The smallest tag of the alternative at the place. `EOC` where there is none.
+fn least_at(variants: &[TagTree], place: usize) -> Tag
+    ensures { result ≡ get_or (map or_end (smallest_tags variants.now)) place end_tag }
+{
+    match variants.get(place) {
+        Some(tree) => match tree.least_leaf() {
+            Some(tag) => tag,
+            None => Tag::EOC,
+        },
         None => Tag::EOC,
+    }
+}
+
+/// Whether the smallest tag is this one.
+fn has_tag(tree: &TagTree, tag: Tag) -> bool
+    ensures { result ≡ is_tag (smallest tree.now) tag }
+{
+    match tree.least_leaf() {
+        Some(least) => same_tag(tag, least),
+        None => false,
     }
 }
 

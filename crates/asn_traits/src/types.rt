@@ -1,10 +1,11 @@
 // What every ASN.1 type tells of itself: its shape, its values and its tables of constants.
 ghost use Rattle.asn_traits.specs.Fixed.{fixed_size};
-ghost use Rattle.asn_traits.specs.Shape.{are_distinct, Shape as AbstractShape, Fields as FieldShapes, Alternatives, field_names, identifiers, tags, tags_distinct, alternative_tagged, is_item, shape_under};
+ghost use Rattle.asn_traits.specs.Readable.{is_readable};
+ghost use Rattle.asn_traits.specs.Shape.{Shape as AbstractShape, Fields as FieldShapes, Alternatives, AlternativeAdditions, all_alternatives, all_items, closed_seq, identifiers, is_item, opened, shape_under};
 ghost use Rattle.asn_traits.specs.ShapeView.{shape_view};
 ghost use Rattle.asn_traits.specs.Value.{Value, value_under};
-ghost use Rattle.asn_traits.specs.Tables.{names_of, end_tag};
-ghost use Rattle.std.specs.Prelude.{◌≡◌, ℕ, List, map, true, false, None, IfOk, MatchOption};
+ghost use Rattle.asn_traits.specs.Tables.{rows_of, field_rows, smallest_tags, root_tags, added_tags};
+ghost use Rattle.std.specs.Prelude.{◌≡◌, ℕ, List, Option, None, map, option_map, true, false, IfOk, MatchOption};
 
 use crate::Shape;
 use asn_base::{Constraints, Identifier, OutOfMemory, Tag, TagTree};
@@ -118,60 +119,96 @@ pub trait AsnType {
     /// The shape of the type. Its one error is want of memory.
     fn shape(alloc: Global) -> Result<Shape, OutOfMemory>
         ensures { IfOk result (λ s. shape_view s ≡ shape_of) };
+
+    // The shape can be read.
+    ghost readable: { is_readable shape_of ≡ true };
 }
 
 /// A SEQUENCE or SET.
 pub trait Constructed: AsnType {
     const FIELDS: Fields;
 
+    /// The fields after the extension marker, if there is one. A type has none yet.
+    const EXTENDED_FIELDS: Option<Fields>;
+
     ghost fields: { FieldShapes };
 
-    /// `FIELDS`, whose names are those of the shape.
+    /// `FIELDS`, which tell of the shape's fields: their places, smallest tags, presence and names.
     fn field_table() -> Fields
-        ensures { names_of result.items.now ≡ field_names fields };
+        ensures { rows_of result.items.now ≡ field_rows 0 fields };
 
-    // No two fields have the same name.
-    ghost names_distinct: { are_distinct (field_names fields) ≡ true };
+    /// `EXTENDED_FIELDS`.
+    fn extended_field_table() -> Option<Fields>
+        ensures { result ≡ None };
+
+    // The shape is that of these fields.
+    ghost of_fields: { opened Self.shape_of ≡ closed_seq fields };
 }
 
 /// A CHOICE (X.680, section 29).
 pub trait Choice: AsnType {
-    const VARIANTS: &'static [Tag];
+    /// The tags that the alternatives may begin with.
+    const VARIANTS: &'static [TagTree];
 
+    /// Those of the alternatives after the extension marker, if there is one.
+    const EXTENDED_VARIANTS: Option<&'static [TagTree]>;
+
+    /// The identifiers of all alternatives, added ones last.
     const IDENTIFIERS: &'static [&'static str];
 
     ghost alternatives: { Alternatives };
 
-    /// `VARIANTS`, which are the tags of the shape.
-    fn variant_table() -> &'static [Tag]
-        ensures { result.now ≡ tags alternatives };
+    ghost added: { AlternativeAdditions };
+
+    /// `VARIANTS`, whose smallest tags are those of the shape.
+    fn variant_table() -> &'static [TagTree]
+        ensures { smallest_tags result.now ≡ root_tags alternatives };
+
+    /// `EXTENDED_VARIANTS`, whose smallest tags are those of the shape's added alternatives.
+    fn extended_variant_table() -> Option<&'static [TagTree]>
+        ensures { option_map (λ t. smallest_tags t.now) result ≡ added_tags added };
 
     /// `IDENTIFIERS`, which are those of the shape.
     fn identifier_table() -> &'static [&'static str]
-        ensures { map (λ s. s.now) result.now ≡ identifiers alternatives };
+        ensures { map (λ s. s.now) result.now ≡ identifiers
+            (all_alternatives alternatives added) };
 
-    // No two alternatives have the same tag, and none has that of the end of contents.
-    ghost distinct: { tags_distinct (tags alternatives) ≡ true };
-
-    ghost no_end: { alternative_tagged alternatives end_tag ≡ None };
+    // The shape is that of these alternatives.
+    ghost of_alternatives: { opened Self.shape_of ≡ AbstractShape.choice alternatives added };
 }
 
 /// An ENUMERATED type (X.680, section 20).
 pub trait Enumerated: AsnType + Sized + Drop {
     const IDENTIFIERS: &'static [&'static str];
 
+    /// The items after the extension marker, if there is one.
+    const EXTENDED_IDENTIFIERS: Option<&'static [&'static str]>;
+
     ghost items: { List (List ℕ) };
+
+    ghost added: { Option (List (List ℕ)) };
 
     // The item that a Rust value stands for.
     ghost item: { Self → List ℕ };
 
+    /// `IDENTIFIERS`, which are the items of the shape.
+    fn identifier_table() -> &'static [&'static str]
+        ensures { map (λ s. s.now) result.now ≡ items };
+
+    /// `EXTENDED_IDENTIFIERS`, which are the added items of the shape.
+    fn extended_identifier_table() -> Option<&'static [&'static str]>
+        ensures { option_map (λ t. map (λ s. s.now) t.now) result ≡ added };
+
     /// The item that the value stands for.
     fn identifier(&self) -> &'static str
         ensures is { result.now ≡ item self.now }
-        ensures listed { is_item items result.now ≡ true };
+        ensures listed { is_item (all_items items added) result.now ≡ true };
 
     /// The value of that item. None exactly where it is none of them.
     fn from_identifier(identifier: &str) -> Option<Self>
-        ensures { MatchOption result (is_item items identifier.now ≡ false)
-            (λ x. (item x ≡ identifier.now) × (is_item items identifier.now ≡ true)) };
+        ensures { MatchOption result (is_item (all_items items added) identifier.now ≡ false)
+            (λ x. (item x ≡ identifier.now) × (is_item (all_items items added) identifier.now ≡ true)) };
+
+    // The shape is that of these items.
+    ghost of_items: { Self.shape_of ≡ AbstractShape.enum items added };
 }

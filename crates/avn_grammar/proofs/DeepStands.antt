@@ -8,14 +8,15 @@ use Rattle.avn_grammar.specs.Tree.{Tree}
 use Rattle.avn_grammar.proofs.Refusals.{choice_none, braces_none, item_choice_none, item_field_none, item_value_none, no_items, follows, ends, after_comma, after_number}
 use Rattle.avn_grammar.specs.declared.chars.Lead.{Lead}
 
-close_comma : (k : Lead) → k ≡ is.CloseBrace → k ≡ is.Comma → ⊥
+-- What follows an item is one thing.
+pub close_comma : (k : Lead) → k ≡ is.CloseBrace → k ≡ is.Comma → ⊥
 close_comma k a b = cc
 
-number_comma : (k : Lead) → BeginsNumber k → k ≡ is.Comma → ⊥
+pub number_comma : (k : Lead) → BeginsNumber k → k ≡ is.Comma → ⊥
 number_comma k (inl a) b = cc
 number_comma k (inr a) b = cc
 
-number_close : (k : Lead) → BeginsNumber k → k ≡ is.CloseBrace → ⊥
+pub number_close : (k : Lead) → BeginsNumber k → k ≡ is.CloseBrace → ⊥
 number_close k (inl a) b = cc
 number_close k (inr a) b = cc
 

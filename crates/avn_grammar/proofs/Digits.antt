@@ -4,7 +4,7 @@ use Rattle.std.proofs.lemmas.Bool.{eqb-true, and_parts, and_from, or_cases, ltb-
 use Rattle.std.specs.Str.{IsAscii}
 use Rattle.std.specs.Char.{is_whitespace}
 use Rattle.std.specs.Fmt.{decimal}
-use Rattle.std.proofs.lemmas.Fmt.{decimal_by_steps}
+use Rattle.std.proofs.lemmas.Fmt.{decimal_by_steps_wide}
 use Rattle.avn_grammar.specs.Chars.{front, past, is_digit, begins, every, inside, solid}
 use Rattle.avn_grammar.specs.Octets.{is_hex, hex_value, are_pairs, octets_of, is_bit, hex_digit, hex_text, bit_digit, bit_text}
 use Rattle.avn_grammar.specs.WellFormed.{is_digits, is_octet, is_arc}
@@ -125,8 +125,8 @@ length-bit_text [] = omega arith
 length-bit_text (o ∷ os) = omega (arith, length-bit_text os)
 
 -- Arcs.
-pub digits-decimal : (n : ℕ) → n < 2 ^ 64 → is_digits (decimal n) ≡ true
-digits-decimal n h = decimal_by_steps (λ n ds. is_digits ds ≡ true)
+pub digits-decimal : (n : ℕ) → n < 10 ^ 64 → is_digits (decimal n) ≡ true
+digits-decimal n h = decimal_by_steps_wide (λ n ds. is_digits ds ≡ true)
     (λ n l. agree_below_at (λ n. is_digits ((48 + n) ∷ [])) (λ n. true) 10 n refl l)
     (λ n ds l e.
     let k = and_parts (begins is_digit ds) (every is_digit ds) e in
@@ -136,3 +136,6 @@ digits-decimal n h = decimal_by_steps (λ n ds. is_digits ds ≡ true)
 
 pub arc-lt : (a : ℕ) → is_arc a ≡ true → a < 2 ^ 64
 arc-lt a h = let k = ltb-true a (2 ^ 32) h in omega (arith, k)
+
+pub digits-arc : (a : ℕ) → is_arc a ≡ true → is_digits (decimal a) ≡ true
+digits-arc a h = let l = arc-lt a h in digits-decimal a (omega (arith, l))

@@ -10,15 +10,6 @@ use Rattle.avn_grammar.specs.declared.chars.Lead.{Lead}
 pub letter_brace : (k : Lead) → k ≡ is.Letter → k ≡ is.OpenBrace → ⊥
 letter_brace k a b = cc
 
-digit_minus : (k : Lead) → k ≡ is.Digit → k ≡ is.Minus → ⊥
-digit_minus k a b = cc
-
-digit_quote : (k : Lead) → k ≡ is.Digit → k ≡ is.Quote → ⊥
-digit_quote k a b = cc
-
-minus_quote : (k : Lead) → k ≡ is.Minus → k ≡ is.Quote → ⊥
-minus_quote k a b = cc
-
 pub after_word-colon : (k : Lead) → ComesAfterWord k → k ≡ is.Colon → ⊥
 after_word-colon k (inl a) b = cc
 after_word-colon k (inr a) b = cc
@@ -148,9 +139,6 @@ lead_along {k = k} e h = subst (λ x. lead (skip x) ≡ k) e h
 
 word_along : {r s : List ℕ} → r ≡ s → ComesAfterWord (lead (skip r)) → ComesAfterWord (lead (skip s))
 word_along e h = subst (λ x. ComesAfterWord (lead (skip x))) e h
-
-number_along : {r s : List ℕ} → r ≡ s → BeginsNumber (lead (skip r)) → BeginsNumber (lead (skip s))
-number_along e h = subst (λ x. BeginsNumber (lead (skip x))) e h
 
 stands_along : {limit level : ℕ} {u v s : List ℕ} {t : Tree} → v ≡ u → Stands limit level v t s → Stands limit level u t s
 stands_along {limit = limit} {level = level} {s = s} {t = t} e d = subst (λ x. Stands limit level x t s) e d

@@ -16,7 +16,7 @@ use Rattle.avn_grammar.specs.WellFormed.{is_number, is_identifier, is_keyword, i
 use Rattle.std.proofs.Common.{◌/◌, ◌%◌, take, length-take-le}
 use Rattle.std.specs.Fmt.{decimal}
 use Rattle.avn_grammar.proofs.Runs.{fraction-other}
-use Rattle.avn_grammar.proofs.Digits.{bit_text-bits, length-bit_text, every-take, arc-lt, digits-decimal}
+use Rattle.avn_grammar.proofs.Digits.{bit_text-bits, length-bit_text, every-take, digits-arc}
 use Rattle.avn_grammar.proofs.PrintedBefore.{put_arcs}
 use Rattle.avn_grammar.proofs.PrintedTokens.{plain, decimal_of, decimal_lead, decimal_said, octets_said, bits_said, bits_lead}
 use Rattle.avn_grammar.proofs.Runs.{past-past}
@@ -424,7 +424,7 @@ after_space x h = record { no_name = refl; no_digit = refl; no_fraction = fracti
 
 -- An arc's text begins with a digit.
 pub arc_lead : (a : ℕ) (u : List ℕ) → is_arc a ≡ true → lead (decimal a ++ u) ≡ is.Digit
-arc_lead a u h = let k = and_parts (begins is_digit (decimal a)) (every is_digit (decimal a)) (digits-decimal a (arc-lt a h)) in lead-digit (decimal a) u k.0
+arc_lead a u h = let k = and_parts (begins is_digit (decimal a)) (every is_digit (decimal a)) (digits-arc a h) in lead-digit (decimal a) u k.0
 
 pub arc_skip : (a : ℕ) (u : List ℕ) → is_arc a ≡ true → skip (decimal a ++ u) ≡ decimal a ++ u
 arc_skip a u h = let e = arc_lead a u h in skip-lead (decimal a ++ u) (λ k. let n : ⊥ = cc in n)
@@ -446,7 +446,7 @@ digit_letter k a b = cc
 
 arc_stands : (limit level a : ℕ) (w u : List ℕ) → is_arc a ≡ true → skip w ≡ decimal a ++ u → suc level ≤ limit → After u → ItemStands limit (suc level) w (bare (integer (decimal a))) u
 arc_stands limit level a w u h e l f =
-    let k = and_parts (begins is_digit (decimal a)) (every is_digit (decimal a)) (digits-decimal a (arc-lt a h)) in
+    let k = and_parts (begins is_digit (decimal a)) (every is_digit (decimal a)) (digits-arc a h) in
     let g = arc_lead a u h in
     value_item (λ q. digit_letter _ g (sym (ap lead e) ∙ q))
     (token_stands limit (suc level) (skip w) u (decimal a ++ u) (integer (decimal a)) (past-past is_space w ∙ e) l (number_said (decimal a) u (plain (decimal a) k.0 k.1) f))

@@ -2,7 +2,7 @@
 use Rattle.std.proofs.Common.{◌≡◌, ℕ, ◌≤◌, List, [], ◌∷◌, ◌++◌, Bool, true, false, cond, ◌==◌, ◌&&◌, refl, sym, ap, ◌∙◌, length, arith, append_assoc}
 use Rattle.std.specs.Str.{encode_utf8_all}
 use Rattle.std.specs.Char.{encode_utf8}
-use Rattle.avn_grammar.specs.Chars.{tail, front, past, skip, is_digit, is_space, begins, has_fraction}
+use Rattle.avn_grammar.specs.Chars.{front, past, skip, is_digit, is_space, begins, has_fraction}
 
 pub past-stop : (p : ℕ → Bool) (u : List ℕ) → begins p u ≡ false → past p u ≡ u
 past-stop p [] h = refl
@@ -26,9 +26,6 @@ past-le p (c ∷ u) = elim (p c) as (λ b. length (cond b (past p u) (c ∷ u)) 
 pub front-moved : (p : ℕ → Bool) (u v w a b : List ℕ) (c : ℕ) → p c ≡ true → u ≡ c ∷ v → a ++ encode_utf8_all (front p u) ≡ w → b ≡ a ++ encode_utf8 c → b ++ encode_utf8_all (front p v) ≡ w
 front-moved p u v w a b c h e f g =
     ap (λ x. x ++ encode_utf8_all (front p v)) g ∙ append_assoc a (encode_utf8 c) (encode_utf8_all (front p v)) ∙ ap (λ x. a ++ encode_utf8_all x) (sym (front-step p u v c h e)) ∙ f
-
-pub lead-tail : (u v : List ℕ) (c : ℕ) → u ≡ c ∷ v → tail u ≡ v
-lead-tail u v c e = ap tail e
 
 pub fraction-none : (u : List ℕ) → u ≡ [] → has_fraction u ≡ false
 fraction-none u e = ap has_fraction e

@@ -4,3 +4,4 @@
 
 pub mod chars;
 pub mod laws;
+pub mod names;

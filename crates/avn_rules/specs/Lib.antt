@@ -1,5 +1,4 @@
 pub mod Holding
-pub mod Leaves
 pub mod Numbers
 pub mod Pending
 pub mod Strings

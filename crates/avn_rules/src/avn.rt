@@ -9,7 +9,7 @@ ghost use Rattle.asn_traits.specs.Tree.{Tree};
 ghost use Rattle.asn_traits.specs.Value.{Value, Fits};
 ghost use Rattle.asn_traits.specs.Writing.{CannotWrite, Writable};
 ghost use Rattle.avn_grammar.specs.Tree.{Tree as AvnTree};
-ghost use Rattle.avn_rules.specs.Text.{IsAvn, RefusesText};
+ghost use Rattle.avn_rules.specs.Text.{IsAvn, ReadsBack, RefusesText};
 ghost use Rattle.std.specs.Prelude.{◌≡◌, Some, IfOk, IfErr, OnOk, string_bytes};
 
 mod build;
@@ -28,6 +28,7 @@ use std::alloc::Global;
 /// Errors: `OutOfMemory`; else the kind of the first part that AVN cannot write.
 pub fn encode<T: Encode>(alloc: Global, value: &T) -> Result<String, EncodeError>
     ensures text { IfOk result (λ s. string_bytes s ≡ canonical_text Notation.avn (T.value_of value.now)) }
+    ensures reads_back { IfOk result (λ s. ReadsBack (T.value_of value.now) (string_bytes s)) }
     ensures fits { OnOk result (Fits T.shape_of (T.value_of value.now)) }
     ensures writable { OnOk result (Writable Notation.avn (T.value_of value.now)) }
     ensures refused { IfErr result (CannotWrite Notation.avn (T.value_of value.now)) }

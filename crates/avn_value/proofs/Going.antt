@@ -5,11 +5,11 @@ use Rattle.avn_grammar.specs.Grammar.{Item, ItemsStand}
 use Rattle.avn_value.specs.Gathering.{Holds}
 use Rattle.avn_value.specs.declared.gathered.Gathered.{Gathered}
 
-pub record Going (m : ℕ) (start now : List ℕ) (g : Gathered) : Type 0 where
+pub record Going (limit m : ℕ) (start now : List ℕ) (g : Gathered) : Type 0 where
   pub before : List Item
   pub holds : Holds g before
-  pub completes : (xs : List Item) (rest : List ℕ) → ItemsStand 64 m before now xs rest → ItemsStand 64 m [] start (before ++ xs) rest
-  pub only : (ys : List Item) (rest : List ℕ) → ItemsStand 64 m [] start ys rest → (xs : List Item) × (ys ≡ before ++ xs) × ItemsStand 64 m before now xs rest
-  pub deeper : ItemsDeep 64 m before now → ItemsDeep 64 m [] start
-  pub shallower : ItemsDeep 64 m [] start → ItemsDeep 64 m before now
+  pub completes : (xs : List Item) (rest : List ℕ) → ItemsStand limit m before now xs rest → ItemsStand limit m [] start (before ++ xs) rest
+  pub only : (ys : List Item) (rest : List ℕ) → ItemsStand limit m [] start ys rest → (xs : List Item) × (ys ≡ before ++ xs) × ItemsStand limit m before now xs rest
+  pub deeper : ItemsDeep limit m before now → ItemsDeep limit m [] start
+  pub shallower : ItemsDeep limit m [] start → ItemsDeep limit m before now
   pub shorter : length now ≤ length start

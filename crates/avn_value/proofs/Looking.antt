@@ -1,7 +1,7 @@
 -- Runs of characters that are looked at.
-use Rattle.std.proofs.Common.{◌≡◌, ℕ, List, [], ◌∷◌, ◌++◌, Bool, true, false, cond, not, refl, sym, ap, ◌∙◌, append_assoc}
+use Rattle.std.proofs.Common.{◌≡◌, ℕ, List, [], ◌∷◌, ◌++◌, Bool, true, false, cond, not, refl, sym, ap, ◌∙◌}
 use Rattle.std.specs.Char.{is_whitespace}
-use Rattle.avn_grammar.specs.Chars.{past, front, skip, is_space, inside, solid}
+use Rattle.avn_grammar.specs.Chars.{past, skip, is_space, solid}
 use Rattle.avn_grammar.proofs.Runs.{front-stop, front-step, past-stop, past-step, past-past, skip-le}
 
 pub skip-skip : (u : List ℕ) → skip (skip u) ≡ skip u
@@ -18,11 +18,5 @@ pub ruleset whites = (past-step, past-held)
 
 solid-first : (c : ℕ) (u : List ℕ) → solid (c ∷ u) ≡ solid (c ∷ []) ++ solid u
 solid-first c u = elim (not (is_whitespace c)) as (λ b. cond b (c ∷ solid u) (solid u) ≡ cond b (c ∷ []) [] ++ solid u) [ true ↦ refl | false ↦ refl ]
-
--- What was kept before a step, and what is ahead then.
-pub inside-moved : (u v a b w : List ℕ) (c : ℕ) → inside c ≡ true → u ≡ c ∷ v → b ≡ a ++ solid (c ∷ []) → a ++ solid (front inside u) ≡ w → b ++ solid (front inside v) ≡ w
-inside-moved u v a b w c h e f g =
-    ap (λ x. x ++ solid (front inside v)) f ∙ append_assoc a (solid (c ∷ [])) (solid (front inside v))
-    ∙ ap (λ x. a ++ x) (sym (ap solid (front-step inside u v c h e) ∙ solid-first c (front inside v))) ∙ g
 
 pub ruleset insides = (past-stop, front-stop, past-step)

@@ -1,5 +1,5 @@
 -- Digits, an octet at a time.
-use Rattle.std.proofs.Common.{◌≡◌, ◌≢◌, ℕ, zero, suc, ◌+◌, ◌*◌, List, [], ◌∷◌, ◌++◌, Bool, true, refl, sym, ap, ◌∙◌, get_or, drop, append_assoc, length, arith}
+use Rattle.std.proofs.Common.{◌≡◌, ◌≢◌, ℕ, zero, suc, ◌+◌, ◌*◌, List, [], ◌∷◌, ◌++◌, Bool, true, refl, sym, ap, ◌∙◌, get_or, drop, length, arith}
 use Rattle.std.proofs.lemmas.List.{append-nil}
 use Rattle.std.proofs.lemmas.Bool.{and_parts}
 use Rattle.avn_grammar.specs.Chars.{every}
@@ -31,10 +31,6 @@ pub packed-octet : (u : List ℕ) (a b c d e f g h : ℕ) → u ≢ [] → 48 + 
     → packed u ≡ (128 * a + 64 * b + 32 * c + 16 * d + 8 * e + 4 * f + 2 * g + h) ∷ packed (drop 8 u)
 packed-octet u a b c d e f g h n p q r s t v w x =
     packed-first u n ∙ ap (λ o. o ∷ packed (drop 8 u)) (sym (same-octet _ _ _ _ _ _ _ _ _ _ _ _ _ _ _ _ p q r s t v w x) ∙ octet-sum a b c d e f g h)
-
--- Octets before further digits, an octet on.
-pub octets-next : (f : List ℕ → List ℕ) (done next u v w : List ℕ) (o : ℕ) → next ≡ done ++ (o ∷ []) → f u ≡ o ∷ f v → done ++ f u ≡ w → next ++ f v ≡ w
-octets-next f done next u v w o e h k = ap (λ x. x ++ f v) e ∙ append_assoc done (o ∷ []) (f v) ∙ ap (λ x. done ++ x) (sym h) ∙ k
 
 pub packed-done : (done u w : List ℕ) → done ++ packed u ≡ w → length u ≡ 0 → done ≡ w
 unfolding packed

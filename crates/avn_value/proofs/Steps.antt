@@ -1,9 +1,10 @@
 -- Steps of a reader.
-use Rattle.std.proofs.Common.{◌≡◌, ◌≢◌, inl, inr, ℕ, suc, ◌+◌, ◌<◌, ◌≤◌, List, [], ◌∷◌, ◌++◌, Bool, true, false, cond, ◌==◌, ◌||◌, refl, sym, ap, subst, ◌∙◌, append_assoc, length, arith, add-one, length-append, Result, Ok, Err, IfOk, OnOk, Option, Some, None}
+use Rattle.std.proofs.Common.{◌≡◌, ◌≢◌, inl, inr, ℕ, suc, ◌+◌, ◌<◌, ◌≤◌, List, [], ◌∷◌, ◌++◌, Bool, true, false, cond, ◌==◌, ◌||◌, sym, ap, subst, ◌∙◌, append_assoc, length, arith, add-one, length-append, Result, Ok, Err, IfOk, OnOk, Option, Some, None}
 use Rattle.std.proofs.lemmas.Bool.{cases_Bool}
 use Rattle.avn_grammar.specs.declared.chars.Lead.{Lead}
 use Rattle.avn_grammar.specs.declared.chars.Lead.TheVariants as is
-use Rattle.avn_grammar.proofs.Refusals.{no_items, Follows, follows, ends, after_comma, after_number}
+use Rattle.avn_grammar.proofs.DeepStands.{close_comma, number_comma, number_close}
+use Rattle.avn_grammar.proofs.Refusals.{Follows, follows, ends, after_comma, after_number}
 use Rattle.avn_grammar.proofs.Runs.{past-le, skip-le}
 use Rattle.avn_grammar.specs.Chars.{lead, lead_of, tail, past, skip, is_space, is_letter, is_digit, is_name, doubled, has_fraction, inside, spelled}
 use Rattle.avn_grammar.specs.Depth.{Deep, ItemDeep, ItemsDeep, deep_payload, deep_braces, deep_choice, deep_field, deep_value, deep_after_comma, deep_after_number}
@@ -78,10 +79,6 @@ digits-shorter (c ∷ u) e = past_one is_digit c u (lead_digit c e)
 pub tail-le : (w : List ℕ) → length (tail w) ≤ length w
 tail-le [] = omega arith
 tail-le (c ∷ u) = omega arith
-
-pub tail-less : (w : List ℕ) (k : Lead) → lead w ≡ k → k ≢ is.AtEnd → length (tail w) < length w
-tail-less [] k e n = absurd (n (sym e))
-tail-less (c ∷ u) k e n = omega arith
 
 number-shorter : (w : List ℕ) → lead w ≡ is.Digit → length (past_number w) < length w
 number-shorter w e = elim (has_fraction (past is_digit w)) as (λ b. length (cond b (past is_digit (tail (past is_digit w))) (past is_digit w)) < length w) [
@@ -159,71 +156,60 @@ module _ (limit level : ℕ) (u w : List ℕ) (at : w ≡ skip u) where
   item_value v n t e c d = value_item (λ h. c (ap lead at ∙ h)) (subst (λ x. Stands limit level x t n) (e ∙ at) d)
 
 -- A turn of the loop over items, backwards.
-only_on : {m : ℕ} {start now r next : List ℕ} {before : List Item} {x : Item}
-    → ((ys : List Item) (n : List ℕ) → ItemsStand 64 m [] start ys n → (xs : List Item) × (ys ≡ before ++ xs) × ItemsStand 64 m before now xs n)
-    → ItemStands 64 m now x r
-    → ((xs : List Item) (n : List ℕ) → Follows 64 m before x r xs n → (zs : List Item) × (xs ≡ x ∷ zs) × ItemsStand 64 m (before ++ (x ∷ [])) next zs n)
-    → (ys : List Item) (n : List ℕ) → ItemsStand 64 m [] start ys n → (zs : List Item) × (ys ≡ (before ++ (x ∷ [])) ++ zs) × ItemsStand 64 m (before ++ (x ∷ [])) next zs n
+only_on : {limit m : ℕ} {start now r next : List ℕ} {before : List Item} {x : Item}
+    → ((ys : List Item) (n : List ℕ) → ItemsStand limit m [] start ys n → (xs : List Item) × (ys ≡ before ++ xs) × ItemsStand limit m before now xs n)
+    → ItemStands limit m now x r
+    → ((xs : List Item) (n : List ℕ) → Follows limit m before x r xs n → (zs : List Item) × (xs ≡ x ∷ zs) × ItemsStand limit m (before ++ (x ∷ [])) next zs n)
+    → (ys : List Item) (n : List ℕ) → ItemsStand limit m [] start ys n → (zs : List Item) × (ys ≡ (before ++ (x ∷ [])) ++ zs) × ItemsStand limit m (before ++ (x ∷ [])) next zs n
 only_on {before = before} {x = x} f k g ys n d =
     let p = f ys n d in
     let q = g p.0 n (follows k p.2) in
     (q.0, p.1 ∙ ap (λ v. before ++ v) q.1 ∙ sym (append_assoc before (x ∷ []) q.0), q.2)
 
-pub close_comma : (k : Lead) → k ≡ is.CloseBrace → k ≡ is.Comma → ⊥
-close_comma k a b = cc
-
-pub number_comma : (k : Lead) → BeginsNumber k → k ≡ is.Comma → ⊥
-number_comma k (inl a) b = cc
-number_comma k (inr a) b = cc
-
-pub number_close : (k : Lead) → BeginsNumber k → k ≡ is.CloseBrace → ⊥
-number_close k (inl a) b = cc
-number_close k (inr a) b = cc
-
-comma_only : {m : ℕ} {before xs : List Item} {x : Item} {r n next : List ℕ} → next ≡ tail (skip r) → lead (skip r) ≡ is.Comma → Follows 64 m before x r xs n → (zs : List Item) × (xs ≡ x ∷ zs) × ItemsStand 64 m (before ++ (x ∷ [])) next zs n
+comma_only : {limit m : ℕ} {before xs : List Item} {x : Item} {r n next : List ℕ} → next ≡ tail (skip r) → lead (skip r) ≡ is.Comma → Follows limit m before x r xs n → (zs : List Item) × (xs ≡ x ∷ zs) × ItemsStand limit m (before ++ (x ∷ [])) next zs n
 comma_only e c (ends a b d) = absurd (close_comma _ a c)
-comma_only {m = m} {before = before} {x = x} {n = n} e c (after_comma zs a b d) = (zs, b, subst (λ v. ItemsStand 64 m (before ++ (x ∷ [])) v zs n) (sym e) d)
+comma_only {limit = limit} {m = m} {before = before} {x = x} {n = n} e c (after_comma zs a b d) = (zs, b, subst (λ v. ItemsStand limit m (before ++ (x ∷ [])) v zs n) (sym e) d)
 comma_only e c (after_number zs a b d f) = absurd (number_comma _ b c)
 
-number_only : {m : ℕ} {before xs : List Item} {x : Item} {r n next : List ℕ} → next ≡ skip r → BeginsNumber (lead (skip r)) → Follows 64 m before x r xs n → (zs : List Item) × (xs ≡ x ∷ zs) × ItemsStand 64 m (before ++ (x ∷ [])) next zs n
+number_only : {limit m : ℕ} {before xs : List Item} {x : Item} {r n next : List ℕ} → next ≡ skip r → BeginsNumber (lead (skip r)) → Follows limit m before x r xs n → (zs : List Item) × (xs ≡ x ∷ zs) × ItemsStand limit m (before ++ (x ∷ [])) next zs n
 number_only e c (ends a b d) = absurd (number_close _ c a)
 number_only e c (after_comma zs a b d) = absurd (number_comma _ c a)
-number_only {m = m} {before = before} {x = x} {n = n} e c (after_number zs a b d f) = (zs, d, subst (λ v. ItemsStand 64 m (before ++ (x ∷ [])) v zs n) (sym e) f)
+number_only {limit = limit} {m = m} {before = before} {x = x} {n = n} e c (after_number zs a b d f) = (zs, d, subst (λ v. ItemsStand limit m (before ++ (x ∷ [])) v zs n) (sym e) f)
 
 -- A turn of the loop over items.
-going_on : {m : ℕ} {start now : List ℕ} {before : List Item} (x : Item) (next : List ℕ)
-    → ((xs : List Item) (rest : List ℕ) → ItemsStand 64 m before now xs rest → ItemsStand 64 m [] start (before ++ xs) rest)
-    → ((xs : List Item) (rest : List ℕ) → ItemsStand 64 m (before ++ (x ∷ [])) next xs rest → ItemsStand 64 m before now (x ∷ xs) rest)
-    → (xs : List Item) (rest : List ℕ) → ItemsStand 64 m (before ++ (x ∷ [])) next xs rest → ItemsStand 64 m [] start ((before ++ (x ∷ [])) ++ xs) rest
-going_on {m = m} {start = start} {before = before} x next f g xs rest d =
-    subst (λ y. ItemsStand 64 m [] start y rest) (sym (append_assoc before (x ∷ []) xs)) (f (x ∷ xs) rest (g xs rest d))
+going_on : {limit m : ℕ} {start now : List ℕ} {before : List Item} (x : Item) (next : List ℕ)
+    → ((xs : List Item) (rest : List ℕ) → ItemsStand limit m before now xs rest → ItemsStand limit m [] start (before ++ xs) rest)
+    → ((xs : List Item) (rest : List ℕ) → ItemsStand limit m (before ++ (x ∷ [])) next xs rest → ItemsStand limit m before now (x ∷ xs) rest)
+    → (xs : List Item) (rest : List ℕ) → ItemsStand limit m (before ++ (x ∷ [])) next xs rest → ItemsStand limit m [] start ((before ++ (x ∷ [])) ++ xs) rest
+going_on {limit = limit} {m = m} {start = start} {before = before} x next f g xs rest d =
+    subst (λ y. ItemsStand limit m [] start y rest) (sym (append_assoc before (x ∷ []) xs)) (f (x ∷ xs) rest (g xs rest d))
 
-module _ (m : ℕ) (start now r : List ℕ) (g h : Gathered) (x : Item) (going : Going m start now g) (stands : ItemStands 64 m now x r) (pushed : (before : List Item) → Holds g before → Holds h (before ++ (x ∷ []))) where
-  pub going_comma : (next : List ℕ) → next ≡ tail (skip r) → length next ≤ length now → lead (skip r) ≡ is.Comma → Going m start next h
+module _ (limit m : ℕ) (start now r : List ℕ) (g h : Gathered) (x : Item) (going : Going limit m start now g) (stands : ItemStands limit m now x r) (pushed : (before : List Item) → Holds g before → Holds h (before ++ (x ∷ []))) where
+  pub going_comma : (next : List ℕ) → next ≡ tail (skip r) → length next ≤ length now → lead (skip r) ≡ is.Comma → Going limit m start next h
   going_comma next e le c = record {
     before = going.before ++ (x ∷ []);
     holds = pushed going.before going.holds;
-    completes = going_on x next going.completes (λ xs rest d. comma_item stands c (subst (λ y. ItemsStand 64 m (going.before ++ (x ∷ [])) y xs rest) e d));
+    completes = going_on x next going.completes (λ xs rest d. comma_item stands c (subst (λ y. ItemsStand limit m (going.before ++ (x ∷ [])) y xs rest) e d));
     only = only_on going.only stands (λ xs n f. comma_only e c f);
-    deeper = λ d. going.deeper (deep_after_comma stands c (subst (λ y. ItemsDeep 64 m (going.before ++ (x ∷ [])) y) e d));
+    deeper = λ d. going.deeper (deep_after_comma stands c (subst (λ y. ItemsDeep limit m (going.before ++ (x ∷ [])) y) e d));
     shallower = λ d. deep_comma_only e stands c (going.shallower d);
     shorter = omega (arith, going.shorter);
   }
 
-  pub going_number : (next : List ℕ) → next ≡ skip r → length next ≤ length now → BeginsNumber (lead (skip r)) → h.integers ≡ true → Going m start next h
+  pub going_number : (next : List ℕ) → next ≡ skip r → length next ≤ length now → BeginsNumber (lead (skip r)) → h.integers ≡ true → Going limit m start next h
   going_number next e le c i =
       let k = pushed going.before going.holds in
       record {
         before = going.before ++ (x ∷ []);
         holds = k;
-        completes = going_on x next going.completes (λ xs rest d. number_item stands (k.integers i) c (subst (λ y. ItemsStand 64 m (going.before ++ (x ∷ [])) y xs rest) e d));
+        completes = going_on x next going.completes (λ xs rest d. number_item stands (k.integers i) c (subst (λ y. ItemsStand limit m (going.before ++ (x ∷ [])) y xs rest) e d));
         only = only_on going.only stands (λ xs n f. number_only e c f);
-        deeper = λ d. going.deeper (deep_after_number stands (k.integers i) c (subst (λ y. ItemsDeep 64 m (going.before ++ (x ∷ [])) y) e d));
+        deeper = λ d. going.deeper (deep_after_number stands (k.integers i) c (subst (λ y. ItemsDeep limit m (going.before ++ (x ∷ [])) y) e d));
         shallower = λ d. deep_number_only e stands c (going.shallower d);
         shorter = omega (arith, going.shorter);
       }
 
-  pub unclosed : lead (skip r) ≡ is.CloseBrace → ((xs : List Item) (t : Tree) → Holds h xs → IsGathered xs t → ⊥) → (t : Tree) (n : List ℕ) → BracesStand 64 m start t n → ⊥
+  pub unclosed : lead (skip r) ≡ is.CloseBrace → ((xs : List Item) (t : Tree) → Holds h xs → IsGathered xs t → ⊥) → (t : Tree) (n : List ℕ) → BracesStand limit m start t n → ⊥
   unclosed c f t n b =
       let p = going.only b.0 n b.1 in
       elim (follows stands p.2) [
@@ -232,7 +218,7 @@ module _ (m : ℕ) (start now r : List ℕ) (g h : Gathered) (x : Item) (going :
         | after_number zs i j k l ↦ number_close _ j c
       ]
 
-  pub not_going : lead (skip r) ≢ is.CloseBrace → lead (skip r) ≢ is.Comma → (BeginsNumber (lead (skip r)) → h.integers ≢ true) → (t : Tree) (n : List ℕ) → BracesStand 64 m start t n → ⊥
+  pub not_going : lead (skip r) ≢ is.CloseBrace → lead (skip r) ≢ is.Comma → (BeginsNumber (lead (skip r)) → h.integers ≢ true) → (t : Tree) (n : List ℕ) → BracesStand limit m start t n → ⊥
   not_going c d f t n b =
       let p = going.only b.0 n b.1 in
       elim (follows stands p.2) [
@@ -241,45 +227,22 @@ module _ (m : ℕ) (start now r : List ℕ) (g h : Gathered) (x : Item) (going :
         | after_number zs i j k l ↦ f j ((pushed going.before going.holds).only_integers i)
       ]
 
-  pub closed : (n : List ℕ) (t : Tree) → n ≡ tail (skip r) → lead (skip r) ≡ is.CloseBrace → ((xs : List Item) → Holds h xs → IsGathered xs t) → BracesStand 64 m start t n
+  pub closed : (n : List ℕ) (t : Tree) → n ≡ tail (skip r) → lead (skip r) ≡ is.CloseBrace → ((xs : List Item) → Holds h xs → IsGathered xs t) → BracesStand limit m start t n
   closed n t e c f =
       let xs = going.before ++ (x ∷ []) in
-      (xs, subst (λ y. ItemsStand 64 m [] start xs y) (sym e) (going.completes (x ∷ []) (tail (skip r)) (last_item stands c)), f xs (pushed going.before going.holds))
+      (xs, subst (λ y. ItemsStand limit m [] start xs y) (sym e) (going.completes (x ∷ []) (tail (skip r)) (last_item stands c)), f xs (pushed going.before going.holds))
 
 pub shorter_token : (A E : Type 0) (see : A → Tree) (n u v : List ℕ) (r : Result A E) → v ≡ skip u → IfOk r (λ x. Token v (see x) n) → OnOk r (length n < length u)
 shorter_token A E see n u v (Err e) f k = tt
 shorter_token A E see n u v (Ok x) f k = omega (arith, token-shorter k, skip-le u, ap (λ (x : List ℕ). length x) f)
 
-pub all_closed : (A E : Type 0) (see : A → Tree) (m : ℕ) (start n : List ℕ) (h : Gathered) (e : E) (o : Option A) (r : Result A E) → r ≡ ok_or o e → IfSome o (λ v. (xs : List Item) → Holds h xs → IsGathered xs (see v))
-    → ((t : Tree) → ((xs : List Item) → Holds h xs → IsGathered xs t) → BracesStand 64 m start t n) → IfOk r (λ v. BracesStand 64 m start (see v) n)
-all_closed A E see m start n h e None r f k g = subst (λ r. IfOk r (λ v. BracesStand 64 m start (see v) n)) (sym f) tt
-all_closed A E see m start n h e (Some v) r f k g = subst (λ r. IfOk r (λ v. BracesStand 64 m start (see v) n)) (sym f) (g (see v) k)
+pub all_closed : (A E : Type 0) (see : A → Tree) (limit m : ℕ) (start n : List ℕ) (h : Gathered) (e : E) (o : Option A) (r : Result A E) → r ≡ ok_or o e → IfSome o (λ v. (xs : List Item) → Holds h xs → IsGathered xs (see v))
+    → ((t : Tree) → ((xs : List Item) → Holds h xs → IsGathered xs t) → BracesStand limit m start t n) → IfOk r (λ v. BracesStand limit m start (see v) n)
+all_closed A E see limit m start n h e None r f k g = subst (λ r. IfOk r (λ v. BracesStand limit m start (see v) n)) (sym f) tt
+all_closed A E see limit m start n h e (Some v) r f k g = subst (λ r. IfOk r (λ v. BracesStand limit m start (see v) n)) (sym f) (g (see v) k)
 
 pub braces_along : (limit m : ℕ) (v u n : List ℕ) (t : Tree) → v ≡ u → BracesStand limit m v t n → BracesStand limit m u t n
 braces_along limit m v u n t e d = subst (λ x. BracesStand limit m x t n) e d
-
-never_end : (c : ℕ) → lead_of c ≡ is.AtEnd → ⊥
-unfolding lead_of
-never_end c h =
-    let a0 = passed (is_space c) _ _ _ h (λ x. let n : ⊥ = cc in n) in
-    let a1 = passed (is_letter c) _ _ _ a0 (λ x. let n : ⊥ = cc in n) in
-    let a2 = passed (is_digit c) _ _ _ a1 (λ x. let n : ⊥ = cc in n) in
-    let a3 = passed (c == 45) _ _ _ a2 (λ x. let n : ⊥ = cc in n) in
-    let a4 = passed (c == 34) _ _ _ a3 (λ x. let n : ⊥ = cc in n) in
-    let a4' = passed (c == 39) _ _ _ a4 (λ x. let n : ⊥ = cc in n) in
-    let a5 = passed (c == 123) _ _ _ a4' (λ x. let n : ⊥ = cc in n) in
-    let a6 = passed (c == 125) _ _ _ a5 (λ x. let n : ⊥ = cc in n) in
-    let a7 = passed (c == 44) _ _ _ a6 (λ x. let n : ⊥ = cc in n) in
-    let a8 = passed (c == 58) _ _ _ a7 (λ x. let n : ⊥ = cc in n) in
-    let a9 : is.Other ≡ is.AtEnd = passed (c == 95) _ _ _ a8 (λ x. let n : ⊥ = cc in n) in
-    cc
-
-pub at_end : (u : List ℕ) → lead u ≡ is.AtEnd → u ≡ []
-at_end [] h = refl
-at_end (c ∷ u) h = absurd (never_end c h)
-
-pub no_entry : (m : ℕ) (start now : List ℕ) (g : Gathered) → Going m start now g → ((x : Item) (n : List ℕ) → ItemStands 64 m now x n → ⊥) → (t : Tree) (n : List ℕ) → BracesStand 64 m start t n → ⊥
-no_entry m start now g going f t n b = no_items f (going.only b.0 n b.1).2
 
 pub refused : {A E : Type 0} {P : Type 0} {e : E} (o : Option A) (r : Result A E) → r ≡ ok_or o e → r ≡ Err e → IfNone o P → P
 refused None r f g h = h
@@ -307,5 +270,5 @@ module _ (limit level : ℕ) (u w : List ℕ) (at : w ≡ skip u) where
   pub value_deep : (v : List ℕ) → v ≡ w → lead w ≢ is.Letter → Deep limit level v → ItemDeep limit level u
   value_deep v e c d = deep_value (λ h. c (ap lead at ∙ h)) (subst (λ x. Deep limit level x) (e ∙ at) d)
 
-pub items_deep_along : (m : ℕ) (v u : List ℕ) → v ≡ u → ItemsDeep 64 m [] v → ItemsDeep 64 m [] u
-items_deep_along m v u e d = subst (λ x. ItemsDeep 64 m [] x) e d
+pub items_deep_along : (limit m : ℕ) (v u : List ℕ) → v ≡ u → ItemsDeep limit m [] v → ItemsDeep limit m [] u
+items_deep_along limit m v u e d = subst (λ x. ItemsDeep limit m [] x) e d

@@ -1,23 +1,17 @@
 -- The tree of a value, by its variant.
 use Rattle.std.proofs.Common.{◌≡◌, ℕ, Option, rules, string_bytes, String, Vec, Box, Global}
-use Rattle.avn_grammar.specs.Tree.{integer, real, octet_string, bit_string, oid, enumerated, char_string, sequence, sequence_of, choice}
+use Rattle.avn_grammar.specs.Tree.{integer, octet_string, bit_string, enumerated, char_string, sequence, sequence_of, choice}
 use Rattle.avn_value.specs.View.{tree_of, list_trees, fields_trees}
-use Rattle.avn_value.specs.declared.value.AvnValue.{AvnValue, Integer, Real, OctetString, BitString, Oid, Enumerated, CharString, Sequence, SequenceOf, Choice, the_lemmas}
+use Rattle.avn_value.specs.declared.value.AvnValue.{AvnValue, Integer, OctetString, BitString, Enumerated, CharString, Sequence, SequenceOf, Choice, the_lemmas}
 
 pub view-Integer : (s : String Global) → tree_of (Integer s) ≡ integer (string_bytes s)
 view-Integer s = search (rules, the_lemmas)
-
-pub view-Real : (s : String Global) → tree_of (Real s) ≡ real (string_bytes s)
-view-Real s = search (rules, the_lemmas)
 
 pub view-OctetString : (v : Vec ℕ Global) → tree_of (OctetString v) ≡ octet_string v.items
 view-OctetString v = search (rules, the_lemmas)
 
 pub view-BitString : (v : Vec ℕ Global) (n : ℕ) → tree_of (BitString v n) ≡ bit_string v.items n
 view-BitString v n = search (rules, the_lemmas)
-
-pub view-Oid : (v : Vec ℕ Global) → tree_of (Oid v) ≡ oid v.items
-view-Oid v = search (rules, the_lemmas)
 
 pub view-Enumerated : (s : String Global) → tree_of (Enumerated s) ≡ enumerated (string_bytes s)
 view-Enumerated s = search (rules, the_lemmas)

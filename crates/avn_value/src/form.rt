@@ -8,6 +8,7 @@ ghost use Rattle.avn_value.specs.View.{tree_of, list_trees, fields_trees};
 
 use crate::chars::{Run, all_pass, passes, past_run};
 use crate::value::AvnValue;
+use avn_grammar::names::{is_identifier, is_keyword, is_real_keyword};
 
 /// The text without its sign.
 fn unsigned(text: &[u8]) -> &[u8]
@@ -49,28 +50,6 @@ fn is_decimal(text: &str) -> bool
     !digits.is_empty()
         && passes(Run::Digits, digits[0] as char)
         && is_fraction(past_run(Run::Digits, digits))
-}
-
-/// The text is an ASCII letter and then letters, digits, `-` and `_`.
-fn is_identifier(text: &str) -> bool
-    ensures { result ≡ is_identifier text.now }
-{
-    let bytes = text.as_bytes();
-    !bytes.is_empty() && passes(Run::Letters, bytes[0] as char) && all_pass(Run::Name, bytes)
-}
-
-/// The text is one of the keywords for a real number without digits.
-fn is_real_keyword(text: &str) -> bool
-    ensures { result ≡ is_real_keyword text.now }
-{
-    text == "PLUS-INFINITY" || text == "MINUS-INFINITY" || text == "NOT-A-NUMBER"
-}
-
-/// The text is one of the six names that mean a value of their own.
-fn is_keyword(text: &str) -> bool
-    ensures { result ≡ is_keyword text.now }
-{
-    text == "TRUE" || text == "FALSE" || text == "NULL" || is_real_keyword(text)
 }
 
 /// How many octets so many bits take.

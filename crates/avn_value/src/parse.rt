@@ -28,20 +28,29 @@ use avn_grammar::chars::Lead;
 use std::alloc::Global;
 use std::mem;
 
-/// Reads a value that is looked for at the level. `TooDeep` where a level above 64 is looked for
-/// before any other fault.
+/// The limit on levels: no value is looked for at a level above it.
+const LEVEL_LIMIT: usize = 64;
+
+/// Reads a value that is looked for at the level. `TooDeep` where a level above the limit is looked
+/// for before any other fault.
 #[cycle(read)]
-fn read_value(alloc: Global, cursor: &mut Cursor<'_>, level: usize) -> Result<AvnValue, Fault>
+fn read_value(
+    alloc: Global,
+    cursor: &mut Cursor<'_>,
+    limit: usize,
+    level: usize,
+) -> Result<AvnValue, Fault>
+    requires { limit < usize.MAX }
     ensures same { cursor.new.text ≡ cursor.old.text }
     ensures rises { cursor.old.looks ≤ cursor.new.looks }
     ensures paid { Paid cursor.old cursor.new }
-    ensures ok { IfOk result (λ v. Stands 64 level cursor.old.rest (tree_of v) cursor.new.rest) }
-    ensures deep { result ≡ Err Fault.TooDeep → Deep 64 level cursor.old.rest }
-    ensures token { result ≡ Err Fault.UnexpectedToken → Deep 64 level cursor.old.rest → ⊥ }
-    ensures none { result ≡ Err Fault.UnexpectedToken → (t : Tree) (n : List ℕ) → Stands 64 level cursor.old.rest t n → ⊥ }
+    ensures ok { IfOk result (λ v. Stands limit level cursor.old.rest (tree_of v) cursor.new.rest) }
+    ensures deep { result ≡ Err Fault.TooDeep → Deep limit level cursor.old.rest }
+    ensures token { result ≡ Err Fault.UnexpectedToken → Deep limit level cursor.old.rest → ⊥ }
+    ensures none { result ≡ Err Fault.UnexpectedToken → (t : Tree) (n : List ℕ) → Stands limit level cursor.old.rest t n → ⊥ }
     ensures shorter { OnOk result (length cursor.new.rest < length cursor.old.rest) }
 {
-    if level > 64 {
+    if level > limit {
         return Err(Fault::TooDeep);
     }
     cursor.skip();
@@ -52,7 +61,7 @@ fn read_value(alloc: Global, cursor: &mut Cursor<'_>, level: usize) -> Result<Av
                 Lead::Colon => {
                     cursor.skip();
                     let _colon = cursor.take();
-                    let payload = read_value(alloc, cursor, level + 1)?;
+                    let payload = read_value(alloc, cursor, limit, level + 1)?;
                     let payload = Box::new(alloc, payload)?;
                     Ok(AvnValue::Choice {
                         identifier: name,
@@ -71,7 +80,7 @@ fn read_value(alloc: Global, cursor: &mut Cursor<'_>, level: usize) -> Result<Av
                     Ok(AvnValue::SequenceOf(Vec::new(alloc)))
                 }
                 _ => {
-                    let list = read_items(alloc, cursor, level + 1)?;
+                    let list = read_items(alloc, cursor, limit, level + 1)?;
                     Ok(list)
                 }
             }
@@ -85,21 +94,27 @@ fn read_value(alloc: Global, cursor: &mut Cursor<'_>, level: usize) -> Result<Av
 
 /// Reads an item of braces, whose values are looked for at the level.
 #[cycle(read)]
-fn read_item(alloc: Global, cursor: &mut Cursor<'_>, level: usize) -> Result<Entry, Fault>
+fn read_item(
+    alloc: Global,
+    cursor: &mut Cursor<'_>,
+    limit: usize,
+    level: usize,
+) -> Result<Entry, Fault>
+    requires { limit < usize.MAX }
     ensures same { cursor.new.text ≡ cursor.old.text }
     ensures rises { cursor.old.looks ≤ cursor.new.looks }
     ensures paid { Paid cursor.old cursor.new }
-    ensures ok { IfOk result (λ x. ItemStands 64 level cursor.old.rest (item_of x) cursor.new.rest) }
-    ensures deep { result ≡ Err Fault.TooDeep → ItemDeep 64 level cursor.old.rest }
-    ensures token { result ≡ Err Fault.UnexpectedToken → ItemDeep 64 level cursor.old.rest → ⊥ }
-    ensures none { result ≡ Err Fault.UnexpectedToken → (x : Item) (n : List ℕ) → ItemStands 64 level cursor.old.rest x n → ⊥ }
+    ensures ok { IfOk result (λ x. ItemStands limit level cursor.old.rest (item_of x) cursor.new.rest) }
+    ensures deep { result ≡ Err Fault.TooDeep → ItemDeep limit level cursor.old.rest }
+    ensures token { result ≡ Err Fault.UnexpectedToken → ItemDeep limit level cursor.old.rest → ⊥ }
+    ensures none { result ≡ Err Fault.UnexpectedToken → (x : Item) (n : List ℕ) → ItemStands limit level cursor.old.rest x n → ⊥ }
     ensures shorter { OnOk result (length cursor.new.rest < length cursor.old.rest) }
 {
     cursor.skip();
     match cursor.lead() {
         Lead::Letter => {}
         _ => {
-            let bare = read_value(alloc, cursor, level)?;
+            let bare = read_value(alloc, cursor, limit, level)?;
             return Ok(Entry::Bare(bare));
         }
     }
@@ -108,7 +123,7 @@ fn read_item(alloc: Global, cursor: &mut Cursor<'_>, level: usize) -> Result<Ent
         Lead::Colon => {
             cursor.skip();
             let _colon = cursor.take();
-            let payload = read_value(alloc, cursor, level)?;
+            let payload = read_value(alloc, cursor, limit, level)?;
             let payload = Box::new(alloc, payload)?;
             Ok(Entry::Bare(AvnValue::Choice {
                 identifier: name,
@@ -117,7 +132,7 @@ fn read_item(alloc: Global, cursor: &mut Cursor<'_>, level: usize) -> Result<Ent
         }
         Lead::Comma | Lead::CloseBrace => Ok(Entry::Bare(bare(name))),
         _ => {
-            let field = read_value(alloc, cursor, level)?;
+            let field = read_value(alloc, cursor, limit, level)?;
             Ok(Entry::Named(name, field))
         }
     }
@@ -126,19 +141,25 @@ fn read_item(alloc: Global, cursor: &mut Cursor<'_>, level: usize) -> Result<Ent
 /// Reads the items of braces, to the closing one. `UnexpectedToken` where a comma is missing other
 /// than between Integers, or where items with a name and without are mixed.
 #[cycle(read)]
-fn read_items(alloc: Global, cursor: &mut Cursor<'_>, level: usize) -> Result<AvnValue, Fault>
+fn read_items(
+    alloc: Global,
+    cursor: &mut Cursor<'_>,
+    limit: usize,
+    level: usize,
+) -> Result<AvnValue, Fault>
+    requires { limit < usize.MAX }
     ensures same { cursor.new.text ≡ cursor.old.text }
     ensures rises { cursor.old.looks ≤ cursor.new.looks }
     ensures paid { Paid cursor.old cursor.new }
-    ensures ok { IfOk result (λ v. BracesStand 64 level cursor.old.rest (tree_of v) cursor.new.rest) }
-    ensures deep { result ≡ Err Fault.TooDeep → ItemsDeep 64 level [] cursor.old.rest }
-    ensures token { result ≡ Err Fault.UnexpectedToken → ItemsDeep 64 level [] cursor.old.rest → ⊥ }
-    ensures none { result ≡ Err Fault.UnexpectedToken → (t : Tree) (n : List ℕ) → BracesStand 64 level cursor.old.rest t n → ⊥ }
+    ensures ok { IfOk result (λ v. BracesStand limit level cursor.old.rest (tree_of v) cursor.new.rest) }
+    ensures deep { result ≡ Err Fault.TooDeep → ItemsDeep limit level [] cursor.old.rest }
+    ensures token { result ≡ Err Fault.UnexpectedToken → ItemsDeep limit level [] cursor.old.rest → ⊥ }
+    ensures none { result ≡ Err Fault.UnexpectedToken → (t : Tree) (n : List ℕ) → BracesStand limit level cursor.old.rest t n → ⊥ }
     ensures shorter { OnOk result (length cursor.new.rest < length cursor.old.rest) }
 {
     let mut gathered = Gathered::new(alloc);
     'items: loop {
-        let entry = read_item(alloc, cursor, level)?;
+        let entry = read_item(alloc, cursor, limit, level)?;
         gathered.push(entry)?;
         cursor.skip();
         match cursor.lead() {
@@ -211,17 +232,18 @@ fn no_value(alloc: Global, cursor: &mut Cursor<'_>) -> DecodeError
     }
 }
 
-/// Reads the value that the whole text is.
-fn read_whole(alloc: Global, cursor: &mut Cursor<'_>) -> Result<AvnValue, DecodeError>
+/// Reads the value that the whole text is, within the limit on levels.
+fn read_whole(alloc: Global, cursor: &mut Cursor<'_>, limit: usize) -> Result<AvnValue, DecodeError>
+    requires bounded { limit < usize.MAX }
     requires together { cursor.old.ahead ≡ cursor.old.rest }
     requires whole { cursor.old.rest ≡ chars cursor.old.text }
     ensures same { cursor.new.text ≡ cursor.old.text }
     ensures rises { cursor.old.looks ≤ cursor.new.looks }
     ensures few { cursor.new.looks ≤ cursor.old.looks + 4 * length cursor.old.rest + 2 }
-    ensures ok { IfOk result (λ v. Reads 64 cursor.old.rest (tree_of v)) }
-    ensures err { IfErr result (λ e. Explains 64 cursor.old.rest (error_stop e)) }
+    ensures ok { IfOk result (λ v. Reads limit cursor.old.rest (tree_of v)) }
+    ensures err { IfErr result (λ e. Explains limit cursor.old.rest (error_stop e)) }
 {
-    match read_value(alloc, cursor, 0) {
+    match read_value(alloc, cursor, limit, 0) {
         Ok(value) => whole_value(alloc, cursor, value),
         Err(Fault::UnexpectedToken) => Err(no_value(alloc, cursor)),
         Err(Fault::TooDeep) => {
@@ -253,7 +275,7 @@ pub fn parse_scan(alloc: Global, scan: &mut Scan<'_>) -> Result<AvnValue, Decode
     ensures deep { Deep 64 0 (chars scan.old.text) → IsRefusal Why.exceeds_max_parse_depth result }
 {
     let mut cursor = Cursor::new(mem::replace(scan, Scan::new("")));
-    let found = read_whole(alloc, &mut cursor);
+    let found = read_whole(alloc, &mut cursor, LEVEL_LIMIT);
     *scan = cursor.into_scan();
     found
 }

@@ -6,4 +6,3 @@ pub mod Building
 pub mod Signs
 pub mod Floats
 pub mod Roots
-pub mod Texts

@@ -8,7 +8,7 @@ use Rattle.asn_fault.specs.Stop.{Stop, Why, at_root}
 use Rattle.asn_traits.specs.Leaf.{Blame, Blamed, as_null, as_boolean, as_text, as_item, listed_item}
 use Rattle.asn_traits.specs.Notation.{Notation}
 use Rattle.asn_traits.specs.Says.{Says}
-use Rattle.asn_traits.specs.Shape.{closed_enum, is_item}
+use Rattle.asn_traits.specs.Shape.{Shape, is_item, all_items}
 use Rattle.asn_traits.specs.Stops.{Stops}
 use Rattle.asn_traits.specs.Tree.{Tree, Slot, as_list, as_members, as_choice, item_slots, member_slot, head_slot}
 use Rattle.asn_traits.specs.Value.{Value}
@@ -117,14 +117,14 @@ pub choice-none : (d : Data) → members_in d ≡ None → as_choice Notation.je
 choice-none d e = choice-read d ∙ ap (option_map first_of) e
 
 -- The item that a text names.
-pub item_said : (items : List (List ℕ)) (i j : List ℕ) → j ≡ i → is_item items i ≡ true → Says Notation.jer (closed_enum items) (Some (Tree.json (Data.string i))) (Value.item j)
-item_said items i j e h = Says.says_leaf (closed_enum items) (Tree.json (Data.string i)) (Value.item j) (rw (h, e) refl)
+pub item_said : (items : List (List ℕ)) (added : Option (List (List ℕ))) (i j : List ℕ) → j ≡ i → is_item (all_items items added) i ≡ true → Says Notation.jer (Shape.enum items added) (Some (Tree.json (Data.string i))) (Value.item j)
+item_said items added i j e h = Says.says_leaf (Shape.enum items added) (Tree.json (Data.string i)) (Value.item j) (rw (h, e) refl)
 
 -- A text that names no item.
-pub item_refused : (items : List (List ℕ)) (i : List ℕ) (d : Data) (before after : List Slot) (e : Stop) → before ≡ Some (Tree.json d) ∷ after → d ≡ Data.string i → is_item items i ≡ false
-    → (e ≡ at_root (Why.invalid_enum_discriminant Jer i) Jer) ⊎ (e ≡ at_root Why.out_of_memory Jer) → Refuses Notation.jer (Stops Notation.jer (closed_enum items) (head_slot before)) e
-item_refused items i d before after e was is h (inl k) =
+pub item_refused : (items : List (List ℕ)) (added : Option (List (List ℕ))) (i : List ℕ) (d : Data) (before after : List Slot) (e : Stop) → before ≡ Some (Tree.json d) ∷ after → d ≡ Data.string i → is_item (all_items items added) i ≡ false
+    → (e ≡ at_root (Why.invalid_enum_discriminant Jer i) Jer) ⊎ (e ≡ at_root Why.out_of_memory Jer) → Refuses Notation.jer (Stops Notation.jer (Shape.enum items added) (head_slot before)) e
+item_refused items added i d before after e was is h (inl k) =
     let why : Why = Why.invalid_enum_discriminant Jer i in
-    at_no_field {P = Stops Notation.jer (closed_enum items) (head_slot before)} why Jer e k refl
-    (rw (was, is) (Stops.stops_leaf (closed_enum items) (Tree.json (Data.string i)) (Blame.because why) why (rw h refl) (Blamed.blamed_because why)))
-item_refused items i d before after e was is h (inr k) = out_of_memory Jer e k
+    at_no_field {P = Stops Notation.jer (Shape.enum items added) (head_slot before)} why Jer e k refl
+    (rw (was, is) (Stops.stops_leaf (Shape.enum items added) (Tree.json (Data.string i)) (Blame.because why) why (rw h refl) (Blamed.blamed_because why)))
+item_refused items added i d before after e was is h (inr k) = out_of_memory Jer e k

@@ -1,6 +1,7 @@
 use Rattle.std.proofs.Common.{[], ◌∷◌}
 use Rattle.std.proofs.lemmas.Result.{err_from_is_err_and}
 use Rattle.asn_traits.proofs.Whole.{write_complete}
+use Rattle.avn_rules.proofs.ReadBack.{read_back}
 use Rattle.avn_rules.proofs.Roots.{root_text, root_memory, memory_refused}
 use Rattle.avn_rules.proofs.avn.encode.Goals as goal
 
@@ -13,6 +14,12 @@ pub returns-clause-text : goal.returns-clause-text
 returns-clause-text g c =
     let held = c.in_ok-encode.ensures.written.added ([] ∷ []) c.new-encoder.ensures in
     root_text c.encode.new.encoder (g.T.AsnType.value_of c.args.value.now) c.to_string.result held c.to_string.ensures.text
+
+pub returns-clause-reads_back : goal.returns-clause-reads_back
+returns-clause-reads_back g c =
+    let held = c.in_ok-encode.ensures.written.added ([] ∷ []) c.new-encoder.ensures in
+    let text = root_text c.encode.new.encoder (g.T.AsnType.value_of c.args.value.now) c.to_string.result held c.to_string.ensures.text in
+    read_back g.T.AsnType.shape_of _ c.to_string.result g.met.T.AsnType.readable c.in_ok-encode.ensures.written.fit text
 
 pub returns-clause-refused : goal.returns-clause-refused
 returns-clause-refused g c =

@@ -1,6 +1,7 @@
 use Rattle.std.proofs.Common.{true, ◌≡◌, ◌≢◌, inl, inr, ℕ, List, ◌<◌, length, arith, ap, sym, refl, subst, ◌∙◌}
 use Rattle.std.proofs.lemmas.Grind.{common_steps}
 use Rattle.avn_grammar.specs.declared.chars.Lead.TheVariants as is
+use Rattle.avn_grammar.proofs.DeepStands.{number_close as number-close, number_comma as number-comma}
 use Rattle.avn_grammar.proofs.Refusals.{choice_none, braces_none, other_none}
 use Rattle.avn_grammar.proofs.Runs.{skip-le}
 use Rattle.avn_grammar.specs.Chars.{lead, skip, tail}
@@ -9,7 +10,7 @@ use Rattle.avn_grammar.specs.Grammar.{Ident, ComesAfterWord, BeginsNumber}
 use Rattle.avn_grammar.specs.Tree.{sequence_of}
 use Rattle.avn_value.proofs.NoToken.{lead_token}
 use Rattle.avn_value.proofs.NotDeep.{stopped_deep}
-use Rattle.avn_value.proofs.Steps.{ident-shorter, tail-le, value_choice, value_word, value_token, value_empty, value_braces, item_choice, item_word, item_field, item_value, going_comma, going_number, closed, refused, number_close as number-close, number_comma as number-comma, all_closed, shorter_token, braces_along, payload_deep, braces_deep, choice_deep, field_deep, value_deep, items_deep_along, unclosed, not_going}
+use Rattle.avn_value.proofs.Steps.{ident-shorter, tail-le, value_choice, value_word, value_token, value_empty, value_braces, item_choice, item_word, item_field, item_value, going_comma, going_number, closed, refused, all_closed, shorter_token, braces_along, payload_deep, braces_deep, choice_deep, field_deep, value_deep, items_deep_along, unclosed, not_going}
 use Rattle.avn_value.proofs.Views.{view-Choice, view-SequenceOf}
 use Rattle.avn_value.specs.View.{tree_of, trees_in}
 use Rattle.std.specs.Prelude.{map}
@@ -23,7 +24,7 @@ pub read_item-returns-in_default-clause-ok : goal.read_item-returns-in_default-c
 read_item-returns-in_default-clause-ok t c =
     let at : c.lead.new.self.rest ≡ skip c.args.cursor.now.rest = cc in
     let first : lead c.lead.new.self.rest ≢ is.Letter = λ h. c.in_default.not-Letter (c.lead.ensures.found ∙ ap lead (sym c.lead.ensures.stays) ∙ h) in
-    item_value 64 c.args.level _ c.lead.new.self.rest at c.lead.new.self.rest _ _ refl first c.in_ok-bare-in_default.ensures.ok
+    item_value c.args.limit c.args.level _ c.lead.new.self.rest at c.lead.new.self.rest _ _ refl first c.in_ok-bare-in_default.ensures.ok
 
 pub read_item-returns-in_default-clause-shorter : goal.read_item-returns-in_default-clause-shorter
 read_item-returns-in_default-clause-shorter t c =
@@ -37,7 +38,7 @@ read_item-returns-in_ok-payload-in-Colon-2-clause-ok t c =
     let i = c.in_ok-name.ensures.ok in
     let colon : lead (skip c.identifier.new.cursor.rest) ≡ is.Colon = cc in
     let z : c.take-colon.new.self.rest ≡ tail (skip c.identifier.new.cursor.rest) = cc in
-    item_choice 64 c.args.level _ c.lead.new.self.rest at c.identifier.new.cursor.rest c.take-colon.new.self.rest _ i.0 _ _ _ _ i.1 colon z c.in_ok-payload-in-Colon.ensures.ok
+    item_choice c.args.limit c.args.level _ c.lead.new.self.rest at c.identifier.new.cursor.rest c.take-colon.new.self.rest _ i.0 _ _ _ _ i.1 colon z c.in_ok-payload-in-Colon.ensures.ok
     (view-Choice c.in_ok-name.name c.in_ok-payload-in-Colon-2.payload) i.2 (ap tree_of c.in_ok-payload-in-Colon-2.ensures.ok)
 
 pub read_item-returns-in-Comma-clause-ok : goal.read_item-returns-in-Comma-clause-ok
@@ -45,7 +46,7 @@ read_item-returns-in-Comma-clause-ok t c =
     let at : c.lead.new.self.rest ≡ skip c.args.cursor.now.rest = cc in
     let i = c.in_ok-name.ensures.ok in
     let follows : ComesAfterWord (lead (skip c.identifier.new.cursor.rest)) = subst ComesAfterWord c.lead_past_blanks.ensures.found c.in-Comma.is in
-    item_word 64 c.args.level _ c.lead.new.self.rest at c.identifier.new.cursor.rest c.lead_past_blanks.new.self.rest i.0 _ _ i.1 follows c.lead_past_blanks.ensures.stays c.bare.ensures i.2
+    item_word c.args.limit c.args.level _ c.lead.new.self.rest at c.identifier.new.cursor.rest c.lead_past_blanks.new.self.rest i.0 _ _ i.1 follows c.lead_past_blanks.ensures.stays c.bare.ensures i.2
 
 pub read_item-returns-in-Comma-clause-shorter : goal.read_item-returns-in-Comma-clause-shorter
 read_item-returns-in-Comma-clause-shorter t c =
@@ -59,7 +60,7 @@ read_item-returns-in_ok-field-in_default-lead_past_blanks-clause-ok t c =
     let d = c.in_default-lead_past_blanks in
     let f = c.lead_past_blanks.ensures in
     let less = word_shorter c.args.cursor.now.rest c.lead.new.self.rest i.0 c.identifier.new.cursor.rest c.lead_past_blanks.new.self.rest at i.1 f.stays in
-    item_field 64 c.args.level _ c.lead.new.self.rest at c.identifier.new.cursor.rest c.lead_past_blanks.new.self.rest _ i.0 _ _ i.1 (λ h. d.not-Colon (f.found ∙ h)) (λ h. d.not-Comma (f.found ∙ h))
+    item_field c.args.limit c.args.level _ c.lead.new.self.rest at c.identifier.new.cursor.rest c.lead_past_blanks.new.self.rest _ i.0 _ _ i.1 (λ h. d.not-Colon (f.found ∙ h)) (λ h. d.not-Comma (f.found ∙ h))
     (λ h. d.not-CloseBrace (f.found ∙ h)) f.stays c.in_ok-field-in_default-lead_past_blanks.ensures.ok i.2
 
 pub read_item-returns-in_ok-field-in_default-lead_past_blanks-clause-shorter : goal.read_item-returns-in_ok-field-in_default-lead_past_blanks-clause-shorter
@@ -76,7 +77,7 @@ read_items-items-preserved-in-Comma t c =
     let k = c.items in
     let comma : lead (skip c.read_item.new.cursor.rest) ≡ is.Comma = cc in
     let next : c.take-comma.new.self.rest ≡ tail (skip c.read_item.new.cursor.rest) = cc in (
-      going_comma c.args.level c.args.cursor.now.rest k.cursor.rest c.read_item.new.cursor.rest k.gathered c.push.new.self _ k.invariant.0 c.in_ok-entry.ensures.ok c.in_ok-push.ensures.ok
+      going_comma c.args.limit c.args.level c.args.cursor.now.rest k.cursor.rest c.read_item.new.cursor.rest k.gathered c.push.new.self _ k.invariant.0 c.in_ok-entry.ensures.ok c.in_ok-push.ensures.ok
           c.take-comma.new.self.rest next (omega (arith, c.in_ok-entry.ensures.shorter, tail-le (skip c.read_item.new.cursor.rest), skip-le c.read_item.new.cursor.rest, ap (λ (x : List ℕ). length x) next)) comma,
       grind (arith, common_steps),
       grind (arith, common_steps),
@@ -88,8 +89,8 @@ read_items-returns-in-CloseBrace-clause-ok t c =
     let k = c.items in
     let brace : lead (skip c.read_item.new.cursor.rest) ≡ is.CloseBrace = cc in
     let next : c.take-close.new.self.rest ≡ tail (skip c.read_item.new.cursor.rest) = cc in
-    all_closed _ _ tree_of c.args.level c.args.cursor.now.rest c.take-close.new.self.rest c.push.new.self _ c.finish.result c.ok_or.result c.ok_or.ensures.value c.finish.ensures.some
-    (λ v f. closed c.args.level c.args.cursor.now.rest k.cursor.rest c.read_item.new.cursor.rest k.gathered c.push.new.self _ k.invariant.0 c.in_ok-entry.ensures.ok c.in_ok-push.ensures.ok
+    all_closed _ _ tree_of c.args.limit c.args.level c.args.cursor.now.rest c.take-close.new.self.rest c.push.new.self _ c.finish.result c.ok_or.result c.ok_or.ensures.value c.finish.ensures.some
+    (λ v f. closed c.args.limit c.args.level c.args.cursor.now.rest k.cursor.rest c.read_item.new.cursor.rest k.gathered c.push.new.self _ k.invariant.0 c.in_ok-entry.ensures.ok c.in_ok-push.ensures.ok
     c.take-close.new.self.rest v next brace f)
 
 pub read_items-items-preserved : goal.read_items-items-preserved
@@ -97,7 +98,7 @@ read_items-items-preserved t c =
     let k = c.items in
     let digit : BeginsNumber (lead (skip c.read_item.new.cursor.rest)) = subst BeginsNumber (c.lead.ensures.found ∙ ap lead c.skip.ensures.moves) c.in-Digit.is in
     let next : c.lead.new.self.rest ≡ skip c.read_item.new.cursor.rest = cc in (
-      going_number c.args.level c.args.cursor.now.rest k.cursor.rest c.read_item.new.cursor.rest k.gathered c.push.new.self _ k.invariant.0 c.in_ok-entry.ensures.ok c.in_ok-push.ensures.ok
+      going_number c.args.limit c.args.level c.args.cursor.now.rest k.cursor.rest c.read_item.new.cursor.rest k.gathered c.push.new.self _ k.invariant.0 c.in_ok-entry.ensures.ok c.in_ok-push.ensures.ok
           c.lead.new.self.rest next (omega (arith, c.in_ok-entry.ensures.shorter, skip-le c.read_item.new.cursor.rest, ap (λ (x : List ℕ). length x) next)) digit (grind (arith, common_steps)),
       grind (arith, common_steps),
       grind (arith, common_steps),
@@ -110,7 +111,7 @@ read_value-returns-in_ok-payload-in-Colon-2-clause-ok t c =
     let i = c.in_ok-name-in-Letter.ensures.ok in
     let colon : lead (skip c.identifier.new.cursor.rest) ≡ is.Colon = cc in
     let z : c.take-colon.new.self.rest ≡ tail (skip c.identifier.new.cursor.rest) = cc in
-    value_choice 64 c.args.level _ c.lead.new.self.rest at c.identifier.new.cursor.rest c.take-colon.new.self.rest _ i.0 _ _ _ _ (omega arith) i.1 colon z c.in_ok-payload-in-Colon.ensures.ok
+    value_choice c.args.limit c.args.level _ c.lead.new.self.rest at c.identifier.new.cursor.rest c.take-colon.new.self.rest _ i.0 _ _ _ _ (omega arith) i.1 colon z c.in_ok-payload-in-Colon.ensures.ok
     (view-Choice c.in_ok-name-in-Letter.name c.in_ok-payload-in-Colon-2.payload) i.2 (ap tree_of c.in_ok-payload-in-Colon-2.ensures.ok)
 
 pub read_value-returns-in_default-lead_past_blanks-clause-ok : goal.read_value-returns-in_default-lead_past_blanks-clause-ok
@@ -118,7 +119,7 @@ read_value-returns-in_default-lead_past_blanks-clause-ok t c =
     let at : c.lead.new.self.rest ≡ skip c.args.cursor.now.rest = cc in
     let i = c.in_ok-name-in-Letter.ensures.ok in
     let f = c.lead_past_blanks.ensures in
-    value_word 64 c.args.level _ c.lead.new.self.rest at c.identifier.new.cursor.rest c.lead_past_blanks.new.self.rest i.0 _ _ (omega arith) i.1 (λ h. c.in_default-lead_past_blanks.not-Colon (f.found ∙ h)) f.stays
+    value_word c.args.limit c.args.level _ c.lead.new.self.rest at c.identifier.new.cursor.rest c.lead_past_blanks.new.self.rest i.0 _ _ (omega arith) i.1 (λ h. c.in_default-lead_past_blanks.not-Colon (f.found ∙ h)) f.stays
     c.bare.ensures i.2
 
 pub read_value-returns-in_default-lead_past_blanks-clause-shorter : goal.read_value-returns-in_default-lead_past_blanks-clause-shorter
@@ -134,7 +135,7 @@ read_value-returns-in-CloseBrace-clause-ok t c =
     let first : lead c.lead.new.self.rest ≡ is.OpenBrace = cc in
     let brace : lead (skip c.take-open.new.self.rest) ≡ is.CloseBrace = cc in
     let next : c.take-close.new.self.rest ≡ tail (skip c.take-open.new.self.rest) = cc in
-    value_empty 64 c.args.level _ c.lead.new.self.rest at c.take-open.new.self.rest _ _ (omega arith) first c.take-open.ensures.moves brace next
+    value_empty c.args.limit c.args.level _ c.lead.new.self.rest at c.take-open.new.self.rest _ _ (omega arith) first c.take-open.ensures.moves brace next
     (view-SequenceOf c.new-in-CloseBrace.result ∙ ap (λ x. sequence_of (trees_in (map tree_of x))) c.new-in-CloseBrace.ensures.items)
 
 pub read_value-returns-in_ok-list-in_default-lead_past_blanks-2-clause-ok : goal.read_value-returns-in_ok-list-in_default-lead_past_blanks-2-clause-ok
@@ -143,7 +144,7 @@ read_value-returns-in_ok-list-in_default-lead_past_blanks-2-clause-ok t c =
     let first : lead c.lead.new.self.rest ≡ is.OpenBrace = cc in
     let f = c.lead_past_blanks-in-OpenBrace.ensures in
     let k = c.in_ok-list-in_default-lead_past_blanks-2.ensures in
-    value_braces 64 c.args.level _ c.lead.new.self.rest at c.take-open.new.self.rest _ _ (omega arith) first c.take-open.ensures.moves (λ h. c.in_default-lead_past_blanks-2.not-CloseBrace (f.found ∙ h)) (braces_along 64 _ _ _ _ _ f.stays k.ok)
+    value_braces c.args.limit c.args.level _ c.lead.new.self.rest at c.take-open.new.self.rest _ _ (omega arith) first c.take-open.ensures.moves (λ h. c.in_default-lead_past_blanks-2.not-CloseBrace (f.found ∙ h)) (braces_along _ _ _ _ _ _ f.stays k.ok)
 
 pub read_value-returns-in_ok-list-in_default-lead_past_blanks-2-clause-shorter : goal.read_value-returns-in_ok-list-in_default-lead_past_blanks-2-clause-shorter
 read_value-returns-in_ok-list-in_default-lead_past_blanks-2-clause-shorter t c =
@@ -156,7 +157,7 @@ read_value-returns-in_ok-list-in_default-lead_past_blanks-2-clause-shorter t c =
 pub read_value-returns-in-Digit-clause-ok : goal.read_value-returns-in-Digit-clause-ok
 read_value-returns-in-Digit-clause-ok t c =
     let at : c.lead.new.self.rest ≡ skip c.args.cursor.now.rest = cc in
-    value_token 64 c.args.level _ c.lead.new.self.rest at _ _ tree_of _ c.lead.new.self.rest _ (omega arith) refl c.number.ensures.ok
+    value_token c.args.limit c.args.level _ c.lead.new.self.rest at _ _ tree_of _ c.lead.new.self.rest _ (omega arith) refl c.number.ensures.ok
 
 pub read_value-returns-in-Digit-clause-shorter : goal.read_value-returns-in-Digit-clause-shorter
 read_value-returns-in-Digit-clause-shorter t c =
@@ -166,12 +167,12 @@ read_value-returns-in-Digit-clause-shorter t c =
 pub read_value-returns-in-Quote-clause-ok : goal.read_value-returns-in-Quote-clause-ok
 read_value-returns-in-Quote-clause-ok t c =
     let at : c.lead.new.self.rest ≡ skip c.args.cursor.now.rest = cc in
-    value_token 64 c.args.level _ c.lead.new.self.rest at _ _ tree_of _ c.lead.new.self.rest _ (omega arith) refl c.text.ensures.ok
+    value_token c.args.limit c.args.level _ c.lead.new.self.rest at _ _ tree_of _ c.lead.new.self.rest _ (omega arith) refl c.text.ensures.ok
 
 pub read_value-returns-in-Apostrophe-clause-ok : goal.read_value-returns-in-Apostrophe-clause-ok
 read_value-returns-in-Apostrophe-clause-ok t c =
     let at : c.lead.new.self.rest ≡ skip c.args.cursor.now.rest = cc in
-    value_token 64 c.args.level _ c.lead.new.self.rest at _ _ tree_of _ c.lead.new.self.rest _ (omega arith) refl c.quoted.ensures.ok
+    value_token c.args.limit c.args.level _ c.lead.new.self.rest at _ _ tree_of _ c.lead.new.self.rest _ (omega arith) refl c.quoted.ensures.ok
 
 pub read_value-returns-in-Apostrophe-clause-shorter : goal.read_value-returns-in-Apostrophe-clause-shorter
 read_value-returns-in-Apostrophe-clause-shorter t c =
@@ -182,7 +183,7 @@ pub read_items-returns-in-CloseBrace-clause-none : goal.read_items-returns-in-Cl
 read_items-returns-in-CloseBrace-clause-none t c = λ e.
     let k = c.items in
     let brace : lead (skip c.read_item.new.cursor.rest) ≡ is.CloseBrace = cc in
-    unclosed c.args.level c.args.cursor.now.rest k.cursor.rest c.read_item.new.cursor.rest k.gathered c.push.new.self _ k.invariant.0 c.in_ok-entry.ensures.ok c.in_ok-push.ensures.ok
+    unclosed c.args.limit c.args.level c.args.cursor.now.rest k.cursor.rest c.read_item.new.cursor.rest k.gathered c.push.new.self _ k.invariant.0 c.in_ok-entry.ensures.ok c.in_ok-push.ensures.ok
     brace (refused c.finish.result c.ok_or.result c.ok_or.ensures.value e c.finish.ensures.none)
 
 pub read_items-returns-then-not-are_integers-clause-none : goal.read_items-returns-then-not-are_integers-clause-none
@@ -190,7 +191,7 @@ read_items-returns-then-not-are_integers-clause-none t c = λ e.
     let k = c.items in
     let f : c.lead.result ≡ lead (skip c.read_item.new.cursor.rest) = c.lead.ensures.found ∙ ap lead c.skip.ensures.moves in
     let digit : BeginsNumber (lead (skip c.read_item.new.cursor.rest)) = subst BeginsNumber f c.in-Digit.is in
-    not_going c.args.level c.args.cursor.now.rest k.cursor.rest c.read_item.new.cursor.rest k.gathered c.push.new.self _ k.invariant.0 c.in_ok-entry.ensures.ok c.in_ok-push.ensures.ok
+    not_going c.args.limit c.args.level c.args.cursor.now.rest k.cursor.rest c.read_item.new.cursor.rest k.gathered c.push.new.self _ k.invariant.0 c.in_ok-entry.ensures.ok c.in_ok-push.ensures.ok
     (λ h. number-close _ digit h) (λ h. number-comma _ digit h) (λ d h. grind (arith, common_steps))
 
 pub read_items-returns-in_default-clause-none : goal.read_items-returns-in_default-clause-none
@@ -198,7 +199,7 @@ read_items-returns-in_default-clause-none t c = λ e.
     let k = c.items in
     let f : c.lead.result ≡ lead (skip c.read_item.new.cursor.rest) = c.lead.ensures.found ∙ ap lead c.skip.ensures.moves in
     let d = c.in_default in
-    not_going c.args.level c.args.cursor.now.rest k.cursor.rest c.read_item.new.cursor.rest k.gathered c.push.new.self _ k.invariant.0 c.in_ok-entry.ensures.ok c.in_ok-push.ensures.ok
+    not_going c.args.limit c.args.level c.args.cursor.now.rest k.cursor.rest c.read_item.new.cursor.rest k.gathered c.push.new.self _ k.invariant.0 c.in_ok-entry.ensures.ok c.in_ok-push.ensures.ok
     (λ h. d.not-CloseBrace (f ∙ h)) (λ h. d.not-Comma (f ∙ h)) (λ b h. elim b [ inl x ↦ d.not-Digit (f ∙ x) | inr x ↦ d.not-Minus (f ∙ x) ])
 
 pub read_value-returns-in_err-payload-in-Colon-clause-none : goal.read_value-returns-in_err-payload-in-Colon-clause-none
@@ -207,25 +208,25 @@ read_value-returns-in_err-payload-in-Colon-clause-none t c = λ e.
     let i = c.in_ok-name-in-Letter.ensures.ok in
     let colon : lead (skip c.identifier.new.cursor.rest) ≡ is.Colon = cc in
     let z : c.take-colon.new.self.rest ≡ tail (skip c.identifier.new.cursor.rest) = cc in
-    choice_none 64 c.args.level _ c.lead.new.self.rest at i.0 c.identifier.new.cursor.rest c.take-colon.new.self.rest i.1 colon z (c.read_value.ensures.none (grind (arith, common_steps)))
+    choice_none c.args.limit c.args.level _ c.lead.new.self.rest at i.0 c.identifier.new.cursor.rest c.take-colon.new.self.rest i.1 colon z (c.read_value.ensures.none (grind (arith, common_steps)))
 
 pub read_value-returns-in_err-list-in_default-lead_past_blanks-2-clause-none : goal.read_value-returns-in_err-list-in_default-lead_past_blanks-2-clause-none
 read_value-returns-in_err-list-in_default-lead_past_blanks-2-clause-none t c = λ e.
     let at : c.lead.new.self.rest ≡ skip c.args.cursor.now.rest = cc in
     let first : lead c.lead.new.self.rest ≡ is.OpenBrace = cc in
     let f = c.lead_past_blanks-in-OpenBrace.ensures in
-    braces_none 64 c.args.level _ c.lead.new.self.rest at c.take-open.new.self.rest first c.take-open.ensures.moves (λ h. c.in_default-lead_past_blanks-2.not-CloseBrace (f.found ∙ h))
-    (λ t n b. c.read_items.ensures.none (grind (arith, common_steps)) t n (braces_along 64 _ _ _ _ _ (sym f.stays) b))
+    braces_none c.args.limit c.args.level _ c.lead.new.self.rest at c.take-open.new.self.rest first c.take-open.ensures.moves (λ h. c.in_default-lead_past_blanks-2.not-CloseBrace (f.found ∙ h))
+    (λ t n b. c.read_items.ensures.none (grind (arith, common_steps)) t n (braces_along _ _ _ _ _ _ (sym f.stays) b))
 
 pub read_value-returns-in_default-clause-none : goal.read_value-returns-in_default-clause-none
 read_value-returns-in_default-clause-none t c = λ e.
     let at : c.lead.new.self.rest ≡ skip c.args.cursor.now.rest = cc in
     let f : c.lead.result ≡ lead c.lead.new.self.rest = c.lead.ensures.found ∙ ap lead (sym c.lead.ensures.stays) in
     let d = c.in_default in
-    other_none 64 c.args.level _ c.lead.new.self.rest at (λ h. d.not-Letter (f ∙ h)) (λ h. d.not-OpenBrace (f ∙ h)) (λ t n k. lead_token (λ h. d.not-Digit (f ∙ h)) (λ h. d.not-Minus (f ∙ h)) (λ h. d.not-Quote (f ∙ h)) (λ h. d.not-Apostrophe (f ∙ h)) k)
+    other_none c.args.limit c.args.level _ c.lead.new.self.rest at (λ h. d.not-Letter (f ∙ h)) (λ h. d.not-OpenBrace (f ∙ h)) (λ t n k. lead_token (λ h. d.not-Digit (f ∙ h)) (λ h. d.not-Minus (f ∙ h)) (λ h. d.not-Quote (f ∙ h)) (λ h. d.not-Apostrophe (f ∙ h)) k)
 
-pub read_value-returns-then-level-gt64-clause-deep : goal.read_value-returns-then-level-gt64-clause-deep
-read_value-returns-then-level-gt64-clause-deep t c = λ e.
+pub read_value-returns-then-level-limit-clause-deep : goal.read_value-returns-then-level-limit-clause-deep
+read_value-returns-then-level-limit-clause-deep t c = λ e.
     too_deep (omega arith)
 
 pub read_value-returns-in_err-payload-in-Colon-clause-deep : goal.read_value-returns-in_err-payload-in-Colon-clause-deep
@@ -234,15 +235,15 @@ read_value-returns-in_err-payload-in-Colon-clause-deep t c = λ e.
     let i = c.in_ok-name-in-Letter.ensures.ok in
     let colon : lead (skip c.identifier.new.cursor.rest) ≡ is.Colon = cc in
     let z : c.take-colon.new.self.rest ≡ tail (skip c.identifier.new.cursor.rest) = cc in
-    payload_deep 64 c.args.level _ c.lead.new.self.rest at i.0 c.identifier.new.cursor.rest c.take-colon.new.self.rest (omega arith) i.1 colon z (c.read_value.ensures.deep (grind (arith, common_steps)))
+    payload_deep c.args.limit c.args.level _ c.lead.new.self.rest at i.0 c.identifier.new.cursor.rest c.take-colon.new.self.rest (omega arith) i.1 colon z (c.read_value.ensures.deep (grind (arith, common_steps)))
 
 pub read_value-returns-in_err-list-in_default-lead_past_blanks-2-clause-deep : goal.read_value-returns-in_err-list-in_default-lead_past_blanks-2-clause-deep
 read_value-returns-in_err-list-in_default-lead_past_blanks-2-clause-deep t c = λ e.
     let at : c.lead.new.self.rest ≡ skip c.args.cursor.now.rest = cc in
     let first : lead c.lead.new.self.rest ≡ is.OpenBrace = cc in
     let f = c.lead_past_blanks-in-OpenBrace.ensures in
-    braces_deep 64 c.args.level _ c.lead.new.self.rest at c.take-open.new.self.rest (omega arith) first c.take-open.ensures.moves (λ h. c.in_default-lead_past_blanks-2.not-CloseBrace (f.found ∙ h))
-    (items_deep_along _ _ _ f.stays (c.read_items.ensures.deep (grind (arith, common_steps))))
+    braces_deep c.args.limit c.args.level _ c.lead.new.self.rest at c.take-open.new.self.rest (omega arith) first c.take-open.ensures.moves (λ h. c.in_default-lead_past_blanks-2.not-CloseBrace (f.found ∙ h))
+    (items_deep_along _ _ _ _ f.stays (c.read_items.ensures.deep (grind (arith, common_steps))))
 
 pub read_item-returns-in_err-payload-in-Colon-clause-deep : goal.read_item-returns-in_err-payload-in-Colon-clause-deep
 read_item-returns-in_err-payload-in-Colon-clause-deep t c = λ e.
@@ -250,7 +251,7 @@ read_item-returns-in_err-payload-in-Colon-clause-deep t c = λ e.
     let i = c.in_ok-name.ensures.ok in
     let colon : lead (skip c.identifier.new.cursor.rest) ≡ is.Colon = cc in
     let z : c.take-colon.new.self.rest ≡ tail (skip c.identifier.new.cursor.rest) = cc in
-    choice_deep 64 c.args.level _ c.lead.new.self.rest at i.0 c.identifier.new.cursor.rest c.take-colon.new.self.rest i.1 colon z (c.read_value-in-Colon.ensures.deep (grind (arith, common_steps)))
+    choice_deep c.args.limit c.args.level _ c.lead.new.self.rest at i.0 c.identifier.new.cursor.rest c.take-colon.new.self.rest i.1 colon z (c.read_value-in-Colon.ensures.deep (grind (arith, common_steps)))
 
 pub read_item-returns-in_err-field-in_default-lead_past_blanks-clause-deep : goal.read_item-returns-in_err-field-in_default-lead_past_blanks-clause-deep
 read_item-returns-in_err-field-in_default-lead_past_blanks-clause-deep t c = λ e.
@@ -258,13 +259,13 @@ read_item-returns-in_err-field-in_default-lead_past_blanks-clause-deep t c = λ 
     let i = c.in_ok-name.ensures.ok in
     let d = c.in_default-lead_past_blanks in
     let f = c.lead_past_blanks.ensures in
-    field_deep 64 c.args.level _ c.lead.new.self.rest at i.0 c.identifier.new.cursor.rest c.lead_past_blanks.new.self.rest i.1 (λ h. d.not-Colon (f.found ∙ h)) (λ h. d.not-Comma (f.found ∙ h)) (λ h. d.not-CloseBrace (f.found ∙ h)) f.stays (c.read_value-in_default-lead_past_blanks.ensures.deep (grind (arith, common_steps)))
+    field_deep c.args.limit c.args.level _ c.lead.new.self.rest at i.0 c.identifier.new.cursor.rest c.lead_past_blanks.new.self.rest i.1 (λ h. d.not-Colon (f.found ∙ h)) (λ h. d.not-Comma (f.found ∙ h)) (λ h. d.not-CloseBrace (f.found ∙ h)) f.stays (c.read_value-in_default-lead_past_blanks.ensures.deep (grind (arith, common_steps)))
 
 pub read_item-returns-in_err-bare-in_default-clause-deep : goal.read_item-returns-in_err-bare-in_default-clause-deep
 read_item-returns-in_err-bare-in_default-clause-deep t c = λ e.
     let at : c.lead.new.self.rest ≡ skip c.args.cursor.now.rest = cc in
     let first : lead c.lead.new.self.rest ≢ is.Letter = λ h. c.in_default.not-Letter (c.lead.ensures.found ∙ ap lead (sym c.lead.ensures.stays) ∙ h) in
-    value_deep 64 c.args.level _ c.lead.new.self.rest at c.lead.new.self.rest refl first (c.read_value.ensures.deep (grind (arith, common_steps)))
+    value_deep c.args.limit c.args.level _ c.lead.new.self.rest at c.lead.new.self.rest refl first (c.read_value.ensures.deep (grind (arith, common_steps)))
 
 pub read_items-returns-in_err-entry-clause-deep : goal.read_items-returns-in_err-entry-clause-deep
 read_items-returns-in_err-entry-clause-deep t c = λ e.

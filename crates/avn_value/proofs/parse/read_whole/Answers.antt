@@ -12,10 +12,10 @@ returns-in-Err-UnexpectedToken-clause-err c =
     found_explains (c.in-Err-UnexpectedToken.ensures.none cc) (c.in-Err-UnexpectedToken.ensures.token cc) (subst (λ u. IsFoundOrMemory u (error_stop c.no_value.result)) same c.no_value.ensures.error)
 
 pub returns-in-Err-TooDeep-clause-err : goal.returns-in-Err-TooDeep-clause-err
-returns-in-Err-TooDeep-clause-err c = subst (λ e. Explains 64 c.args.cursor.now.rest (error_stop e)) (sym c.from_kind.ensures) (exceeds_depth (c.in-Err-TooDeep.ensures.deep cc))
+returns-in-Err-TooDeep-clause-err c = subst (λ e. Explains c.args.limit c.args.cursor.now.rest (error_stop e)) (sym c.from_kind.ensures) (exceeds_depth (c.in-Err-TooDeep.ensures.deep cc))
 
 pub returns-in-Ok-clause-err : goal.returns-in-Ok-clause-err
-returns-in-Ok-clause-err c = whole_explains error_stop 64 c.args.cursor.now.rest c.read_value.new.cursor.rest (tree_of c.in-Ok.value) c.whole_value.result c.in-Ok.ensures.ok c.whole_value.ensures.err
+returns-in-Ok-clause-err c = whole_explains error_stop c.args.limit c.args.cursor.now.rest c.read_value.new.cursor.rest (tree_of c.in-Ok.value) c.whole_value.result c.in-Ok.ensures.ok c.whole_value.ensures.err
 
 pub returns-in-Err-OutOfMemory-clause-err : goal.returns-in-Err-OutOfMemory-clause-err
-returns-in-Err-OutOfMemory-clause-err c = subst (Explains 64 c.args.cursor.now.rest) (sym c.out_of_memory.ensures) out_of_memory
+returns-in-Err-OutOfMemory-clause-err c = subst (Explains c.args.limit c.args.cursor.now.rest) (sym c.out_of_memory.ensures) out_of_memory

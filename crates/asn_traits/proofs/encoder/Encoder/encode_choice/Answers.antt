@@ -1,12 +1,14 @@
 use Rattle.std.proofs.Common.{inr, inl, refl, subst, ap}
 use Rattle.std.proofs.lemmas.Result.{err_from_is_err_and, on_ok_weaker}
 use Rattle.asn_traits.specs.Writing.{close, as_choice, Turns}
-use Rattle.asn_traits.proofs.Choices.{name_found, known, known_some, unknown_none}
+use Rattle.asn_traits.specs.Shape.{all_alternatives}
+use Rattle.asn_traits.proofs.Choices.{all_tags, name_found, known, known_some, unknown_none}
 use Rattle.asn_traits.proofs.encoder.Encoder.encode_choice.Goals as goal
 
 pub returns-in_default-clause-refused : goal.returns-in_default-clause-refused
 returns-in_default-clause-refused g c =
-    let f = name_found g.C.Choice.alternatives c.args.tag _ _ _ c.variant_table.ensures c.identifier_table.ensures c.in_default.ensures in
+    let both = all_tags _ _ _ g.C.Choice.alternatives g.C.Choice.added c.variant_table.ensures c.extended_variant_table.ensures c.listed-added.ensures in
+    let f = name_found (all_alternatives g.C.Choice.alternatives g.C.Choice.added) c.args.tag _ _ _ both c.identifier_table.ensures c.in_default.ensures in
     inr (inl (ap (λ e. e.kind) c.variant_not_in_choice.ensures, unknown_none _ f))
 
 pub returns-in_err-_answer-clause-refused : goal.returns-in_err-_answer-clause-refused
@@ -16,7 +18,8 @@ returns-in_err-_answer-clause-refused g c =
 
 pub returns-clause-written : goal.returns-clause-written
 returns-clause-written g c =
-    let f = name_found g.C.Choice.alternatives c.args.tag _ _ _ c.variant_table.ensures c.identifier_table.ensures c.in-Some.ensures in
+    let both = all_tags _ _ _ g.C.Choice.alternatives g.C.Choice.added c.variant_table.ensures c.extended_variant_table.ensures c.listed-added.ensures in
+    let f = name_found (all_alternatives g.C.Choice.alternatives g.C.Choice.added) c.args.tag _ _ _ both c.identifier_table.ensures c.in-Some.ensures in
     on_ok_weaker c.close_choice.result (λ e. known c.in-Some.name.now _ f (λ a is. (
       c.in_ok-_answer._answer,
       record {
@@ -30,5 +33,6 @@ returns-clause-written g c =
 
 pub returns-clause-listed : goal.returns-clause-listed
 returns-clause-listed g c =
-    let f = name_found g.C.Choice.alternatives c.args.tag _ _ _ c.variant_table.ensures c.identifier_table.ensures c.in-Some.ensures in
+    let both = all_tags _ _ _ g.C.Choice.alternatives g.C.Choice.added c.variant_table.ensures c.extended_variant_table.ensures c.listed-added.ensures in
+    let f = name_found (all_alternatives g.C.Choice.alternatives g.C.Choice.added) c.args.tag _ _ _ both c.identifier_table.ensures c.in-Some.ensures in
     λ h. known_some c.in-Some.name.now _ f

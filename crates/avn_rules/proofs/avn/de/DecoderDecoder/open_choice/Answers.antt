@@ -17,4 +17,4 @@ returns c =
 pub returns-in-Err : goal.returns-in-Err
 returns-in-Err c =
     let h = c.in-Err.ensures in
-    λ alts. no_choice alts _ _ _ _ c.in_ok-take.ensures h.1 (rw h.0 at c.mismatch.ensures)
+    λ alts added. no_choice alts added _ _ _ _ c.in_ok-take.ensures h.1 (rw h.0 at c.mismatch.ensures)

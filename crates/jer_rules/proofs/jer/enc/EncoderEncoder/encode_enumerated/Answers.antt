@@ -1,7 +1,7 @@
 use Rattle.std.proofs.Common.{ap, Some, ◌∙◌, ◌≡◌, subst, true}
 use Rattle.std.proofs.lemmas.Result.{on_ok_weaker}
 use Rattle.serde_json.specs.Data.{Data}
-use Rattle.asn_traits.specs.Shape.{is_item}
+use Rattle.asn_traits.specs.Shape.{all_items, is_item}
 use Rattle.asn_traits.specs.Value.{Fits}
 use Rattle.serde_json.specs.View.{view}
 use Rattle.asn_slots.proofs.Trees.{slot_added}
@@ -14,6 +14,6 @@ returns-in-Ok-clause-written g c =
     let is = c.identifier.ensures.is in
     on_ok_weaker c.put.result (λ a. record {
       added = slot_added jer_data view _ _ _ _ (ap Some (view-String _ ∙ ap Data.string (c.in-Ok.ensures.ok ∙ is))) a;
-      fit = Fits.fits_item (subst (λ i. is_item g.T.Enumerated.items i ≡ true) is c.identifier.ensures.listed);
+      fit = Fits.fits_item (subst (λ i. is_item (all_items g.T.Enumerated.items g.T.Enumerated.added) i ≡ true) is c.identifier.ensures.listed);
       writable = tt;
     }) c.put.ensures.added

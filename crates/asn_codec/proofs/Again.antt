@@ -1,0 +1,71 @@
+-- What is written is read again.
+use Rattle.std.proofs.Common.{◌≡◌, ◌≤◌, ◌<◌, ◌↔◌, refl, ap, sym, ◌∙◌, subst, ℕ, List, Option, Some, true}
+use Rattle.std.specs.Str.{chars}
+use Rattle.serde_json.specs.Data.{Data, depth}
+use Rattle.serde_json.specs.Read.{read, max_depth}
+use Rattle.std.proofs.Math.Nat.{le_trans}
+use Rattle.serde_json.proofs.Nesting.{depth-read}
+use Rattle.avn_grammar.specs.Depth.{Deep, deepest}
+use Rattle.avn_grammar.specs.Tree.{Tree as AvnTree}
+use Rattle.avn_grammar.proofs.OneTree.{same_stands}
+use Rattle.asn_base.specs.declared.codec.Codec.{Codec}
+use Rattle.asn_base.specs.declared.codec.Codec.TheVariants.{Avn}
+use Rattle.asn_traits.specs.Canonical.{jer_data, avn_tree, canonical_text}
+use Rattle.asn_traits.specs.Notation.{Notation, IsText, notation_of}
+use Rattle.asn_traits.specs.Readable.{is_readable}
+use Rattle.asn_traits.specs.Says.{Says}
+use Rattle.asn_traits.specs.Shape.{Shape}
+use Rattle.asn_traits.specs.Tree.{Tree}
+use Rattle.asn_traits.specs.Value.{Value, Fits}
+use Rattle.asn_traits.specs.Writing.{Writable}
+use Rattle.asn_traits.proofs.Meanings.{one}
+use Rattle.asn_traits.proofs.Nesting.{says-depth}
+use Rattle.asn_traits.proofs.SameText.{same_text}
+use Rattle.asn_traits.proofs.Written.{says_written, jer_tree, jer_writes}
+use Rattle.asn_traits.proofs.WrittenAvn.{read_tree, avn_writes}
+use Rattle.jer_rules.specs.Text as jer
+use Rattle.avn_rules.specs.Text as avn
+use Rattle.asn_codec.specs.Texts.{HasTree, SaysValue, SaysAlone, ReadsBack, IsShallow}
+
+same_data : (text : List ℕ) (d e : Data) → jer.IsJer text d → jer.IsJer text e → d ≡ e
+same_data text d e h k = let x : ◌≡◌ {A = Option Data} (Some d) (Some e) = sym h.0 ∙ k.0 in cc x
+
+-- A text has at most one tree.
+one_tree : (n : Notation) (text : List ℕ) (t u : Tree) → HasTree n text t → HasTree n text u → t ≡ u
+one_tree n text t u (HasTree.json_tree {d = d} h) (HasTree.json_tree {d = e} k) = ap Tree.json (same_data text d e h k)
+one_tree n text t u (HasTree.avn_tree h) (HasTree.avn_tree k) = ap Tree.avn (same_stands h.1 k.1).0
+
+-- A text says at most one value.
+one_said : (n : Notation) (s : Shape) (text : List ℕ) (v w : Value) → IsText n → SaysValue n s text v → SaysValue n s text w → v ≡ w
+one_said n s text v w is h k = one is h.says (subst (λ t. Says n s (Some t) w) (one_tree n text k.tree h.tree k.has h.has) k.says)
+
+alone : (n : Notation) (s : Shape) (text : List ℕ) (v : Value) → IsText n → SaysValue n s text v → SaysAlone n s text v
+alone n s text v is h = record { says = h; alone = λ w k. one_said n s text w v is k h }
+
+-- What is written for a value that a JSON text says nests no deeper than JSON is read.
+never_deep : (s : Shape) (text : List ℕ) (v : Value) → SaysValue Notation.jer s text v → depth (jer_data v) ≤ max_depth
+never_deep s text v h = within h.has h.says
+  where
+    within : {t : Tree} → HasTree Notation.jer text t → Says Notation.jer s (Some t) v → depth (jer_data v) ≤ max_depth
+    within (HasTree.json_tree {d = d} is) says = le_trans (says-depth says) (depth-read text d is.0)
+
+json_again : (s : Shape) (v : Value) (text : List ℕ) → is_readable s ≡ true → Fits s v → ReadsBack Notation.jer v text → depth (jer_data v) ≤ max_depth → SaysAlone Notation.jer s text v
+json_again s v text read fit back shallow =
+    alone Notation.jer s text v tt (record { tree = jer_tree v; has = HasTree.json_tree (back shallow); says = says_written Notation.jer jer_tree jer_writes read fit })
+
+-- The text of a value says that value alone, unless it nests too deep.
+pub again : (from to : Notation) (s : Shape) (v : Value) (input text : List ℕ) → is_readable s ≡ true → Fits s v → ReadsBack to v text → SaysValue from s input v → IsShallow from to v → SaysAlone to s text v
+again Notation.jer Notation.jer s v input text read fit back says shallow = json_again s v text read fit back (never_deep s input v says)
+again Notation.avn Notation.jer s v input text read fit back says shallow = json_again s v text read fit back shallow
+again Notation.other Notation.jer s v input text read fit back says shallow = json_again s v text read fit back shallow
+again from Notation.avn s v input text read fit back says shallow =
+    alone Notation.avn s text v tt (record { tree = read_tree v; has = HasTree.avn_tree (back.again shallow); says = says_written Notation.avn read_tree avn_writes read fit })
+again from Notation.other s v input text read fit back says shallow = absurd shallow
+
+-- The text of a value that is too deep in AVN is refused for it.
+pub deep_again : (to : Codec) (v : Value) (text : List ℕ) → to ≡ Avn → ReadsBack (notation_of to) v text → 64 < deepest 0 (avn_tree v) → Deep 64 0 (chars text)
+deep_again to v text is back deep = (subst (λ c. ReadsBack (notation_of c) v text) is back).deep deep
+
+-- A value has the text of another exactly if it is equal to it.
+pub equal_texts : (n : Notation) (s : Shape) (v w : Value) (text : List ℕ) → IsText n → is_readable s ≡ true → Fits s v → Writable n v → text ≡ canonical_text n v → Fits s w → Writable n w → (canonical_text n w ≡ text) ↔ (w ≡ v)
+equal_texts n s v w text is read fit_v can_v e fit_w can_w = ((λ same. same_text n s w v is read fit_w fit_v can_w can_v (same ∙ e)), (λ same. ap (canonical_text n) same ∙ sym e))

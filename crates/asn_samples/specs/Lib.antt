@@ -1,0 +1,12 @@
+pub mod Terms
+pub mod SimpleEnum
+pub mod ExtEnum
+pub mod Struct
+pub mod Renamed
+pub mod WithNullOpt
+pub mod Nested
+pub mod Inner
+pub mod SimpleChoice
+pub mod ExtChoice
+pub mod Nest
+pub mod Samples

@@ -1,0 +1,26 @@
+//! Types that show how an ASN.1 type is described, each with its laws proved, and the names by which the program knows them.
+#![tactic(auto)]
+
+mod ext_choice;
+mod ext_enum;
+mod inner;
+mod nest;
+mod nested;
+mod renamed;
+mod sample;
+mod simple_choice;
+mod simple_enum;
+mod struct_;
+mod with_null_opt;
+
+pub use ext_choice::ExtChoice;
+pub use ext_enum::ExtEnum;
+pub use inner::Inner;
+pub use nest::Nest;
+pub use nested::Nested;
+pub use renamed::Renamed;
+pub use sample::{Sample, is_sample_name};
+pub use simple_choice::SimpleChoice;
+pub use simple_enum::SimpleEnum;
+pub use struct_::Struct;
+pub use with_null_opt::WithNullOpt;

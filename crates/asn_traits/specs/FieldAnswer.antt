@@ -1,0 +1,24 @@
+-- What reading and writing a single field answers.
+use Rattle.std.specs.Prelude.{◌≡◌, ℕ, List, ◌∷◌, Option, Some, None}
+use Rattle.asn_fault.specs.Stop.{Why}
+use Rattle.asn_traits.specs.Notation.{Notation}
+use Rattle.asn_traits.specs.Shape.{Shape}
+use Rattle.asn_traits.specs.Tree.{Slot}
+use Rattle.asn_traits.specs.Value.{Value}
+use Rattle.asn_traits.specs.Says.{Says}
+use Rattle.asn_traits.specs.Stops.{Path}
+use Rattle.asn_traits.specs.Writing.{Frame, push, Turns, Written}
+
+-- The first pending slot is gone: it says the value, or it was absent.
+pub data TakesSlot (n : Notation) (s : Shape) (before after : List Slot) : Option Value → Type 0 where
+  takes_value : (slot : Slot) (v : Value) → before ≡ slot ∷ after → Says n s slot v → TakesSlot n s before after (Some v)
+  takes_nothing : before ≡ None ∷ after → TakesSlot n s before after None
+
+-- At a place within the field of this name, for a reason that has P.
+pub data WithinField (name : List ℕ) (P : Path → Why → Type 0) : Path → Why → Type 0 where
+  within_field : (p : Path) (w : Why) → P p w → WithinField name P (name ∷ p) w
+
+-- The last frame has one slot more: the value, which fits its shape and can be written, or an absent one.
+pub data AddsSlot {S : Type 0} (holds : S → List Frame → Type 0) (n : Notation) (s : Shape) (old new : S) : Option Value → Type 0 where
+  adds_value : (v : Value) → Written holds n s v old new → AddsSlot holds n s old new (Some v)
+  adds_nothing : Turns holds (push None) old new → AddsSlot holds n s old new None

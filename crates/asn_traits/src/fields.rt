@@ -1,0 +1,82 @@
+// Reading and writing the fields of a SEQUENCE, one after another.
+ghost use Rattle.asn_base.specs.declared.codec.Codec.{Codec};
+ghost use Rattle.asn_fault.specs.Stop.{Why, at_root, error_stop, wrapped};
+ghost use Rattle.asn_traits.specs.Answer.{OptionalStops, Refuses};
+ghost use Rattle.asn_traits.specs.FieldAnswer.{AddsSlot, TakesSlot, WithinField};
+ghost use Rattle.asn_traits.specs.Notation.{notation_of};
+ghost use Rattle.asn_traits.specs.Stops.{Stops};
+ghost use Rattle.asn_traits.specs.Tree.{head_slot};
+ghost use Rattle.asn_traits.specs.Writing.{CannotFill};
+ghost use Rattle.std.specs.Prelude.{◌≡◌, ◌⊎◌, Some, [], ◌∷◌, option_map, IfOk, OnOk, IfErr};
+
+use crate::{Decode, Decoder, Encode, Encoder};
+use asn_base::Identifier;
+use asn_fault::{DecodeError, EncodeError};
+
+/// The refusal within `FieldError` with the field's name, and by the decoder's codec. Want of memory stays as it is.
+fn within_field<D: Decoder>(decoder: &D, name: &'static str, error: DecodeError) -> DecodeError
+    ensures { (codec : Codec) × (notation_of codec ≡ D.notation) × ((error_stop result ≡ wrapped name.now codec (error_stop error))
+        ⊎ (error_stop result ≡ at_root Why.out_of_memory codec)) }
+{
+    DecodeError::field_error(decoder.allocator(), name, error, decoder.codec())
+}
+
+/// Reads the first pending slot as a field that has to be present.
+///
+/// It refuses as the type does, within `FieldError` with the field's name; want of memory stays as it is.
+pub fn read_field<T: Decode, D: Decoder>(
+    decoder: &mut D,
+    name: &'static str,
+) -> Result<T, DecodeError>
+    ensures read { IfOk result (λ x. TakesSlot D.notation T.shape_of (D.pending decoder.old)
+        (D.pending decoder.new) (Some (T.value_of x))) }
+    ensures refused { IfErr result (λ e. Refuses D.notation (WithinField name.now
+        (Stops D.notation T.shape_of (head_slot (D.pending decoder.old)))) (error_stop e)) }
+{
+    match T::decode(decoder) {
+        Ok(value) => Ok(value),
+        Err(error) => Err(within_field(decoder, name, error)),
+    }
+}
+
+/// Reads the first pending slot as a field that may be absent: nothing where it is.
+///
+/// It refuses as the type does, within `FieldError` with the field's name; want of memory stays as it is.
+pub fn read_optional_field<T: Decode, D: Decoder>(
+    decoder: &mut D,
+    name: &'static str,
+) -> Result<Option<T>, DecodeError>
+    ensures read { IfOk result (λ x. TakesSlot D.notation T.shape_of (D.pending decoder.old)
+        (D.pending decoder.new) (option_map T.value_of x)) }
+    ensures refused { IfErr result (λ e. Refuses D.notation (WithinField name.now
+        (OptionalStops D.notation T.shape_of (D.pending decoder.old))) (error_stop e)) }
+{
+    match decoder.decode_optional::<T>() {
+        Ok(value) => Ok(value),
+        Err(error) => Err(within_field(decoder, name, error)),
+    }
+}
+
+/// Writes a field that has to be present: puts its value's slot.
+pub fn write_field<T: Encode, E: Encoder>(encoder: &mut E, value: &T) -> Result<(), EncodeError>
+    ensures written { OnOk result (AddsSlot E.holds E.notation T.shape_of encoder.old encoder.new
+        (Some (T.value_of value.now))) }
+    ensures refused { IfErr result (CannotFill E.notation (Some (T.value_of value.now) ∷ [])) }
+{
+    encoder.encode_some::<T>(value, Identifier::EMPTY)
+}
+
+/// Writes a field that may be absent: puts its value's slot, or an absent one where there is no value.
+pub fn write_optional_field<T: Encode, E: Encoder>(
+    encoder: &mut E,
+    value: &Option<T>,
+) -> Result<(), EncodeError>
+    ensures written { OnOk result (AddsSlot E.holds E.notation T.shape_of encoder.old encoder.new
+        (option_map T.value_of value.now)) }
+    ensures refused { IfErr result (CannotFill E.notation (option_map T.value_of value.now ∷ [])) }
+{
+    match value {
+        Some(value) => encoder.encode_some::<T>(value, Identifier::EMPTY),
+        None => encoder.encode_none::<T>(Identifier::EMPTY),
+    }
+}

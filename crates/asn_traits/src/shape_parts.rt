@@ -1,0 +1,164 @@
+// Putting the shapes of a type's parts together, for its call `shape`.
+ghost use Rattle.asn_traits.specs.Shape.{Shape as AbstractShape, Fields as AbstractFields, Presence as AbstractPresence, Alternatives, AlternativeAdditions, closed_seq, closed_choice};
+ghost use Rattle.asn_traits.specs.ShapeView.{shape_view, field_views, alternative_views, with_last_field, with_last_alternative, presence_view};
+ghost use Rattle.std.specs.Prelude.{◌≡◌, IfOk, OnOk, map, option_map, string_bytes};
+
+use crate::{AlternativeShape, AsnType, FieldShape, PresenceShape, SeqKind, Shape};
+use asn_base::{OutOfMemory, Tag};
+use std::alloc::Global;
+
+/// The fields of a SEQUENCE, in order.
+#[derive(Drop)]
+pub struct FieldShapes {
+    alloc: Global,
+    pub items: Vec<FieldShape>,
+}
+
+impl FieldShapes {
+    /// No field.
+    pub fn new(alloc: Global) -> FieldShapes
+        ensures { field_views result.items.items ≡ AbstractFields.no_fields }
+    {
+        FieldShapes {
+            alloc,
+            items: Vec::new(alloc),
+        }
+    }
+
+    /// Puts a field of type `T` behind the others that has to be present. Its one error is want of memory.
+    pub fn required<T: AsnType>(&mut self, name: &str, tag: Tag) -> Result<(), OutOfMemory>
+        ensures { OnOk result (field_views self.new.items.items
+            ≡ with_last_field (field_views self.old.items.items) name.now tag AbstractPresence.required T.shape_of) }
+    {
+        self.push::<T>(name, tag, PresenceShape::Required)
+    }
+
+    /// Puts a field of type `T` behind the others that may be absent. Its one error is want of memory.
+    pub fn optional<T: AsnType>(&mut self, name: &str, tag: Tag) -> Result<(), OutOfMemory>
+        ensures { OnOk result (field_views self.new.items.items
+            ≡ with_last_field (field_views self.old.items.items) name.now tag AbstractPresence.optional T.shape_of) }
+    {
+        self.push::<T>(name, tag, PresenceShape::Optional)
+    }
+
+    fn push<T: AsnType>(
+        &mut self,
+        name: &str,
+        tag: Tag,
+        presence: PresenceShape,
+    ) -> Result<(), OutOfMemory>
+        ensures { OnOk result (field_views self.new.items.items
+            ≡ with_last_field (field_views self.old.items.items) name.now tag (presence_view presence) T.shape_of) }
+    {
+        let name = String::from_str(self.alloc, name)?;
+        let shape = T::shape(self.alloc)?;
+        self.items.push(FieldShape {
+            name,
+            tag,
+            presence,
+            shape,
+        })?;
+        Ok(())
+    }
+
+    /// The SEQUENCE of these fields, without an extension marker.
+    pub fn sequence(self) -> Shape
+        ensures { shape_view result ≡ closed_seq (field_views self.items.items) }
+    {
+        let FieldShapes { alloc: _, items } = self;
+        Shape::Seq {
+            kind: SeqKind::Sequence,
+            fields: items,
+            added: None,
+        }
+    }
+}
+
+/// The alternatives of a CHOICE, in order.
+#[derive(Drop)]
+pub struct AlternativeShapes {
+    alloc: Global,
+    pub items: Vec<AlternativeShape>,
+}
+
+impl AlternativeShapes {
+    /// No alternative.
+    pub fn new(alloc: Global) -> AlternativeShapes
+        ensures { alternative_views result.items.items ≡ Alternatives.no_alternatives }
+    {
+        AlternativeShapes {
+            alloc,
+            items: Vec::new(alloc),
+        }
+    }
+
+    /// Puts an alternative of type `T` behind the others. Its one error is want of memory.
+    pub fn alternative<T: AsnType>(&mut self, identifier: &str, tag: Tag) -> Result<(), OutOfMemory>
+        ensures { OnOk result (alternative_views self.new.items.items
+            ≡ with_last_alternative (alternative_views self.old.items.items) identifier.now tag T.shape_of) }
+    {
+        let identifier = String::from_str(self.alloc, identifier)?;
+        let shape = T::shape(self.alloc)?;
+        self.items.push(AlternativeShape {
+            identifier,
+            tag,
+            shape,
+        })?;
+        Ok(())
+    }
+
+    /// The CHOICE of these alternatives, without an extension marker.
+    pub fn choice(self) -> Shape
+        ensures { shape_view result ≡ closed_choice (alternative_views self.items.items) }
+    {
+        let AlternativeShapes { alloc: _, items } = self;
+        Shape::Choice {
+            alternatives: items,
+            added: None,
+        }
+    }
+
+    /// The CHOICE of these alternatives, with `added` after the extension marker.
+    pub fn extensible_choice(self, added: AlternativeShapes) -> Shape
+        ensures { shape_view result ≡ AbstractShape.choice (alternative_views self.items.items)
+            (AlternativeAdditions.extended_alternatives (alternative_views added.items.items)) }
+    {
+        let AlternativeShapes { alloc: _, items } = self;
+        let AlternativeShapes {
+            alloc: _,
+            items: added,
+        } = added;
+        Shape::Choice {
+            alternatives: items,
+            added: Some(added),
+        }
+    }
+}
+
+/// The ENUMERATED type of these items, and of `added` after the extension marker, if there is one. Its one error is want of memory.
+pub fn enumerated_shape(
+    alloc: Global,
+    items: &[&'static str],
+    added: Option<&'static [&'static str]>,
+) -> Result<Shape, OutOfMemory>
+    ensures { IfOk result (λ s. shape_view s ≡ AbstractShape.enum (map (λ i. i.now) items.now)
+        (option_map (λ t. map (λ i. i.now) t.now) added.entry)) }
+{
+    let items = texts(alloc, items)?;
+    let added = match added {
+        Some(added) => Some(texts(alloc, added)?),
+        None => None,
+    };
+    Ok(Shape::Enum { items, added })
+}
+
+/// A copy of each text, in order. Its one error is want of memory.
+fn texts(alloc: Global, items: &[&'static str]) -> Result<Vec<String>, OutOfMemory>
+    ensures { IfOk result (λ v. map string_bytes v.items ≡ map (λ s. s.now) items.now) }
+{
+    let mut copies = Vec::new(alloc);
+    for item in items {
+        copies.push(String::from_str(alloc, item)?)?;
+    }
+    Ok(copies)
+}

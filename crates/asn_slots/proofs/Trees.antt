@@ -1,5 +1,5 @@
 -- Slots and frames by their trees.
-use Rattle.std.proofs.Common.{◌≡◌, refl, ap, sym, ◌∙◌, List, [], ◌∷◌, map, Option, Some, None}
+use Rattle.std.proofs.Common.{◌≡◌, refl, ap, sym, ◌∙◌, List, [], ◌∷◌, map, Option, Some, None, ◌⊎◌, inl, inr}
 use Rattle.std.proofs.lemmas.List.{map_push}
 use Rattle.std.specs.Prelude.{option_map}
 use Rattle.asn_slots.specs.Frames.{join, close, Closes}
@@ -83,3 +83,11 @@ present-trees f (Some x ∷ slots) = ap (λ r. f x ∷ r) (present-trees f slots
 -- The values that are present have the same trees.
 pub present_same : {A V T : Type 0} (written : A → T) (kept : V → T) (f : List (Option A)) (slots : List (Option V)) → trees_of written f ≡ trees_of kept slots → map written (present_of f) ≡ map kept (present_of slots)
 present_same written kept f slots h = sym (present-trees written f) ∙ ap present_of h ∙ present-trees kept slots
+
+no_value : {A : Type 0} (v : A) → Some v ≡ None → ⊥
+no_value v e = cc e
+
+-- Where a value is held at the root, no reason stands that none is there.
+pub value_kept : {A P Q : Type 0} (holds : Frames A → Type 0) (v : A) → holds ((Some v ∷ []) ∷ []) → P ⊎ (Q × ((f : List (Option A)) → holds (f ∷ []) → last_present f ≡ None)) → P
+value_kept holds v held (inl p) = p
+value_kept holds v held (inr none) = absurd (no_value v (none.1 (Some v ∷ []) held))

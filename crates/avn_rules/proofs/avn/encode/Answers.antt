@@ -1,8 +1,12 @@
-use Rattle.std.proofs.Common.{[], ◌∷◌}
-use Rattle.std.proofs.lemmas.Result.{err_from_is_err_and}
+use Rattle.std.proofs.Common.{◌≡◌, Some, [], ◌∷◌, sym, string_bytes}
+use Rattle.std.proofs.lemmas.Result.{err_from_is_err_and, IfOk-weaker, IfErr-weaker}
+use Rattle.asn_slots.proofs.Trees.{value_kept}
+use Rattle.asn_traits.specs.Canonical.{canonical_text}
+use Rattle.asn_traits.specs.Notation.{Notation}
+use Rattle.asn_traits.specs.Writing.{CannotWrite}
 use Rattle.asn_traits.proofs.Whole.{write_complete}
+use Rattle.avn_rules.specs.Holding.{Holds}
 use Rattle.avn_rules.proofs.ReadBack.{read_back}
-use Rattle.avn_rules.proofs.Roots.{root_text, root_memory, memory_refused}
 use Rattle.avn_rules.proofs.avn.encode.Goals as goal
 
 pub returns-in_err-encode-clause-complete : goal.returns-in_err-encode-clause-complete
@@ -13,20 +17,18 @@ returns-in_err-encode-clause-complete g c =
 pub returns-clause-text : goal.returns-clause-text
 returns-clause-text g c =
     let held = c.in_ok-encode.ensures.written.added ([] ∷ []) c.new-encoder.ensures in
-    root_text c.encode.new.encoder (g.T.AsnType.value_of c.args.value.now) c.to_string.result held c.to_string.ensures.text
+    let v = g.T.AsnType.value_of c.args.value.now in
+    IfOk-weaker c.to_string.result _ _ (λ s text. let same : Some (canonical_text Notation.avn v) ≡ Some (string_bytes s) = text (Some v ∷ []) held in sym (cc same)) c.to_string.ensures.text
 
 pub returns-clause-reads_back : goal.returns-clause-reads_back
-returns-clause-reads_back g c =
-    let held = c.in_ok-encode.ensures.written.added ([] ∷ []) c.new-encoder.ensures in
-    let text = root_text c.encode.new.encoder (g.T.AsnType.value_of c.args.value.now) c.to_string.result held c.to_string.ensures.text in
-    read_back g.T.AsnType.shape_of _ c.to_string.result g.met.T.AsnType.readable c.in_ok-encode.ensures.written.fit text
+returns-clause-reads_back g c = read_back g.T.AsnType.shape_of _ c.to_string.result g.met.T.AsnType.readable c.in_ok-encode.ensures.written.fit (returns-clause-text g c)
 
 pub returns-clause-refused : goal.returns-clause-refused
 returns-clause-refused g c =
     let held = c.in_ok-encode.ensures.written.added ([] ∷ []) c.new-encoder.ensures in
-    memory_refused _ c.to_string.result (root_memory c.encode.new.encoder (g.T.AsnType.value_of c.args.value.now) c.to_string.result held c.to_string.ensures.refused)
+    IfErr-weaker c.to_string.result _ _ (λ e why. CannotWrite.no_memory (value_kept (Holds c.encode.new.encoder) _ held why)) c.to_string.ensures.refused
 
 pub returns-clause-complete : goal.returns-clause-complete
 returns-clause-complete g c =
     let held = c.in_ok-encode.ensures.written.added ([] ∷ []) c.new-encoder.ensures in
-    λ w. root_memory c.encode.new.encoder (g.T.AsnType.value_of c.args.value.now) c.to_string.result held c.to_string.ensures.refused
+    λ w. IfErr-weaker c.to_string.result _ _ (λ e why. value_kept (Holds c.encode.new.encoder) _ held why) c.to_string.ensures.refused

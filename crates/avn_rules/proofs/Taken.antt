@@ -9,14 +9,15 @@ use Rattle.avn_value.specs.View.{tree_of as avn_tree_of, list_trees, fields_tree
 use Rattle.avn_value.specs.declared.value.AvnValue.{AvnValue}
 use Rattle.asn_slots.proofs.Lasts.{or_some-assoc, or_some-none}
 use Rattle.asn_slots.proofs.Names.{same_bytes, other_bytes, other_parts, distinct_parts}
+use Rattle.asn_slots.specs.Trees.{trees_of}
 use Rattle.asn_traits.specs.Notation.{Notation}
 use Rattle.asn_traits.specs.Opening.{AllBelow}
 use Rattle.asn_traits.specs.Shape.{are_distinct, is_item, place_named}
 use Rattle.asn_traits.specs.Tree.{Tree, Slot, as_list, as_members, as_choice, slot_nodes, nodes, trees_nodes, fields_nodes, tree_slots, field_slot, or_else}
-use Rattle.avn_rules.specs.Pending.{tree_of, slot_of}
+use Rattle.avn_rules.specs.Pending.{tree_of}
 
 -- The elements are present slots.
-pub present_slots : (vs : List AvnValue) → map slot_of (map Some vs) ≡ tree_slots (list_trees vs)
+pub present_slots : (vs : List AvnValue) → trees_of tree_of (map Some vs) ≡ tree_slots (list_trees vs)
 present_slots [] = refl
 present_slots (v ∷ vs) = ap (λ l. Some (tree_of v) ∷ l) (present_slots vs)
 
@@ -87,7 +88,7 @@ over fs (n ∷ ns) [] = []
 over fs (n ∷ ns) (s ∷ ss) = or_else (field_slot fs n) s ∷ over fs ns ss
 
 -- At first no slot is there.
-pub over-absent : (fs : AvnFields) (names : List (List ℕ)) → over fs names (map slot_of (replicate (length names) None)) ≡ map (field_slot fs) names
+pub over-absent : (fs : AvnFields) (names : List (List ℕ)) → over fs names (trees_of tree_of (replicate (length names) None)) ≡ map (field_slot fs) names
 over-absent fs [] = refl
 over-absent fs (n ∷ ns) = ap (λ l. or_else (field_slot fs n) None ∷ l) (over-absent fs ns) ∙ ap (λ s. s ∷ map (field_slot fs) ns) (or_some-none (field_slot fs n))
 
@@ -125,20 +126,20 @@ abbrev Entry : Type 0
 Entry = String Global × Option AvnValue
 
 abbrev Put : List ℕ → AvnValue → AvnFields → List (List ℕ) → List (Option AvnValue) → ℕ → Type 0
-Put m v fs names ss k = over (field m (avn_tree_of v) fs) names (map slot_of ss) ≡ over fs names (map slot_of (slice_set ss k (Some v)))
+Put m v fs names ss k = over (field m (avn_tree_of v) fs) names (trees_of tree_of ss) ≡ over fs names (trees_of tree_of (slice_set ss k (Some v)))
 
 put_here : (m : List ℕ) (v : AvnValue) (fs : AvnFields) (n : List ℕ) (ns : List (List ℕ)) (s : Option AvnValue) (ss : List (Option AvnValue)) (k : ℕ) (b : Bool) → bytes_eq m n ≡ b → are_distinct (n ∷ ns) ≡ true
     → ((j : ℕ) → are_distinct ns ≡ true → Some j ≡ place_named bytes_eq ns m → Put m v fs ns ss j) → (o : Option ℕ) → o ≡ place_named bytes_eq ns m → Some k ≡ (if b then Some 0 else option_map suc o) → Put m v fs (n ∷ ns) (s ∷ ss) k
 put_here m v fs n ns s ss k true h d later o p e =
     let x : ◌≡◌ {A = Option ℕ} (Some k) (Some 0) = e in
     let zeroth : k ≡ 0 = cc x in
-    over-first m n (avn_tree_of v) fs ns (slot_of s) (map slot_of ss) h (distinct_parts (is_item ns n) (are_distinct ns) d).0 ∙ ap (λ j. over fs (n ∷ ns) (map slot_of (slice_set (s ∷ ss) j (Some v)))) (sym zeroth)
+    over-first m n (avn_tree_of v) fs ns (option_map tree_of s) (trees_of tree_of ss) h (distinct_parts (is_item ns n) (are_distinct ns) d).0 ∙ ap (λ j. over fs (n ∷ ns) (trees_of tree_of (slice_set (s ∷ ss) j (Some v)))) (sym zeroth)
 put_here m v fs n ns s ss k false h d later None p e = let x : ◌≡◌ {A = Option ℕ} (Some k) None = e in cc x
 put_here m v fs n ns s ss k false h d later (Some j) p e =
     let x : ◌≡◌ {A = Option ℕ} (Some k) (Some (suc j)) = e in
     let next : k ≡ suc j = cc x in
-    over-later m n (avn_tree_of v) fs ns (slot_of s) (map slot_of ss) (map slot_of (slice_set ss j (Some v))) h (later j (distinct_parts (is_item ns n) (are_distinct ns) d).1 p)
-    ∙ ap (λ i. over fs (n ∷ ns) (map slot_of (slice_set (s ∷ ss) i (Some v)))) (sym next)
+    over-later m n (avn_tree_of v) fs ns (option_map tree_of s) (trees_of tree_of ss) (trees_of tree_of (slice_set ss j (Some v))) h (later j (distinct_parts (is_item ns n) (are_distinct ns) d).1 p)
+    ∙ ap (λ i. over fs (n ∷ ns) (trees_of tree_of (slice_set (s ∷ ss) i (Some v)))) (sym next)
 
 -- A field that is put at the place of its name counts as those before it.
 put_at : (m : List ℕ) (v : AvnValue) (fs : AvnFields) (names : List (List ℕ)) (ss : List (Option AvnValue)) (k : ℕ) → are_distinct names ≡ true → Some k ≡ place_named bytes_eq names m → Put m v fs names ss k
@@ -159,15 +160,15 @@ not_placed (n ∷ ns) m e = elim (bytes_eq m n) as (λ b. None ≡ (if b then So
 
 -- An entry whose value is put at the place of its name.
 pub entry_put : (m : String Global) (v : AvnValue) (rest : List Entry) (names : List (List ℕ)) (ss : List (Option AvnValue)) (k : ℕ) → are_distinct names ≡ true → Some k ≡ place_named bytes_eq names (string_bytes m)
-    → over (fields_trees rest) names (map slot_of (slice_set ss k (Some v))) ≡ over (fields_trees ((m, Some v) ∷ rest)) names (map slot_of ss)
+    → over (fields_trees rest) names (trees_of tree_of (slice_set ss k (Some v))) ≡ over (fields_trees ((m, Some v) ∷ rest)) names (trees_of tree_of ss)
 entry_put m v rest names ss k d e = sym (put_at (string_bytes m) v (fields_trees rest) names ss k d e)
 
 -- An entry of another name.
 pub entry_passed : (m : String Global) (v : AvnValue) (rest : List Entry) (names : List (List ℕ)) (ss : List (Option AvnValue)) → None ≡ place_named bytes_eq names (string_bytes m)
-    → over (fields_trees rest) names (map slot_of ss) ≡ over (fields_trees ((m, Some v) ∷ rest)) names (map slot_of ss)
-entry_passed m v rest names ss e = sym (over-other (string_bytes m) (avn_tree_of v) (fields_trees rest) names (map slot_of ss) (not_placed names (string_bytes m) e))
+    → over (fields_trees rest) names (trees_of tree_of ss) ≡ over (fields_trees ((m, Some v) ∷ rest)) names (trees_of tree_of ss)
+entry_passed m v rest names ss e = sym (over-other (string_bytes m) (avn_tree_of v) (fields_trees rest) names (trees_of tree_of ss) (not_placed names (string_bytes m) e))
 
 -- Once every entry is taken the slots are those of all fields.
-pub all_taken : (rest : List Entry) (names : List (List ℕ)) (ss : List (Option AvnValue)) (all : List Slot) → rest ≡ [] → length ss ≡ length names → over (fields_trees rest) names (map slot_of ss) ≡ all → map slot_of ss ≡ all
+pub all_taken : (rest : List Entry) (names : List (List ℕ)) (ss : List (Option AvnValue)) (all : List Slot) → rest ≡ [] → length ss ≡ length names → over (fields_trees rest) names (trees_of tree_of ss) ≡ all → trees_of tree_of ss ≡ all
 all_taken rest names ss all e long h =
-    sym (over-none names (map slot_of ss) (length-map ss slot_of ∙ long)) ∙ ap (λ es. over (fields_trees es) names (map slot_of ss)) (sym e) ∙ h
+    sym (over-none names (trees_of tree_of ss) (length-map ss (option_map tree_of) ∙ long)) ∙ ap (λ es. over (fields_trees es) names (trees_of tree_of ss)) (sym e) ∙ h

@@ -1,7 +1,8 @@
 -- What the decoder has still to read.
-use Rattle.std.specs.Prelude.{List, map, Option, option_map}
+use Rattle.std.specs.Prelude.{List}
 use Rattle.avn_value.specs.View.{tree_of as avn_tree_of}
 use Rattle.avn_value.specs.declared.value.AvnValue.{AvnValue}
+use Rattle.asn_slots.specs.Trees.{trees_of}
 use Rattle.asn_traits.specs.Tree.{Tree, Slot}
 use Rattle.avn_rules.specs.declared.avn.de.Decoder.{Decoder}
 
@@ -9,10 +10,6 @@ use Rattle.avn_rules.specs.declared.avn.de.Decoder.{Decoder}
 abbrev pub tree_of : AvnValue → Tree
 tree_of v = Tree.avn (avn_tree_of v)
 
--- The slot of an AVN value that may be absent.
-abbrev pub slot_of : Option AvnValue → Slot
-slot_of o = option_map tree_of o
-
 -- The slots that are still to be read.
 abbrev pub pending_of : Decoder → List Slot
-pending_of d = map slot_of d.pending
+pending_of d = trees_of tree_of d.pending

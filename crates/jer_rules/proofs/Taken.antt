@@ -11,6 +11,7 @@ use Rattle.serde_json.specs.Data.{Data, Items, Members}
 use Rattle.serde_json.specs.View.{view, items_view, members_view}
 use Rattle.serde_json.specs.declared.value.Value.{Value}
 use Rattle.asn_slots.proofs.Names.{other_bytes, other_parts, distinct_parts}
+use Rattle.asn_slots.specs.Trees.{trees_of}
 use Rattle.asn_traits.specs.Opening.{AllBelow}
 use Rattle.asn_traits.specs.Tables.{names_of}
 use Rattle.asn_traits.specs.declared.types.Field.{Field}
@@ -18,10 +19,10 @@ use Rattle.asn_traits.specs.Shape.{is_item, are_distinct}
 use Rattle.asn_traits.specs.Tree.{Tree, Slot, slot_nodes, data_nodes, items_nodes, members_nodes, item_slots, member_slot}
 use Rattle.serde_json.specs.Find.{get_member}
 use Rattle.serde_json.specs.Data.{put}
-use Rattle.jer_rules.specs.Pending.{tree_of, slot_of}
+use Rattle.jer_rules.specs.Pending.{tree_of}
 
 -- The elements are present slots.
-pub present_slots : (vs : List Value) → map slot_of (map Some vs) ≡ item_slots (items_view vs)
+pub present_slots : (vs : List Value) → trees_of tree_of (map Some vs) ≡ item_slots (items_view vs)
 present_slots [] = refl
 present_slots (v ∷ vs) = ap (λ l. Some (tree_of v) ∷ l) (present_slots vs)
 
@@ -34,13 +35,13 @@ pub items_below : (ds : Items) (n : ℕ) → items_nodes ds < n → AllBelow n (
 items_below Items.no_items n h = tt
 items_below (Items.item d ds) n h = (omega (arith, h), items_below ds n (omega (arith, h)))
 
-slot_of-view : (o : Option Value) → slot_of o ≡ option_map Tree.json (option_map view o)
-slot_of-view None = refl
-slot_of-view (Some v) = refl
+slot-view : (o : Option Value) → option_map tree_of o ≡ option_map Tree.json (option_map view o)
+slot-view None = refl
+slot-view (Some v) = refl
 
 -- The slot of a name is what a look-up finds.
-pub slot_of-get : (m : BTreeMap (String Global) Value) (name : List ℕ) → slot_of (get_by_text m name) ≡ member_slot (members_view m.entries) name
-slot_of-get m name = slot_of-view (get_by_text m name) ∙ ap (option_map Tree.json) (view-lookup name m.entries)
+pub slot-get : (m : BTreeMap (String Global) Value) (name : List ℕ) → option_map tree_of (get_by_text m name) ≡ member_slot (members_view m.entries) name
+slot-get m name = slot-view (get_by_text m name) ∙ ap (option_map Tree.json) (view-lookup name m.entries)
 
 abbrev Entries : Type 0
 Entries = BTreeMap (String Global) Value
@@ -59,10 +60,10 @@ pub put_none : (all : Entries) (before : List Slot) → Put [] all all before be
 put_none all before = record { slots = refl; others = λ name h. refl }
 
 pub put_more : (name : List ℕ) (names : List (List ℕ)) (all old new : Entries) (before mid after : List Slot) → is_item names name ≡ false → Put names all old before mid
-    → UpdatesBy string_cmp (λ k. slice_cmp nat_cmp name (string_bytes k)) old new None → after ≡ slot_of (get_by_text old name) ∷ mid
+    → UpdatesBy string_cmp (λ k. slice_cmp nat_cmp name (string_bytes k)) old new None → after ≡ option_map tree_of (get_by_text old name) ∷ mid
     → Put (name ∷ names) all new before after
 put_more name names all old new before mid after apart p removed put = record {
-  slots = put ∙ ap (λ s. s ∷ mid) (ap slot_of (p.others name apart) ∙ slot_of-get all name) ∙ ap (λ l. member_slot (members_view all.entries) name ∷ l) p.slots;
+  slots = put ∙ ap (λ s. s ∷ mid) (ap (option_map tree_of) (p.others name apart) ∙ slot-get all name) ∙ ap (λ l. member_slot (members_view all.entries) name ∷ l) p.slots;
   others = λ other h.
       let differ = other_parts (bytes_eq other name) (is_item names other) h in
       btree_map_updates_text name old new None removed other

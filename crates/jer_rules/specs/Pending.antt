@@ -1,7 +1,8 @@
 -- What the decoder has still to read.
-use Rattle.std.specs.Prelude.{List, map, Option, option_map}
+use Rattle.std.specs.Prelude.{List}
 use Rattle.serde_json.specs.View.{view}
 use Rattle.serde_json.specs.declared.value.Value.{Value}
+use Rattle.asn_slots.specs.Trees.{trees_of}
 use Rattle.asn_traits.specs.Tree.{Tree, Slot}
 use Rattle.jer_rules.specs.declared.jer.de.Decoder.{Decoder}
 
@@ -9,10 +10,6 @@ use Rattle.jer_rules.specs.declared.jer.de.Decoder.{Decoder}
 abbrev pub tree_of : Value → Tree
 tree_of v = Tree.json (view v)
 
--- The slot of a JSON value that may be absent.
-abbrev pub slot_of : Option Value → Slot
-slot_of o = option_map tree_of o
-
 -- The slots that are still to be read.
 abbrev pub pending_of : Decoder → List Slot
-pending_of d = map slot_of d.pending
+pending_of d = trees_of tree_of d.pending

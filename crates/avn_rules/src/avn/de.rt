@@ -7,7 +7,7 @@ ghost use Rattle.asn_traits.specs.Shape.{Shape};
 ghost use Rattle.asn_traits.specs.Stops.{Stops};
 ghost use Rattle.asn_traits.specs.Tree.{Tree, head_slot};
 ghost use Rattle.avn_grammar.specs.Tree.{Tree as AvnTree};
-ghost use Rattle.std.specs.Prelude.{◌≡◌, ◌∷◌, [], Some, IfOk, IfErr, MatchResult};
+ghost use Rattle.std.specs.Prelude.{◌≡◌, ◌∷◌, [], Some, IfOk, IfErr, MatchResult, option_map};
 
 use super::faults::{end_of_input, mismatch, no_item, no_number, no_utf8};
 use super::numbers::{Whole, greatest_magnitude, whole_number};
@@ -30,7 +30,7 @@ pub struct Decoder {
 }
 
 impl Decoder {
-    ghost use Rattle.avn_rules.specs.Pending.{tree_of, slot_of, pending_of};
+    ghost use Rattle.avn_rules.specs.Pending.{tree_of, pending_of};
     ghost use Rattle.avn_rules.specs.Text.{IsAvn, NoTree};
 
     /// A reader of a text.
@@ -71,7 +71,7 @@ impl Decoder {
 
     // Puts a slot before the pending ones.
     fn put(&mut self, slot: Option<AvnValue>) -> Result<(), DecodeError>
-        ensures { MatchResult result (λ _. pending_of self.new ≡ slot_of slot ∷ pending_of self.old) (λ e. error_stop e ≡ at_root Why.out_of_memory Avn) }
+        ensures { MatchResult result (λ _. pending_of self.new ≡ option_map tree_of slot ∷ pending_of self.old) (λ e. error_stop e ≡ at_root Why.out_of_memory Avn) }
     {
         match self.pending.put(slot) {
             Ok(()) => Ok(()),

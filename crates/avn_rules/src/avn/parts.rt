@@ -1,4 +1,5 @@
 // The parts of an AVN value, taken out of it.
+ghost use Rattle.asn_slots.specs.Trees.{trees_of};
 ghost use Rattle.asn_traits.specs.Leaf.{Blame, as_boolean, as_null, as_number, as_text, as_item};
 ghost use Rattle.asn_traits.specs.Notation.{Notation};
 ghost use Rattle.asn_traits.specs.Shape.{are_distinct, place_named};
@@ -6,7 +7,7 @@ ghost use Rattle.asn_traits.specs.Tables.{names_of};
 ghost use Rattle.asn_traits.specs.Tree.{as_list, as_members, as_choice, tree_slots, field_slot, same_identifier};
 ghost use Rattle.asn_traits.specs.Value.{Value};
 ghost use Rattle.avn_grammar.specs.Tree.{integer, enumerated};
-ghost use Rattle.avn_rules.specs.Pending.{tree_of, slot_of};
+ghost use Rattle.avn_rules.specs.Pending.{tree_of};
 ghost use Rattle.avn_rules.specs.Strings.{TextOf};
 ghost use Rattle.avn_value.specs.View.{tree_of as avn_tree_of, list_trees, fields_trees};
 ghost use Rattle.std.specs.Str.{bytes_eq};
@@ -133,7 +134,7 @@ pub fn slots_of(
     fields: &[Field],
 ) -> Result<Vec<Option<AvnValue>>, OutOfMemory>
     requires { are_distinct (names_of fields.now) ≡ true }
-    ensures { IfOk result (λ slots. map slot_of slots.items ≡ map (field_slot (fields_trees entries.items)) (names_of fields.now)) }
+    ensures { IfOk result (λ slots. trees_of tree_of slots.items ≡ map (field_slot (fields_trees entries.items)) (names_of fields.now)) }
 {
     let mut slots = absent_slots(alloc, fields.len())?;
     for (name, entry) in entries {

@@ -7,7 +7,7 @@ ghost use Rattle.asn_traits.specs.Shape.{Shape};
 ghost use Rattle.asn_traits.specs.Stops.{Stops};
 ghost use Rattle.asn_traits.specs.Tree.{Tree, head_slot};
 ghost use Rattle.serde_json.specs.Data.{Data};
-ghost use Rattle.std.specs.Prelude.{◌≡◌, ◌∷◌, [], Some, IfOk, IfErr, MatchResult};
+ghost use Rattle.std.specs.Prelude.{◌≡◌, ◌∷◌, [], Some, IfOk, IfErr, MatchResult, option_map};
 
 use super::faults::{end_of_input, mismatch, no_item, no_json, no_object};
 use super::floats::holds_float;
@@ -27,7 +27,7 @@ pub struct Decoder {
 }
 
 impl Decoder {
-    ghost use Rattle.jer_rules.specs.Pending.{tree_of, slot_of, pending_of};
+    ghost use Rattle.jer_rules.specs.Pending.{tree_of, pending_of};
     ghost use Rattle.jer_rules.specs.Text.{IsJer, NoTree};
 
     /// A reader of a text.
@@ -83,7 +83,7 @@ impl Decoder {
 
     // Puts a slot before the pending ones.
     fn put(&mut self, slot: Option<Value>) -> Result<(), DecodeError>
-        ensures { MatchResult result (λ _. pending_of self.new ≡ slot_of slot ∷ pending_of self.old)
+        ensures { MatchResult result (λ _. pending_of self.new ≡ option_map tree_of slot ∷ pending_of self.old)
             (λ e. error_stop e ≡ at_root Why.out_of_memory Jer) }
     {
         match self.pending.put(slot) {

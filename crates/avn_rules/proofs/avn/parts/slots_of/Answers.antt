@@ -1,8 +1,9 @@
-use Rattle.std.proofs.Common.{◌≡◌, ◌∷◌, ap, ◌∙◌, sym, length, map, arith, Some, None, replicate}
+use Rattle.std.proofs.Common.{◌≡◌, ◌∷◌, ap, ◌∙◌, sym, length, arith, Some, None, replicate}
 use Rattle.std.proofs.lemmas.List.{length-map, length-replicate, length-set, nil_from_length}
+use Rattle.asn_slots.specs.Trees.{trees_of}
 use Rattle.asn_traits.specs.Tables.{names_of}
 use Rattle.avn_value.specs.View.{fields_trees}
-use Rattle.avn_rules.specs.Pending.{slot_of}
+use Rattle.avn_rules.specs.Pending.{tree_of}
 use Rattle.avn_rules.proofs.Taken.{over, entry_put, entry_passed, all_taken, over-absent}
 use Rattle.avn_rules.proofs.avn.parts.slots_of.Goals as goal
 
@@ -13,8 +14,8 @@ loop-name-init c =
     let absent : ss ≡ replicate (length names) None = c.in_ok-slots.ensures ∙ ap (λ k. replicate k None) (sym (length-map c.args.fields.now (λ f. f.name.now))) in
     record {
       taken =
-          ap (λ es. over (fields_trees es) names (map slot_of ss)) c.into_iter-name-iterator.ensures.into_iter_gives.0
-          ∙ ap (λ l. over (fields_trees c.args.entries.items) names (map slot_of l)) absent
+          ap (λ es. over (fields_trees es) names (trees_of tree_of ss)) c.into_iter-name-iterator.ensures.into_iter_gives.0
+          ∙ ap (λ l. over (fields_trees c.args.entries.items) names (trees_of tree_of l)) absent
           ∙ over-absent (fields_trees c.args.entries.items) names;
       each = ap length absent ∙ length-replicate (length names) None;
     }
@@ -34,7 +35,7 @@ loop-name-preserved-in_default-place_of_field c =
     record {
       taken =
           entry_passed c.in-Some.name c.in-Some-entry.value rest names ss (rw c.as_str.ensures.value at c.in_default-place_of_field.ensures.is)
-          ∙ ap (λ es. over (fields_trees es) names (map slot_of ss)) (sym first)
+          ∙ ap (λ es. over (fields_trees es) names (trees_of tree_of ss)) (sym first)
           ∙ c.loop-name.invariant.taken;
       each = c.loop-name.invariant.each;
     }
@@ -48,7 +49,7 @@ loop-name-preserved c =
     record {
       taken =
           entry_put c.in-Some.name c.in-Some-entry.value rest names ss c.in-Some-place_of_field.place c.requires (rw c.as_str.ensures.value at c.in-Some-place_of_field.ensures.is)
-          ∙ ap (λ es. over (fields_trees es) names (map slot_of ss)) (sym first)
+          ∙ ap (λ es. over (fields_trees es) names (trees_of tree_of ss)) (sym first)
           ∙ c.loop-name.invariant.taken;
       each = length-set ss c.in-Some-place_of_field.place (Some c.in-Some-entry.value) ∙ c.loop-name.invariant.each;
     }

@@ -1,14 +1,19 @@
 #!/usr/bin/env python3
-"""Runs the program beside a peer on large inputs, and prints seconds, peak memory and the ratio of both.
+"""Runs the program, and the reader and the printer of AVN, beside peers on large inputs.
 
 usage: bench/run.py [-n RUNS] [-k PART]
 
-Each input is run RUNS times (3 unless given) by either program in turn, and the least time counts. Seconds are
-processor seconds, user and system. The peers are Python's json module, and serde_json of Rust as built by
-bench/native/build.sh (Debian's librust-serde-json-dev). Both outputs have to be equal.
+Each input whose name has PART in it is run RUNS times (3 unless given) by either program in turn, and the least time
+counts. Times are processor times. Both outputs have to be equal. A speed is the peer's time by ours, so that more than
+1 is faster than the peer. bench/native/build.sh builds the peers in Rust (Debian's librust-serde-json-dev).
+
+The first table is of the program, beside Python's json module or Rust's serde_json: seconds, user and system, and peak
+memory. The second is of avn_bench beside a plain reader and printer of AVN: MB/s of text read and of text printed,
+each the best of ten turns in a process, and how many times as long twice the input takes.
 """
 import hashlib
 import os
+import re
 import subprocess
 import sys
 
@@ -20,6 +25,10 @@ PYTHON = (
     "sys.stdout.write(json.dumps(json.loads(text),separators=(',',':'),ensure_ascii=False)+'\\n')\n"
 )
 NATIVE = [os.path.join(OUT, "native_peer")]
+PROGRAM = [os.path.join(TOP, "asn_convert")]
+AVN_PEER = os.path.join(OUT, "avn_peer")
+AVN_CRATE = os.path.join(TOP, "crates", "avn_bench")
+AVN_BENCH = os.path.join(AVN_CRATE, "out", "avn_bench")
 INPUTS = {
     "blanks and one number, 16 MB": (
         lambda: b"jer jer u64\n" + b" " * 16_777_000 + b"18446744073709551615",
@@ -37,6 +46,18 @@ INPUTS = {
         lambda: b'jer jer Utf8String\n"' + "größe 漢字 ".encode() * 625_000 + b'"',
         NATIVE,
     ),
+}
+
+MILLION = 1_000_000
+QUOTED = 'The quick brown fox says ""hello"".\n'
+AVN_INPUTS = {
+    "integers without commas": lambda size: "{" + " ".join(str(i) for i in range(MILLION * size)) + "}",
+    "integers with commas": lambda size: "{" + ", ".join(str(i) for i in range(MILLION * size)) + "}",
+    "choices": lambda size: "{" + ", ".join(f"item : {i}" for i in range(MILLION * size)) + "}",
+    "one string, 10 MB": lambda size: '"' + QUOTED * (10 * MILLION // len(QUOTED) * size) + '"',
+    "wide braces": lambda size: "{" + ", ".join(["{}"] * MILLION * size) + "}",
+    "braces 60 deep": lambda size: "{" + ", ".join(["{" * 60 + "}" * 60] * (MILLION // 60 * size)) + "}",
+    "octets, 10 MB": lambda size: "'" + "00FF5A17" * (10 * MILLION // 4 * size) + "'H",
 }
 
 
@@ -69,6 +90,49 @@ def measure(command, path):
     return seconds, usage.ru_maxrss / 1024, os.waitstatus_to_exitcode(status), digest.hexdigest()
 
 
+def compare_program(name, make, peer, runs):
+    """Prints the row of one input of the program."""
+    path = os.path.join(OUT, "input")
+    size = write_input(make, path)
+    pairs = [(measure(PROGRAM, path), measure(peer, path)) for _ in range(runs)]
+    ours, theirs = (min(run[side] for run in pairs) for side in (0, 1))
+    if ours[2:] != theirs[2:]:
+        sys.exit(f"{name}: the outputs differ")
+    print(
+        f"{name:32} {size:5.1f} {ours[0]:7.3f} {theirs[0]:7.3f} {theirs[0] / ours[0]:6.2f}"
+        f" {ours[1]:8.1f} {theirs[1]:8.1f}  {os.path.basename(peer[0])}",
+        flush=True,
+    )
+
+
+def turns(program, path):
+    """What one run says of its input, and its nanoseconds to read and to print."""
+    with open(path, "rb") as file:
+        run = subprocess.run([program], stdin=file, capture_output=True, text=True, check=True)
+    return run.stdout, [int(number) for number in re.findall(r"(\d+) ns", run.stderr)]
+
+
+def best_turns(name, size, runs):
+    """The bytes read and printed at this size, and the least nanoseconds to read and to print, ours and the peer's."""
+    path = os.path.join(OUT, "input")
+    write_input(lambda: AVN_INPUTS[name](size).encode(), path)
+    pairs = [(turns(AVN_BENCH, path), turns(AVN_PEER, path)) for _ in range(runs)]
+    if len({said for pair in pairs for said, _ in pair}) > 1:
+        sys.exit(f"{name}: the outputs differ")
+    amounts = [int(number) for number in re.findall(r"(\d+) bytes", pairs[0][0][0])]
+    return amounts, *([min(step) for step in zip(*(pair[side][1] for pair in pairs))] for side in (0, 1))
+
+
+def compare_avn(name, runs):
+    """Prints the row of one input of the reader and the printer of AVN."""
+    amounts, ours, theirs = best_turns(name, 1, runs)
+    _, ours_twice, _ = best_turns(name, 2, runs)
+    row = f"{name:24} {amounts[0] / 1e6:5.1f}"
+    for amount, mine, peer, twice in zip(amounts, ours, theirs, ours_twice):
+        row += f"  | {1e3 * amount / mine:6.0f} {1e3 * amount / peer:6.0f} {peer / mine:6.2f} {twice / mine:5.2f}"
+    print(row, flush=True)
+
+
 def main():
     arguments, runs, part = sys.argv[1:], 3, ""
     while arguments:
@@ -80,25 +144,23 @@ def main():
         else:
             sys.exit(__doc__)
     os.makedirs(OUT, exist_ok=True)
-    program = [os.path.join(TOP, "asn_convert")]
-    subprocess.run(program, input=b"", capture_output=True)  # builds it where needed
-    if not os.path.exists(NATIVE[0]):
+    program_inputs = [name for name in INPUTS if part in name]
+    avn_inputs = [name for name in AVN_INPUTS if part in name]
+    if not os.path.exists(AVN_PEER):
         subprocess.run([os.path.join(TOP, "bench", "native", "build.sh")], check=True)
-    print(f"{'input':32} {'MB':>5} {'ours s':>7} {'peer s':>7} {'speed':>6} {'ours MB':>8} {'peer MB':>8}  peer")
-    for name, (make, peer) in INPUTS.items():
-        if part not in name:
-            continue
-        path = os.path.join(OUT, "input")
-        size = write_input(make, path)
-        pairs = [(measure(program, path), measure(peer, path)) for _ in range(runs)]
-        ours, theirs = (min(run[side] for run in pairs) for side in (0, 1))
-        if ours[2:] != theirs[2:]:
-            sys.exit(f"{name}: the outputs differ")
-        print(
-            f"{name:32} {size:5.1f} {ours[0]:7.3f} {theirs[0]:7.3f} {theirs[0] / ours[0]:6.2f}"
-            f" {ours[1]:8.1f} {theirs[1]:8.1f}  {os.path.basename(peer[0])}",
-            flush=True,
-        )
+    if program_inputs:
+        subprocess.run(PROGRAM, input=b"", capture_output=True)  # builds it where needed
+        print(f"{'program':32} {'MB':>5} {'ours s':>7} {'peer s':>7} {'speed':>6} {'ours MB':>8} {'peer MB':>8}  peer")
+    for name in program_inputs:
+        compare_program(name, *INPUTS[name], runs)
+    if avn_inputs:
+        if not os.path.exists(AVN_BENCH):
+            subprocess.run(["rt", "run"], cwd=AVN_CRATE, capture_output=True)
+        columns = f"{'ours':>6} {'peer':>6} {'speed':>6} {'twice':>5}"
+        print(f"{'AVN':24} {'MB':>5}  | {'reading':^26}  | {'printing':^26}")
+        print(f"{'':30}  | {columns}  | {columns}")
+    for name in avn_inputs:
+        compare_avn(name, runs)
 
 
 main()

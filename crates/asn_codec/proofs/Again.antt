@@ -1,12 +1,11 @@
 -- What is written is read again.
-use Rattle.std.proofs.Common.{◌≡◌, ◌≤◌, ◌<◌, ◌↔◌, refl, ap, sym, ◌∙◌, subst, ℕ, List, Option, Some, true}
+use Rattle.std.proofs.Common.{◌≡◌, ◌≤◌, ◌<◌, ◌↔◌, ap, sym, ◌∙◌, subst, ℕ, List, Option, Some, true}
 use Rattle.std.specs.Str.{chars}
 use Rattle.serde_json.specs.Data.{Data, depth}
 use Rattle.serde_json.specs.Read.{read, max_depth}
 use Rattle.std.proofs.Math.Nat.{le_trans}
 use Rattle.serde_json.proofs.Nesting.{depth-read}
 use Rattle.avn_grammar.specs.Depth.{Deep, deepest}
-use Rattle.avn_grammar.specs.Tree.{Tree as AvnTree}
 use Rattle.avn_grammar.proofs.OneTree.{same_stands}
 use Rattle.asn_base.specs.declared.codec.Codec.{Codec}
 use Rattle.asn_base.specs.declared.codec.Codec.TheVariants.{Avn}
@@ -24,7 +23,6 @@ use Rattle.asn_traits.proofs.SameText.{same_text}
 use Rattle.asn_traits.proofs.Written.{says_written, jer_tree, jer_writes}
 use Rattle.asn_traits.proofs.WrittenAvn.{read_tree, avn_writes}
 use Rattle.jer_rules.specs.Text as jer
-use Rattle.avn_rules.specs.Text as avn
 use Rattle.asn_codec.specs.Texts.{HasTree, SaysValue, SaysAlone, ReadsBack, IsShallow}
 
 same_data : (text : List ℕ) (d e : Data) → jer.IsJer text d → jer.IsJer text e → d ≡ e

@@ -1,12 +1,12 @@
 -- What a call by a codec's name answers, from what the notation's own call answers.
-use Rattle.std.proofs.Common.{◌≡◌, ◌≢◌, refl, sym, subst, ap, ℕ, List, Some, Result, Ok, Err, true, ◌⊎◌, inl, inr}
+use Rattle.std.proofs.Common.{◌≡◌, ◌≢◌, refl, sym, subst, ℕ, List, Some, Result, Ok, Err, true, ◌⊎◌, inl, inr}
 use Rattle.std.specs.Prelude.{IfOk, IfErr, codes}
 use Rattle.std.specs.Str.{chars}
 use Rattle.serde_json.specs.Data.{Data}
 use Rattle.avn_grammar.specs.Tree.{Tree as AvnTree}
 use Rattle.avn_value.specs.Answer.{Explains}
 use Rattle.asn_base.specs.declared.codec.Codec.{Codec}
-use Rattle.asn_base.specs.declared.codec.Codec.TheVariants.{Aper, Ber, Cer, Der, Uper, Jer, Oer, Coer, Xer, Avn}
+use Rattle.asn_base.specs.declared.codec.Codec.TheVariants.{Jer, Avn}
 use Rattle.asn_fault.specs.Stop.{Stop, Why, at_root, error_stop, is_memory}
 use Rattle.asn_fault.specs.Unwritten.{WhyUnwritten, encode_why, is_unwritten_memory}
 use Rattle.asn_fault.specs.declared.decode.DecodeError.{DecodeError}

@@ -1,5 +1,5 @@
 -- What a conversion answers, from what reading and writing answer.
-use Rattle.std.proofs.Common.{◌≡◌, refl, sym, subst, ℕ, List, true, ◌⊎◌, inl, inr}
+use Rattle.std.proofs.Common.{◌≡◌, sym, subst, ℕ, List, true, ◌⊎◌, inl, inr}
 use Rattle.asn_base.specs.declared.codec.Codec.{Codec}
 use Rattle.asn_fault.specs.Stop.{Stop, is_memory}
 use Rattle.asn_fault.specs.Unwritten.{encode_why, is_unwritten_memory}

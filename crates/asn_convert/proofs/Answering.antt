@@ -1,9 +1,9 @@
 -- What a status says, from what was put into the sink.
-use Rattle.std.proofs.Common.{◌≡◌, ◌≢◌, refl, sym, subst, ap, ◌++◌, ◌∷◌, [], ℕ, List, Option, Some, true, ◌⊎◌, inl, inr}
+use Rattle.std.proofs.Common.{◌≡◌, ◌≢◌, refl, ◌++◌, ◌∷◌, [], ℕ, List, Option, true, ◌⊎◌, inl, inr}
 use Rattle.asn_base.specs.declared.codec.Codec.{Codec}
 use Rattle.asn_traits.specs.Shape.{Shape}
 use Rattle.asn_codec.specs.Conversion.{Converts, Refuses, refusal_of, is_want_of_memory}
-use Rattle.asn_convert.specs.Due.{Answers, Puts, refusal_line, IsAnswer, IsRefusal}
+use Rattle.asn_convert.specs.Due.{Answers, Puts, refusal_line}
 use Rattle.asn_convert.specs.Faults.{Rose}
 use Rattle.asn_codec.specs.declared.conversion.TranscodeError.{TranscodeError}
 use Rattle.asn_convert.specs.declared.status.Status.{Status}

@@ -1,6 +1,6 @@
 -- A counted fault is a cause.
-use Rattle.std.proofs.Common.{◌≡◌, ◌≤◌, ◌+◌, ◌-◌, ◌^◌, min, ℕ, Result, Err, ap, ◌∙◌, subst, sym, arith, refl}
-use Rattle.asn_convert.specs.Faults.{Rose, HasCause}
+use Rattle.std.proofs.Common.{◌≡◌, ◌≤◌, ◌+◌, ◌-◌, ◌^◌, min, ℕ, Err, ap, ◌∙◌, subst, sym, arith}
+use Rattle.asn_convert.specs.Faults.{HasCause}
 use Rattle.asn_convert.specs.declared.memory.Calls.{Calls}
 use Rattle.asn_convert.specs.declared.ends.Failed.{Failed}
 

@@ -67,7 +67,9 @@ impl Decode for Nest {
         constraints: &Constraints,
     ) -> Result<Nest, DecodeError> {
         let count = decoder.open_list()?;
-        let mut items = Vec::new(decoder.allocator());
+        let Ok(mut items) = Vec::with_capacity(decoder.allocator(), count) else {
+            return Err(DecodeError::out_of_memory(decoder.codec()));
+        };
         for i in 0..count {
             let item = Self::decode_with_tag_and_constraints(decoder, tag, constraints)?;
             let Ok(()) = items.push(item) else {

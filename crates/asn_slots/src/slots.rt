@@ -11,7 +11,7 @@ use std::alloc::Global;
 pub fn present_values<V: Drop>(alloc: Global, slots: Vec<Option<V>>) -> Result<Vec<V>, OutOfMemory>
     ensures { IfOk result (λ values. values.items ≡ present_of slots.items) }
 {
-    let mut values = Vec::new(alloc);
+    let mut values = Vec::with_capacity(alloc, slots.len())?;
     for slot in slots {
         if let Some(value) = slot {
             values.push(value)?;

@@ -1,5 +1,6 @@
 // Printed texts, normal forms, copies and readings, with ample memory.
 use asn_base::Scan;
+use asn_fault::{AvnDecodeErrorKind, CodecDecodeError, DecodeError, DecodeErrorKind};
 use avn_value::{AvnValue, parse_avn, parse_scan};
 use std::alloc::{AllocError, Global};
 use std::process::Abort;
@@ -25,6 +26,31 @@ fn kind(value: &AvnValue) -> &'static str {
 
 fn string(alloc: Global, text: &str) -> Result<String, AllocError> {
     String::from_str(alloc, text)
+}
+
+/// The name of the value's variant, and of those of its items, fields or payload.
+fn kinds(alloc: Global, value: &AvnValue) -> Result<String, AllocError> {
+    let mut names = string(alloc, kind(value))?;
+    match value {
+        AvnValue::SequenceOf(items) => {
+            for item in items {
+                names.push(' ')?;
+                names.push_str(kind(item))?;
+            }
+        }
+        AvnValue::Sequence(fields) => {
+            for (_, field) in fields {
+                names.push(' ')?;
+                names.push_str(field.as_ref().map_or("absent", kind))?;
+            }
+        }
+        AvnValue::Choice { value, .. } => {
+            names.push(' ')?;
+            names.push_str(kind(value))?;
+        }
+        _ => {}
+    }
+    Ok(names)
 }
 
 fn bits(alloc: Global, octets: &[u8], bit_length: usize) -> Result<AvnValue, AllocError> {
@@ -55,7 +81,7 @@ fn choice(alloc: Global, identifier: &str, value: AvnValue) -> Result<AvnValue, 
     })
 }
 
-/// A value, its printed text, and the variant and printed text of its normal form.
+/// A value, its printed text, and the variants and the printed text of its normal form.
 type Row = (AvnValue, &'static str, &'static str, &'static str);
 
 fn plain_rows(alloc: Global) -> Result<[Row; 9], AllocError> {
@@ -91,7 +117,7 @@ fn plain_rows(alloc: Global) -> Result<[Row; 9], AllocError> {
         (
             choice(alloc, "test1", AvnValue::Integer(string(alloc, "5")?))?,
             "test1 : 5",
-            "Choice",
+            "Choice Integer",
             "test1 : 5",
         ),
     ])
@@ -111,7 +137,7 @@ fn octet_rows(alloc: Global) -> Result<[Row; 6], AllocError> {
         (
             AvnValue::Oid(Vec::from_slice(alloc, &[2, 5])?),
             "{ 2 5 }",
-            "SequenceOf",
+            "SequenceOf Integer Integer",
             "{\n  2,\n  5\n}",
         ),
         (AvnValue::Oid(Vec::new(alloc)), "{ }", "SequenceOf", "{}"),
@@ -130,7 +156,7 @@ fn brace_rows(alloc: Global) -> Result<[Row; 4], AllocError> {
         (
             sequence(alloc, "field1", Some(AvnValue::Boolean(true)), "field2")?,
             "{\n  field1 TRUE\n}",
-            "Sequence",
+            "Sequence Boolean",
             "{\n  field1 TRUE\n}",
         ),
         (
@@ -148,29 +174,32 @@ fn brace_rows(alloc: Global) -> Result<[Row; 4], AllocError> {
         (
             sequence(alloc, "a", Some(very), "b")?,
             "{\n  a {\n    very {},\n    nested FALSE\n  }\n}",
-            "Sequence",
+            "Sequence Sequence",
             "{\n  a {\n    very {},\n    nested FALSE\n  }\n}",
         ),
     ])
 }
 
-/// The row's texts, a copy's text, and that what is printed is read as the normal form.
+/// The row's texts, a copy's variants and text, and that what is printed is read as the normal form.
 fn check_row(rt: &impl Abort, alloc: Global, row: &Row) -> Result<(), Fail> {
-    let (value, printed, normal_kind, normal_text) = row;
+    let (value, printed, variants, normal_text) = row;
     let text = format!(in alloc; "{value}")?;
     assert_eq!(rt; text.as_str(), *printed);
     assert!(rt; value.is_well_formed());
 
     let copy = value.try_clone(alloc)?;
-    assert_eq!(rt; kind(&copy), kind(value));
+    assert_eq!(rt;
+        kinds(alloc, &copy)?.as_str(),
+        kinds(alloc, value)?.as_str()
+    );
     assert_eq!(rt; format!(in alloc; "{copy}")?.as_str(), *printed);
 
     let normal = value.normal(alloc)?;
-    assert_eq!(rt; kind(&normal), *normal_kind);
+    assert_eq!(rt; kinds(alloc, &normal)?.as_str(), *variants);
     assert_eq!(rt; format!(in alloc; "{normal}")?.as_str(), *normal_text);
 
     let read = parse_avn(alloc, text.as_str())?;
-    assert_eq!(rt; kind(&read), *normal_kind);
+    assert_eq!(rt; kinds(alloc, &read)?.as_str(), *variants);
     assert_eq!(rt; format!(in alloc; "{read}")?.as_str(), *normal_text);
     Ok(())
 }
@@ -220,45 +249,123 @@ fn values_that_cannot_be_read_again_are_not_well_formed(rt: HostRuntime) -> Resu
     Ok(())
 }
 
-#[test]
-fn texts_that_are_read(rt: HostRuntime) -> Result<(), Fail> {
-    const ROWS: [(&str, &str, &str); 9] = [
-        ("{1 2, 3}", "SequenceOf", "{\n  1,\n  2,\n  3\n}"),
-        ("{1-2}", "SequenceOf", "{\n  1,\n  -2\n}"),
-        ("{ 1 2.5 }", "SequenceOf", "{\n  1,\n  2.5\n}"),
-        ("{TRUE, FALSE}", "SequenceOf", "{\n  TRUE,\n  FALSE\n}"),
-        (
-            "{ so-very 1, so-very 2 }",
-            "Sequence",
-            "{\n  so-very 1,\n  so-very 2\n}",
-        ),
-        (
-            "{ Test1 : 3, test2 : \"x\" }",
-            "SequenceOf",
-            "{\n  Test1 : 3,\n  test2 : \"x\"\n}",
-        ),
-        ("' 01 fF 'H", "OctetString", "'01FF'H"),
-        ("'10 101'B\n", "BitString", "'10101'B"),
-        ("-0", "Integer", "-0"),
-    ];
-    for &(text, variant, printed) in &ROWS {
-        let value = parse_avn(rt.alloc(), text)?;
-        assert_eq!(rt; kind(&value), variant, "{text}");
-        assert_eq!(rt; format!(in rt.alloc(); "{value}")?.as_str(), printed);
+/// Each text is read as a value of these variants and this printed text.
+fn assert_read(
+    rt: &impl Abort,
+    alloc: Global,
+    rows: &[(&'static str, &'static str, &'static str)],
+) -> Result<(), Fail> {
+    for &(text, variants, printed) in rows {
+        let value = parse_avn(alloc, text)?;
+        assert_eq!(rt; kinds(alloc, &value)?.as_str(), variants, "{text}");
+        assert_eq!(rt; format!(in alloc; "{value}")?.as_str(), printed);
     }
     Ok(())
 }
 
 #[test]
+fn tokens_that_are_read(rt: HostRuntime) -> Result<(), Fail> {
+    const ROWS: [(&str, &str, &str); 22] = [
+        ("TRUE", "Boolean", "TRUE"),
+        ("FALSE", "Boolean", "FALSE"),
+        ("NULL", "Null", "NULL"),
+        ("PLUS-INFINITY", "Real", "PLUS-INFINITY"),
+        ("MINUS-INFINITY", "Real", "MINUS-INFINITY"),
+        ("NOT-A-NUMBER", "Real", "NOT-A-NUMBER"),
+        ("z", "Enumerated", "z"),
+        ("TRUE-9_Z", "Enumerated", "TRUE-9_Z"),
+        ("0", "Integer", "0"),
+        ("-0", "Integer", "-0"),
+        ("007", "Integer", "007"),
+        (
+            "1111111111111111111111111111111111111111",
+            "Integer",
+            "1111111111111111111111111111111111111111",
+        ),
+        ("1.5", "Real", "1.5"),
+        ("-00.50", "Real", "-00.50"),
+        ("''H", "OctetString", "''H"),
+        ("' 01 fF 'H", "OctetString", "'01FF'H"),
+        ("'01\u{A0}FF'H", "OctetString", "'01FF'H"),
+        ("''B", "BitString", "''H"),
+        ("'1'B", "BitString", "'1'B"),
+        ("'10\n101'B", "BitString", "'10101'B"),
+        ("\"\"", "CharString", "\"\""),
+        ("\"a\"\"b\"", "CharString", "\"a\"\"b\""),
+    ];
+    assert_read(&rt, rt.alloc(), &ROWS)
+}
+
+#[test]
+fn texts_that_are_read(rt: HostRuntime) -> Result<(), Fail> {
+    const ROWS: [(&str, &str, &str); 10] = [
+        ("{}", "SequenceOf", "{}"),
+        (
+            "{1 2, 3}",
+            "SequenceOf Integer Integer Integer",
+            "{\n  1,\n  2,\n  3\n}",
+        ),
+        ("{1-2}", "SequenceOf Integer Integer", "{\n  1,\n  -2\n}"),
+        ("{ 1 2.5 }", "SequenceOf Integer Real", "{\n  1,\n  2.5\n}"),
+        (
+            "{TRUE, FALSE}",
+            "SequenceOf Boolean Boolean",
+            "{\n  TRUE,\n  FALSE\n}",
+        ),
+        (
+            "{ a, NULL }",
+            "SequenceOf Enumerated Null",
+            "{\n  a,\n  NULL\n}",
+        ),
+        (
+            "{ so-very 1, so-very 2 }",
+            "Sequence Integer Integer",
+            "{\n  so-very 1,\n  so-very 2\n}",
+        ),
+        (
+            "{ Test1 : 3, test2 : \"x\" }",
+            "SequenceOf Choice Choice",
+            "{\n  Test1 : 3,\n  test2 : \"x\"\n}",
+        ),
+        ("a : b : 1", "Choice Choice", "a : b : 1"),
+        // Any Unicode white space may follow the whole value.
+        ("\tTRUE\u{2003}\u{A0}\n", "Boolean", "TRUE"),
+    ];
+    assert_read(&rt, rt.alloc(), &ROWS)
+}
+
+/// The error is that a token is unexpected.
+fn is_unexpected_token(error: &DecodeError) -> bool {
+    matches!(
+        error.kind,
+        DecodeErrorKind::CodecSpecific {
+            inner: CodecDecodeError::Avn(AvnDecodeErrorKind::UnexpectedToken { .. })
+        }
+    )
+}
+
+#[test]
 fn texts_that_are_refused(rt: HostRuntime) -> Result<(), Fail> {
-    const ROWS: [(&str, &str); 8] = [
+    const ROWS: [(&str, &str); 19] = [
         ("", ""),
         ("TRUE x", " x"),
+        ("1 2", " 2"),
+        ("-", "-"),
+        ("- 1", "- 1"),
+        ("1.", "."),
+        ("1.2.3", ".3"),
         ("{1,}", "{1,}"),
+        ("{,1}", "{,1}"),
         ("{ a 1, 2 }", "{ a 1, 2 }"),
         ("{ 1 2.5 3 }", "{ 1 2.5 3 }"),
         ("'0'H", "'0'H"),
-        ("'012'B", "'012'B"),
+        ("'2'B", "'2'B"),
+        ("'01'", "'01'"),
+        ("'01'h", "'01'h"),
+        ("\"a", "\"a"),
+        // Between tokens other Unicode white space may not stand.
+        ("{\u{A0}1}", "{\u{A0}1}"),
+        ("\u{2003}TRUE", "\u{2003}TRUE"),
         (
             "  a : b :c : {1,} and more than twenty characters",
             "{1,} and more than t",
@@ -280,21 +387,68 @@ fn texts_that_are_refused(rt: HostRuntime) -> Result<(), Fail> {
 }
 
 #[test]
-fn braces_are_read_sixty_five_deep(rt: HostRuntime) -> Result<(), Fail> {
-    for (depth, is_read) in [(65, true), (66, false)] {
-        let mut text = String::new(rt.alloc());
-        for _ in 0..depth {
-            text.push('{')?;
-        }
-        for _ in 0..depth {
-            text.push('}')?;
-        }
+fn a_text_that_is_cut_short_is_refused(rt: HostRuntime) -> Result<(), Fail> {
+    const WHOLE: &str =
+        "{ a 1.5, b '01 FF'H, c { -1 2, 3 }, d x : \"q\"\"r\", e {TRUE, y}, f '10'B }";
+    let mut text = String::new(rt.alloc());
+    for c in WHOLE.chars() {
         match parse_avn(rt.alloc(), text.as_str()) {
-            Ok(_) => assert!(rt; is_read, "{depth}"),
+            Ok(value) => assert!(rt; false, "{text} is read as {value}"),
+            Err(error) => assert!(rt; is_unexpected_token(&error), "{text}"),
+        }
+        text.push(c)?;
+    }
+    let value = parse_avn(rt.alloc(), text.as_str())?;
+    assert_eq!(rt;
+        kinds(rt.alloc(), &value)?.as_str(),
+        "Sequence Real OctetString SequenceOf Choice SequenceOf BitString"
+    );
+    Ok(())
+}
+
+/// The text `before` so often, `within`, and `after` as often.
+fn nested(
+    alloc: Global,
+    depth: usize,
+    before: &str,
+    within: &str,
+    after: &str,
+) -> Result<String, AllocError> {
+    let mut text = String::new(alloc);
+    for _ in 0..depth {
+        text.push_str(before)?;
+    }
+    text.push_str(within)?;
+    for _ in 0..depth {
+        text.push_str(after)?;
+    }
+    Ok(text)
+}
+
+#[test]
+fn values_are_looked_for_down_to_level_64(rt: HostRuntime) -> Result<(), Fail> {
+    // How often which text is opened, what stands within, what closes, and whether it is read.
+    const ROWS: [(usize, &str, &str, &str, bool); 10] = [
+        (65, "{", "", "}", true),
+        (66, "{", "", "}", false),
+        (64, "{", "1", "}", true),
+        (65, "{", "1", "}", false),
+        // A bare identifier is not looked for as a value.
+        (65, "{", "a", "}", true),
+        // The payload of a choice directly in braces has the level of the items.
+        (64, "{", "a : 1", "}", true),
+        (64, "{", "f a : 1", "}", false),
+        (64, "a : ", "1", "", true),
+        (65, "a : ", "1", "", false),
+        (100_000, "{", "", "", false),
+    ];
+    for &(depth, before, within, after, is_read) in &ROWS {
+        let text = nested(rt.alloc(), depth, before, within, after)?;
+        match parse_avn(rt.alloc(), text.as_str()) {
+            Ok(_) => assert!(rt; is_read, "{depth} {before} {within}"),
             Err(error) => {
-                assert!(rt; !is_read, "{depth}");
-                let said = format!(in rt.alloc(); "{error}")?;
-                assert_eq!(rt; said.as_str(), "Exceeded maximum parse depth (Codec: AVN)");
+                assert!(rt; !is_read, "{depth} {before} {within}");
+                assert!(rt; matches!(error.kind, DecodeErrorKind::ExceedsMaxParseDepth));
             }
         }
     }
@@ -304,14 +458,14 @@ fn braces_are_read_sixty_five_deep(rt: HostRuntime) -> Result<(), Fail> {
 #[test]
 fn looks_are_bounded(rt: HostRuntime) -> Result<(), Fail> {
     for (items, at_most) in [(10_000, 320_048), (1_000_000, 32_000_048)] {
-        let mut text = string(rt.alloc(), "{")?;
-        for _ in 0..items {
-            text.push_str("1 ")?;
-        }
-        text.push('}')?;
+        let text = nested(rt.alloc(), items, "1 ", "", "")?;
+        let text = format!(in rt.alloc(); "{{{text}}}")?;
         let mut scan = Scan::new(text.as_str());
         match parse_scan(rt.alloc(), &mut scan)? {
-            AvnValue::SequenceOf(list) => assert_eq!(rt; list.len(), items),
+            AvnValue::SequenceOf(list) => {
+                assert_eq!(rt; list.len(), items);
+                assert!(rt; list.iter().all(|item| matches!(item, AvnValue::Integer(_))));
+            }
             _ => assert!(rt; false, "no list"),
         }
         assert!(rt; scan.count() <= at_most);

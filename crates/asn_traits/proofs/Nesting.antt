@@ -4,9 +4,8 @@ use Rattle.std.specs.Ordering.{nat_cmp, match_ordering}
 use Rattle.std.specs.Cmp.Lexicographic.{slice_cmp}
 use Rattle.serde_json.specs.Data.{Data, Items, Members, put, depth, items_depth, members_depth}
 use Rattle.serde_json.specs.Find.{get_member}
-use Rattle.asn_base.specs.declared.codec.Codec.TheVariants.{Jer}
 use Rattle.asn_traits.specs.Canonical.{jer_data, jer_items, jer_members}
-use Rattle.asn_traits.specs.Leaf.{Blame, leaf, as_null, as_boolean, as_text, as_item, listed_item, result_map}
+use Rattle.asn_traits.specs.Leaf.{Blame, leaf, as_null, as_boolean, as_text, as_item, result_map}
 use Rattle.asn_traits.specs.Notation.{Notation}
 use Rattle.asn_traits.specs.Says.{Says, SaysEach, SaysFields}
 use Rattle.asn_traits.specs.Shape.{Shape, Alphabet, Fields, is_item, all_items, field_names}

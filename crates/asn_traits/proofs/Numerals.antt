@@ -4,7 +4,7 @@ use Rattle.std.specs.Fmt.{decimal, signed_decimal}
 use Rattle.std.proofs.lemmas.Bool.{eqb-true, agree_below_at}
 use Rattle.std.proofs.lemmas.Fmt.{decimal_by_steps_wide}
 use Rattle.std.proofs.lemmas.Int.{ints}
-use Rattle.avn_grammar.specs.Chars.{is_digit, begins, every}
+use Rattle.avn_grammar.specs.Chars.{is_digit}
 use Rattle.avn_grammar.specs.WellFormed.{is_digits, is_number, unsigned}
 use Rattle.avn_grammar.proofs.Digits.{digits-decimal}
 use Rattle.asn_traits.specs.Digits.{digits, digits_after, signed_number}

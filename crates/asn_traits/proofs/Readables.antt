@@ -1,10 +1,10 @@
 -- A loop that can be read can be read unfolded, and what the parts of a shape that can be read are.
-use Rattle.std.proofs.Common.{◌≡◌, refl, ap, sym, ◌∙◌, subst, arith, ℕ, zero, suc, ◌≤◌, ◌<◌, List, [], ◌∷◌, ◌++◌, Bool, true, false, not, ◌&&◌, nat_eq, nat_le, nat_lt, if◌then◌else◌, Option, Some, None}
+use Rattle.std.proofs.Common.{◌≡◌, refl, ap, ◌∙◌, subst, arith, ℕ, zero, suc, ◌≤◌, ◌<◌, [], ◌∷◌, ◌++◌, Bool, true, false, not, ◌&&◌, nat_eq, nat_le, nat_lt, if◌then◌else◌, Option, Some, None}
 use Rattle.std.proofs.lemmas.Bool.{leb-true, le-leb, ltb-true, lt-ltb, eq-eqb}
 use Rattle.std.proofs.lemmas.Bool.Decides.{eqb_tells}
 use Rattle.asn_base.specs.declared.tag.Tag.{Tag}
-use Rattle.asn_traits.specs.Shape.{Shape, Fields, FieldAdditions, Alternatives, AlternativeAdditions, Alphabet, SeqKind, Plain, Presence, fill, fill_fields, fill_added_fields, fill_alternatives, fill_added_alternatives, unfold_loop, opened, all_items, all_alternatives, join_alternatives, closed_seq, field_names, identifiers, tags, tag_eq, has_tag, tags_distinct, alternative_tagged, are_distinct, end_tag}
-use Rattle.asn_traits.specs.Readable.{are_apart, are_identifiers, are_words, all_field_names, is_of_shape, suits, has_alternative, are_told_apart, is_readable, is_readable_in, are_fields_readable, are_added_fields_readable, are_alternatives_readable, are_added_alternatives_readable}
+use Rattle.asn_traits.specs.Shape.{Shape, Fields, FieldAdditions, Alternatives, AlternativeAdditions, Plain, Presence, fill, fill_fields, fill_added_fields, fill_alternatives, fill_added_alternatives, unfold_loop, opened, all_alternatives, join_alternatives, closed_seq, field_names, identifiers, tags, tag_eq, has_tag, tags_distinct, alternative_tagged, are_distinct, end_tag}
+use Rattle.asn_traits.specs.Readable.{are_apart, are_identifiers, all_field_names, is_of_shape, suits, has_alternative, are_told_apart, is_readable, is_readable_in, are_fields_readable, are_added_fields_readable, are_alternatives_readable, are_added_alternatives_readable}
 
 pub and-left : (a b : Bool) → (a && b) ≡ true → a ≡ true
 and-left true b e = refl

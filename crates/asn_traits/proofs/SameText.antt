@@ -1,7 +1,7 @@
 -- Values of a shape that can be read whose canonical texts are equal are equal.
-use Rattle.std.proofs.Common.{◌≡◌, sym, subst, arith, ℕ, max, ◌≤◌, List, Some, true}
+use Rattle.std.proofs.Common.{◌≡◌, sym, subst, arith, ℕ, max, ◌≤◌, Some, true}
 use Rattle.std.specs.Str.{chars}
-use Rattle.avn_grammar.specs.Depth.{Deep, deepest}
+use Rattle.avn_grammar.specs.Depth.{deepest}
 use Rattle.avn_grammar.specs.Grammar.{Reads}
 use Rattle.avn_grammar.specs.Normal.{normal}
 use Rattle.avn_grammar.specs.Print.{print}
@@ -9,7 +9,7 @@ use Rattle.avn_grammar.specs.Tree.{Tree as AvnTree}
 use Rattle.avn_grammar.specs.WellFormed.{is_well_formed}
 use Rattle.avn_grammar.proofs.OneTree.{same_stands}
 use Rattle.avn_grammar.proofs.WholePrinted.{reads_whole}
-use Rattle.asn_traits.specs.Canonical.{jer_data, avn_tree, canonical_text}
+use Rattle.asn_traits.specs.Canonical.{avn_tree, canonical_text}
 use Rattle.asn_traits.specs.Notation.{Notation, IsText}
 use Rattle.asn_traits.specs.Readable.{is_readable}
 use Rattle.asn_traits.specs.Says.{Says}

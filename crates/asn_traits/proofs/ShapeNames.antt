@@ -1,14 +1,13 @@
 -- The names and tags of the parts of a shape, by those of the parts that a program holds.
-use Rattle.std.proofs.Common.{◌≡◌, refl, ap, sym, ◌∙◌, arith, rules, Bor, ℕ, zero, suc, ◌+◌, ◌<◌, List, [], ◌∷◌, ◌++◌, map, take, get_or, length, Bool, true, false, not, ◌&&◌, nat_eq, Option, Some, None, string_bytes, append-nil}
+use Rattle.std.proofs.Common.{◌≡◌, refl, ap, sym, ◌∙◌, arith, rules, Bor, ℕ, zero, suc, ◌+◌, ◌<◌, List, [], ◌∷◌, ◌++◌, map, take, get_or, length, Bool, true, false, ◌&&◌, Option, Some, None, string_bytes, append-nil}
 use Rattle.std.proofs.lemmas.List.{take_more}
 use Rattle.std.specs.Global.{Vec}
-use Rattle.asn_base.specs.declared.tag.Tag.{Tag}
 use Rattle.asn_traits.specs.Around.{loops_step, loops_of, bare_step, bare_of, entries_of}
 use Rattle.asn_traits.specs.Readable.{all_field_names, are_identifiers, has_alternative, are_told_apart, suits, is_readable_in, are_fields_readable, are_added_fields_readable, are_alternatives_readable, are_added_alternatives_readable}
 use Rattle.asn_traits.specs.declared.readable.Around.{Around, fold-roll-Around}
 use Rattle.asn_traits.specs.declared.readable.Around.TheVariants.{rolls-Part}
 use Rattle.asn_traits.specs.declared.readable.Around.TheViews.{Part}
-use Rattle.asn_traits.specs.Shape.{Shape, Fields, Alternatives, all_items, all_alternatives, join_alternatives, field_names, identifiers, tags, are_distinct}
+use Rattle.asn_traits.specs.Shape.{Shape, Alternatives, all_alternatives, join_alternatives, field_names, identifiers, tags, are_distinct}
 use Rattle.asn_traits.specs.ShapeView.{shape_view, presence_view, field_views, alternative_views}
 use Rattle.asn_traits.specs.declared.shape_type.AlternativeShape.{AlternativeShape}
 use Rattle.asn_traits.specs.declared.shape_type.FieldShape.{FieldShape}

@@ -13,7 +13,7 @@ use Rattle.serde_json.proofs.Views.{get_member-put, get_member-put_other}
 use Rattle.asn_traits.specs.Canonical.{jer_data, jer_items, jer_members}
 use Rattle.asn_traits.specs.Leaf.{as_number, result_map}
 use Rattle.asn_traits.specs.Notation.{Notation}
-use Rattle.asn_traits.specs.Readable.{is_readable, is_readable_in, are_fields_readable, are_alternatives_readable, are_added_alternatives_readable, suits, has_alternative, are_told_apart, are_identifiers, are_apart, has_identifier, at_most, has_128_bits}
+use Rattle.asn_traits.specs.Readable.{is_readable, are_fields_readable, are_alternatives_readable, are_added_alternatives_readable, suits, has_alternative, are_told_apart, are_identifiers, are_apart, has_identifier, at_most, has_128_bits}
 use Rattle.asn_traits.specs.Says.{Says, SaysEach, SaysFields}
 use Rattle.asn_traits.specs.Shape.{Shape, Fields, Alternatives, AlternativeAdditions, Alphabet, all_items, all_alternatives, join_alternatives, field_names, identifiers, tags, has_tag, tags_distinct, end_tag, are_distinct, is_item, alternative_named}
 use Rattle.asn_traits.specs.Tree.{Tree, Slot, item_slots, member_slot, same_identifier}

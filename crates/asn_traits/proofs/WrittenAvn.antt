@@ -1,15 +1,15 @@
 -- What AVN writes is well formed, and is read as a tree that says the value.
-use Rattle.std.proofs.Common.{◌≡◌, refl, ap, sym, ◌∙◌, subst, ℕ, ◌-◌, ◌^◌, ℤ, pos, negsuc, ◌≤ℤ◌, List, [], ◌∷◌, Bool, true, false, not, ◌&&◌, if◌then◌else◌, Option, Some, None, Ok}
+use Rattle.std.proofs.Common.{◌≡◌, refl, ap, sym, ◌∙◌, subst, ℕ, ◌-◌, ◌^◌, ℤ, pos, negsuc, ◌≤ℤ◌, List, [], ◌∷◌, Bool, true, false, not, ◌&&◌, if◌then◌else◌, Some, None, Ok}
 use Rattle.std.specs.Str.{bytes_eq}
 use Rattle.std.proofs.lemmas.Slice.Eq.{bytes_eq-Decides}
-use Rattle.avn_grammar.specs.Tree.{Tree as AvnTree, Trees as AvnTrees, Fields as AvnFields}
+use Rattle.avn_grammar.specs.Tree.{Tree as AvnTree, Fields as AvnFields}
 use Rattle.avn_grammar.specs.Normal.{normal, normal_trees, normal_fields, braced}
 use Rattle.avn_grammar.specs.WellFormed.{is_identifier, is_keyword, is_well_formed, are_well_formed, are_fields_well_formed}
 use Rattle.asn_traits.specs.Canonical.{avn_tree, avn_trees, avn_fields}
-use Rattle.asn_traits.specs.Leaf.{Blame, as_number, number_or}
+use Rattle.asn_traits.specs.Leaf.{as_number, number_or}
 use Rattle.asn_traits.specs.Notation.{Notation}
 use Rattle.asn_traits.specs.Readable.{is_readable, are_fields_readable, are_alternatives_readable, are_added_alternatives_readable, suits, has_alternative, are_told_apart, are_identifiers, are_words, are_apart}
-use Rattle.asn_traits.specs.Shape.{Shape, Fields, Alternatives, AlternativeAdditions, all_items, all_alternatives, field_names, identifiers, tags, has_tag, tags_distinct, end_tag, are_distinct, is_item}
+use Rattle.asn_traits.specs.Shape.{Shape, Fields, Alternatives, all_items, all_alternatives, field_names, identifiers, tags, has_tag, tags_distinct, end_tag, are_distinct, is_item}
 use Rattle.asn_traits.specs.Tree.{Tree, Slot, or_else, as_members, tree_slots, field_slot}
 use Rattle.asn_traits.specs.Value.{Value, Values, Slots, Fits, FitsEach, FitsFields, FitsAlternative}
 use Rattle.asn_traits.specs.Writes.{Writes, Finds, value_slots, slot_names}

@@ -100,7 +100,9 @@ pub trait Decoder {
             (pending self.new) }
     {
         let count = self.open_list()?;
-        let mut items = Vec::new(self.allocator());
+        let Ok(mut items) = Vec::with_capacity(self.allocator(), count) else {
+            return Err(DecodeError::out_of_memory(self.codec()));
+        };
         for i in 0..count {
             let item = T::decode(self)?;
             let Ok(()) = items.push(item) else {

@@ -3,7 +3,7 @@ use Rattle.std.proofs.Common.{◌≡◌, rules, refl, Bool, ℤ, pos, negsuc}
 use Rattle.avn_grammar.specs.Tree.{boolean, null}
 use Rattle.asn_base.specs.Numbers.{signed, is_negative, magnitude}
 use Rattle.avn_value.specs.View.{tree_of}
-use Rattle.avn_value.specs.declared.value.AvnValue.{AvnValue, the_lemmas}
+use Rattle.avn_value.specs.declared.value.AvnValue.{the_lemmas}
 use Rattle.avn_value.specs.declared.value.AvnValue as avn
 
 pub view-Boolean : (b : Bool) → tree_of (avn.Boolean b) ≡ boolean b

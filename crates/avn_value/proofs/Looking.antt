@@ -2,7 +2,7 @@
 use Rattle.std.proofs.Common.{◌≡◌, ℕ, List, [], ◌∷◌, ◌++◌, Bool, true, false, cond, not, refl, sym, ap, ◌∙◌}
 use Rattle.std.specs.Char.{is_whitespace}
 use Rattle.avn_grammar.specs.Chars.{past, skip, is_space, solid}
-use Rattle.avn_grammar.proofs.Runs.{front-stop, front-step, past-stop, past-step, past-past, skip-le}
+use Rattle.avn_grammar.proofs.Runs.{front-stop, past-stop, past-step, past-past, skip-le}
 
 pub skip-skip : (u : List ℕ) → skip (skip u) ≡ skip u
 skip-skip u = past-past is_space u

@@ -3,7 +3,7 @@ use Rattle.std.proofs.Common.{◌≡◌, rules, Bool as Boolean, String, Global,
 use Rattle.serde_json.specs.Data.{Data}
 use Rattle.serde_json.specs.View.{view, number_view}
 use Rattle.serde_json.specs.declared.number.Number.{Number}
-use Rattle.serde_json.specs.declared.value.Value.{Value, the_lemmas}
+use Rattle.serde_json.specs.declared.value.Value.{the_lemmas}
 use Rattle.serde_json.specs.declared.value.Value as json
 
 pub view-Null : view json.Null ≡ Data.null

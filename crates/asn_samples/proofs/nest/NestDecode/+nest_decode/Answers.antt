@@ -23,7 +23,7 @@ returns-in_err-item g t c =
     rw (p.1, p.2) (loop_refuses (Shape.list_of (Shape.back 0)) _ _ (list.refuse _ _ _ _ _ _ _ _ _ c.loop-i.invariant c.loop-i-test.true c.in_err-item.ensures))
 
 pub loop-i-preserved : goal.loop-i-preserved
-loop-i-preserved g t c = rw c.in-Ok.ensures.items (list.step _ _ _ _ _ _ _ _ _ _ c.loop-i.invariant c.loop-i-test.true c.in_ok-item.ensures)
+loop-i-preserved g t c = rw c.in-Ok-push.ensures.items (list.step _ _ _ _ _ _ _ _ _ _ c.loop-i.invariant c.loop-i-test.true c.in_ok-item.ensures)
 
 pub returns : goal.returns
 returns g t c = nest_answer _ (list.finish _ _ _ _ _ _ _ _ c.loop-i.invariant c.loop-i-test.false)

@@ -16,4 +16,6 @@ mod plain_types;
 #[cfg(test)]
 mod program;
 #[cfg(test)]
+mod samples;
+#[cfg(test)]
 mod slots;

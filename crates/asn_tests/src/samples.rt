@@ -471,6 +471,27 @@ fn each_sample_type_can_be_read(rt: HostRuntime) -> Result<(), Fail> {
             None => return Err(Fail::from("no sample")),
         }
     }
-    assert!(rt; !is_sample_name("Nobody"));
+    for name in ["", "Bool", "bool ", "SequenceOf<Nest>"].iter() {
+        assert!(rt; !is_sample_name(*name));
+    }
     Ok(())
+}
+
+#[test]
+fn a_choice_tells_its_added_alternatives(rt: HostRuntime) -> Result<(), Fail> {
+    match Sample::ExtChoice.shape(rt.alloc()) {
+        Ok(
+            Shape::Choice {
+                alternatives,
+                added: Some(added),
+            },
+        ) => {
+            assert_eq!(rt; alternatives.len(), 2);
+            assert_eq!(rt; added.len(), 1);
+            assert_eq!(rt; added[0].identifier.as_str(), "Test3");
+            assert_eq!(rt; added[0].tag.value, 2);
+            Ok(())
+        }
+        _ => Err(Fail::from("the shape of ExtChoice")),
+    }
 }

@@ -479,19 +479,20 @@ fn each_sample_type_can_be_read(rt: HostRuntime) -> Result<(), Fail> {
 
 #[test]
 fn a_choice_tells_its_added_alternatives(rt: HostRuntime) -> Result<(), Fail> {
-    match Sample::ExtChoice.shape(rt.alloc()) {
-        Ok(
-            Shape::Choice {
-                alternatives,
-                added: Some(added),
-            },
-        ) => {
-            assert_eq!(rt; alternatives.len(), 2);
-            assert_eq!(rt; added.len(), 1);
-            assert_eq!(rt; added[0].identifier.as_str(), "Test3");
-            assert_eq!(rt; added[0].tag.value, 2);
-            Ok(())
-        }
-        _ => Err(Fail::from("the shape of ExtChoice")),
+    match Sample::ExtChoice.shape(rt.alloc())? {
+        Shape::Choice {
+            alternatives,
+            added,
+        } => match added {
+            Some(added) => {
+                assert_eq!(rt; alternatives.len(), 2);
+                assert_eq!(rt; added.len(), 1);
+                assert_eq!(rt; added[0].identifier.as_str(), "Test3");
+                assert_eq!(rt; added[0].tag.value, 2);
+                Ok(())
+            }
+            None => Err(Fail::from("ExtChoice has no added alternatives")),
+        },
+        _ => Err(Fail::from("ExtChoice is no choice")),
     }
 }

@@ -1,7 +1,7 @@
 #!/usr/bin/env python3
 """Runs the program, and the reader and the printer of AVN, beside peers on large inputs.
 
-usage: bench/run.py [-n RUNS] [-k PART]
+usage: bench/run.py [-n RUNS] [-k PART] [-p PROGRAM DIR]
 
 Each input whose name has PART in it is run RUNS times (3 unless given) by either program in turn, and the least time
 counts. Times are processor times. Both outputs have to be equal. A speed is the peer's time by ours, so that more than
@@ -10,6 +10,9 @@ counts. Times are processor times. Both outputs have to be equal. A speed is the
 The first table is of the program, beside Python's json module or Rust's serde_json: seconds, user and system, and peak
 memory. The second is of avn_bench beside a plain reader and printer of AVN: MB/s of text read and of text printed,
 each the best of ten turns in a process, and how many times as long twice the input takes.
+
+With -p, the inputs are the files *.in in DIR, each a request line and a text, and the peer is PROGRAM, which takes the
+same requests: seconds and peak memory of both, and ours by its.
 """
 import hashlib
 import os
@@ -105,6 +108,19 @@ def compare_program(name, make, peer, runs):
     )
 
 
+def compare_peer(program, path, runs):
+    """Prints the row of one input file, beside a program that takes the same requests."""
+    pairs = [(measure(PROGRAM, path), measure([program], path)) for _ in range(runs)]
+    ours, theirs = (min(run[side] for run in pairs) for side in (0, 1))
+    if ours[2:] != theirs[2:]:
+        sys.exit(f"{path}: the outputs differ")
+    print(
+        f"{os.path.basename(path)[:-3]:24} {os.path.getsize(path) / 1e6:5.1f}  | {ours[0]:7.2f} {theirs[0]:7.2f}"
+        f" {ours[0] / theirs[0]:6.2f}  | {ours[1]:7.0f} {theirs[1]:7.0f} {ours[1] / theirs[1]:6.2f}",
+        flush=True,
+    )
+
+
 def turns(program, path):
     """What one run says of its input, and its nanoseconds to read and to print."""
     with open(path, "rb") as file:
@@ -133,16 +149,31 @@ def compare_avn(name, runs):
     print(row, flush=True)
 
 
+def run_peer(program, folder, part, runs):
+    """The table beside a program that takes the same requests."""
+    subprocess.run(PROGRAM, input=b"", capture_output=True)  # builds it where needed
+    columns = f"{'ours':>7} {'peer':>7} {'ratio':>6}"
+    print(f"{'beside ' + os.path.basename(program):24} {'MB':>5}  | {'seconds':^22}  | {'peak MB':^22}")
+    print(f"{'':30}  | {columns}  | {columns}")
+    for name in sorted(os.listdir(folder)):
+        if name.endswith(".in") and part in name:
+            compare_peer(program, os.path.join(folder, name), runs)
+
+
 def main():
-    arguments, runs, part = sys.argv[1:], 3, ""
+    arguments, runs, part, peer = sys.argv[1:], 3, "", None
     while arguments:
         option = arguments.pop(0)
         if option == "-n":
             runs = int(arguments.pop(0))
         elif option == "-k":
             part = arguments.pop(0)
+        elif option == "-p":
+            peer = arguments.pop(0), arguments.pop(0)
         else:
             sys.exit(__doc__)
+    if peer:
+        return run_peer(*peer, part, runs)
     os.makedirs(OUT, exist_ok=True)
     program_inputs = [name for name in INPUTS if part in name]
     avn_inputs = [name for name in AVN_INPUTS if part in name]

@@ -43,6 +43,7 @@ impl Encoder {
     pub fn to_avn(self) -> Result<AvnValue, EncodeError>
         ensures tree { IfOk result (λ t. (f : Frame) → Holds self (f ∷ []) → option_map avn_tree (last_present f) ≡ Some (tree_of t)) }
         ensures kind { IfErr result (λ e. encode_why e.kind ≡ WhyUnwritten.no_root_value Avn) }
+        ensures codec { IfErr result (λ e. e.codec ≡ Avn) }
         ensures none { IfErr result (λ e. (f : Frame) → Holds self (f ∷ []) → last_present f ≡ None) }
     {
         let mut frames = self.frames;
@@ -59,6 +60,7 @@ impl Encoder {
         ensures text { IfOk result (λ s. (f : Frame) → Holds self (f ∷ []) → option_map (canonical_text Notation.avn) (last_present f) ≡ Some (string_bytes s)) }
         ensures refused { IfErr result (λ e. (e.kind ≡ EncodeErrorKind.OutOfMemory)
             ⊎ ((encode_why e.kind ≡ WhyUnwritten.no_root_value Avn) × ((f : Frame) → Holds self (f ∷ []) → last_present f ≡ None))) }
+        ensures codec { IfErr result (λ e. e.codec ≡ Avn) }
     {
         let alloc = self.alloc;
         let value = self.to_avn()?;
@@ -82,7 +84,8 @@ impl Encoder {
 
 // Nothing was written at the root.
 fn no_root_value() -> EncodeError
-    ensures { encode_why result.kind ≡ WhyUnwritten.no_root_value Avn }
+    ensures kind { encode_why result.kind ≡ WhyUnwritten.no_root_value Avn }
+    ensures codec { result.codec ≡ Avn }
 {
     EncodeError::from_kind(
         EncodeErrorKind::CodecSpecific {

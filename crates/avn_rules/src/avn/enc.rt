@@ -12,7 +12,7 @@ ghost use Rattle.std.specs.Prelude.{◌≡◌, ◌⊎◌, ◌∷◌, [], Option,
 use super::build::{choice_of, fields_of, integer_of};
 use asn_base::{Codec, Constraints, Identifier, IntegerType, Tag};
 use asn_fault::{AvnEncodeErrorKind, CodecEncodeError, EncodeError, EncodeErrorKind};
-use asn_slots::{Frames, first_slot, last_value, present_values};
+use asn_slots::Frames;
 use asn_traits::{Enumerated, Field};
 use avn_value::AvnValue;
 use std::alloc::Global;
@@ -47,7 +47,7 @@ impl Encoder {
         ensures none { IfErr result (λ e. (f : Frame) → Holds self (f ∷ []) → last_present f ≡ None) }
     {
         let mut frames = self.frames;
-        match last_value(frames.close()) {
+        match frames.close_last() {
             Some(value) => Ok(value),
             None => Err(no_root_value()),
         }
@@ -174,15 +174,16 @@ impl asn_traits::Encoder for Encoder {
     }
 
     fn close_list(&mut self) -> Result<(), EncodeError> {
-        let slots = self.frames.close();
-        match present_values(self.alloc, slots) {
+        match self.frames.close_list() {
             Ok(items) => self.put(Some(AvnValue::SequenceOf(items))),
             Err(_) => Err(EncodeError::out_of_memory(Codec::Avn)),
         }
     }
 
     fn close_members(&mut self, fields: &[Field]) -> Result<(), EncodeError> {
-        let slots = self.frames.close();
+        let Ok(slots) = self.frames.close() else {
+            return Err(EncodeError::out_of_memory(Codec::Avn));
+        };
         match fields_of(self.alloc, slots, fields) {
             Ok(named) => self.put(Some(AvnValue::Sequence(named))),
             Err(_) => Err(EncodeError::out_of_memory(Codec::Avn)),
@@ -190,8 +191,7 @@ impl asn_traits::Encoder for Encoder {
     }
 
     fn close_choice(&mut self, identifier: &'static str) -> Result<(), EncodeError> {
-        let slots = self.frames.close();
-        let Some(payload) = first_slot(slots) else {
+        let Some(payload) = self.frames.close_first() else {
             return self.put(None);
         };
         match choice_of(self.alloc, identifier, payload) {

@@ -1,3 +1,4 @@
+pub mod Flat
 pub mod Lasts
 pub mod Names
 pub mod Trees

@@ -1,28 +1,51 @@
 // The frames of slots that were written.
-ghost use Rattle.asn_slots.specs.Frames.{join, Closes};
-ghost use Rattle.std.specs.Prelude.{◌≡◌, ◌∷◌, [], OnOk, OnErr};
+ghost use Rattle.asn_slots.specs.Frames.{join, Closes, Pops, in_last, last_start};
+ghost use Rattle.asn_slots.specs.Slots.{last_present, present_of, first_of};
+ghost use Rattle.std.specs.Prelude.{◌≡◌, ◌∷◌, [], List, Option, length, reverse, OnOk, OnErr, IfOk, drop};
 
+use crate::slots::{take_first, take_last_present, take_present};
 use asn_base::OutOfMemory;
 use std::alloc::Global;
 use std::marker::Model;
-use std::mem;
 
 /// The open frames of slots that a writer has written, seen as a list, the last frame first. One
-/// frame at least is open.
+/// frame at least is open. What a frame took is kept for the frames after it, so that opening and
+/// closing seldom need memory.
 #[derive(Drop)]
 pub struct Frames<V> {
     alloc: Global,
-    current: Vec<Option<V>>,
-    // The frames below the last one, the root's first.
-    below: Vec<Vec<Option<V>>>,
+    // The slots of all frames, the root's first.
+    slots: Vec<Option<V>>,
+    // Where each frame above the root's begins among the slots, the last frame's last.
+    starts: Vec<usize>,
 }
 
 impl<V> Model for Frames<V> {
-    ghost use Rattle.std.specs.Prelude.{List, Option, ◌∷◌, map, reverse};
+    ghost use Rattle.asn_slots.specs.Frames.{frames_from, Rise};
+    ghost use Rattle.std.specs.Prelude.{List, Option, length, reverse};
 
     ghost Value = { List (List (Option V)) };
 
-    ghost view = { λ f. f.current.items ∷ reverse (map (λ v. v.items) f.below.items) };
+    ghost view = { λ f. frames_from f.slots.items (reverse f.starts.items) };
+
+    ghost invariant = { λ f. Rise (length f.slots.items) (reverse f.starts.items) };
+}
+
+/// Where the last frame begins: the last of the beginnings, or 0 where none is.
+fn last_start(starts: &[usize]) -> usize
+    ensures { result ≡ last_start (reverse starts.now) }
+{
+    match starts.last() {
+        Some(&start) => start,
+        None => 0,
+    }
+}
+
+/// Forgets where the last frame begins, if any above the root's is open.
+fn forget_last(starts: &mut Vec<usize>)
+    ensures { reverse starts.new.items ≡ drop 1 (reverse starts.old.items) }
+{
+    let _start = starts.pop();
 }
 
 impl<V: Drop> Frames<V> {
@@ -32,8 +55,8 @@ impl<V: Drop> Frames<V> {
     {
         Frames {
             alloc,
-            current: Vec::new(alloc),
-            below: Vec::new(alloc),
+            slots: Vec::new(alloc),
+            starts: Vec::new(alloc),
         }
     }
 
@@ -44,11 +67,7 @@ impl<V: Drop> Frames<V> {
         ensures opened { OnOk result (self.new ≡ [] ∷ self.old) }
         ensures kept { OnErr result (self.new ≡ self.old) }
     {
-        if self.below.reserve(1).is_err() {
-            return Err(OutOfMemory);
-        }
-        let frame = mem::replace(&mut self.current, Vec::new(self.alloc));
-        self.below.push_reserved(frame);
+        self.starts.push(self.slots.len())?;
         Ok(())
     }
 
@@ -59,20 +78,79 @@ impl<V: Drop> Frames<V> {
         ensures added { OnOk result (self.new ≡ join slot self.old) }
         ensures kept { OnErr result (self.new ≡ self.old) }
     {
-        match self.current.push(slot) {
-            Ok(()) => Ok(()),
-            Err(_) => Err(OutOfMemory),
-        }
+        self.slots.push(slot)?;
+        Ok(())
     }
 
-    /// Closes the last frame and answers its slots. Where it is the only one, an empty one takes its place.
-    pub fn close(&mut self) -> Vec<Option<V>>
-        ensures { Closes self.old result.items self.new }
+    /// How many slots the last frame has.
+    pub fn count(&self) -> usize
+        ensures { result ≡ length (in_last self.now) }
     {
-        let frame = match self.below.pop() {
-            Some(frame) => frame,
-            None => Vec::new(self.alloc),
-        };
-        mem::replace(&mut self.current, frame)
+        self.slots.len() - last_start(&self.starts)
+    }
+
+    /// Takes the last slot of the last frame. None exactly where that frame is empty.
+    pub fn pop(&mut self) -> Option<Option<V>>
+        ensures { Pops self.old result self.new }
+    {
+        if self.slots.len() == last_start(&self.starts) {
+            return None;
+        }
+        Some(self.slots.take_last())
+    }
+
+    /// Closes the last frame and answers its slots, in a vector with room for these alone. Where
+    /// it is the only one, an empty one takes its place.
+    ///
+    /// Errors: `OutOfMemory`, and then the frame stays.
+    pub fn close(&mut self) -> Result<Vec<Option<V>>, OutOfMemory>
+        ensures closed { IfOk result (λ slots. Closes self.old slots.items self.new) }
+        ensures kept { OnErr result (self.new ≡ self.old) }
+    {
+        let slots = self.slots.split_off(last_start(&self.starts))?;
+        forget_last(&mut self.starts);
+        Ok(slots)
+    }
+
+    /// Closes the last frame as `close` does, and answers the values of its slots that are
+    /// present, in a vector with room for its slots alone.
+    ///
+    /// Errors: `OutOfMemory`, and then the frame stays.
+    pub fn close_list(&mut self) -> Result<Vec<V>, OutOfMemory>
+        ensures closed { IfOk result (λ values. (slots : List (Option V)) × Closes self.old slots self.new × (values.items ≡ present_of slots)) }
+        ensures kept { OnErr result (self.new ≡ self.old) }
+    {
+        let start = last_start(&self.starts);
+        let values = take_present(self.alloc, &mut self.slots, start)?;
+        forget_last(&mut self.starts);
+        Ok(values)
+    }
+
+    /// Closes the last frame as `close` does, and answers its first slot, absent where there is
+    /// none. It takes no memory.
+    pub fn close_first(&mut self) -> Option<V>
+        ensures { (slots : List (Option V)) × Closes self.old slots self.new × (result ≡ first_of slots) }
+    {
+        let first = take_first(&mut self.slots, last_start(&self.starts));
+        forget_last(&mut self.starts);
+        first
+    }
+
+    /// Closes the last frame as `close` does, and answers the value of its last slot that is
+    /// present. None exactly where none is. It takes no memory.
+    pub fn close_last(&mut self) -> Option<V>
+        ensures { (slots : List (Option V)) × Closes self.old slots self.new × (result ≡ last_present slots) }
+    {
+        let last = take_last_present(&mut self.slots, last_start(&self.starts));
+        forget_last(&mut self.starts);
+        last
+    }
+
+    /// Closes the last frame as `close` does, and lets its slots go. It takes no memory.
+    pub fn discard(&mut self)
+        ensures { (slots : List (Option V)) × Closes self.old slots self.new }
+    {
+        self.slots.truncate(last_start(&self.starts));
+        forget_last(&mut self.starts);
     }
 }

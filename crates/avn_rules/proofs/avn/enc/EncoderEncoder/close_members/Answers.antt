@@ -7,7 +7,7 @@ use Rattle.asn_slots.proofs.Trees.{frame_closed}
 use Rattle.asn_traits.specs.Canonical.{avn_tree}
 use Rattle.avn_rules.proofs.avn.enc.EncoderEncoder.close_members.Goals as goal
 
-pub returns-in-Ok-clause-closed : goal.returns-in-Ok-clause-closed
-returns-in-Ok-clause-closed c =
-    let built = members_built _ _ (names_of c.args.fields.now) c.in-Ok.ensures in
-    on_ok_weaker c.put.result (λ a. frame_closed avn_tree tree_of (as_members _) _ _ _ _ _ c.in_ok-slots.ensures built a) c.put.ensures.added
+pub returns-in-Ok-fields_of-clause-closed : goal.returns-in-Ok-fields_of-clause-closed
+returns-in-Ok-fields_of-clause-closed c =
+    let built = members_built _ _ (names_of c.args.fields.now) c.in-Ok-fields_of.ensures in
+    on_ok_weaker c.put.result (λ a. frame_closed avn_tree tree_of (as_members _) _ _ _ _ _ c.in-Ok.ensures.closed built a) c.put.ensures.added

@@ -1,5 +1,12 @@
 -- The slots that are still to be read.
-use Rattle.std.specs.Prelude.{◌≡◌, List, [], ◌∷◌, Option, Some, None, Bool, true, false}
+use Rattle.std.specs.Prelude.{◌≡◌, List, [], ◌∷◌, ◌++◌, map, Option, Some, None, Bool, true, false}
+use Rattle.std.specs.Vec.Iter.{into_iter_items}
+use Rattle.asn_slots.specs.declared.pending.Run.{Run}
+
+-- The slots of runs: of each its first slot, and the values after it.
+abbrev pub slots_of : {V : Type 0} → List (Run V) → List (Option V)
+slots_of [] = []
+slots_of (r ∷ rs) = r.first ∷ (map Some (into_iter_items r.later) ++ slots_of rs)
 
 -- An absent first slot is taken, a present one stays, and no answer comes where no slot is left.
 abbrev pub TakesAbsent : {V : Type 0} → List (Option V) → Option Bool → List (Option V) → Type 0

@@ -5,20 +5,31 @@ ghost use Rattle.std.specs.Prelude.{◌≡◌, ◌∷◌, [], ◌++◌, Some, ma
 use asn_base::OutOfMemory;
 use std::alloc::Global;
 use std::marker::Model;
+use std::vec::IntoIter;
 
-/// The slots that a reader has still to read, seen as a list, the next one first.
+/// A slot, and the values after it, each of which is a slot too.
+#[derive(Drop)]
+struct Run<V> {
+    first: Option<V>,
+    later: IntoIter<V, Global>,
+}
+
+/// The slots that a reader has still to read, seen as a list, the next one first. A list of values
+/// is kept as it came, so that putting it copies none of them.
 #[derive(Drop)]
 pub struct Pending<V> {
+    alloc: Global,
     // The next one last.
-    stack: Vec<Option<V>>,
+    runs: Vec<Run<V>>,
 }
 
 impl<V> Model for Pending<V> {
+    ghost use Rattle.asn_slots.specs.Pending.{slots_of};
     ghost use Rattle.std.specs.Prelude.{List, Option, reverse};
 
     ghost Value = { List (Option V) };
 
-    ghost view = { λ p. reverse p.stack.items };
+    ghost view = { λ p. slots_of (reverse p.runs.items) };
 }
 
 impl<V: Drop> Pending<V> {
@@ -27,7 +38,8 @@ impl<V: Drop> Pending<V> {
         ensures { result ≡ [] }
     {
         Pending {
-            stack: Vec::new(alloc),
+            alloc,
+            runs: Vec::new(alloc),
         }
     }
 
@@ -38,10 +50,11 @@ impl<V: Drop> Pending<V> {
         ensures put { OnOk result (self.new ≡ slot ∷ self.old) }
         ensures kept { OnErr result (self.new ≡ self.old) }
     {
-        match self.stack.push(slot) {
-            Ok(()) => Ok(()),
-            Err(_) => Err(OutOfMemory),
-        }
+        self.runs.push(Run {
+            first: slot,
+            later: Vec::new(self.alloc).into_iter(),
+        })?;
+        Ok(())
     }
 
     /// Puts these slots in their order before the others.
@@ -52,11 +65,14 @@ impl<V: Drop> Pending<V> {
         ensures kept { OnErr result (self.new ≡ self.old) }
     {
         let mut slots = slots;
-        slots.reverse();
-        match self.stack.append(&mut slots) {
-            Ok(()) => Ok(()),
-            Err(_) => Err(OutOfMemory),
+        self.runs.reserve(slots.len())?;
+        while let Some(slot) = slots.pop() {
+            self.runs.push_reserved(Run {
+                first: slot,
+                later: Vec::new(self.alloc).into_iter(),
+            });
         }
+        Ok(())
     }
 
     /// Puts these values, each present, in their order before the slots.
@@ -66,12 +82,12 @@ impl<V: Drop> Pending<V> {
         ensures put { OnOk result (self.new ≡ map Some values.items ++ self.old) }
         ensures kept { OnErr result (self.new ≡ self.old) }
     {
-        let mut values = values;
-        if self.stack.reserve(values.len()).is_err() {
-            return Err(OutOfMemory);
-        }
-        while let Some(value) = values.pop() {
-            self.stack.push_reserved(Some(value));
+        let mut later = values.into_iter();
+        if let Some(value) = later.next() {
+            self.runs.push(Run {
+                first: Some(value),
+                later,
+            })?;
         }
         Ok(())
     }
@@ -80,20 +96,24 @@ impl<V: Drop> Pending<V> {
     pub fn take(&mut self) -> Option<Option<V>>
         ensures { MatchOption result ((self.old ≡ []) × (self.new ≡ self.old)) (λ slot. self.old ≡ slot ∷ self.new) }
     {
-        self.stack.pop()
+        let Run { first, mut later } = self.runs.pop()?;
+        if let Some(value) = later.next() {
+            self.runs.push_reserved(Run {
+                first: Some(value),
+                later,
+            });
+        }
+        Some(first)
     }
 
     /// Takes the next slot if it is absent, and answers whether it was. None exactly where no slot is left.
     pub fn take_absent(&mut self) -> Option<bool>
         ensures { TakesAbsent self.old result self.new }
     {
-        match self.stack.pop() {
-            Some(Some(value)) => {
-                self.stack.push_reserved(Some(value));
-                Some(false)
-            }
-            Some(None) => Some(true),
-            None => None,
+        if self.runs.last()?.first.is_some() {
+            return Some(false);
         }
+        let _absent = self.take();
+        Some(true)
     }
 }

@@ -1,8 +1,8 @@
 -- Frames that stand in one list.
 use Rattle.std.proofs.Common.{◌≡◌, refl, ap, sym, ◌∙◌, ◌+◌, ◌≤◌, ◌<◌, ℕ, List, [], ◌∷◌, ◌++◌, length, take, drop, reverse, append_assoc, get_or, Option, Some, None, arith}
-use Rattle.std.proofs.lemmas.List.{take-append-le, drop-append-le, take_more, drop_more, same_from_push, reverse-append, nil_from_length, drop_all}
+use Rattle.std.proofs.lemmas.List.{take-append-le, drop-append-le, take_more, drop_more, same_from_push, reverse-append}
 use Rattle.std.specs.Option.{option_to_list}
-use Rattle.asn_slots.specs.Frames.{join, Closes, Pops, frames_from, last_start, Rise}
+use Rattle.asn_slots.specs.Frames.{join, Closes, frames_from, last_start, Rise}
 use Rattle.asn_slots.specs.Slots.{or_some, last_present, present_of, first_of}
 use Rattle.asn_slots.proofs.Lasts.{last_present-last}
 
@@ -29,23 +29,6 @@ last_closed slots (start ∷ next ∷ starts) = (refl, refl)
 pub closes : {A : Type 0} (old : List (List A)) (slots left gone : List A) (starts rest : List ℕ) (start : ℕ)
     → frames_from slots starts ≡ old → start ≡ last_start starts → rest ≡ drop 1 starts → gone ≡ drop start slots → left ≡ take start slots → Closes old gone (frames_from left rest)
 closes old slots left gone starts rest start e es er eg el = rw (← e, eg, el, er, es) (last_closed slots starts)
-
--- No slot is left in the last frame where it begins at the end.
-pub nothing_popped : {A : Type 0} (slots : List A) (starts : List ℕ) → length slots ≡ last_start starts → Pops (frames_from slots starts) None (frames_from slots starts)
-nothing_popped slots [] e = (nil_from_length slots e, refl)
-nothing_popped slots (start ∷ starts) e = (drop_all start slots (omega (arith, e)), refl)
-
--- The last of all slots is the last one of the last frame.
-pub last_popped : {A : Type 0} (slots left : List A) (slot : A) (starts : List ℕ) → slots ≡ left ++ slot ∷ [] → last_start starts ≤ length left → Pops (frames_from slots starts) (Some slot) (frames_from left starts)
-last_popped slots left slot [] e h = (left, e, refl)
-last_popped slots left slot (start ∷ starts) e h =
-    let front : take start slots ≡ take start left = ap (take start) e ∙ take-append-le start left (slot ∷ []) h in
-    (drop start left, ap (drop start) e ∙ drop-append-le start left (slot ∷ []) h, ap (λ f. drop start left ∷ frames_from f starts) (sym front))
-
--- The beginnings stay at most the end where a slot of the last frame is taken.
-pub fallen : (far near : ℕ) (starts : List ℕ) → last_start starts ≤ near → Rise far starts → Rise near starts
-fallen far near [] h r = tt
-fallen far near (start ∷ starts) h r = (h, r.1)
 
 -- The last beginning is at most the end.
 pub start_within : (end : ℕ) (starts : List ℕ) → Rise end starts → last_start starts ≤ end

@@ -1,5 +1,5 @@
 -- The frames of slots that were written.
-use Rattle.std.specs.Prelude.{◌≡◌, ◌≤◌, ℕ, List, [], ◌∷◌, ◌++◌, take, drop, Option, Some, None}
+use Rattle.std.specs.Prelude.{◌≡◌, ◌≤◌, ℕ, List, [], ◌∷◌, ◌++◌, take, drop}
 
 -- The frames with a slot more in the last one, which is the first of the list; where none is open, one opens.
 abbrev pub join : {A : Type 0} → A → List (List A) → List (List A)
@@ -16,17 +16,6 @@ abbrev pub Closes : {A : Type 0} → List (List A) → List A → List (List A) 
 Closes [] slots after = ⊥
 Closes (f ∷ []) slots after = (slots ≡ f) × (after ≡ [] ∷ [])
 Closes (f ∷ g ∷ fs) slots after = (slots ≡ f) × (after ≡ g ∷ fs)
-
--- The last slot of the last frame is taken; none comes where that frame is empty, and then the frames stay.
-abbrev pub Pops : {A : Type 0} → List (List A) → Option A → List (List A) → Type 0
-Pops [] slot after = ⊥
-Pops (f ∷ fs) None after = (f ≡ []) × (after ≡ f ∷ fs)
-Pops {A} (f ∷ fs) (Some slot) after = (rest : List A) × (f ≡ rest ++ slot ∷ []) × (after ≡ rest ∷ fs)
-
--- The slots of the last frame.
-abbrev pub in_last : {A : Type 0} → List (List A) → List A
-in_last [] = []
-in_last (f ∷ fs) = f
 
 -- The frames of slots that stand in one list, the root's first, where each frame above the root's begins at one of the beginnings, the last one first.
 abbrev pub frames_from : {A : Type 0} → List A → List ℕ → List (List A)

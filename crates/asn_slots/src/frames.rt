@@ -1,5 +1,5 @@
 // The frames of slots that were written.
-ghost use Rattle.asn_slots.specs.Frames.{join, Closes, Pops, in_last, last_start};
+ghost use Rattle.asn_slots.specs.Frames.{join, Closes, last_start};
 ghost use Rattle.asn_slots.specs.Slots.{last_present, present_of, first_of};
 ghost use Rattle.std.specs.Prelude.{◌≡◌, ◌∷◌, [], List, Option, length, reverse, OnOk, OnErr, IfOk, drop};
 
@@ -82,23 +82,6 @@ impl<V: Drop> Frames<V> {
         Ok(())
     }
 
-    /// How many slots the last frame has.
-    pub fn count(&self) -> usize
-        ensures { result ≡ length (in_last self.now) }
-    {
-        self.slots.len() - last_start(&self.starts)
-    }
-
-    /// Takes the last slot of the last frame. None exactly where that frame is empty.
-    pub fn pop(&mut self) -> Option<Option<V>>
-        ensures { Pops self.old result self.new }
-    {
-        if self.slots.len() == last_start(&self.starts) {
-            return None;
-        }
-        Some(self.slots.take_last())
-    }
-
     /// Closes the last frame and answers its slots, in a vector with room for these alone. Where
     /// it is the only one, an empty one takes its place.
     ///
@@ -144,13 +127,5 @@ impl<V: Drop> Frames<V> {
         let last = take_last_present(&mut self.slots, last_start(&self.starts));
         forget_last(&mut self.starts);
         last
-    }
-
-    /// Closes the last frame as `close` does, and lets its slots go. It takes no memory.
-    pub fn discard(&mut self)
-        ensures { (slots : List (Option V)) × Closes self.old slots self.new }
-    {
-        self.slots.truncate(last_start(&self.starts));
-        forget_last(&mut self.starts);
     }
 }

@@ -8,4 +8,3 @@ mod slots;
 
 pub use frames::Frames;
 pub use pending::Pending;
-pub use slots::{first_slot, last_value, present_values};

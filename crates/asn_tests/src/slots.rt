@@ -1,5 +1,5 @@
 // Each call once with ample memory, at a concrete type.
-use asn_slots::{Frames, Pending, first_slot, last_value, present_values};
+use asn_slots::{Frames, Pending};
 use std::test::Fail;
 
 #[test]
@@ -26,20 +26,25 @@ fn frames_close_from_the_last(rt: HostRuntime) -> Result<(), Fail> {
     frames.open()?;
     frames.add(None)?;
     frames.add(Some(2))?;
-    assert_eq!(rt; frames.close().as_slice(), [None, Some(2)].as_slice());
+    assert_eq!(rt; frames.close()?.as_slice(), [None, Some(2)].as_slice());
     frames.add(None)?;
-    assert_eq!(rt; last_value(frames.close()), Some(1));
+    assert_eq!(rt; frames.close_last(), Some(1));
+    assert_eq!(rt; frames.close_last(), None);
     Ok(())
 }
 
 #[test]
-fn slots_give_their_values(rt: HostRuntime) -> Result<(), Fail> {
-    let slots = [Some(1), None, Some(2)].to_vec(rt.alloc())?;
-    assert_eq!(rt;
-        present_values(rt.alloc(), slots)?.as_slice(),
-        [1, 2].as_slice()
-    );
-    let slots = [Some(1), None].to_vec(rt.alloc())?;
-    assert_eq!(rt; first_slot(slots), Some(1));
+fn frames_close_as_their_values(rt: HostRuntime) -> Result<(), Fail> {
+    let mut frames: Frames<u8> = Frames::new(rt.alloc());
+    frames.open()?;
+    frames.add(Some(1))?;
+    frames.add(None)?;
+    frames.add(Some(2))?;
+    assert_eq!(rt; frames.close_list()?.as_slice(), [1, 2].as_slice());
+    frames.open()?;
+    frames.add(Some(3))?;
+    frames.add(Some(4))?;
+    assert_eq!(rt; frames.close_first(), Some(3));
+    assert_eq!(rt; frames.close_first(), None);
     Ok(())
 }

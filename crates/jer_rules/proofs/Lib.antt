@@ -2,7 +2,10 @@ pub mod Readings
 pub mod Taken
 pub mod Choosing
 pub mod Views
+pub mod Writing
 pub mod Building
+pub mod Members
+pub mod Reading
 pub mod Signs
 pub mod Floats
 pub mod Roots

@@ -1,4 +1,5 @@
 pub mod Holding
+pub mod Json
 pub mod Numbers
 pub mod Payload
 pub mod Pending

@@ -9,9 +9,13 @@ ghost use Rattle.asn_traits.specs.Tree.{Tree, head_slot};
 ghost use Rattle.serde_json.specs.Data.{Data};
 ghost use Rattle.std.specs.Prelude.{◌≡◌, ◌∷◌, [], Some, IfOk, IfErr, MatchResult, option_map};
 
+use super::convert::json_of;
 use super::faults::{end_of_input, mismatch, no_item, no_json, no_object};
 use super::floats::holds_float;
-use super::parts::{into_items, into_members, into_payload, into_text, whole_parts};
+use super::objects::Object;
+use super::parts::{into_items, into_payload, into_text, whole_parts};
+use super::read::{Unread, read_text};
+use super::tree::Json;
 use asn_base::{Codec, Constraints, IntegerType, Tag};
 use asn_fault::DecodeError;
 use asn_slots::Pending;
@@ -23,11 +27,11 @@ use std::alloc::Global;
 #[derive(Drop)]
 pub struct Decoder {
     alloc: Global,
-    pending: Pending<Value>,
+    pending: Pending<Json>,
 }
 
 impl Decoder {
-    ghost use Rattle.jer_rules.specs.Pending.{tree_of, pending_of};
+    ghost use Rattle.jer_rules.specs.Pending.{tree_of, json_tree, pending_of};
     ghost use Rattle.jer_rules.specs.Text.{IsJer, NoTree};
 
     /// A reader of a text.
@@ -38,20 +42,15 @@ impl Decoder {
             × (pending_of d ≡ Some (Tree.json t) ∷ [])) }
         ensures refused { IfErr result (λ e. NoTree input.now (error_stop e)) }
     {
-        let value = match Value::from_str(alloc, input) {
+        let value = match read_text(alloc, input) {
             Ok(value) => value,
-            Err(error) => {
-                return Err(if error.is_memory() {
-                    DecodeError::out_of_memory(Codec::Jer)
-                } else {
-                    no_json(alloc)
-                });
-            }
+            Err(Unread::NoJson) => return Err(no_json(alloc)),
+            Err(Unread::OutOfMemory) => return Err(DecodeError::out_of_memory(Codec::Jer)),
         };
         if holds_float(&value) {
             return Err(DecodeError::real_not_supported(Codec::Jer));
         }
-        Decoder::from_value(alloc, value)
+        Decoder::of(alloc, value)
     }
 
     /// A reader of a JSON value. A float in it is of no kind that a type needs.
@@ -59,6 +58,17 @@ impl Decoder {
     /// Errors: `OutOfMemory`.
     pub fn from_value(alloc: Global, value: Value) -> Result<Decoder, DecodeError>
         ensures tree { IfOk result (λ d. pending_of d ≡ Some (tree_of value) ∷ []) }
+        ensures refused { IfErr result (λ e. error_stop e ≡ at_root Why.out_of_memory Jer) }
+    {
+        match json_of(alloc, value) {
+            Ok(value) => Decoder::of(alloc, value),
+            Err(_) => Err(DecodeError::out_of_memory(Codec::Jer)),
+        }
+    }
+
+    // A reader of this value.
+    fn of(alloc: Global, value: Json) -> Result<Decoder, DecodeError>
+        ensures tree { IfOk result (λ d. pending_of d ≡ Some (json_tree value) ∷ []) }
         ensures refused { IfErr result (λ e. error_stop e ≡ at_root Why.out_of_memory Jer) }
     {
         let mut pending = Pending::new(alloc);
@@ -69,9 +79,9 @@ impl Decoder {
     }
 
     // Takes the first pending slot, if it is present.
-    fn take(&mut self) -> Result<Value, DecodeError>
+    fn take(&mut self) -> Result<Json, DecodeError>
         ensures { MatchResult result (λ v. pending_of self.old ≡ Some
-            (tree_of v) ∷ pending_of self.new) (λ e. (s : Shape) → Refuses Notation.jer
+            (json_tree v) ∷ pending_of self.new) (λ e. (s : Shape) → Refuses Notation.jer
             (Stops Notation.jer s (head_slot (pending_of self.old))) (error_stop e)) }
     {
         match self.pending.take() {
@@ -82,8 +92,8 @@ impl Decoder {
     }
 
     // Puts a slot before the pending ones.
-    fn put(&mut self, slot: Option<Value>) -> Result<(), DecodeError>
-        ensures { MatchResult result (λ _. pending_of self.new ≡ option_map tree_of slot ∷ pending_of self.old)
+    fn put(&mut self, slot: Option<Json>) -> Result<(), DecodeError>
+        ensures { MatchResult result (λ _. pending_of self.new ≡ option_map json_tree slot ∷ pending_of self.old)
             (λ e. error_stop e ≡ at_root Why.out_of_memory Jer) }
     {
         match self.pending.put(slot) {
@@ -118,9 +128,10 @@ impl asn_traits::Decoder for Decoder {
 
     fn decode_null(&mut self, _tag: Tag) -> Result<(), DecodeError> {
         let value = self.take()?;
-        match value.as_null() {
-            Some(()) => Ok(()),
-            None => Err(mismatch(self.alloc, "null", &value)),
+        if value.is_null() {
+            Ok(())
+        } else {
+            Err(mismatch(self.alloc, "null", &value))
         }
     }
 
@@ -181,20 +192,21 @@ impl asn_traits::Decoder for Decoder {
     }
 
     fn open_members(&mut self, fields: &[Field]) -> Result<(), DecodeError> {
-        let mut members = match into_members(self.take()?) {
-            Ok(members) => members,
+        let mut object = match Object::of(self.take()?) {
+            Ok(object) => object,
             Err(other) => return Err(no_object(self.alloc, &other)),
         };
         for field in fields.iter().rev() {
-            let member = members.remove(field.name);
+            let (member, others) = object.take(field.name);
+            object = others;
             self.put(member)?;
         }
         Ok(())
     }
 
     fn open_choice(&mut self, identifiers: &[&'static str]) -> Result<Option<usize>, DecodeError> {
-        match into_members(self.take()?) {
-            Ok(members) => match into_payload(members, identifiers) {
+        match Object::of(self.take()?) {
+            Ok(object) => match into_payload(object, identifiers) {
                 Some((place, payload)) => {
                     self.put(Some(payload))?;
                     Ok(Some(place))

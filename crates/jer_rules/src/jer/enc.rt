@@ -7,11 +7,15 @@ ghost use Rattle.asn_traits.specs.Notation.{Notation};
 ghost use Rattle.asn_slots.specs.Frames.{join};
 ghost use Rattle.asn_slots.specs.Slots.{last_present};
 ghost use Rattle.asn_traits.specs.Writing.{Frame};
+ghost use Rattle.jer_rules.specs.Json.{data_of};
 ghost use Rattle.jer_rules.specs.Text.{ReadsBack};
 ghost use Rattle.serde_json.specs.View.{view};
 ghost use Rattle.std.specs.Prelude.{◌≡◌, ◌⊎◌, ◌∷◌, [], Option, Some, None, OnOk, IfOk, IfErr, IfSome, option_map, string_bytes};
 
-use super::build::{choice_of, integer_of, members_of};
+use super::build::{choice_of, integer_of, object_of};
+use super::convert::value_of;
+use super::tree::Json;
+use super::write::text_of;
 use asn_base::{Codec, Constraints, Identifier, IntegerType, Tag, WholeNumber};
 use asn_fault::{CodecEncodeError, EncodeError, EncodeErrorKind, JerEncodeErrorKind};
 use asn_slots::{Frames, first_slot, last_value, present_values};
@@ -23,7 +27,7 @@ use std::alloc::Global;
 #[derive(Drop)]
 pub struct Encoder {
     alloc: Global,
-    frames: Frames<Value>,
+    frames: Frames<Json>,
 }
 
 impl Encoder {
@@ -41,18 +45,18 @@ impl Encoder {
 
     /// The JSON value of the last value that was written at the root.
     ///
-    /// Errors: `NoRootValueFound` where none was.
+    /// Errors: `NoRootValueFound` where none was; `OutOfMemory`.
     pub fn to_json(self) -> Result<Value, EncodeError>
         ensures tree { IfOk result (λ t. (f : Frame) → Holds self (f ∷ []) → option_map jer_data
             (last_present f) ≡ Some (view t)) }
-        ensures kind { IfErr result (λ e. encode_why e.kind ≡ WhyUnwritten.no_root_value Jer) }
-        ensures none { IfErr result (λ e. (f : Frame) → Holds self (f ∷ [])
-            → last_present f ≡ None) }
+        ensures refused { IfErr result (λ e. (e.kind ≡ EncodeErrorKind.OutOfMemory)
+            ⊎ ((encode_why e.kind ≡ WhyUnwritten.no_root_value Jer) × ((f : Frame) → Holds self (f ∷ []) → last_present f ≡ None))) }
+        ensures codec { IfErr result (λ e. e.codec ≡ Jer) }
     {
-        let mut frames = self.frames;
-        match last_value(frames.close()) {
-            Some(value) => Ok(value),
-            None => Err(jer_error(JerEncodeErrorKind::NoRootValueFound)),
+        let alloc = self.alloc;
+        match value_of(alloc, self.into_root()?) {
+            Ok(value) => Ok(value),
+            Err(_) => Err(EncodeError::out_of_memory(Codec::Jer)),
         }
     }
 
@@ -66,17 +70,34 @@ impl Encoder {
             → IfSome (last_present f) (λ v. ReadsBack v (string_bytes s))) }
         ensures refused { IfErr result (λ e. (e.kind ≡ EncodeErrorKind.OutOfMemory)
             ⊎ ((encode_why e.kind ≡ WhyUnwritten.no_root_value Jer) × ((f : Frame) → Holds self (f ∷ []) → last_present f ≡ None))) }
+        ensures codec { IfErr result (λ e. e.codec ≡ Jer) }
     {
         let alloc = self.alloc;
-        let value = self.to_json()?;
-        match value.to_string(alloc) {
+        let value = self.into_root()?;
+        match text_of(alloc, &value) {
             Ok(text) => Ok(text),
             Err(_) => Err(EncodeError::out_of_memory(Codec::Jer)),
         }
     }
 
+    // The last value that was written at the root.
+    fn into_root(self) -> Result<Json, EncodeError>
+        ensures tree { IfOk result (λ v. (f : Frame) → Holds self (f ∷ []) → option_map jer_data
+            (last_present f) ≡ Some (data_of v)) }
+        ensures kind { IfErr result (λ e. encode_why e.kind ≡ WhyUnwritten.no_root_value Jer) }
+        ensures none { IfErr result (λ e. (f : Frame) → Holds self (f ∷ [])
+            → last_present f ≡ None) }
+        ensures codec { IfErr result (λ e. e.codec ≡ Jer) }
+    {
+        let mut frames = self.frames;
+        match last_value(frames.close()) {
+            Some(value) => Ok(value),
+            None => Err(jer_error(JerEncodeErrorKind::NoRootValueFound)),
+        }
+    }
+
     // Puts a slot into the last frame.
-    fn put(&mut self, slot: Option<Value>) -> Result<(), EncodeError>
+    fn put(&mut self, slot: Option<Json>) -> Result<(), EncodeError>
         ensures added { OnOk result (self.new.frames ≡ join slot self.old.frames) }
         ensures refused { IfErr result (λ e. e.kind ≡ EncodeErrorKind.OutOfMemory) }
     {
@@ -124,11 +145,11 @@ impl asn_traits::Encoder for Encoder {
         value: bool,
         _identifier: Identifier,
     ) -> Result<(), EncodeError> {
-        self.put(Some(Value::Bool(value)))
+        self.put(Some(Json::Bool(value)))
     }
 
     fn encode_null(&mut self, _tag: Tag, _identifier: Identifier) -> Result<(), EncodeError> {
-        self.put(Some(Value::Null))
+        self.put(Some(Json::Null))
     }
 
     fn encode_integer<I: IntegerType>(
@@ -140,7 +161,7 @@ impl asn_traits::Encoder for Encoder {
     ) -> Result<(), EncodeError> {
         let (negative, magnitude) = value.parts();
         match integer_of(negative, magnitude) {
-            Some(number) => self.put(Some(Value::Number(number))),
+            Some(number) => self.put(Some(Json::Number(number))),
             None => Err(jer_error(JerEncodeErrorKind::ExceedsSupportedIntSize {
                 value: WholeNumber {
                     negative,
@@ -158,7 +179,7 @@ impl asn_traits::Encoder for Encoder {
         _identifier: Identifier,
     ) -> Result<(), EncodeError> {
         match String::from_str(self.alloc, value) {
-            Ok(text) => self.put(Some(Value::String(text))),
+            Ok(text) => self.put(Some(Json::Text(text))),
             Err(_) => Err(EncodeError::out_of_memory(Codec::Jer)),
         }
     }
@@ -170,7 +191,7 @@ impl asn_traits::Encoder for Encoder {
         _identifier: Identifier,
     ) -> Result<(), EncodeError> {
         match String::from_str(self.alloc, value.identifier()) {
-            Ok(text) => self.put(Some(Value::String(text))),
+            Ok(text) => self.put(Some(Json::Text(text))),
             Err(_) => Err(EncodeError::out_of_memory(Codec::Jer)),
         }
     }
@@ -189,15 +210,15 @@ impl asn_traits::Encoder for Encoder {
     fn close_list(&mut self) -> Result<(), EncodeError> {
         let slots = self.frames.close();
         match present_values(self.alloc, slots) {
-            Ok(items) => self.put(Some(Value::Array(items))),
+            Ok(items) => self.put(Some(Json::List(items))),
             Err(_) => Err(EncodeError::out_of_memory(Codec::Jer)),
         }
     }
 
     fn close_members(&mut self, fields: &[Field]) -> Result<(), EncodeError> {
         let slots = self.frames.close();
-        match members_of(self.alloc, slots, fields) {
-            Ok(members) => self.put(Some(Value::Object(members))),
+        match object_of(self.alloc, slots, fields) {
+            Ok(object) => self.put(Some(object)),
             Err(_) => Err(EncodeError::out_of_memory(Codec::Jer)),
         }
     }

@@ -1,5 +1,5 @@
 use Rattle.std.proofs.lemmas.Result.{on_ok_weaker}
-use Rattle.serde_json.specs.View.{view}
+use Rattle.jer_rules.specs.Json.{data_of}
 use Rattle.asn_slots.proofs.Trees.{frame_closed}
 use Rattle.asn_traits.specs.Canonical.{jer_data}
 use Rattle.asn_traits.specs.Tables.{names_of}
@@ -10,4 +10,4 @@ use Rattle.jer_rules.proofs.jer.enc.EncoderEncoder.close_members.Goals as goal
 pub returns-in-Ok-clause-closed : goal.returns-in-Ok-clause-closed
 returns-in-Ok-clause-closed c =
     let built = members_built _ _ (names_of c.args.fields.now) c.in-Ok.ensures in
-    on_ok_weaker c.put.result (λ a. frame_closed jer_data view (as_members _) _ _ _ _ _ c.close-slots.ensures built a) c.put.ensures.added
+    on_ok_weaker c.put.result (λ a. frame_closed jer_data data_of (as_members _) _ _ _ _ _ c.close-slots.ensures built a) c.put.ensures.added

@@ -6,11 +6,12 @@ use Rattle.asn_base.specs.Numbers.{signed}
 use Rattle.asn_traits.specs.Notation.{Notation}
 use Rattle.asn_traits.specs.Value.{Fits}
 use Rattle.asn_traits.specs.Writing.{IntStands}
-use Rattle.serde_json.specs.View.{view, number_view}
+use Rattle.serde_json.specs.View.{number_view}
+use Rattle.jer_rules.specs.Json.{data_of}
 use Rattle.asn_slots.proofs.Trees.{slot_added}
 use Rattle.asn_traits.specs.Canonical.{jer_data}
 use Rattle.jer_rules.proofs.Signs.{signed-parts}
-use Rattle.jer_rules.proofs.Views.{view-Number}
+use Rattle.jer_rules.proofs.Views.{data-Number}
 use Rattle.jer_rules.proofs.jer.enc.EncoderEncoder.encode_integer.Goals as goal
 
 pub returns-in-Some-clause-written : goal.returns-in-Some-clause-written
@@ -20,7 +21,7 @@ returns-in-Some-clause-written g c =
     let h = c.in-Some.ensures in
     let number : number_view c.in-Some.number ≡ of_integer (g.I.IntegerType.number c.args.value.now) = rw same at h.1 in
     on_ok_weaker c.put.result (λ a. record {
-      added = slot_added jer_data view _ _ _ _ (ap Some (view-Number _ ∙ ap Data.number number)) a;
+      added = slot_added jer_data data_of _ _ _ _ (ap Some (data-Number _ ∙ ap Data.number number)) a;
       fit = Fits.fits_int p.ensures.low p.ensures.high;
       writable = subst (IntStands Notation.jer) same h.0;
     }) c.put.ensures.added

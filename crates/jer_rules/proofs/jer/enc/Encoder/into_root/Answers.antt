@@ -1,0 +1,12 @@
+use Rattle.std.proofs.Common.{ap, ◌∙◌, sym}
+use Rattle.std.specs.Prelude.{option_map}
+use Rattle.jer_rules.specs.Json.{data_of}
+use Rattle.asn_slots.proofs.Trees.{root_last, root_none}
+use Rattle.asn_traits.specs.Canonical.{jer_data}
+use Rattle.jer_rules.proofs.jer.enc.Encoder.into_root.Goals as goal
+
+pub returns-in-Some-clause-tree : goal.returns-in-Some-clause-tree
+returns-in-Some-clause-tree c = λ f h. root_last jer_data data_of _ _ _ f c.close.ensures h ∙ ap (option_map data_of) (sym c.in-Some.ensures)
+
+pub returns-clause-none : goal.returns-clause-none
+returns-clause-none c = λ f h. root_none jer_data data_of _ _ _ f c.close.ensures h c.in-None.ensures

@@ -1,0 +1,150 @@
+// From a text to a JSON value, in one pass over the tokens.
+ghost use Rattle.jer_rules.specs.Json.{data_of, items_data, object_data};
+ghost use Rattle.json.specs.Json.{value, items, members};
+ghost use Rattle.serde_json.specs.Data.{Members};
+ghost use Rattle.serde_json.specs.Read.{of_json, of_items, of_members, converted, read};
+ghost use Rattle.std.specs.Prelude.{◌≡◌, ◌<◌, length, Some, None, Err, IfOk, OnOk};
+
+use super::numbers::number_in;
+use super::objects::Object;
+use super::tree::Json;
+use asn_base::OutOfMemory;
+use json::{Invalid, Reader, Scratch, Token};
+use std::alloc::{AllocError, AllocFailed, Global};
+
+// How deep arrays and objects may nest.
+const MAX_DEPTH: usize = 127;
+
+/// Why no JSON value was read.
+#[derive(Clone, Copy, Drop, PartialEq)]
+pub enum Unread {
+    /// The text is no JSON, or it nests too deep, or a number in it is too large.
+    NoJson,
+    OutOfMemory,
+}
+
+/// The JSON value of a text.
+pub fn read_text(alloc: Global, text: &str) -> Result<Json, Unread>
+    ensures ok { IfOk result (λ v. read text.now ≡ Some (data_of v)) }
+    ensures refused { result ≡ Err Unread.NoJson → read text.now ≡ None }
+{
+    let mut scratch = Scratch::new(alloc);
+    let mut reader = Reader::new(text, &mut scratch)?;
+    let value = read_value(alloc, &mut reader, MAX_DEPTH)?;
+    if reader.next().is_some() {
+        return Err(Unread::NoJson);
+    }
+    Ok(value)
+}
+
+// The value that begins with the next token.
+#[cycle(read)]
+fn read_value(alloc: Global, reader: &mut Reader<'_>, depth: usize) -> Result<Json, Unread>
+    ensures ok { IfOk result (λ v. converted of_json (value depth reader.old) ≡ Some (data_of v, reader.new)) }
+    ensures shorter { OnOk result (length reader.new < length reader.old) }
+    ensures refused { result ≡ Err Unread.NoJson → converted of_json (value depth reader.old) ≡ None }
+{
+    match reader.next().ok_or(Unread::NoJson)? {
+        Token::Null => Ok(Json::Null),
+        Token::Bool(flag) => Ok(Json::Bool(flag)),
+        Token::Number(text) => match number_in(text) {
+            Some(number) => Ok(Json::Number(number)),
+            None => Err(Unread::NoJson),
+        },
+        Token::String(text) => Ok(Json::Text(String::from_str(alloc, text)?)),
+        Token::BeginArray => {
+            if depth == 0 {
+                return Err(Unread::NoJson);
+            }
+            Ok(Json::List(read_items(alloc, reader, depth - 1)?))
+        }
+        Token::BeginObject => {
+            if depth == 0 {
+                return Err(Unread::NoJson);
+            }
+            Ok(read_members(alloc, reader, depth - 1)?.into_json(alloc)?)
+        }
+        Token::EndArray | Token::EndObject | Token::Key(_) | Token::Bad => Err(Unread::NoJson),
+    }
+}
+
+// The elements up to the end of an array.
+#[cycle(read)]
+fn read_items(alloc: Global, reader: &mut Reader<'_>, depth: usize) -> Result<Vec<Json>, Unread>
+    ensures ok { IfOk result (λ v. converted of_items (items (value depth) (length reader.old) reader.old)
+        ≡ Some (items_data v.items, reader.new)) }
+    ensures shorter { OnOk result (length reader.new < length reader.old) }
+    ensures refused { result ≡ Err Unread.NoJson
+        → converted of_items (items (value depth) (length reader.old) reader.old) ≡ None }
+{
+    let mut found = Vec::new(alloc);
+    'items: while !reader.take_end_array() {
+        let item = read_value(alloc, reader, depth)?;
+        found.push(item)?;
+    }
+    // No room is kept for more.
+    found.shrink_to_fit();
+    Ok(found)
+}
+
+// The members up to the end of an object. Of a name that comes again the last value stays.
+#[cycle(read)]
+fn read_members(alloc: Global, reader: &mut Reader<'_>, depth: usize) -> Result<Object, Unread>
+    ensures ok { IfOk result (λ o. converted (λ ms. of_members ms Members.no_members)
+        (members (value depth) (length reader.old) reader.old) ≡ Some (object_data o, reader.new)) }
+    ensures shorter { OnOk result (length reader.new < length reader.old) }
+    ensures refused { result ≡ Err Unread.NoJson → converted (λ ms. of_members ms Members.no_members)
+        (members (value depth) (length reader.old) reader.old) ≡ None }
+{
+    let mut found = Object::Empty;
+    'members: while let Some(name) = reader.next_key()? {
+        let name = String::from_str(alloc, name)?;
+        let member = read_value(alloc, reader, depth)?;
+        found = found.with(alloc, name, member)?;
+    }
+    Ok(found)
+}
+
+impl From<Invalid> for Unread {
+    ghost use Rattle.jer_rules.specs.declared.jer.read.Unread.TheVariants.{NoJson};
+    ghost use Rattle.std.specs.Prelude.{◌≡◌};
+
+    ghost from_gives = { λ _ e. e ≡ NoJson };
+
+    fn from(_invalid: Invalid) -> Unread {
+        Unread::NoJson
+    }
+}
+
+impl From<OutOfMemory> for Unread {
+    ghost use Rattle.jer_rules.specs.declared.jer.read.Unread.TheVariants.{OutOfMemory};
+    ghost use Rattle.std.specs.Prelude.{◌≡◌};
+
+    ghost from_gives = { λ _ e. e ≡ OutOfMemory };
+
+    fn from(_refused: OutOfMemory) -> Unread {
+        Unread::OutOfMemory
+    }
+}
+
+impl From<AllocError> for Unread {
+    ghost use Rattle.jer_rules.specs.declared.jer.read.Unread.TheVariants.{OutOfMemory};
+    ghost use Rattle.std.specs.Prelude.{◌≡◌};
+
+    ghost from_gives = { λ _ e. e ≡ OutOfMemory };
+
+    fn from(_refused: AllocError) -> Unread {
+        Unread::OutOfMemory
+    }
+}
+
+impl<T: Drop> From<AllocFailed<T>> for Unread {
+    ghost use Rattle.jer_rules.specs.declared.jer.read.Unread.TheVariants.{OutOfMemory};
+    ghost use Rattle.std.specs.Prelude.{◌≡◌};
+
+    ghost from_gives = { λ _ e. e ≡ OutOfMemory };
+
+    fn from(_refused: AllocFailed<T>) -> Unread {
+        Unread::OutOfMemory
+    }
+}

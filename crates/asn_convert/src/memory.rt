@@ -48,7 +48,12 @@ impl Source for SteadySource {
 pub struct SteadySink;
 
 impl SteadySink {
-    pub fn new() -> SteadySink {
+    ghost use Rattle.asn_convert.specs.declared.memory.SteadySink.{SteadySink};
+
+    /// A sink that has one state alone, which no write changes.
+    pub fn new() -> SteadySink
+        ensures { (sink : SteadySink) → result ≡ sink }
+    {
         SteadySink
     }
 }

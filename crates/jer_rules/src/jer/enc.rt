@@ -18,7 +18,7 @@ use super::tree::Json;
 use super::write::text_of;
 use asn_base::{Codec, Constraints, Identifier, IntegerType, Tag, WholeNumber};
 use asn_fault::{CodecEncodeError, EncodeError, EncodeErrorKind, JerEncodeErrorKind};
-use asn_slots::{Frames, first_slot, last_value, present_values};
+use asn_slots::Frames;
 use asn_traits::{Enumerated, Field};
 use serde_json::Value;
 use std::alloc::Global;
@@ -90,7 +90,7 @@ impl Encoder {
         ensures codec { IfErr result (λ e. e.codec ≡ Jer) }
     {
         let mut frames = self.frames;
-        match last_value(frames.close()) {
+        match frames.close_last() {
             Some(value) => Ok(value),
             None => Err(jer_error(JerEncodeErrorKind::NoRootValueFound)),
         }
@@ -208,15 +208,16 @@ impl asn_traits::Encoder for Encoder {
     }
 
     fn close_list(&mut self) -> Result<(), EncodeError> {
-        let slots = self.frames.close();
-        match present_values(self.alloc, slots) {
+        match self.frames.close_list() {
             Ok(items) => self.put(Some(Json::List(items))),
             Err(_) => Err(EncodeError::out_of_memory(Codec::Jer)),
         }
     }
 
     fn close_members(&mut self, fields: &[Field]) -> Result<(), EncodeError> {
-        let slots = self.frames.close();
+        let Ok(slots) = self.frames.close() else {
+            return Err(EncodeError::out_of_memory(Codec::Jer));
+        };
         match object_of(self.alloc, slots, fields) {
             Ok(object) => self.put(Some(object)),
             Err(_) => Err(EncodeError::out_of_memory(Codec::Jer)),
@@ -224,8 +225,7 @@ impl asn_traits::Encoder for Encoder {
     }
 
     fn close_choice(&mut self, identifier: &'static str) -> Result<(), EncodeError> {
-        let slots = self.frames.close();
-        let Some(payload) = first_slot(slots) else {
+        let Some(payload) = self.frames.close_first() else {
             return self.put(None);
         };
         match choice_of(self.alloc, identifier, payload) {

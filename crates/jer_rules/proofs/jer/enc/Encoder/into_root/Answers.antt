@@ -6,7 +6,7 @@ use Rattle.asn_traits.specs.Canonical.{jer_data}
 use Rattle.jer_rules.proofs.jer.enc.Encoder.into_root.Goals as goal
 
 pub returns-in-Some-clause-tree : goal.returns-in-Some-clause-tree
-returns-in-Some-clause-tree c = λ f h. root_last jer_data data_of _ _ _ f c.close.ensures h ∙ ap (option_map data_of) (sym c.in-Some.ensures)
+returns-in-Some-clause-tree c = λ f h. root_last jer_data data_of _ _ _ f c.in-Some.ensures.1 h ∙ ap (option_map data_of) (sym c.in-Some.ensures.2)
 
 pub returns-clause-none : goal.returns-clause-none
-returns-clause-none c = λ f h. root_none jer_data data_of _ _ _ f c.close.ensures h c.in-None.ensures
+returns-clause-none c = λ f h. root_none jer_data data_of _ _ _ f c.in-None.ensures.1 h c.in-None.ensures.2

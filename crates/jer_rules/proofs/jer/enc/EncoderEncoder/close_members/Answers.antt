@@ -7,7 +7,7 @@ use Rattle.asn_traits.specs.Writing.{as_members}
 use Rattle.jer_rules.proofs.Building.{members_built}
 use Rattle.jer_rules.proofs.jer.enc.EncoderEncoder.close_members.Goals as goal
 
-pub returns-in-Ok-clause-closed : goal.returns-in-Ok-clause-closed
-returns-in-Ok-clause-closed c =
-    let built = members_built _ _ (names_of c.args.fields.now) c.in-Ok.ensures in
-    on_ok_weaker c.put.result (λ a. frame_closed jer_data data_of (as_members _) _ _ _ _ _ c.close-slots.ensures built a) c.put.ensures.added
+pub returns-in-Ok-object_of-clause-closed : goal.returns-in-Ok-object_of-clause-closed
+returns-in-Ok-object_of-clause-closed c =
+    let built = members_built _ _ (names_of c.args.fields.now) c.in-Ok-object_of.ensures in
+    on_ok_weaker c.put.result (λ a. frame_closed jer_data data_of (as_members _) _ _ _ _ _ c.in-Ok.ensures.closed built a) c.put.ensures.added

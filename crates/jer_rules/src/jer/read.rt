@@ -3,7 +3,7 @@ ghost use Rattle.jer_rules.specs.Json.{data_of, items_data, object_data};
 ghost use Rattle.json.specs.Json.{value, items, members};
 ghost use Rattle.serde_json.specs.Data.{Members};
 ghost use Rattle.serde_json.specs.Read.{of_json, of_items, of_members, converted, read};
-ghost use Rattle.std.specs.Prelude.{◌≡◌, ◌<◌, length, Some, None, Err, IfOk, OnOk};
+ghost use Rattle.std.specs.Prelude.{◌≡◌, ◌<◌, ◌++◌, ◌∷◌, [], length, Some, None, Err, IfOk, OnOk};
 
 use super::numbers::number_in;
 use super::objects::Object;
@@ -80,11 +80,22 @@ fn read_items(alloc: Global, reader: &mut Reader<'_>, depth: usize) -> Result<Ve
     let mut found = Vec::new(alloc);
     'items: while !reader.take_end_array() {
         let item = read_value(alloc, reader, depth)?;
-        found.push(item)?;
+        add(&mut found, item)?;
     }
     // No room is kept for more.
     found.shrink_to_fit();
     Ok(found)
+}
+
+// Adds an element. The first takes room for itself alone, since lists of one element are common.
+fn add(items: &mut Vec<Json>, item: Json) -> Result<(), OutOfMemory>
+    ensures { OnOk result (items.new.items ≡ items.old.items ++ item ∷ []) }
+{
+    if items.is_empty() {
+        items.reserve_exact(1)?;
+    }
+    items.push(item)?;
+    Ok(())
 }
 
 // The members up to the end of an object. Of a name that comes again the last value stays.

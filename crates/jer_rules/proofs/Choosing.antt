@@ -1,5 +1,5 @@
 -- Objects that are choices.
-use Rattle.std.proofs.Common.{◌≡◌, refl, sym, subst, ℕ, ◌<◌, List, Option, Some, None, arith}
+use Rattle.std.proofs.Common.{◌≡◌, refl, sym, ℕ, ◌<◌, List, Option, Some, None, arith}
 use Rattle.serde_json.specs.Data.{Data, Members}
 use Rattle.asn_traits.specs.Notation.{Notation}
 use Rattle.asn_traits.specs.Opening.{IsChoice}

@@ -1,5 +1,5 @@
 -- The tokens that are written for a value.
-use Rattle.std.proofs.Common.{◌≡◌, ◌≤◌, ◌+◌, ℕ, ℤ, pos, negsuc, suc, List, [], ◌∷◌, ◌++◌, true, false, Bool, Option, Some, None, Float, refl, sym, ap, ap₂, ◌∙◌, subst, arith, append_assoc, append-nil, int_lt, SFits, w64, decimal, option_map, option_and_then, string_bytes}
+use Rattle.std.proofs.Common.{◌≡◌, ◌≤◌, ℕ, ℤ, pos, negsuc, List, [], ◌∷◌, ◌++◌, true, false, Bool, Some, None, Float, refl, sym, ap, ap₂, ◌∙◌, subst, arith, append_assoc, append-nil, int_lt, SFits, w64, option_map, option_and_then, string_bytes}
 use Rattle.std.specs.Float.{float_is_finite}
 use Rattle.std.specs.Fmt.{signed_decimal}
 use Rattle.std.specs.List.Sorted.{IsStrictlySortedBy}
@@ -11,17 +11,17 @@ use Rattle.json.specs.Print.{print}
 use Rattle.json.specs.Token.{Token}
 use Rattle.json.specs.Tree as tree
 use Rattle.json.proofs.Printed.Trees.{value-json_tokens}
-use Rattle.serde_json.specs.Data.{Num, Data, Items, Members, put, depth, items_depth, members_depth}
+use Rattle.serde_json.specs.Data.{Num, Data, Items, Members, put, depth, members_depth}
 use Rattle.serde_json.specs.Find.{as_u64, as_i64, to_float}
 use Rattle.serde_json.specs.Number.{num_of, is_valid}
-use Rattle.serde_json.specs.Read.{number_of, of_json, of_items, of_members, read, max_depth}
-use Rattle.serde_json.specs.Written.{has_float, compact_text, number_text, unless_float, outline, items_outline, members_outline, blank, blank_items, blank_members, WritesValue, WritesItems, WritesMembers}
+use Rattle.serde_json.specs.Read.{number_of, of_items, of_members, read, max_depth}
+use Rattle.serde_json.specs.Written.{has_float, compact_text, number_text, unless_float, outline, members_outline, blank_members, WritesValue, WritesItems, WritesMembers}
 use Rattle.serde_json.specs.View.{number_view}
 use Rattle.serde_json.specs.declared.number.Number.{Number}
 use Rattle.serde_json.specs.declared.number.N.{N}
 use Rattle.serde_json.specs.declared.number.N.TheVariants.{PosInt, NegInt, Float as Real}
-use Rattle.serde_json.proofs.Numbers.{number_of-decimal, number_of-negative}
-use Rattle.serde_json.proofs.Texts.{tokens_from_order, print-outline, unless_float-number_of}
+use Rattle.serde_json.proofs.Numbers.{number_of-negative}
+use Rattle.serde_json.proofs.Texts.{tokens_from_order, print-outline}
 use Rattle.jer_rules.specs.Json.{data_of, items_data, entries_data}
 use Rattle.jer_rules.specs.declared.jer.tree.Json.{Json}
 use Rattle.jer_rules.proofs.Members.{Entry, next-put}

@@ -42,12 +42,13 @@ impl Decoder {
             × (pending_of d ≡ Some (Tree.json t) ∷ [])) }
         ensures refused { IfErr result (λ e. NoTree input.now (error_stop e)) }
     {
-        let value = match read_text(alloc, input) {
-            Ok(value) => value,
+        let (value, floats) = match read_text(alloc, input) {
+            Ok(found) => found,
             Err(Unread::NoJson) => return Err(no_json(alloc)),
             Err(Unread::OutOfMemory) => return Err(DecodeError::out_of_memory(Codec::Jer)),
         };
-        if holds_float(&value) {
+        // A float that another value of its name has replaced is none.
+        if floats && holds_float(&value) {
             return Err(DecodeError::real_not_supported(Codec::Jer));
         }
         Decoder::of(alloc, value)

@@ -5,7 +5,7 @@ use Rattle.serde_json.specs.Data.{put}
 use Rattle.serde_json.specs.View.{view, members_view}
 use Rattle.serde_json.specs.declared.value.Value.{Value}
 use Rattle.serde_json.proofs.Views.{put_last}
-use Rattle.jer_rules.specs.Json.{data_of, object_data}
+use Rattle.jer_rules.specs.Json.{object_data}
 use Rattle.jer_rules.proofs.jer.convert.+json_of.Goals as goal
 
 pub object_of-loop-name-init : goal.object_of-loop-name-init

@@ -1,4 +1,3 @@
-use Rattle.std.proofs.Common.{sym}
 use Rattle.jer_rules.specs.Payload.{NoPayload}
 use Rattle.jer_rules.proofs.Choosing.{payload_lost, payload_found}
 use Rattle.jer_rules.proofs.jer.parts.into_payload.Goals as goal

@@ -5,8 +5,9 @@ use Rattle.json.specs.Token.{Token}
 use Rattle.json.proofs.Grammar.{value_is, value-begin_array, value-begin_object, read_key-shorter}
 use Rattle.serde_json.specs.Data.{Data, put}
 use Rattle.serde_json.specs.Read.{of_json, of_items, of_members, converted}
-use Rattle.serde_json.specs.View.{number_view}
+use Rattle.serde_json.specs.Written.{has_float, items_have_float, members_have_float}
 use Rattle.jer_rules.specs.Json.{data_of, items_data, object_data}
+use Rattle.jer_rules.proofs.Floats.{item-false, put-false}
 use Rattle.jer_rules.proofs.Reading.{array_read, object_read, item_read, item_refused, items_over, member_read, member_refused, name_refused, members_over, items_before, items_before-all, one_more, none_before}
 use Rattle.jer_rules.proofs.Views.{data-Null, data-Bool, data-Number, data-Text, data-List}
 use Rattle.jer_rules.proofs.jer.read.+read.Goals as goal
@@ -52,7 +53,7 @@ read_value-returns-then-depth-eq0-clause-refused t c refused =
 pub read_value-returns-in_err-read_items-in-BeginArray-clause-refused : goal.read_value-returns-in_err-read_items-in-BeginArray-clause-refused
 read_value-returns-in_err-read_items-in-BeginArray-clause-refused t c refused =
     let first : c.args.reader.now ≡ Token.begin_array ∷ c.next.new.self = grind arith in
-    ap (converted of_json) (ap (value c.args.depth) first ∙ value-begin_array c.args.depth c.next.new.self (omega arith)) 
+    ap (converted of_json) (ap (value c.args.depth) first ∙ value-begin_array c.args.depth c.next.new.self (omega arith))
     ∙ array_read (items (value (c.args.depth - 1)) (length c.next.new.self) c.next.new.self)
     ∙ ap (parse_map Data.array) (c.read_items.ensures.refused (grind arith))
 
@@ -94,10 +95,29 @@ read_value-returns-in-EndArray-clause-refused t c refused =
     let none : value c.args.depth c.args.reader.now ≡ None = rw (value_is c.args.depth c.args.reader.now, first) (grind arith) in
     ap (converted of_json) none
 
+pub read_value-returns-in-Null-clause-whole : goal.read_value-returns-in-Null-clause-whole
+read_value-returns-in-Null-clause-whole t c = λ h. (h, ap has_float data-Null)
+
+pub read_value-returns-in-Bool-clause-whole : goal.read_value-returns-in-Bool-clause-whole
+read_value-returns-in-Bool-clause-whole t c = λ h. (h, ap has_float (data-Bool c.in-Bool.flag))
+
+pub read_value-returns-in_ok-from_str-in-String-clause-whole : goal.read_value-returns-in_ok-from_str-in-String-clause-whole
+read_value-returns-in_ok-from_str-in-String-clause-whole t c = λ h. (h, ap has_float (data-Text c.in_ok-from_str-in-String.field-0))
+
+pub read_value-returns-in_ok-read_items-in-BeginArray-clause-whole : goal.read_value-returns-in_ok-read_items-in-BeginArray-clause-whole
+read_value-returns-in_ok-read_items-in-BeginArray-clause-whole t c =
+    let found = c.in_ok-read_items-in-BeginArray in
+    λ h. let all = found.ensures.whole h in (all.0, ap has_float (data-List found.field-0) ∙ all.1)
+
+pub read_value-returns-in_ok-into_json-in-BeginObject-clause-whole : goal.read_value-returns-in_ok-into_json-in-BeginObject-clause-whole
+read_value-returns-in_ok-into_json-in-BeginObject-clause-whole t c = λ h.
+    let all = c.in_ok-read_members-in-BeginObject.ensures.whole h in
+    (all.0, ap has_float c.in_ok-into_json-in-BeginObject.ensures ∙ all.1)
+
 pub read_items-items-init : goal.read_items-items-init
 read_items-items-init t c =
     let all = converted of_items (items (value c.args.depth) (length c.args.reader.now) c.args.reader.now) in
-    (length c.args.reader.now, omega arith, none_before all ∙ ap (λ vs. parse_map (items_before vs) all) (sym c.new-found.ensures.items), omega arith)
+    (length c.args.reader.now, omega arith, none_before all ∙ ap (λ vs. parse_map (items_before vs) all) (sym c.new-found.ensures.items), omega arith, λ h. (h, ap (λ vs. items_have_float (items_data vs)) c.new-found.ensures.items))
 
 pub read_items-returns-in_err-item-clause-refused : goal.read_items-returns-in_err-item-clause-refused
 read_items-returns-in_err-item-clause-refused t c refused =
@@ -121,7 +141,14 @@ read_items-items-preserved t c =
       l.invariant.2 ∙ ap (parse_map (items_before l.found.items)) turn ∙ one_more l.found.items v _
           ∙ ap (λ vs. parse_map (items_before vs) (converted of_items (items p (n - 1) r))) (sym c.in_ok-add.ensures),
       omega (arith, l.invariant.3),
+      λ h.
+          let here = c.in_ok-item.ensures.whole h in
+          let before = l.invariant.4 here.0 in
+          (before.0, ap (λ vs. items_have_float (items_data vs)) c.in_ok-add.ensures ∙ item-false l.found.items v before.1 here.1),
     )
+
+pub read_items-returns-clause-whole : goal.read_items-returns-clause-whole
+read_items-returns-clause-whole t c = λ h. let all = c.items.invariant.4 h in (all.0, ap (λ vs. items_have_float (items_data vs)) c.shrink_to_fit.ensures.items ∙ all.1)
 
 pub read_items-returns-clause-ok : goal.read_items-returns-clause-ok
 read_items-returns-clause-ok t c =
@@ -164,6 +191,10 @@ read_members-members-preserved t c =
       l.invariant.2 ∙ member_read p old n k l.reader s r (data_of v) (omega (arith, l.invariant.1)) named c.in_ok-member.ensures.ok
           ∙ ap (λ ms. converted (λ x. of_members x ms) (members p (n - 1) r)) (sym found),
       omega (arith, l.invariant.3),
+      λ h.
+          let here = c.in_ok-member.ensures.whole h in
+          let before = l.invariant.4 here.0 in
+          (before.0, ap members_have_float found ∙ put-false k (data_of v) old here.1 before.1),
     )
 
 pub read_members-returns-clause-ok : goal.read_members-returns-clause-ok

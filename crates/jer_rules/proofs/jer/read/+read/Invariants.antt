@@ -2,7 +2,9 @@ use Rattle.std.proofs.Common.{◌≡◌, ℕ, ◌+◌, ◌*◌, ◌≤◌, lengt
 use Rattle.json.specs.Json.{items, members, value, parse_map}
 use Rattle.serde_json.specs.Data.{Members}
 use Rattle.serde_json.specs.Read.{of_items, of_members, converted}
-use Rattle.jer_rules.specs.Json.{object_data}
+use Rattle.serde_json.specs.Written.{items_have_float, members_have_float}
+use Rattle.jer_rules.specs.Json.{items_data, object_data}
+use Rattle.jer_rules.specs.Numbers.{WithoutFloats}
 use Rattle.jer_rules.proofs.Reading.{items_before}
 use Rattle.jer_rules.proofs.jer.read.+read.Given as goal
 
@@ -21,6 +23,7 @@ invariant-read_items-items l =
     (n : ℕ) × (length l.reader ≤ n)
     × (converted of_items (items (value l.depth) (length l.initial.reader) l.initial.reader) ≡ parse_map (items_before l.found.items) (converted of_items (items (value l.depth) n l.reader)))
     × (length l.reader ≤ length l.initial.reader)
+    × WithoutFloats l.initial.floats l.floats (items_have_float (items_data l.found.items))
 
 abbrev pub decreases-read_items-items : goal.decreases-read_items-items
 decreases-read_items-items l = length l.reader
@@ -31,6 +34,7 @@ invariant-read_members-members l =
     (n : ℕ) × (length l.reader ≤ n)
     × (converted (λ ms. of_members ms Members.no_members) (members (value l.depth) (length l.initial.reader) l.initial.reader) ≡ converted (λ ms. of_members ms (object_data l.found)) (members (value l.depth) n l.reader))
     × (length l.reader ≤ length l.initial.reader)
+    × WithoutFloats l.initial.floats l.floats (members_have_float (object_data l.found))
 
 abbrev pub decreases-read_members-members : goal.decreases-read_members-members
 decreases-read_members-members l = length l.reader

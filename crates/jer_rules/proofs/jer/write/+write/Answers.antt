@@ -1,13 +1,10 @@
 use Rattle.std.proofs.Common.{◌≡◌, ◌+◌, [], ◌∷◌, ◌++◌, drop, string_bytes, sym, ap, ◌∙◌, subst, arith, rules, append_assoc, append-nil}
 use Rattle.std.proofs.lemmas.List.{drop_more, drop_all}
 use Rattle.std.proofs.lemmas.Result.{on_ok_weaker}
-use Rattle.std.specs.List.Sorted.{IsStrictlySortedBy}
-use Rattle.std.specs.Map.{keys_of}
-use Rattle.std.specs.String.{string_cmp}
 use Rattle.json.specs.Token.{begin_array, begin_object, key}
 use Rattle.serde_json.specs.Data.{Data}
-use Rattle.serde_json.specs.Written.{WritesItems, WritesMembers}
-use Rattle.jer_rules.specs.Json.{data_of, items_data, entries_data}
+use Rattle.serde_json.specs.Written.{WritesItems}
+use Rattle.jer_rules.specs.Json.{data_of, items_data}
 use Rattle.jer_rules.proofs.Members.{Entry}
 use Rattle.jer_rules.proofs.Views.{data-Null, data-Bool, data-Number, data-Text, data-List, data-Member, data-Members}
 use Rattle.jer_rules.proofs.Writing.{ItemsGoOn, EntriesGoOn, null_written, boolean_written, number_written, string_written, array_written, object_written, member_written, item_written, items_written, entry_written, entries_written}

@@ -1,5 +1,5 @@
 use Rattle.std.proofs.Common.{subst, sym, string_bytes}
-use Rattle.jer_rules.specs.Json.{data_of, object_data, entries_data}
+use Rattle.jer_rules.specs.Json.{data_of, object_data}
 use Rattle.jer_rules.specs.Payload.{First}
 use Rattle.jer_rules.proofs.Members.{first-entry}
 use Rattle.jer_rules.proofs.jer.objects.Object.into_first.Goals as goal

@@ -1,6 +1,5 @@
 use Rattle.std.proofs.Common.{sym, ap, ◌∙◌, string_bytes}
 use Rattle.std.specs.Prelude.{option_map}
-use Rattle.std.specs.Str.{bytes_eq}
 use Rattle.serde_json.specs.Find.{get_member}
 use Rattle.asn_slots.proofs.Names.{other_bytes}
 use Rattle.jer_rules.specs.Json.{data_of, object_data}

@@ -6,7 +6,7 @@ use std::alloc::Global;
 use std::test::Fail;
 
 // The type, the text, and the canonical text or the refusal.
-const ROWS: [(&'static str, &'static str, &'static str); 14] = [
+const ROWS: [(&'static str, &'static str, &'static str); 19] = [
     ("bool", " true\n", "true"),
     (
         "bool",
@@ -42,6 +42,31 @@ const ROWS: [(&'static str, &'static str, &'static str); 14] = [
         "text",
         "{\"b\": 1, \"a\": [ ]}",
         "refused: JER decoding error: Found mismatching JSON value. Expected type: string. Found value: {\"a\":[],\"b\":1} (Codec: JER)",
+    ),
+    (
+        "text",
+        "{\"b\": [ ]}",
+        "refused: JER decoding error: Found mismatching JSON value. Expected type: string. Found value: {\"b\":[]} (Codec: JER)",
+    ),
+    (
+        "u8",
+        "{\"a\":1.5,\"a\":2}",
+        "refused: JER decoding error: Found mismatching JSON value. Expected type: number (supported range -2^63..2^64). Found value: {\"a\":2} (Codec: JER)",
+    ),
+    (
+        "u8",
+        "{\"a\":2,\"a\":1.5}",
+        "refused: Decoder doesn't support `REAL` type (Codec: JER)",
+    ),
+    (
+        "u8",
+        "-0",
+        "refused: Decoder doesn't support `REAL` type (Codec: JER)",
+    ),
+    (
+        "text",
+        "{\"b\":{\"c\":1e400}}",
+        "refused: Error in Parser: Error parsing JER JSON (Codec: JER)",
     ),
     ("list", "[ 1, 2 ]", "[1,2]"),
     (

@@ -15,7 +15,7 @@ use std::alloc::Global;
 use std::test::Fail;
 
 // The request with its text, and what is written for it without the last line feed.
-const ROWS: [(&'static str, Status, &'static str); 35] = [
+const ROWS: [(&'static str, Status, &'static str); 38] = [
     ("jer avn Null\nnull", Status::Done, "NULL"),
     ("avn jer Null\nNULL", Status::Done, "null"),
     (
@@ -27,6 +27,11 @@ const ROWS: [(&'static str, Status, &'static str); 35] = [
         "jer avn Renamed\n{\"re_named\":true,\"so-very\":-1,\"x\":[1]}",
         Status::Done,
         "{\n  so-very -1,\n  re_named TRUE\n}",
+    ),
+    (
+        "jer jer Renamed\n{\"so-very\":1,\"so-very\":2}",
+        Status::Done,
+        "{\"so-very\":2}",
     ),
     (
         "avn jer Renamed\n{ so-very 1, so-very 2 }",
@@ -116,6 +121,16 @@ const ROWS: [(&'static str, Status, &'static str); 35] = [
         "jer jer SimpleChoice\n{\"Test1\":3,\"Aaa\":1}",
         Status::Refused,
         "refused: No valid choice for `SimpleChoice` (Codec: JER)",
+    ),
+    (
+        "jer jer SimpleChoice\n{\"Test1\":1,\"Test1\":3}",
+        Status::Done,
+        "{\"Test1\":3}",
+    ),
+    (
+        "jer jer SimpleChoice\n{\"Test2\":\"x\",\"Test1\":3}",
+        Status::Done,
+        "{\"Test1\":3}",
     ),
     (
         "jer jer SimpleChoice\n{}",

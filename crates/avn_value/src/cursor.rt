@@ -12,6 +12,7 @@ use asn_base::{OutOfMemory, Scan};
 use avn_grammar::chars::{Lead, lead_of};
 use std::alloc::{AllocError, Global};
 use std::marker::Model;
+use std::mem;
 
 /// The octets of a character.
 #[inline(always)]
@@ -96,6 +97,29 @@ impl<'a> Cursor<'a> {
             place: 0,
             next,
         }
+    }
+
+    /// At the end of an empty text.
+    #[inline(always)]
+    fn nowhere() -> Cursor<'a> {
+        let scan = Scan::new("");
+        scan.has_edge_at_start();
+        Cursor {
+            scan,
+            kept: None,
+            mark: 0,
+            place: 0,
+            next: 0,
+        }
+    }
+
+    /// The cursor itself, which leaves one of an empty text. A loop over a cursor that it owns keeps
+    /// the cursor's parts in registers.
+    #[inline(always)]
+    pub fn lift(&mut self) -> Cursor<'a>
+        ensures { result ≡ self.old }
+    {
+        mem::replace(self, Cursor::nowhere())
     }
 
     /// The scan, with its count.
@@ -198,7 +222,6 @@ impl<'a> Cursor<'a> {
 
     /// Past the longest run ahead, which goes to the end of `out`.
     #[inline(always)]
-    #[tactic(auto, using(avn_grammar::proofs::Runs::runs))]
     pub fn take_run(&mut self, run: Run, out: &mut String) -> Result<(), AllocError>
         requires { self.old.ahead ≡ self.old.rest }
         ensures same { self.new.text ≡ self.old.text }
@@ -210,10 +233,32 @@ impl<'a> Cursor<'a> {
         ensures found { OnOk result (string_bytes out.new
             ≡ string_bytes out.old ++ encode_utf8_all (front (passes run) self.old.rest)) }
     {
-        while let Some(c) = self.take_if(run) {
-            out.push(c)?;
+        let (here, taken) = self.lift().after_run(run, out);
+        *self = here;
+        taken
+    }
+
+    /// Past the longest run ahead, which goes to the end of `out`.
+    #[inline(always)]
+    #[tactic(auto, using(avn_grammar::proofs::Runs::runs))]
+    fn after_run(self, run: Run, out: &mut String) -> (Cursor<'a>, Result<(), AllocError>)
+        requires { self.ahead ≡ self.rest }
+        ensures same { result.0.text ≡ self.entry.text }
+        ensures rises { self.entry.looks ≤ result.0.looks }
+        ensures cost { Costs self.entry result.0 }
+        ensures together { result.0.ahead ≡ result.0.rest }
+        ensures shorter { length result.0.rest ≤ length self.entry.rest }
+        ensures moves { OnOk result.1 (result.0.rest ≡ past (passes run) self.entry.rest) }
+        ensures found { OnOk result.1 (string_bytes out.new
+            ≡ string_bytes out.old ++ encode_utf8_all (front (passes run) self.entry.rest)) }
+    {
+        let mut here = self;
+        while let Some(c) = here.take_if(run) {
+            if out.push(c).is_err() {
+                return (here, Err(AllocError));
+            }
         }
-        Ok(())
+        (here, Ok(()))
     }
 
     /// Past the characters ahead up to an apostrophe or the end. Those that are no white space go

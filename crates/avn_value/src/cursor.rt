@@ -53,11 +53,11 @@ pub struct Cursor<'a> {
     kept: Option<char>,
     mark: usize,
     place: usize,
-    next: usize,
 }
 
 impl<'a> Model for Cursor<'a> {
-    ghost use Rattle.std.specs.Prelude.{◌≡◌, ◌∷◌, [], MatchOption};
+    ghost use Rattle.std.specs.Prelude.{◌≡◌, ◌<◌, ◌+◌, ◌^◌, ◌∷◌, [], MatchOption, length};
+    ghost use Rattle.std.specs.Char.{len_utf8};
     ghost use Rattle.std.specs.Str.{IsCharBoundary};
     ghost use Rattle.avn_value.specs.Ahead.{Ahead, ahead_code};
     ghost use Rattle.avn_grammar.specs.Chars.{skip};
@@ -69,8 +69,8 @@ impl<'a> Model for Cursor<'a> {
 
     ghost view = { λ s. record { text = s.scan.text; rest = after s.scan.text s.mark; ahead = after s.scan.text s.place; looks = s.scan.looks } };
 
-    ghost invariant = { λ s. IsCharBoundary s.scan.text s.mark × IsCharBoundary s.scan.text s.place × IsCharBoundary s.scan.text s.next
-        × MatchOption s.kept (after s.scan.text s.place ≡ []) (λ c. after s.scan.text s.place ≡ c ∷ after s.scan.text s.next)
+    ghost invariant = { λ s. IsCharBoundary s.scan.text s.mark × IsCharBoundary s.scan.text s.place × (length s.scan.text < 2 ^ 64)
+        × MatchOption s.kept (after s.scan.text s.place ≡ []) (λ c. IsCharBoundary s.scan.text (s.place + len_utf8 c) × (after s.scan.text s.place ≡ c ∷ after s.scan.text (s.place + len_utf8 c)))
         × (skip (after s.scan.text s.mark) ≡ skip (after s.scan.text s.place)) };
 }
 
@@ -86,16 +86,11 @@ impl<'a> Cursor<'a> {
         scan.has_edge_at_start();
         let mut scan = scan;
         let kept = scan.look(0);
-        let next = match kept {
-            Some(c) => width(c),
-            None => 0,
-        };
         Cursor {
             scan,
             kept,
             mark: 0,
             place: 0,
-            next,
         }
     }
 
@@ -109,7 +104,6 @@ impl<'a> Cursor<'a> {
             kept: None,
             mark: 0,
             place: 0,
-            next: 0,
         }
     }
 
@@ -144,15 +138,11 @@ impl<'a> Cursor<'a> {
             (λ c. self.old.rest ≡ c ∷ self.new.rest) }
     {
         let found = self.kept;
-        if found.is_some() {
-            let place = self.next;
+        if let Some(c) = found {
+            let place = self.place + width(c);
             self.mark = place;
             self.place = place;
-            let kept = self.scan.look(place);
-            self.kept = kept;
-            if let Some(c) = kept {
-                self.next = place + width(c);
-            }
+            self.kept = self.scan.look(place);
         }
         found
     }
@@ -171,6 +161,17 @@ impl<'a> Cursor<'a> {
     {
         let c = self.kept?;
         if passes(run, c) { self.take() } else { None }
+    }
+
+    /// The character ahead, if it belongs to the run.
+    #[inline(always)]
+    pub fn peek_if(&self, run: Run) -> Option<char>
+        requires { self.now.ahead ≡ self.now.rest }
+        ensures { MatchOption result (begins (passes run) self.now.rest ≡ false)
+            (λ c. (passes run c ≡ true) × (self.now.rest ≡ c ∷ tail self.now.rest)) }
+    {
+        let c = self.kept?;
+        if passes(run, c) { Some(c) } else { None }
     }
 
     /// What is ahead.
@@ -253,10 +254,11 @@ impl<'a> Cursor<'a> {
             ≡ string_bytes out.old ++ encode_utf8_all (front (passes run) self.entry.rest)) }
     {
         let mut here = self;
-        while let Some(c) = here.take_if(run) {
+        while let Some(c) = here.peek_if(run) {
             if out.push(c).is_err() {
                 return (here, Err(AllocError));
             }
+            let _c = here.take();
         }
         (here, Ok(()))
     }
@@ -292,7 +294,7 @@ impl<'a> Cursor<'a> {
         ensures found { result ≡ has_fraction self.old.rest }
     {
         match self.kept {
-            Some('.') => match self.scan.look(self.next) {
+            Some('.') => match self.scan.look(self.place + 1) {
                 Some(c) => passes(Run::Digits, c),
                 None => false,
             },
@@ -309,13 +311,9 @@ impl<'a> Cursor<'a> {
         ensures rest { self.new.rest ≡ after self.old.text place }
         ensures together { self.new.ahead ≡ self.new.rest }
     {
-        let kept = self.scan.look(place);
+        self.kept = self.scan.look(place);
         self.mark = place;
         self.place = place;
-        self.kept = kept;
-        if let Some(c) = kept {
-            self.next = place + width(c);
-        }
     }
 
     /// Back at the mark.

@@ -1,8 +1,8 @@
 -- Texts in quotes.
 use Rattle.std.specs.Prelude.{not, is_some}
-use Rattle.std.proofs.Common.{Option, Some, None, MatchOption, ◌≡◌, ◌≢◌, inl, inr, ℕ, List, [], ◌∷◌, ◌++◌, Bool, true, false, cond, ◌==◌, refl, sym, ap, subst, ◌∙◌, append_assoc, ◌+◌, ◌≤◌, length, length-append, arith}
+use Rattle.std.proofs.Common.{Option, Some, None, MatchOption, ◌≡◌, ◌≢◌, inl, inr, ℕ, List, [], ◌∷◌, ◌++◌, Bool, true, false, cond, ◌==◌, refl, sym, ap, subst, ◌∙◌, append_assoc, ◌+◌, ◌≤◌, ◌<◌, take, set, length, length-append, arith}
 use Rattle.std.proofs.lemmas.Bool.{cases_Bool, eqb-true, eq-eqb, false_from_ne_true}
-use Rattle.std.proofs.lemmas.List.{append-nil}
+use Rattle.std.proofs.lemmas.List.{append-nil, take_more_set}
 use Rattle.std.proofs.lemmas.Str.{encodes-append, encodes-IsAscii}
 use Rattle.std.specs.Char.{encode_utf8, is_ascii}
 use Rattle.std.specs.Str.{IsAscii}
@@ -117,3 +117,7 @@ pub wide_other : (u v : List ℕ) (c : ℕ) → begins is_ascii u ≡ false → 
 wide_other u v c h e =
     let wide : is_ascii c ≡ false = ap (begins is_ascii) (sym e) ∙ h in
     false_from_ne_true (c == 34) (λ q. let n : ⊥ = cc (ap is_ascii (eqb-true c 34 q)) in n)
+
+-- A character that is written after those of a chunk.
+pub written_more : (u r room : List ℕ) (n x : ℕ) → n < length room → u ≡ (34 ∷ doubled (take n room ++ (x ∷ []))) ++ r → u ≡ (34 ∷ doubled (take (n + 1) (set room n x))) ++ r
+written_more u r room n x h e = e ∙ ap (λ t. (34 ∷ doubled t) ++ r) (sym (take_more_set room n x h))

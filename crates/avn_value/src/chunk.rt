@@ -18,6 +18,32 @@ pub struct Chunk {
     pub closed: bool,
 }
 
+impl Chunk {
+    /// So many characters, after which the text goes on.
+    #[inline(always)]
+    fn unfinished(length: usize) -> Chunk
+        ensures length { result.length ≡ length }
+        ensures closed { result.closed ≡ false }
+    {
+        Chunk {
+            length,
+            closed: false,
+        }
+    }
+
+    /// So many characters, after which the text ends.
+    #[inline(always)]
+    fn last(length: usize) -> Chunk
+        ensures length { result.length ≡ length }
+        ensures closed { result.closed ≡ true }
+    {
+        Chunk {
+            length,
+            closed: true,
+        }
+    }
+}
+
 /// Takes characters of a text past its first quote to the beginning of `room`, one for each pair of
 /// quotes: up to the quote that ends the text, which it takes too, or else as many as there is room
 /// for or up to one that is not ASCII.
@@ -56,37 +82,26 @@ fn after_chunk<'a>(cursor: Cursor<'a>, room: &mut [u8; CHUNK]) -> (Cursor<'a>, C
 {
     let mut here = cursor;
     let mut length = 0;
-    'taking: while length < CHUNK {
-        let Some(c) = here.peek_if(Run::Ascii) else {
-            return (
-                here,
-                Chunk {
-                    length,
-                    closed: false,
-                },
-            );
-        };
+    let Some(first) = here.peek_if(Run::Ascii) else {
+        return (here, Chunk::unfinished(0));
+    };
+    let mut c = first;
+    'taking: loop {
         if c == '"' {
             let _quote = here.take();
             if here.peek_if(Run::Quotes).is_none() {
-                return (
-                    here,
-                    Chunk {
-                        length,
-                        closed: true,
-                    },
-                );
+                return (here, Chunk::last(length));
             }
         }
         room[length] = c as u8;
         length += 1;
-        let _c = here.take();
+        let _taken = here.take();
+        let Some(next) = here.peek_if(Run::Ascii) else {
+            return (here, Chunk::unfinished(length));
+        };
+        if length == CHUNK {
+            return (here, Chunk::unfinished(length));
+        }
+        c = next;
     }
-    (
-        here,
-        Chunk {
-            length,
-            closed: false,
-        },
-    )
 }

@@ -95,8 +95,7 @@ fn after_chunk<'a>(cursor: Cursor<'a>, room: &mut [u8; CHUNK]) -> (Cursor<'a>, C
         }
         room[length] = c as u8;
         length += 1;
-        let _taken = here.take();
-        let Some(next) = here.peek_if(Run::Ascii) else {
+        let Some(next) = here.next_ascii() else {
             return (here, Chunk::unfinished(length));
         };
         if length == CHUNK {

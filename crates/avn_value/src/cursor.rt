@@ -1,7 +1,7 @@
 // A place in a scan, and the character there.
 ghost use Rattle.std.specs.Prelude.{◌≡◌, ◌≢◌, ◌+◌, ◌≤◌, ◌∷◌, [], true, false, length, MatchOption, OnOk, string_bytes, ◌++◌, ◌*◌, ◌<◌, IfOk, take};
 ghost use Rattle.std.specs.Str.{encode_utf8_all, chars, IsCharBoundary};
-ghost use Rattle.std.specs.Char.{len_utf8, is_whitespace};
+ghost use Rattle.std.specs.Char.{len_utf8, is_whitespace, is_ascii};
 ghost use Rattle.asn_base.specs.Seen.{after};
 ghost use Rattle.avn_grammar.specs.Chars.{lead, tail, skip, begins, front, past, has_fraction, is_name, inside, solid};
 ghost use Rattle.avn_value.specs.Ahead.{Costs};
@@ -27,6 +27,7 @@ fn width(c: char) -> usize
 
 /// The octets of any character. It stands apart, so that a branch and no arithmetic leads to the
 /// next place.
+#[cold]
 #[inline(never)]
 fn wide_width(c: char) -> usize
     ensures { result ≡ len_utf8 c }
@@ -170,8 +171,35 @@ impl<'a> Cursor<'a> {
         ensures { MatchOption result (begins (passes run) self.now.rest ≡ false)
             (λ c. (passes run c ≡ true) × (self.now.rest ≡ c ∷ tail self.now.rest)) }
     {
-        let c = self.kept?;
-        if passes(run, c) { Some(c) } else { None }
+        let kept = self.kept;
+        match kept {
+            Some(c) if passes(run, c) => Some(c),
+            _ => None,
+        }
+    }
+
+    /// Past the ASCII character ahead, and the next one, if it is ASCII too.
+    #[inline(always)]
+    pub fn next_ascii(&mut self) -> Option<char>
+        requires together { self.old.ahead ≡ self.old.rest }
+        requires ascii { begins is_ascii self.old.rest ≡ true }
+        ensures same { self.new.text ≡ self.old.text }
+        ensures rises { self.old.looks ≤ self.new.looks }
+        ensures cost { Costs self.old self.new }
+        ensures together { self.new.ahead ≡ self.new.rest }
+        ensures moves { self.new.rest ≡ tail self.old.rest }
+        ensures found { MatchOption result (begins is_ascii self.new.rest ≡ false)
+            (λ c. (is_ascii c ≡ true) × (self.new.rest ≡ c ∷ tail self.new.rest)) }
+    {
+        let place = self.place + 1;
+        self.mark = place;
+        self.place = place;
+        let kept = self.scan.look(place);
+        self.kept = kept;
+        match kept {
+            Some(c) if c.is_ascii() => Some(c),
+            _ => None,
+        }
     }
 
     /// What is ahead.
@@ -239,7 +267,7 @@ impl<'a> Cursor<'a> {
         taken
     }
 
-    /// Past the longest run ahead, which goes to the end of `out`.
+    /// What `take_run` does, over a cursor that is moved in and out.
     #[inline(always)]
     #[tactic(auto, using(avn_grammar::proofs::Runs::runs))]
     fn after_run(self, run: Run, out: &mut String) -> (Cursor<'a>, Result<(), AllocError>)
@@ -265,7 +293,6 @@ impl<'a> Cursor<'a> {
 
     /// Past the characters ahead up to an apostrophe or the end. Those that are no white space go
     /// to the end of `out`.
-    #[tactic(auto, using(crate::proofs::Looking::insides))]
     pub fn take_inside(&mut self, out: &mut Vec<char>) -> Result<(), AllocError>
         requires { self.old.ahead ≡ self.old.rest }
         ensures same { self.new.text ≡ self.old.text }
@@ -275,10 +302,33 @@ impl<'a> Cursor<'a> {
         ensures moves { OnOk result (self.new.rest ≡ past inside self.old.rest) }
         ensures found { OnOk result (out.new.items ≡ out.old.items ++ solid (front inside self.old.rest)) }
     {
-        while let Some(c) = self.take_if(Run::Inside) {
-            push_solid(c, out)?;
+        let (here, taken) = self.lift().after_inside(out);
+        *self = here;
+        taken
+    }
+
+    /// What `take_inside` does, over a cursor that is moved in and out.
+    #[inline(always)]
+    #[tactic(auto, using(crate::proofs::Looking::insides))]
+    fn after_inside(self, out: &mut Vec<char>) -> (Cursor<'a>, Result<(), AllocError>)
+        requires { self.ahead ≡ self.rest }
+        ensures same { result.0.text ≡ self.entry.text }
+        ensures rises { self.entry.looks ≤ result.0.looks }
+        ensures cost { Costs self.entry result.0 }
+        ensures together { result.0.ahead ≡ result.0.rest }
+        ensures moves { OnOk result.1 (result.0.rest ≡ past inside self.entry.rest) }
+        ensures found { OnOk result.1 (out.new.items ≡ out.old.items ++ solid (front inside self.entry.rest)) }
+    {
+        let mut here = self;
+        while let Some(c) = here.peek_if(Run::Inside) {
+            match push_solid(c, out) {
+                Ok(()) => {
+                    let _c = here.take();
+                }
+                Err(refused) => return (here, Err(refused)),
+            }
         }
-        Ok(())
+        (here, Ok(()))
     }
 
     /// A point and a digit are ahead.

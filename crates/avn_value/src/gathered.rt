@@ -6,7 +6,7 @@ ghost use Rattle.avn_value.specs.View.{tree_of};
 
 use crate::fault::Fault;
 use crate::value::AvnValue;
-use std::alloc::Global;
+use std::alloc::{AllocError, Global};
 
 /// An item of braces.
 #[derive(Drop)]
@@ -24,6 +24,19 @@ pub struct Gathered {
     fields: Vec<(String, Option<AvnValue>)>,
     list: Vec<AvnValue>,
     integers: bool,
+}
+
+/// Adds an item at the end. The first one takes room for itself alone, since many braces have no
+/// other. Its only error is want of memory.
+#[inline(always)]
+fn push_tight<T: Drop>(items: &mut Vec<T>, item: T) -> Result<(), AllocError>
+    ensures { OnOk result (items.new.items ≡ items.old.items ++ item ∷ []) }
+{
+    if items.is_empty() {
+        items.reserve_exact(1)?;
+    }
+    items.push(item)?;
+    Ok(())
 }
 
 impl Gathered {
@@ -49,12 +62,12 @@ impl Gathered {
         match entry {
             Entry::Named(name, value) => {
                 self.integers = false;
-                self.fields.push((name, Some(value)))?;
+                push_tight(&mut self.fields, (name, Some(value)))?;
                 Ok(())
             }
             Entry::Bare(value) => {
                 self.integers = self.integers && value.is_integer();
-                self.list.push(value)?;
+                push_tight(&mut self.list, value)?;
                 Ok(())
             }
         }
@@ -75,10 +88,14 @@ impl Gathered {
         ensures none { IfNone result ((items : List Item) (t : _) → Holds self items → IsGathered items t → ⊥) }
     {
         if self.fields.is_empty() {
-            return Some(AvnValue::SequenceOf(self.list));
+            let mut list = self.list;
+            list.shrink_to_fit();
+            return Some(AvnValue::SequenceOf(list));
         }
         if self.list.is_empty() {
-            return Some(AvnValue::Sequence(self.fields));
+            let mut fields = self.fields;
+            fields.shrink_to_fit();
+            return Some(AvnValue::Sequence(fields));
         }
         None
     }

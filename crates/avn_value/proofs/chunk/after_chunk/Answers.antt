@@ -5,7 +5,7 @@ use Rattle.std.proofs.lemmas.List.{take_more_set, length-set}
 use Rattle.std.proofs.lemmas.Str.Ascii.{IsAscii-push}
 use Rattle.std.specs.Char.{is_ascii}
 use Rattle.std.specs.Str.{IsAscii}
-use Rattle.avn_grammar.specs.Chars.{doubled, tail}
+use Rattle.avn_grammar.specs.Chars.{begins, doubled, tail}
 use Rattle.avn_value.specs.Ahead.{Costs}
 use Rattle.avn_value.proofs.QuotedText.{plain_more, quote_more, taken, written_more}
 use Rattle.avn_value.proofs.chunk.after_chunk.Goals as goal
@@ -32,11 +32,11 @@ returns-then-length-eq-CHUNK-clause-unclosed c = λ e.
           rw w.here-is (plain_more _ _ _ cs x i.taken (false_from_ne_true _ (λ h. ne (eqb-true _ _ h))) found.1)
     ] in
     let within : n < length room = omega (arith, i.room, i.within) in
-    written_more _ _ room n x within (more ∙ ap (λ t. (34 ∷ doubled (cs ++ (x ∷ []))) ++ t) (sym c.take-taken.ensures.moves))
-    ∙ ap (λ k. (34 ∷ doubled (take k (set room n x))) ++ c.take-taken.new.self.rest) (sym c.unfinished-then-length-eq-CHUNK.ensures.length)
+    written_more _ _ room n x within (more ∙ ap (λ t. (34 ∷ doubled (cs ++ (x ∷ []))) ++ t) (sym c.next_ascii.ensures.moves))
+    ∙ ap (λ k. (34 ∷ doubled (take k (set room n x))) ++ c.next_ascii.new.self.rest) (sym c.unfinished-then-length-eq-CHUNK.ensures.length)
 
-pub returns-in_default-peek_if-clause-unclosed : goal.returns-in_default-peek_if-clause-unclosed
-returns-in_default-peek_if-clause-unclosed c = λ e.
+pub returns-in_default-next_ascii-clause-unclosed : goal.returns-in_default-next_ascii-clause-unclosed
+returns-in_default-next_ascii-clause-unclosed c = λ e.
     let i = c.taking.invariant in
     let x = c.taking.c in
     let n = c.taking.length in
@@ -56,8 +56,8 @@ returns-in_default-peek_if-clause-unclosed c = λ e.
           rw w.here-is (plain_more _ _ _ cs x i.taken (false_from_ne_true _ (λ h. ne (eqb-true _ _ h))) found.1)
     ] in
     let within : n < length room = omega (arith, i.room, i.within) in
-    written_more _ _ room n x within (more ∙ ap (λ t. (34 ∷ doubled (cs ++ (x ∷ []))) ++ t) (sym c.take-taken.ensures.moves))
-    ∙ ap (λ k. (34 ∷ doubled (take k (set room n x))) ++ c.take-taken.new.self.rest) (sym c.unfinished-in_default-peek_if.ensures.length)
+    written_more _ _ room n x within (more ∙ ap (λ t. (34 ∷ doubled (cs ++ (x ∷ []))) ++ t) (sym c.next_ascii.ensures.moves))
+    ∙ ap (λ k. (34 ∷ doubled (take k (set room n x))) ++ c.next_ascii.new.self.rest) (sym c.unfinished-in_default-next_ascii.ensures.length)
 
 pub returns-then-length-eq-CHUNK-clause-ascii : goal.returns-then-length-eq-CHUNK-clause-ascii
 returns-then-length-eq-CHUNK-clause-ascii c =
@@ -96,13 +96,23 @@ taking-preserved c =
     ] in
     let grown : take (n + 1) (set room n x) ≡ cs ++ (x ∷ []) = take_more_set room n x within in
     record {
-      same = c.take-taken.ensures.same ∙ kept.0;
-      rises = omega (arith, kept.1, c.take-taken.ensures.rises);
-      cost = (omega (arith, kept.2.0, c.take-taken.ensures.cost.0), omega (arith, kept.2.1, c.take-taken.ensures.cost.1));
-      together = c.take-taken.ensures.together;
-      found = c.in-Some-peek_if.ensures;
+      same = c.next_ascii.ensures.same ∙ kept.0;
+      rises = omega (arith, kept.1, c.next_ascii.ensures.rises);
+      cost = (omega (arith, kept.2.0, c.next_ascii.ensures.cost.0), omega (arith, kept.2.1, c.next_ascii.ensures.cost.1));
+      together = c.next_ascii.ensures.together;
+      found = c.in-Some-next_ascii.ensures.found;
       room = length-set room n x ∙ i.room;
       within = omega (arith, i.within, c.if-length-eq-CHUNK.false);
       ascii = subst IsAscii (sym grown) (IsAscii-push cs x i.ascii (ltb-true x 128 found.0));
-      taken = written_more _ _ room n x within (more ∙ ap (λ t. (34 ∷ doubled (cs ++ (x ∷ []))) ++ t) (sym c.take-taken.ensures.moves));
+      taken = written_more _ _ room n x within (more ∙ ap (λ t. (34 ∷ doubled (cs ++ (x ∷ []))) ++ t) (sym c.next_ascii.ensures.moves));
     }
+
+pub next_ascii-requires-clause-ascii : goal.next_ascii-requires-clause-ascii
+next_ascii-requires-clause-ascii c =
+    let found = c.taking.invariant.found in
+    elim c.if-c-eq34.branch [
+      | then-c-eq34+else-is_none w ↦
+          let d = taken _ _ _ _ w.is_none.ensures w.if-is_none.false w.peek_if-then-c-eq34.ensures in
+          rw w.here-is (ap (begins is_ascii) d.1.1 ∙ ap is_ascii (eqb-true d.0 34 d.1.0))
+      | else-c-eq34 w ↦ rw w.here-is (ap (begins is_ascii) found.1 ∙ found.0)
+    ]

@@ -26,16 +26,14 @@ pub struct Gathered {
     integers: bool,
 }
 
-/// Adds an item at the end. The first one takes room for itself alone, since many braces have no
-/// other. Its only error is want of memory.
+/// Room for the first item alone, since many braces have no other. Its only error is want of memory.
 #[inline(always)]
-fn push_tight<T: Drop>(items: &mut Vec<T>, item: T) -> Result<(), AllocError>
-    ensures { OnOk result (items.new.items ≡ items.old.items ++ item ∷ []) }
+fn reserve_first<T>(items: &mut Vec<T>) -> Result<(), AllocError>
+    ensures { items.new.items ≡ items.old.items }
 {
     if items.is_empty() {
         items.reserve_exact(1)?;
     }
-    items.push(item)?;
     Ok(())
 }
 
@@ -62,12 +60,14 @@ impl Gathered {
         match entry {
             Entry::Named(name, value) => {
                 self.integers = false;
-                push_tight(&mut self.fields, (name, Some(value)))?;
+                reserve_first(&mut self.fields)?;
+                self.fields.push((name, Some(value)))?;
                 Ok(())
             }
             Entry::Bare(value) => {
                 self.integers = self.integers && value.is_integer();
-                push_tight(&mut self.list, value)?;
+                reserve_first(&mut self.list)?;
+                self.list.push(value)?;
                 Ok(())
             }
         }
@@ -88,14 +88,10 @@ impl Gathered {
         ensures none { IfNone result ((items : List Item) (t : _) → Holds self items → IsGathered items t → ⊥) }
     {
         if self.fields.is_empty() {
-            let mut list = self.list;
-            list.shrink_to_fit();
-            return Some(AvnValue::SequenceOf(list));
+            return Some(AvnValue::SequenceOf(self.list));
         }
         if self.list.is_empty() {
-            let mut fields = self.fields;
-            fields.shrink_to_fit();
-            return Some(AvnValue::Sequence(fields));
+            return Some(AvnValue::Sequence(self.fields));
         }
         None
     }

@@ -1,10 +1,11 @@
 -- Texts in quotes.
 use Rattle.std.specs.Prelude.{not, is_some}
-use Rattle.std.proofs.Common.{Option, Some, None, MatchOption, ◌≡◌, ◌≢◌, inl, inr, ℕ, List, [], ◌∷◌, ◌++◌, Bool, true, false, cond, ◌==◌, refl, sym, ap, subst, ◌∙◌, append_assoc}
-use Rattle.std.proofs.lemmas.Bool.{cases_Bool, eqb-true, eq-eqb}
-use Rattle.std.proofs.lemmas.List.{append-nil}
-use Rattle.std.proofs.lemmas.Str.{encodes-append}
-use Rattle.std.specs.Char.{encode_utf8}
+use Rattle.std.proofs.Common.{Option, Some, None, MatchOption, ◌≡◌, ◌≢◌, inl, inr, ℕ, List, [], ◌∷◌, ◌++◌, Bool, true, false, cond, ◌==◌, refl, sym, ap, subst, ◌∙◌, append_assoc, ◌+◌, ◌≤◌, ◌<◌, take, set, length, length-append, arith}
+use Rattle.std.proofs.lemmas.Bool.{cases_Bool, eqb-true, eq-eqb, false_from_ne_true}
+use Rattle.std.proofs.lemmas.List.{append-nil, take_more_set}
+use Rattle.std.proofs.lemmas.Str.{encodes-append, encodes-IsAscii}
+use Rattle.std.specs.Char.{encode_utf8, is_ascii}
+use Rattle.std.specs.Str.{IsAscii}
 use Rattle.avn_grammar.specs.declared.chars.Lead.{Lead}
 use Rattle.avn_grammar.specs.declared.chars.Lead.TheVariants as is
 use Rattle.avn_grammar.specs.Chars.{lead, lead_of, tail, is_space, is_letter, is_digit, begins, doubled, spelled}
@@ -81,3 +82,42 @@ spelled_more a b cs c e f = f ∙ ap (λ x. x ++ encode_utf8 c) e ∙ ap (λ x. 
 pub taken : (A : Type 0) (B : ℕ → Type 0) (r : Option ℕ) (b : Bool) → is_some r ≡ not b → b ≡ false → MatchOption r A B → (d : ℕ) × B d
 taken A B None b h e m = let n : ⊥ = cc (ap not e) in absurd n
 taken A B (Some d) b h e m = (d, m)
+
+doubled-append : (cs ds : List ℕ) → doubled (cs ++ ds) ≡ doubled cs ++ doubled ds
+doubled-append [] ds = refl
+doubled-append (c ∷ cs) ds =
+    elim (c == 34) as (λ b. cond b (34 ∷ 34 ∷ doubled (cs ++ ds)) (c ∷ doubled (cs ++ ds)) ≡ cond b (34 ∷ 34 ∷ doubled cs) (c ∷ doubled cs) ++ doubled ds) [
+      | true ↦ ap (λ x. 34 ∷ 34 ∷ x) (doubled-append cs ds)
+      | false ↦ ap (λ x. c ∷ x) (doubled-append cs ds)
+    ]
+
+doubled-longer : (cs : List ℕ) → length cs ≤ length (doubled cs)
+doubled-longer [] = omega arith
+doubled-longer (c ∷ cs) = elim (c == 34) as (λ b. length (c ∷ cs) ≤ length (cond b (34 ∷ 34 ∷ doubled cs) (c ∷ doubled cs))) [
+  | true ↦ omega (arith, doubled-longer cs)
+  | false ↦ omega (arith, doubled-longer cs)
+]
+
+-- The characters of a chunk stand after those before it.
+pub chunk_more : (u r n cs ds : List ℕ) → u ≡ (34 ∷ doubled cs) ++ r → 34 ∷ r ≡ (34 ∷ doubled ds) ++ n → u ≡ (34 ∷ doubled (cs ++ ds)) ++ n
+chunk_more u r n cs ds e f =
+    let g : r ≡ doubled ds ++ n = cc f in
+    e ∙ ap (λ x. (34 ∷ doubled cs) ++ x) g ∙ sym (append_assoc (34 ∷ doubled cs) (doubled ds) n) ∙ ap (λ x. (34 ∷ x) ++ n) (sym (doubled-append cs ds))
+
+-- A chunk takes as many characters of the text at least as it has.
+pub chunk_shorter : (r n ds : List ℕ) → 34 ∷ r ≡ (34 ∷ doubled ds) ++ n → length ds + length n ≤ length r
+chunk_shorter r n ds f = omega (arith, doubled-longer ds, ap (λ (x : List ℕ). length x) f, length-append (34 ∷ doubled ds) n)
+
+-- The characters of a chunk are spelled as they are.
+pub spelled_chunk : (a b text cs ds : List ℕ) → a ≡ spelled cs → b ≡ a ++ text → text ≡ ds → IsAscii ds → b ≡ spelled (cs ++ ds)
+spelled_chunk a b text cs ds e f g h = f ∙ ap (λ x. x ++ text) e ∙ ap (λ x. spelled cs ++ x) (g ∙ sym (encodes-IsAscii ds h)) ∙ sym (encodes-append cs ds)
+
+-- What is not ASCII is no quote.
+pub wide_other : (u v : List ℕ) (c : ℕ) → begins is_ascii u ≡ false → u ≡ c ∷ v → (c == 34) ≡ false
+wide_other u v c h e =
+    let wide : is_ascii c ≡ false = ap (begins is_ascii) (sym e) ∙ h in
+    false_from_ne_true (c == 34) (λ q. let n : ⊥ = cc (ap is_ascii (eqb-true c 34 q)) in n)
+
+-- A character that is written after those of a chunk.
+pub written_more : (u r room : List ℕ) (n x : ℕ) → n < length room → u ≡ (34 ∷ doubled (take n room ++ (x ∷ []))) ++ r → u ≡ (34 ∷ doubled (take (n + 1) (set room n x))) ++ r
+written_more u r room n x h e = e ∙ ap (λ t. (34 ∷ doubled t) ++ r) (sym (take_more_set room n x h))

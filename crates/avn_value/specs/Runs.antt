@@ -1,5 +1,6 @@
 -- Runs of characters.
 use Rattle.std.specs.Prelude.{ℕ, Bool, ◌==◌}
+use Rattle.std.specs.Char.{is_ascii}
 use Rattle.avn_grammar.specs.Chars.{is_space, is_digit, is_letter, is_name, inside}
 use Rattle.avn_value.specs.declared.chars.Run.{Run}
 use Rattle.avn_value.specs.declared.chars.Run.TheVariants as run
@@ -12,3 +13,4 @@ passes run.Letters c = is_letter c
 passes run.Name c = is_name c
 passes run.Quotes c = c == 34
 passes run.Inside c = inside c
+passes run.Ascii c = is_ascii c

@@ -1,5 +1,6 @@
 // Runs of characters that pass a test.
 ghost use Rattle.std.specs.Prelude.{◌≡◌};
+ghost use Rattle.std.specs.Str.{IsAscii};
 ghost use Rattle.avn_grammar.specs.Chars.{every, past};
 ghost use Rattle.avn_value.specs.Runs.{passes};
 
@@ -18,6 +19,8 @@ pub enum Run {
     Quotes,
     /// Characters other than an apostrophe.
     Inside,
+    /// ASCII characters.
+    Ascii,
 }
 
 /// The character belongs to the run.
@@ -32,6 +35,7 @@ pub fn passes(run: Run, c: char) -> bool
         Run::Name => c.is_ascii_alphanumeric() || c == '-' || c == '_',
         Run::Quotes => c == '"',
         Run::Inside => c != '\'',
+        Run::Ascii => c.is_ascii(),
     }
 }
 
@@ -56,4 +60,15 @@ pub fn past_run(run: Run, text: &[u8]) -> &[u8]
         place += 1;
     }
     &text[place..]
+}
+
+/// The text that ASCII characters are.
+pub fn ascii(bytes: &[u8]) -> &str
+    requires { IsAscii bytes.now }
+    ensures { result.now ≡ bytes.now }
+{
+    match str::from_utf8(bytes) {
+        Ok(text) => text,
+        Err(_) => unreachable!(),
+    }
 }

@@ -1,7 +1,7 @@
 // A place in a scan, and the character there.
 ghost use Rattle.std.specs.Prelude.{◌≡◌, ◌≢◌, ◌+◌, ◌≤◌, ◌∷◌, [], true, false, length, MatchOption, OnOk, string_bytes, ◌++◌, ◌*◌, ◌<◌, IfOk, take};
 ghost use Rattle.std.specs.Str.{encode_utf8_all, chars, IsCharBoundary};
-ghost use Rattle.std.specs.Char.{len_utf8, is_whitespace};
+ghost use Rattle.std.specs.Char.{len_utf8, is_whitespace, is_ascii};
 ghost use Rattle.asn_base.specs.Seen.{after};
 ghost use Rattle.avn_grammar.specs.Chars.{lead, tail, skip, begins, front, past, has_fraction, is_name, inside, solid};
 ghost use Rattle.avn_value.specs.Ahead.{Costs};
@@ -12,6 +12,7 @@ use asn_base::{OutOfMemory, Scan};
 use avn_grammar::chars::{Lead, lead_of};
 use std::alloc::{AllocError, Global};
 use std::marker::Model;
+use std::mem;
 
 /// The octets of a character.
 #[inline(always)]
@@ -26,6 +27,7 @@ fn width(c: char) -> usize
 
 /// The octets of any character. It stands apart, so that a branch and no arithmetic leads to the
 /// next place.
+#[cold]
 #[inline(never)]
 fn wide_width(c: char) -> usize
     ensures { result ≡ len_utf8 c }
@@ -52,11 +54,11 @@ pub struct Cursor<'a> {
     kept: Option<char>,
     mark: usize,
     place: usize,
-    next: usize,
 }
 
 impl<'a> Model for Cursor<'a> {
-    ghost use Rattle.std.specs.Prelude.{◌≡◌, ◌∷◌, [], MatchOption};
+    ghost use Rattle.std.specs.Prelude.{◌≡◌, ◌<◌, ◌+◌, ◌^◌, ◌∷◌, [], MatchOption, length};
+    ghost use Rattle.std.specs.Char.{len_utf8};
     ghost use Rattle.std.specs.Str.{IsCharBoundary};
     ghost use Rattle.avn_value.specs.Ahead.{Ahead, ahead_code};
     ghost use Rattle.avn_grammar.specs.Chars.{skip};
@@ -68,8 +70,8 @@ impl<'a> Model for Cursor<'a> {
 
     ghost view = { λ s. record { text = s.scan.text; rest = after s.scan.text s.mark; ahead = after s.scan.text s.place; looks = s.scan.looks } };
 
-    ghost invariant = { λ s. IsCharBoundary s.scan.text s.mark × IsCharBoundary s.scan.text s.place × IsCharBoundary s.scan.text s.next
-        × MatchOption s.kept (after s.scan.text s.place ≡ []) (λ c. after s.scan.text s.place ≡ c ∷ after s.scan.text s.next)
+    ghost invariant = { λ s. IsCharBoundary s.scan.text s.mark × IsCharBoundary s.scan.text s.place × (length s.scan.text < 2 ^ 64)
+        × MatchOption s.kept (after s.scan.text s.place ≡ []) (λ c. IsCharBoundary s.scan.text (s.place + len_utf8 c) × (after s.scan.text s.place ≡ c ∷ after s.scan.text (s.place + len_utf8 c)))
         × (skip (after s.scan.text s.mark) ≡ skip (after s.scan.text s.place)) };
 }
 
@@ -85,17 +87,34 @@ impl<'a> Cursor<'a> {
         scan.has_edge_at_start();
         let mut scan = scan;
         let kept = scan.look(0);
-        let next = match kept {
-            Some(c) => width(c),
-            None => 0,
-        };
         Cursor {
             scan,
             kept,
             mark: 0,
             place: 0,
-            next,
         }
+    }
+
+    /// At the end of an empty text.
+    #[inline(always)]
+    fn nowhere() -> Cursor<'a> {
+        let scan = Scan::new("");
+        scan.has_edge_at_start();
+        Cursor {
+            scan,
+            kept: None,
+            mark: 0,
+            place: 0,
+        }
+    }
+
+    /// The cursor itself, which leaves one of an empty text. A loop over a cursor that it owns keeps
+    /// the cursor's parts in registers.
+    #[inline(always)]
+    pub fn lift(&mut self) -> Cursor<'a>
+        ensures { result ≡ self.old }
+    {
+        mem::replace(self, Cursor::nowhere())
     }
 
     /// The scan, with its count.
@@ -120,15 +139,11 @@ impl<'a> Cursor<'a> {
             (λ c. self.old.rest ≡ c ∷ self.new.rest) }
     {
         let found = self.kept;
-        if found.is_some() {
-            let place = self.next;
+        if let Some(c) = found {
+            let place = self.place + width(c);
             self.mark = place;
             self.place = place;
-            let kept = self.scan.look(place);
-            self.kept = kept;
-            if let Some(c) = kept {
-                self.next = place + width(c);
-            }
+            self.kept = self.scan.look(place);
         }
         found
     }
@@ -147,6 +162,44 @@ impl<'a> Cursor<'a> {
     {
         let c = self.kept?;
         if passes(run, c) { self.take() } else { None }
+    }
+
+    /// The character ahead, if it belongs to the run.
+    #[inline(always)]
+    pub fn peek_if(&self, run: Run) -> Option<char>
+        requires { self.now.ahead ≡ self.now.rest }
+        ensures { MatchOption result (begins (passes run) self.now.rest ≡ false)
+            (λ c. (passes run c ≡ true) × (self.now.rest ≡ c ∷ tail self.now.rest)) }
+    {
+        let kept = self.kept;
+        match kept {
+            Some(c) if passes(run, c) => Some(c),
+            _ => None,
+        }
+    }
+
+    /// Past the ASCII character ahead, and the next one, if it is ASCII too.
+    #[inline(always)]
+    pub fn next_ascii(&mut self) -> Option<char>
+        requires together { self.old.ahead ≡ self.old.rest }
+        requires ascii { begins is_ascii self.old.rest ≡ true }
+        ensures same { self.new.text ≡ self.old.text }
+        ensures rises { self.old.looks ≤ self.new.looks }
+        ensures cost { Costs self.old self.new }
+        ensures together { self.new.ahead ≡ self.new.rest }
+        ensures moves { self.new.rest ≡ tail self.old.rest }
+        ensures found { MatchOption result (begins is_ascii self.new.rest ≡ false)
+            (λ c. (is_ascii c ≡ true) × (self.new.rest ≡ c ∷ tail self.new.rest)) }
+    {
+        let place = self.place + 1;
+        self.mark = place;
+        self.place = place;
+        let kept = self.scan.look(place);
+        self.kept = kept;
+        match kept {
+            Some(c) if c.is_ascii() => Some(c),
+            _ => None,
+        }
     }
 
     /// What is ahead.
@@ -198,7 +251,6 @@ impl<'a> Cursor<'a> {
 
     /// Past the longest run ahead, which goes to the end of `out`.
     #[inline(always)]
-    #[tactic(auto, using(avn_grammar::proofs::Runs::runs))]
     pub fn take_run(&mut self, run: Run, out: &mut String) -> Result<(), AllocError>
         requires { self.old.ahead ≡ self.old.rest }
         ensures same { self.new.text ≡ self.old.text }
@@ -210,15 +262,37 @@ impl<'a> Cursor<'a> {
         ensures found { OnOk result (string_bytes out.new
             ≡ string_bytes out.old ++ encode_utf8_all (front (passes run) self.old.rest)) }
     {
-        while let Some(c) = self.take_if(run) {
-            out.push(c)?;
+        let (here, taken) = self.lift().after_run(run, out);
+        *self = here;
+        taken
+    }
+
+    /// What `take_run` does, over a cursor that is moved in and out.
+    #[inline(always)]
+    #[tactic(auto, using(avn_grammar::proofs::Runs::runs))]
+    fn after_run(self, run: Run, out: &mut String) -> (Cursor<'a>, Result<(), AllocError>)
+        requires { self.ahead ≡ self.rest }
+        ensures same { result.0.text ≡ self.entry.text }
+        ensures rises { self.entry.looks ≤ result.0.looks }
+        ensures cost { Costs self.entry result.0 }
+        ensures together { result.0.ahead ≡ result.0.rest }
+        ensures shorter { length result.0.rest ≤ length self.entry.rest }
+        ensures moves { OnOk result.1 (result.0.rest ≡ past (passes run) self.entry.rest) }
+        ensures found { OnOk result.1 (string_bytes out.new
+            ≡ string_bytes out.old ++ encode_utf8_all (front (passes run) self.entry.rest)) }
+    {
+        let mut here = self;
+        while let Some(c) = here.peek_if(run) {
+            if out.push(c).is_err() {
+                return (here, Err(AllocError));
+            }
+            let _c = here.take();
         }
-        Ok(())
+        (here, Ok(()))
     }
 
     /// Past the characters ahead up to an apostrophe or the end. Those that are no white space go
     /// to the end of `out`.
-    #[tactic(auto, using(crate::proofs::Looking::insides))]
     pub fn take_inside(&mut self, out: &mut Vec<char>) -> Result<(), AllocError>
         requires { self.old.ahead ≡ self.old.rest }
         ensures same { self.new.text ≡ self.old.text }
@@ -228,10 +302,33 @@ impl<'a> Cursor<'a> {
         ensures moves { OnOk result (self.new.rest ≡ past inside self.old.rest) }
         ensures found { OnOk result (out.new.items ≡ out.old.items ++ solid (front inside self.old.rest)) }
     {
-        while let Some(c) = self.take_if(Run::Inside) {
-            push_solid(c, out)?;
+        let (here, taken) = self.lift().after_inside(out);
+        *self = here;
+        taken
+    }
+
+    /// What `take_inside` does, over a cursor that is moved in and out.
+    #[inline(always)]
+    #[tactic(auto, using(crate::proofs::Looking::insides))]
+    fn after_inside(self, out: &mut Vec<char>) -> (Cursor<'a>, Result<(), AllocError>)
+        requires { self.ahead ≡ self.rest }
+        ensures same { result.0.text ≡ self.entry.text }
+        ensures rises { self.entry.looks ≤ result.0.looks }
+        ensures cost { Costs self.entry result.0 }
+        ensures together { result.0.ahead ≡ result.0.rest }
+        ensures moves { OnOk result.1 (result.0.rest ≡ past inside self.entry.rest) }
+        ensures found { OnOk result.1 (out.new.items ≡ out.old.items ++ solid (front inside self.entry.rest)) }
+    {
+        let mut here = self;
+        while let Some(c) = here.peek_if(Run::Inside) {
+            match push_solid(c, out) {
+                Ok(()) => {
+                    let _c = here.take();
+                }
+                Err(refused) => return (here, Err(refused)),
+            }
         }
-        Ok(())
+        (here, Ok(()))
     }
 
     /// A point and a digit are ahead.
@@ -247,7 +344,7 @@ impl<'a> Cursor<'a> {
         ensures found { result ≡ has_fraction self.old.rest }
     {
         match self.kept {
-            Some('.') => match self.scan.look(self.next) {
+            Some('.') => match self.scan.look(self.place + 1) {
                 Some(c) => passes(Run::Digits, c),
                 None => false,
             },
@@ -264,13 +361,9 @@ impl<'a> Cursor<'a> {
         ensures rest { self.new.rest ≡ after self.old.text place }
         ensures together { self.new.ahead ≡ self.new.rest }
     {
-        let kept = self.scan.look(place);
+        self.kept = self.scan.look(place);
         self.mark = place;
         self.place = place;
-        self.kept = kept;
-        if let Some(c) = kept {
-            self.next = place + width(c);
-        }
     }
 
     /// Back at the mark.

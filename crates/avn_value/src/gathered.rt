@@ -6,7 +6,7 @@ ghost use Rattle.avn_value.specs.View.{tree_of};
 
 use crate::fault::Fault;
 use crate::value::AvnValue;
-use std::alloc::Global;
+use std::alloc::{AllocError, Global};
 
 /// An item of braces.
 #[derive(Drop)]
@@ -24,6 +24,17 @@ pub struct Gathered {
     fields: Vec<(String, Option<AvnValue>)>,
     list: Vec<AvnValue>,
     integers: bool,
+}
+
+/// Room for the first item alone, since many braces have no other. Its only error is want of memory.
+#[inline(always)]
+fn reserve_first<T>(items: &mut Vec<T>) -> Result<(), AllocError>
+    ensures { items.new.items ≡ items.old.items }
+{
+    if items.is_empty() {
+        items.reserve_exact(1)?;
+    }
+    Ok(())
 }
 
 impl Gathered {
@@ -49,11 +60,13 @@ impl Gathered {
         match entry {
             Entry::Named(name, value) => {
                 self.integers = false;
+                reserve_first(&mut self.fields)?;
                 self.fields.push((name, Some(value)))?;
                 Ok(())
             }
             Entry::Bare(value) => {
                 self.integers = self.integers && value.is_integer();
+                reserve_first(&mut self.list)?;
                 self.list.push(value)?;
                 Ok(())
             }

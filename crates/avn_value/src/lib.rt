@@ -2,6 +2,7 @@
 #![tactic(auto)]
 
 mod chars;
+mod chunk;
 mod copy;
 mod cursor;
 mod digits;

@@ -42,7 +42,7 @@ fn octets_of_pairs(alloc: Global, digits: &[char]) -> Result<Option<Vec<u8>>, Al
     ensures { IfOk result (λ found. MatchOption found (are_pairs digits.now ≡ false)
         (λ octets. (are_pairs digits.now ≡ true) × (octets.items ≡ octets_of digits.now))) }
 {
-    let mut octets = Vec::new(alloc);
+    let mut octets = Vec::with_capacity(alloc, digits.len() / 2)?;
     let mut rest = digits;
     while rest.len() >= 2 {
         match first_octet(rest) {

@@ -6,7 +6,8 @@ ghost use Rattle.avn_grammar.specs.Grammar.{number_tree, past_number, word_of, T
 ghost use Rattle.avn_value.specs.Ahead.{Costs, Paid};
 ghost use Rattle.avn_value.specs.View.{tree_of};
 
-use crate::chars::Run;
+use crate::chars::{Run, ascii};
+use crate::chunk::{CHUNK, take_chunk};
 use crate::cursor::Cursor;
 use crate::fault::Fault;
 use crate::value::AvnValue;
@@ -113,12 +114,19 @@ pub fn text(alloc: Global, cursor: &mut Cursor<'_>) -> Result<AvnValue, Fault>
     ensures shorter { length cursor.new.rest ≤ length cursor.old.rest }
 {
     let mut content = String::new(alloc);
+    let mut room = [0; CHUNK];
     let _open = cursor.take();
-    while let Some(c) = cursor.take() {
-        if c == '"' && cursor.take_if(Run::Quotes).is_none() {
+    'chunks: loop {
+        let chunk = take_chunk(cursor, &mut room);
+        content.push_str(ascii(&room[..chunk.length]))?;
+        if chunk.closed {
             return Ok(AvnValue::CharString(content));
         }
-        content.push(c)?;
+        if chunk.length < CHUNK {
+            let Some(c) = cursor.take() else {
+                return Err(Fault::UnexpectedToken);
+            };
+            content.push(c)?;
+        }
     }
-    Err(Fault::UnexpectedToken)
 }

@@ -1,59 +1,66 @@
-use Rattle.std.proofs.Common.{◌≡◌, ◌≢◌, ◌==◌, ℕ, ◌∷◌, ◌++◌, [], false, arith, ap, sym, subst, ◌∙◌}
+use Rattle.std.proofs.Common.{◌≡◌, ◌==◌, ◌<◌, ◌≤◌, ◌+◌, ◌++◌, ◌∷◌, [], List, ℕ, false, true, refl, arith, ap, sym, subst, ◌∙◌, take, length, length-take-le}
 use Rattle.std.proofs.lemmas.Grind.{common_steps}
-use Rattle.std.proofs.lemmas.Bool.{false_from_ne_true, eqb-true}
-use Rattle.avn_grammar.specs.Chars.{begins}
+use Rattle.std.specs.Char.{is_ascii}
+use Rattle.avn_grammar.specs.Chars.{begins, doubled, spelled}
 use Rattle.avn_grammar.specs.Grammar.{Token}
 use Rattle.avn_grammar.specs.Tree.{char_string}
 use Rattle.avn_value.proofs.NoToken.{text_none}
-use Rattle.avn_value.proofs.QuotedText.{open_quote, text_done, plain_more, quote_more, spelled_more, taken}
+use Rattle.avn_value.proofs.QuotedText.{open_quote, text_done, plain_more, spelled_more, chunk_more, chunk_shorter, spelled_chunk, wide_other}
 use Rattle.avn_value.proofs.Views.{view-CharString}
 use Rattle.avn_value.proofs.token.text.Goals as goal
-use Rattle.avn_value.proofs.token.text.Goals.{else-c-eq34-via-then-c-eq34+else-is_none, else-c-eq34-via-else-c-eq34}
 
-pub loop-c-init : goal.loop-c-init
-loop-c-init c = ([], c.new-content.ensures.bytes, open_quote c.args.cursor.now.rest c.requires.quote ∙ ap (λ x. 34 ∷ x) (sym c.take-open.ensures.moves), c.take-open.ensures.shorter, grind (arith, common_steps), grind (arith, common_steps), grind (arith, common_steps), grind (arith, common_steps))
+pub chunks-init : goal.chunks-init
+chunks-init c = ([], c.new-content.ensures.bytes, open_quote c.args.cursor.now.rest c.requires.quote ∙ ap (λ x. 34 ∷ x) (sym c.take-open.ensures.moves), c.take-open.ensures.shorter, grind (arith, common_steps), grind (arith, common_steps), grind (arith, common_steps), grind (arith, common_steps))
 
-pub returns-then-is_none-clause-ok : goal.returns-then-is_none-clause-ok
-returns-then-is_none-clause-ok c =
-    let i = c.loop-c.invariant in
-    let k : (begins (λ (x : ℕ). x == 34) c.take.new.self.rest ≡ false) × (c.take_if.new.self.rest ≡ c.take.new.self.rest) = grind (arith, common_steps) in
-    subst (λ x. Token c.args.cursor.now.rest x c.take_if.new.self.rest) (ap char_string (sym i.1) ∙ sym (view-CharString c.loop-c.content))
-    (text_done _ _ _ _ i.0 c.in-Some.c i.2 c.if-c-eq34.true c.in-Some.ensures.found k.1 k.0)
+pub returns-then-chunk-clause-ok : goal.returns-then-chunk-clause-ok
+returns-then-chunk-clause-ok c =
+    let i = c.chunks.invariant in
+    let e = c.take_chunk-chunk.ensures in
+    let ds = take c.take_chunk-chunk.result.length c.take_chunk-chunk.new.room in
+    let closed = e.closed c.if-chunk.true in
+    let more = chunk_more _ _ _ i.0 ds i.2 closed.0 in
+    let bytes = spelled_chunk _ _ _ i.0 ds i.1 c.in_ok-push_str.ensures.bytes c.ascii.ensures e.ascii in
+    subst (λ x. Token c.args.cursor.now.rest x c.take_chunk-chunk.new.cursor.rest) (ap char_string (sym bytes) ∙ sym (view-CharString c.push_str.new.self))
+    (text_done _ _ _ _ (i.0 ++ ds) 34 more refl refl refl closed.1)
 
-pub loop-c-preserved : goal.loop-c-preserved
-loop-c-preserved c =
-    let i = c.loop-c.invariant in (
-      i.0 ++ (c.in-Some.c ∷ []),
-      spelled_more _ _ i.0 c.in-Some.c i.1 c.in_ok-push.ensures.bytes,
-      elim c.else-c-eq34.branch [
-        | else-c-eq34-via-then-c-eq34+else-is_none w ↦
-            let d = taken _ _ _ _ w.is_none.ensures w.if-is_none.false w.take_if.ensures.found in
-            rw w.cursor-is (quote_more _ _ _ _ i.0 c.in-Some.c d.0 i.2 w.if-c-eq34.true (eqb-true d.0 34 d.1.0) c.in-Some.ensures.found d.1.1)
-        | else-c-eq34-via-else-c-eq34 w ↦
-            let ne : c.in-Some.c ≢ 34 = w.if-c-eq34.false in
-            rw w.cursor-is (plain_more _ _ _ i.0 c.in-Some.c i.2 (false_from_ne_true _ (λ h. ne (eqb-true _ _ h))) c.in-Some.ensures.found)
-      ],
-      elim c.else-c-eq34.branch [
-        | else-c-eq34-via-then-c-eq34+else-is_none w ↦ rw w.cursor-is (grind (arith, common_steps))
-        | else-c-eq34-via-else-c-eq34 w ↦ rw w.cursor-is (grind (arith, common_steps))
-      ],
-      elim c.else-c-eq34.branch [
-        | else-c-eq34-via-then-c-eq34+else-is_none w ↦ rw w.cursor-is (grind (arith, common_steps))
-        | else-c-eq34-via-else-c-eq34 w ↦ rw w.cursor-is (grind (arith, common_steps))
-      ],
-      elim c.else-c-eq34.branch [
-        | else-c-eq34-via-then-c-eq34+else-is_none w ↦ rw w.cursor-is (grind (arith, common_steps))
-        | else-c-eq34-via-else-c-eq34 w ↦ rw w.cursor-is (grind (arith, common_steps))
-      ],
-      elim c.else-c-eq34.branch [
-        | else-c-eq34-via-then-c-eq34+else-is_none w ↦ rw w.cursor-is (grind (arith, common_steps))
-        | else-c-eq34-via-else-c-eq34 w ↦ rw w.cursor-is (grind (arith, common_steps))
-      ],
-      elim c.else-c-eq34.branch [
-        | else-c-eq34-via-then-c-eq34+else-is_none w ↦ rw w.cursor-is (grind (arith, common_steps))
-        | else-c-eq34-via-else-c-eq34 w ↦ rw w.cursor-is (grind (arith, common_steps))
-      ],
+pub returns-in_default-clause-none : goal.returns-in_default-clause-none
+returns-in_default-clause-none c = λ e.
+    let i = c.chunks.invariant in
+    let ds = take c.take_chunk-chunk.result.length c.take_chunk-chunk.new.room in
+    text_none c.args.cursor.now.rest c.take_chunk-chunk.new.cursor.rest (i.0 ++ ds) (chunk_more _ _ _ i.0 ds i.2 (c.take_chunk-chunk.ensures.unclosed c.if-chunk.false)) c.in_default.ensures.found
+
+pub chunks-preserved-in-Continue-branch-2 : goal.chunks-preserved-in-Continue-branch-2
+chunks-preserved-in-Continue-branch-2 c =
+    let i = c.chunks.invariant in
+    let e = c.take_chunk-chunk.ensures in
+    let ds = take c.take_chunk-chunk.result.length c.take_chunk-chunk.new.room in
+    let x = c.in-Some.c in
+    let on = e.unclosed c.if-chunk.false in
+    let more = chunk_more _ _ _ i.0 ds i.2 on in
+    let bytes = spelled_chunk _ _ _ i.0 ds i.1 c.in_ok-push_str.ensures.bytes c.ascii.ensures e.ascii in
+    let other : (x == 34) ≡ false = wide_other _ _ x (e.stops c.if-chunk.false c.if-chunk-lt-CHUNK.true) c.in-Some.ensures.found in (
+      (i.0 ++ ds) ++ (x ∷ []),
+      spelled_more _ _ (i.0 ++ ds) x bytes c.in_ok-push.ensures.bytes,
+      plain_more _ _ _ (i.0 ++ ds) x more other c.in-Some.ensures.found,
+      omega (arith, chunk_shorter _ _ ds on, i.3, c.take.ensures.shorter),
+      grind (arith, common_steps),
+      grind (arith, common_steps),
+      grind (arith, common_steps),
+      grind (arith, common_steps),
     )
 
-pub returns-clause-none : goal.returns-clause-none
-returns-clause-none c = λ e. let i = c.loop-c.invariant in text_none c.args.cursor.now.rest c.loop-c.cursor.rest i.0 i.2 c.in_default.ensures.found
+pub chunks-preserved : goal.chunks-preserved
+chunks-preserved c =
+    let i = c.chunks.invariant in
+    let e = c.take_chunk-chunk.ensures in
+    let ds = take c.take_chunk-chunk.result.length c.take_chunk-chunk.new.room in
+    let on = e.unclosed c.if-chunk.false in (
+      i.0 ++ ds,
+      spelled_chunk _ _ _ i.0 ds i.1 c.in_ok-push_str.ensures.bytes c.ascii.ensures e.ascii,
+      chunk_more _ _ _ i.0 ds i.2 on,
+      omega (arith, chunk_shorter _ _ ds on, i.3),
+      grind (arith, common_steps),
+      grind (arith, common_steps),
+      grind (arith, common_steps),
+      grind (arith, common_steps),
+    )

@@ -1,0 +1,23 @@
+use Rattle.std.proofs.Common.{◌≡◌, ◌≤◌, ◌<◌, ◌-◌, ◌∷◌, ◌++◌, take, length, true}
+use Rattle.std.specs.Char.{is_ascii}
+use Rattle.std.specs.Str.{IsAscii}
+use Rattle.avn_grammar.specs.Chars.{doubled, tail}
+use Rattle.avn_value.specs.Ahead.{Costs}
+use Rattle.avn_value.proofs.chunk.after_chunk.Given as goal
+
+-- The characters that were taken stand before what is ahead, each quote twice.
+abbrev pub invariant-taking : goal.invariant-taking
+invariant-taking l = record {
+  same : l.here.text ≡ l.initial.here.text;
+  rises : l.initial.here.looks ≤ l.here.looks;
+  cost : Costs l.initial.here l.here;
+  together : l.here.ahead ≡ l.here.rest;
+  found : (is_ascii l.c ≡ true) × (l.here.rest ≡ l.c ∷ tail l.here.rest);
+  room : length l.room ≡ 64;
+  within : l.length < 64;
+  ascii : IsAscii (take l.length l.room);
+  taken : 34 ∷ l.initial.here.rest ≡ (34 ∷ doubled (take l.length l.room)) ++ l.here.rest;
+}
+
+abbrev pub decreases-taking : goal.decreases-taking
+decreases-taking l = 64 - l.length

@@ -9,7 +9,7 @@ use crate::chars::Run;
 use crate::cursor::Cursor;
 
 /// The most characters that are taken together.
-pub const CHUNK: usize = 64;
+pub const CHUNK: usize = 256;
 
 /// Characters that were taken together: how many, and whether the text ends after them.
 #[derive(Clone, Copy, Drop)]

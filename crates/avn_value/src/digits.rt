@@ -5,6 +5,7 @@ ghost use Rattle.std.specs.Str.{IsAscii};
 ghost use Rattle.avn_grammar.specs.Octets.{hex_digit, hex_text, bit_text};
 ghost use Rattle.avn_grammar.specs.Print.{arc_text};
 
+use crate::chars::ascii;
 use std::fmt;
 
 /// The most octets whose hexadecimal digits are written together.
@@ -27,10 +28,7 @@ fn write_digits<W: fmt::Write>(digits: &[u8], f: &mut fmt::Formatter<W>) -> fmt:
     requires { IsAscii digits.now }
     ensures { WritesOnOk W.write_str_gives f.old result digits.now f.new }
 {
-    match str::from_utf8(digits) {
-        Ok(text) => f.write_str(text),
-        Err(_) => unreachable!(),
-    }
+    f.write_str(ascii(digits))
 }
 
 /// Writes two hexadecimal digits for each octet of a chunk, together.

@@ -13,11 +13,11 @@ invariant-taking l = record {
   cost : Costs l.initial.here l.here;
   together : l.here.ahead ≡ l.here.rest;
   found : (is_ascii l.c ≡ true) × (l.here.rest ≡ l.c ∷ tail l.here.rest);
-  room : length l.room ≡ 64;
-  within : l.length < 64;
+  room : length l.room ≡ 256;
+  within : l.length < 256;
   ascii : IsAscii (take l.length l.room);
   taken : 34 ∷ l.initial.here.rest ≡ (34 ∷ doubled (take l.length l.room)) ++ l.here.rest;
 }
 
 abbrev pub decreases-taking : goal.decreases-taking
-decreases-taking l = 64 - l.length
+decreases-taking l = 256 - l.length

@@ -1,7 +1,5 @@
-use Rattle.std.proofs.Common.{◌≡◌, ◌==◌, ◌<◌, ◌≤◌, ◌+◌, ◌++◌, ◌∷◌, [], List, ℕ, false, true, refl, arith, ap, sym, subst, ◌∙◌, take, length, length-take-le}
+use Rattle.std.proofs.Common.{◌≡◌, ◌==◌, ◌++◌, ◌∷◌, [], false, refl, arith, ap, sym, subst, ◌∙◌, take}
 use Rattle.std.proofs.lemmas.Grind.{common_steps}
-use Rattle.std.specs.Char.{is_ascii}
-use Rattle.avn_grammar.specs.Chars.{begins, doubled, spelled}
 use Rattle.avn_grammar.specs.Grammar.{Token}
 use Rattle.avn_grammar.specs.Tree.{char_string}
 use Rattle.avn_value.proofs.NoToken.{text_none}

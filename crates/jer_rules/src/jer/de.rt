@@ -47,7 +47,7 @@ impl Decoder {
             Err(Unread::NoJson) => return Err(no_json(alloc)),
             Err(Unread::OutOfMemory) => return Err(DecodeError::out_of_memory(Codec::Jer)),
         };
-        // A float that another value of its name has replaced is none.
+        // A later value of the same name may have replaced the float.
         if floats && holds_float(&value) {
             return Err(DecodeError::real_not_supported(Codec::Jer));
         }

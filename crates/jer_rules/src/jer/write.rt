@@ -22,6 +22,7 @@ pub fn text_of(alloc: Global, value: &Json) -> Result<String, OutOfMemory>
 {
     let mut out = Writer::new(Vec::with_capacity(alloc, 128)?);
     write_value(value, &mut out)?;
+    // The writer's clause `utf8` is what this call requires.
     Ok(unsafe { String::from_utf8_unchecked(out.into_inner()) })
 }
 

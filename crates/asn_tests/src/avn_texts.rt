@@ -1,7 +1,7 @@
 // Values of each kind as the text that they have in the value notation, both ways.
 use asn_traits::{Decode, Encode};
 use avn_rules::avn;
-use std::alloc::Global;
+use std::alloc::{AllocError, Global};
 use std::fmt::Debug;
 use std::process::Abort;
 use std::test::Fail;
@@ -42,6 +42,33 @@ fn values_are_their_texts(rt: HostRuntime) -> Result<(), Fail> {
     let none: Vec<u8> = Vec::new(alloc);
     is_text_of(&rt, alloc, none, "{}")?;
     is_text_of(&rt, alloc, [1u8, 2].to_vec(alloc)?, "{\n  1,\n  2\n}")
+}
+
+/// So many letters, and what stands after them.
+fn letters(alloc: Global, count: usize, before: &str, after: &str) -> Result<String, AllocError> {
+    let mut text = String::from_str(alloc, before)?;
+    for _ in 0..count {
+        text.push('a')?;
+    }
+    text.push_str(after)?;
+    Ok(text)
+}
+
+#[test]
+fn long_texts_are_read_whole(rt: HostRuntime) -> Result<(), Fail> {
+    let alloc = rt.alloc();
+    for count in 250..260 {
+        let open = letters(alloc, count, "\"", "\"\"")?;
+        assert!(rt; avn::decode::<String>(alloc, open.as_str()).is_err());
+        let text = letters(alloc, count, "\"", "\"\"\u{e9}b\"\"\"")?;
+        is_text_of(
+            &rt,
+            alloc,
+            letters(alloc, count, "", "\"\u{e9}b\"")?,
+            text.as_str(),
+        )?;
+    }
+    Ok(())
 }
 
 // Texts that say no `u8`.

@@ -97,7 +97,11 @@ impl<'a> Cursor<'a> {
 
     /// At the end of an empty text.
     #[inline(always)]
-    fn nowhere() -> Cursor<'a> {
+    fn nowhere() -> Cursor<'a>
+        ensures text { result.text ≡ [] }
+        ensures rest { result.rest ≡ [] }
+        ensures together { result.ahead ≡ result.rest }
+    {
         let scan = Scan::new("");
         scan.has_edge_at_start();
         Cursor {

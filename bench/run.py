@@ -93,14 +93,20 @@ def measure(command, path):
     return seconds, usage.ru_maxrss / 1024, os.waitstatus_to_exitcode(status), digest.hexdigest()
 
 
-def compare_program(name, make, peer, runs):
-    """Prints the row of one input of the program."""
-    path = os.path.join(OUT, "input")
-    size = write_input(make, path)
+def least_runs(name, peer, path, runs):
+    """The least of the program's runs on the file and of the peer's, which take turns."""
     pairs = [(measure(PROGRAM, path), measure(peer, path)) for _ in range(runs)]
     ours, theirs = (min(run[side] for run in pairs) for side in (0, 1))
     if ours[2:] != theirs[2:]:
         sys.exit(f"{name}: the outputs differ")
+    return ours, theirs
+
+
+def compare_program(name, make, peer, runs):
+    """Prints the row of one input of the program."""
+    path = os.path.join(OUT, "input")
+    size = write_input(make, path)
+    ours, theirs = least_runs(name, peer, path, runs)
     print(
         f"{name:32} {size:5.1f} {ours[0]:7.3f} {theirs[0]:7.3f} {theirs[0] / ours[0]:6.2f}"
         f" {ours[1]:8.1f} {theirs[1]:8.1f}  {os.path.basename(peer[0])}",
@@ -110,10 +116,7 @@ def compare_program(name, make, peer, runs):
 
 def compare_peer(program, path, runs):
     """Prints the row of one input file, beside a program that takes the same requests."""
-    pairs = [(measure(PROGRAM, path), measure([program], path)) for _ in range(runs)]
-    ours, theirs = (min(run[side] for run in pairs) for side in (0, 1))
-    if ours[2:] != theirs[2:]:
-        sys.exit(f"{path}: the outputs differ")
+    ours, theirs = least_runs(path, [program], path, runs)
     print(
         f"{os.path.basename(path)[:-3]:24} {os.path.getsize(path) / 1e6:5.1f}  | {ours[0]:7.2f} {theirs[0]:7.2f}"
         f" {ours[0] / theirs[0]:6.2f}  | {ours[1]:7.0f} {theirs[1]:7.0f} {ours[1] / theirs[1]:6.2f}",

@@ -4,7 +4,6 @@
 mod codec;
 mod constraint;
 mod identifier;
-mod integer_type;
 mod memory;
 mod scan;
 mod tag;
@@ -15,7 +14,6 @@ mod whole_number;
 pub use codec::Codec;
 pub use constraint::{Bound, Bounded, Constraint, Constraints, Extensible, Size};
 pub use identifier::Identifier;
-pub use integer_type::IntegerType;
 pub use memory::OutOfMemory;
 pub use scan::Scan;
 pub use tag::{Class, Tag};

@@ -172,4 +172,100 @@ impl Tag {
     {
         Tag { class, value }
     }
+
+    /// The context tag 0.
+    pub const CONTEXT_0: Tag = Tag {
+        class: Class::Context,
+        value: 0,
+    };
+
+    /// The context tag 1.
+    pub const CONTEXT_1: Tag = Tag {
+        class: Class::Context,
+        value: 1,
+    };
+
+    /// The context tag 2.
+    pub const CONTEXT_2: Tag = Tag {
+        class: Class::Context,
+        value: 2,
+    };
+
+    /// The context tag 3.
+    pub const CONTEXT_3: Tag = Tag {
+        class: Class::Context,
+        value: 3,
+    };
+
+    /// The context tag 4.
+    pub const CONTEXT_4: Tag = Tag {
+        class: Class::Context,
+        value: 4,
+    };
+
+    /// The context tag 5.
+    pub const CONTEXT_5: Tag = Tag {
+        class: Class::Context,
+        value: 5,
+    };
+
+    /// The context tag 6.
+    pub const CONTEXT_6: Tag = Tag {
+        class: Class::Context,
+        value: 6,
+    };
+
+    /// The context tag 7.
+    pub const CONTEXT_7: Tag = Tag {
+        class: Class::Context,
+        value: 7,
+    };
+
+    /// The context tag 8.
+    pub const CONTEXT_8: Tag = Tag {
+        class: Class::Context,
+        value: 8,
+    };
+
+    /// The context tag 9.
+    pub const CONTEXT_9: Tag = Tag {
+        class: Class::Context,
+        value: 9,
+    };
+
+    /// The context tag 10.
+    pub const CONTEXT_10: Tag = Tag {
+        class: Class::Context,
+        value: 10,
+    };
+
+    /// The context tag 11.
+    pub const CONTEXT_11: Tag = Tag {
+        class: Class::Context,
+        value: 11,
+    };
+
+    /// The context tag 12.
+    pub const CONTEXT_12: Tag = Tag {
+        class: Class::Context,
+        value: 12,
+    };
+
+    /// The context tag 13.
+    pub const CONTEXT_13: Tag = Tag {
+        class: Class::Context,
+        value: 13,
+    };
+
+    /// The context tag 14.
+    pub const CONTEXT_14: Tag = Tag {
+        class: Class::Context,
+        value: 14,
+    };
+
+    /// The context tag 15.
+    pub const CONTEXT_15: Tag = Tag {
+        class: Class::Context,
+        value: 15,
+    };
 }

@@ -2,6 +2,7 @@
 use Rattle.std.specs.Prelude.{ℕ, pos, codes}
 use Rattle.asn_traits.specs.Shape.{Shape, Alternatives, closed_choice}
 use Rattle.asn_traits.specs.Value.{Value}
+use Rattle.asn_traits.specs.Chosen.{Chosen, chosen, chosen_value}
 use Rattle.asn_samples.specs.Terms.{context, unsigned}
 use Rattle.asn_samples.specs.declared.inner.Inner.{Inner}
 use Rattle.asn_samples.specs.declared.inner.Inner.TheVariants.{Wine}
@@ -14,14 +15,10 @@ inner_alternatives = Alternatives.alternative (codes "Wine") (context 0) (unsign
 abbrev pub inner_shape : Shape
 inner_shape = closed_choice inner_alternatives
 
--- The number of an Inner.
-abbrev pub wine_of : Inner → ℕ
-wine_of (Wine wine) = wine
+-- The alternative of an Inner, and its payload.
+abbrev pub inner_chosen : Inner → Chosen
+inner_chosen (Wine wine) = chosen (codes "Wine") (context 0) (unsigned 8) (Value.int (pos wine))
 
--- The value of the payload of an Inner.
-abbrev pub inner_payload : Inner → Value
-inner_payload x = Value.int (pos (wine_of x))
-
--- The value that an Inner stands for.
+-- The value that it stands for.
 abbrev pub inner_value : Inner → Value
-inner_value x = Value.choice (codes "Wine") (inner_payload x)
+inner_value x = chosen_value (inner_chosen x)

@@ -1,8 +1,8 @@
 -- SEQUENCE { so-very INTEGER, re_named BOOLEAN OPTIONAL }
 use Rattle.std.specs.Prelude.{[], ◌∷◌, Some, option_map, codes}
-use Rattle.asn_traits.specs.Shape.{Shape, Fields, Presence, closed_seq, field_names}
+use Rattle.asn_traits.specs.Shape.{Shape, Fields, Presence, closed_seq}
 use Rattle.asn_traits.specs.Value.{Value}
-use Rattle.asn_traits.specs.Writing.{Frame, named}
+use Rattle.asn_traits.specs.Writing.{Frame}
 use Rattle.asn_samples.specs.Terms.{context, signed}
 use Rattle.asn_samples.specs.declared.renamed.Renamed.{Renamed}
 
@@ -20,7 +20,3 @@ renamed_shape = closed_seq renamed_fields
 -- The values of the fields of a Renamed, in order.
 abbrev pub renamed_slots : Renamed → Frame
 renamed_slots x = Some (Value.int x.so_very) ∷ option_map Value.boolean x.re_named ∷ []
-
--- The value that a Renamed stands for.
-abbrev pub renamed_value : Renamed → Value
-renamed_value x = Value.members (named (renamed_slots x) (field_names renamed_fields))

@@ -1,8 +1,8 @@
 -- SEQUENCE { strct INTEGER (0..255) OPTIONAL }
 use Rattle.std.specs.Prelude.{pos, [], ◌∷◌, option_map, codes}
-use Rattle.asn_traits.specs.Shape.{Shape, Fields, Presence, closed_seq, field_names}
+use Rattle.asn_traits.specs.Shape.{Shape, Fields, Presence, closed_seq}
 use Rattle.asn_traits.specs.Value.{Value}
-use Rattle.asn_traits.specs.Writing.{Frame, named}
+use Rattle.asn_traits.specs.Writing.{Frame, members_value}
 use Rattle.asn_samples.specs.Terms.{context, unsigned}
 use Rattle.asn_samples.specs.declared.struct_.Struct.{Struct}
 
@@ -20,4 +20,4 @@ struct_slots x = option_map (λ n. Value.int (pos n)) x.strct ∷ []
 
 -- The value that a Struct stands for.
 abbrev pub struct_value : Struct → Value
-struct_value x = Value.members (named (struct_slots x) (field_names struct_fields))
+struct_value x = members_value struct_fields (struct_slots x)

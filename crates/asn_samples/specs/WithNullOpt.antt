@@ -1,8 +1,8 @@
 -- SEQUENCE { name UTF8String, flag NULL OPTIONAL }
 use Rattle.std.specs.Prelude.{[], ◌∷◌, Some, option_map, string_bytes, codes}
-use Rattle.asn_traits.specs.Shape.{Shape, Fields, Presence, closed_seq, field_names}
+use Rattle.asn_traits.specs.Shape.{Shape, Fields, Presence, closed_seq}
 use Rattle.asn_traits.specs.Value.{Value}
-use Rattle.asn_traits.specs.Writing.{Frame, named}
+use Rattle.asn_traits.specs.Writing.{Frame}
 use Rattle.asn_samples.specs.Terms.{context, utf8_string}
 use Rattle.asn_samples.specs.declared.with_null_opt.WithNullOpt.{WithNullOpt}
 
@@ -20,7 +20,3 @@ with_null_opt_shape = closed_seq with_null_opt_fields
 -- The values of the fields of a WithNullOpt, in order.
 abbrev pub with_null_opt_slots : WithNullOpt → Frame
 with_null_opt_slots x = Some (Value.text (string_bytes x.name)) ∷ option_map (λ u. Value.null) x.flag ∷ []
-
--- The value that a WithNullOpt stands for.
-abbrev pub with_null_opt_value : WithNullOpt → Value
-with_null_opt_value x = Value.members (named (with_null_opt_slots x) (field_names with_null_opt_fields))

@@ -1,13 +1,14 @@
 // A CHOICE with an extension marker.
-ghost use Rattle.asn_samples.specs.ExtChoice.{ext_choice_alternatives, ext_choice_added, ext_choice_every, ext_choice_name, ext_choice_payload, ext_choice_shape, ext_choice_tag, ext_choice_value};
+ghost use Rattle.asn_samples.specs.ExtChoice.{ext_choice_alternatives, ext_choice_added, ext_choice_chosen};
+ghost use Rattle.asn_samples.specs.declared.ext_choice.ExtChoice.TheVariants.{Test1, Test2, Test3};
 ghost use Rattle.asn_traits.specs.Shape.{AlternativeAdditions};
-ghost use Rattle.asn_traits.specs.Writing.{CannotWrite, Offered};
-ghost use Rattle.std.specs.Prelude.{◌≡◌, IfErr, OnOk, refl};
+ghost use Rattle.std.specs.Prelude.{refl};
 
-use asn_base::{Class, Constraints, Identifier, OutOfMemory, Tag, TagTree};
+use asn_base::{OutOfMemory, Tag, TagTree};
 use asn_fault::{DecodeError, EncodeError};
 use asn_traits::{
-    AlternativeShapes, AsnType, Choice, Decode, DecodeChoice, Decoder, Encode, Encoder, Shape,
+    AlternativeShapes, ChoiceKind, ChoicePayload, Decode, Decoder, Described, Encode, Encoder,
+    OfKind, Shape,
 };
 use std::alloc::Global;
 
@@ -19,60 +20,48 @@ pub enum ExtChoice {
     Test3(bool),
 }
 
-const TEST1: Tag = Tag {
-    class: Class::Context,
-    value: 0,
-};
+const TEST1: Tag = Tag::CONTEXT_0;
 
-const TEST2: Tag = Tag {
-    class: Class::Context,
-    value: 1,
-};
+const TEST2: Tag = Tag::CONTEXT_1;
 
-const TEST3: Tag = Tag {
-    class: Class::Context,
-    value: 2,
-};
+const TEST3: Tag = Tag::CONTEXT_2;
 
 const EXT_CHOICE_VARIANTS: &'static [TagTree] = &[TagTree::Leaf(TEST1), TagTree::Leaf(TEST2)];
 
 const EXT_CHOICE_ADDED: &'static [TagTree] = &[TagTree::Leaf(TEST3)];
 
-impl ExtChoice {
-    /// The tag of its alternative.
-    fn tag(&self) -> Tag
-        ensures { result ≡ ext_choice_tag self.now }
-    {
-        match self {
-            ExtChoice::Test1(_) => TEST1,
-            ExtChoice::Test2(_) => TEST2,
-            ExtChoice::Test3(_) => TEST3,
-        }
-    }
+impl OfKind for ExtChoice {
+    type Kind = ChoiceKind;
 }
 
-impl AsnType for ExtChoice {
-    const TAG: Tag = Tag::EOC;
+impl Described for ExtChoice {}
 
-    const TAG_TREE: TagTree = TagTree::Choice(EXT_CHOICE_VARIANTS);
+impl ChoicePayload for ExtChoice {
+    const ROOT: &'static [TagTree] = EXT_CHOICE_VARIANTS;
 
-    const CONSTRAINTS: Constraints = Constraints::NONE;
+    const ADDED: Option<&'static [TagTree]> = Some(EXT_CHOICE_ADDED);
 
-    const IDENTIFIER: Identifier = Identifier::EMPTY;
+    const NAMES: &'static [&'static str] = &["Test1", "Test2", "Test3"];
 
-    const IS_CHOICE: bool = true;
+    ghost alternatives = { ext_choice_alternatives };
 
-    const RANK: u32 = 0;
+    ghost additions = { AlternativeAdditions.extended_alternatives ext_choice_added };
 
-    ghost shape_of = { ext_choice_shape };
+    ghost chosen = { ext_choice_chosen };
 
-    ghost value_of = { ext_choice_value };
-
-    fn constraint_table() -> Constraints {
-        Self::CONSTRAINTS
+    fn listed_root() -> &'static [TagTree] {
+        Self::ROOT
     }
 
-    fn shape(alloc: Global) -> Result<Shape, OutOfMemory> {
+    fn listed_added() -> Option<&'static [TagTree]> {
+        Self::ADDED
+    }
+
+    fn listed_names() -> &'static [&'static str] {
+        Self::NAMES
+    }
+
+    fn choice_shape(alloc: Global) -> Result<Shape, OutOfMemory> {
         let mut alternatives = AlternativeShapes::new(alloc);
         alternatives.alternative::<u8>("Test1", TEST1)?;
         alternatives.alternative::<String>("Test2", TEST2)?;
@@ -81,73 +70,23 @@ impl AsnType for ExtChoice {
         Ok(alternatives.extensible_choice(added))
     }
 
-    ghost readable = { refl };
-}
-
-impl Choice for ExtChoice {
-    const VARIANTS: &'static [TagTree] = EXT_CHOICE_VARIANTS;
-
-    const EXTENDED_VARIANTS: Option<&'static [TagTree]> = Some(EXT_CHOICE_ADDED);
-
-    const IDENTIFIERS: &'static [&'static str] = &["Test1", "Test2", "Test3"];
-
-    ghost alternatives = { ext_choice_alternatives };
-
-    ghost added = { AlternativeAdditions.extended_alternatives ext_choice_added };
-
-    fn variant_table() -> &'static [TagTree] {
-        Self::VARIANTS
+    fn alternative_tag(&self) -> Tag {
+        match self {
+            ExtChoice::Test1(_) => TEST1,
+            ExtChoice::Test2(_) => TEST2,
+            ExtChoice::Test3(_) => TEST3,
+        }
     }
 
-    fn extended_variant_table() -> Option<&'static [TagTree]> {
-        Self::EXTENDED_VARIANTS
+    fn write_alternative<E: Encoder>(&self, encoder: &mut E) -> Result<(), EncodeError> {
+        match self {
+            ExtChoice::Test1(number) => number.encode(encoder),
+            ExtChoice::Test2(text) => text.encode(encoder),
+            ExtChoice::Test3(flag) => flag.encode(encoder),
+        }
     }
 
-    fn identifier_table() -> &'static [&'static str] {
-        Self::IDENTIFIERS
-    }
-
-    ghost of_alternatives = { refl };
-}
-
-impl Encode for ExtChoice {
-    fn encode_with_tag_and_constraints<E: Encoder>(
-        &self,
-        encoder: &mut E,
-        _tag: Tag,
-        constraints: &Constraints,
-        identifier: Identifier,
-    ) -> Result<(), EncodeError> {
-        encoder.encode_choice::<ExtChoice, _>(
-            constraints,
-            self.tag(),
-            |encoder: &mut E| -> Result<Tag, EncodeError>
-                ensures written { OnOk result (Offered E.holds E.notation ext_choice_every (ext_choice_name self.entry.now)
-                    (ext_choice_payload self.entry.now) encoder.entry.now encoder.exit.now) }
-                ensures refused { IfErr result (CannotWrite E.notation (ext_choice_payload self.entry.now)) }
-            {
-                match self {
-                    ExtChoice::Test1(number) => {
-                        encoder.encode_some::<u8>(number, Identifier::EMPTY)?;
-                        Ok(TEST1)
-                    }
-                    ExtChoice::Test2(text) => {
-                        encoder.encode_some::<String>(text, Identifier::EMPTY)?;
-                        Ok(TEST2)
-                    }
-                    ExtChoice::Test3(flag) => {
-                        encoder.encode_some::<bool>(flag, Identifier::EMPTY)?;
-                        Ok(TEST3)
-                    }
-                }
-            },
-            identifier,
-        )
-    }
-}
-
-impl DecodeChoice for ExtChoice {
-    fn from_tag<D: Decoder>(decoder: &mut D, tag: Tag) -> Result<ExtChoice, DecodeError> {
+    fn read_alternative<D: Decoder>(decoder: &mut D, tag: Tag) -> Result<ExtChoice, DecodeError> {
         if tag == TEST1 {
             Ok(ExtChoice::Test1(u8::decode(decoder)?))
         } else if tag == TEST2 {
@@ -158,14 +97,8 @@ impl DecodeChoice for ExtChoice {
             Err(DecodeError::no_valid_choice("ExtChoice", decoder.codec()))
         }
     }
-}
 
-impl Decode for ExtChoice {
-    fn decode_with_tag_and_constraints<D: Decoder>(
-        decoder: &mut D,
-        _tag: Tag,
-        constraints: &Constraints,
-    ) -> Result<ExtChoice, DecodeError> {
-        decoder.decode_choice::<ExtChoice>(constraints)
-    }
+    ghost is_chosen = { elim [ Test1 number ↦ refl | Test2 text ↦ refl | Test3 flag ↦ refl ] };
+
+    ghost readable = { refl };
 }

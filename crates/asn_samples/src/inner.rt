@@ -1,13 +1,14 @@
 // A CHOICE of one alternative.
-ghost use Rattle.asn_samples.specs.Inner.{inner_alternatives, inner_payload, inner_shape, inner_value, wine_of};
+ghost use Rattle.asn_samples.specs.Inner.{inner_alternatives, inner_chosen};
+ghost use Rattle.asn_samples.specs.declared.inner.Inner.TheVariants.{Wine};
 ghost use Rattle.asn_traits.specs.Shape.{AlternativeAdditions};
-ghost use Rattle.asn_traits.specs.Writing.{CannotWrite, Offered};
-ghost use Rattle.std.specs.Prelude.{◌≡◌, IfErr, OnOk, codes, refl};
+ghost use Rattle.std.specs.Prelude.{refl};
 
-use asn_base::{Class, Constraints, Identifier, OutOfMemory, Tag, TagTree};
+use asn_base::{OutOfMemory, Tag, TagTree};
 use asn_fault::{DecodeError, EncodeError};
 use asn_traits::{
-    AlternativeShapes, AsnType, Choice, Decode, DecodeChoice, Decoder, Encode, Encoder, Shape,
+    AlternativeShapes, ChoiceKind, ChoicePayload, Decode, Decoder, Described, Encode, Encoder,
+    OfKind, Shape,
 };
 use std::alloc::Global;
 
@@ -17,120 +18,68 @@ pub enum Inner {
     Wine(u8),
 }
 
-const WINE: Tag = Tag {
-    class: Class::Context,
-    value: 0,
-};
+const WINE: Tag = Tag::CONTEXT_0;
 
 const INNER_VARIANTS: &'static [TagTree] = &[TagTree::Leaf(WINE)];
 
-impl Inner {
-    /// The number.
-    fn wine(&self) -> &u8
-        ensures { result.now ≡ wine_of self.now }
-    {
-        match self {
-            Inner::Wine(wine) => wine,
-        }
-    }
+impl OfKind for Inner {
+    type Kind = ChoiceKind;
 }
 
-impl AsnType for Inner {
-    const TAG: Tag = Tag::EOC;
+impl Described for Inner {}
 
-    const TAG_TREE: TagTree = TagTree::Choice(INNER_VARIANTS);
+impl ChoicePayload for Inner {
+    const ROOT: &'static [TagTree] = INNER_VARIANTS;
 
-    const CONSTRAINTS: Constraints = Constraints::NONE;
+    const ADDED: Option<&'static [TagTree]> = None;
 
-    const IDENTIFIER: Identifier = Identifier::EMPTY;
+    const NAMES: &'static [&'static str] = &["Wine"];
 
-    const IS_CHOICE: bool = true;
+    ghost alternatives = { inner_alternatives };
 
-    const RANK: u32 = 0;
+    ghost additions = { AlternativeAdditions.closed_alternatives };
 
-    ghost shape_of = { inner_shape };
+    ghost chosen = { inner_chosen };
 
-    ghost value_of = { inner_value };
-
-    fn constraint_table() -> Constraints {
-        Self::CONSTRAINTS
+    fn listed_root() -> &'static [TagTree] {
+        Self::ROOT
     }
 
-    fn shape(alloc: Global) -> Result<Shape, OutOfMemory> {
+    fn listed_added() -> Option<&'static [TagTree]> {
+        Self::ADDED
+    }
+
+    fn listed_names() -> &'static [&'static str] {
+        Self::NAMES
+    }
+
+    fn choice_shape(alloc: Global) -> Result<Shape, OutOfMemory> {
         let mut alternatives = AlternativeShapes::new(alloc);
         alternatives.alternative::<u8>("Wine", WINE)?;
         Ok(alternatives.choice())
     }
 
-    ghost readable = { refl };
-}
-
-impl Choice for Inner {
-    const VARIANTS: &'static [TagTree] = INNER_VARIANTS;
-
-    const EXTENDED_VARIANTS: Option<&'static [TagTree]> = None;
-
-    const IDENTIFIERS: &'static [&'static str] = &["Wine"];
-
-    ghost alternatives = { inner_alternatives };
-
-    ghost added = { AlternativeAdditions.closed_alternatives };
-
-    fn variant_table() -> &'static [TagTree] {
-        Self::VARIANTS
+    fn alternative_tag(&self) -> Tag {
+        match self {
+            Inner::Wine(_) => WINE,
+        }
     }
 
-    fn extended_variant_table() -> Option<&'static [TagTree]> {
-        Self::EXTENDED_VARIANTS
+    fn write_alternative<E: Encoder>(&self, encoder: &mut E) -> Result<(), EncodeError> {
+        match self {
+            Inner::Wine(wine) => wine.encode(encoder),
+        }
     }
 
-    fn identifier_table() -> &'static [&'static str] {
-        Self::IDENTIFIERS
-    }
-
-    ghost of_alternatives = { refl };
-}
-
-impl Encode for Inner {
-    fn encode_with_tag_and_constraints<E: Encoder>(
-        &self,
-        encoder: &mut E,
-        _tag: Tag,
-        constraints: &Constraints,
-        identifier: Identifier,
-    ) -> Result<(), EncodeError> {
-        encoder.encode_choice::<Inner, _>(
-            constraints,
-            WINE,
-            |encoder: &mut E| -> Result<Tag, EncodeError>
-                ensures written { OnOk result (Offered E.holds E.notation inner_alternatives (codes "Wine")
-                    (inner_payload self.entry.now) encoder.entry.now encoder.exit.now) }
-                ensures refused { IfErr result (CannotWrite E.notation (inner_payload self.entry.now)) }
-            {
-                encoder.encode_some::<u8>(self.wine(), Identifier::EMPTY)?;
-                Ok(WINE)
-            },
-            identifier,
-        )
-    }
-}
-
-impl DecodeChoice for Inner {
-    fn from_tag<D: Decoder>(decoder: &mut D, tag: Tag) -> Result<Inner, DecodeError> {
+    fn read_alternative<D: Decoder>(decoder: &mut D, tag: Tag) -> Result<Inner, DecodeError> {
         if tag == WINE {
             Ok(Inner::Wine(u8::decode(decoder)?))
         } else {
             Err(DecodeError::no_valid_choice("Inner", decoder.codec()))
         }
     }
-}
 
-impl Decode for Inner {
-    fn decode_with_tag_and_constraints<D: Decoder>(
-        decoder: &mut D,
-        _tag: Tag,
-        constraints: &Constraints,
-    ) -> Result<Inner, DecodeError> {
-        decoder.decode_choice::<Inner>(constraints)
-    }
+    ghost is_chosen = { elim [ Wine wine ↦ refl ] };
+
+    ghost readable = { refl };
 }

@@ -1,16 +1,13 @@
 // A SEQUENCE within a SEQUENCE.
-ghost use Rattle.asn_samples.specs.Nested.{nested_fields, nested_shape, nested_slots, nested_value};
-ghost use Rattle.asn_traits.specs.Scopes.{ScopeAnswers};
-ghost use Rattle.asn_traits.specs.Shape.{field_names};
-ghost use Rattle.asn_traits.specs.Writing.{CannotFill, Filled};
-ghost use Rattle.std.specs.Prelude.{IfErr, OnOk, refl};
+ghost use Rattle.asn_samples.specs.Nested.{nested_fields, nested_slots};
+ghost use Rattle.std.specs.Prelude.{refl};
 
 use crate::Struct;
-use asn_base::{Class, Constraints, Identifier, OutOfMemory, Tag, TagTree};
+use asn_base::{OutOfMemory, Tag};
 use asn_fault::{DecodeError, EncodeError};
 use asn_traits::{
-    AsnType, Constructed, Decode, Decoder, Encode, Encoder, Field, FieldShapes, Fields, Presence,
-    Shape, read_optional_field, write_optional_field,
+    Decoder, Described, Encoder, Field, FieldShapes, OfKind, SequenceFields, SequenceKind, Shape,
+    optional, read_optional_field, write_optional_field,
 };
 use std::alloc::Global;
 
@@ -21,124 +18,47 @@ pub struct Nested {
     pub nested: Option<bool>,
 }
 
-const VERY: Tag = Tag {
-    class: Class::Context,
-    value: 0,
-};
-
-const NESTED: Tag = Tag {
-    class: Class::Context,
-    value: 1,
-};
-
 const NESTED_FIELDS: &'static [Field] = &[
-    Field {
-        index: 0,
-        tag: VERY,
-        tag_tree: TagTree::Leaf(VERY),
-        presence: Presence::Optional,
-        name: "very",
-    },
-    Field {
-        index: 1,
-        tag: NESTED,
-        tag_tree: TagTree::Leaf(NESTED),
-        presence: Presence::Optional,
-        name: "nested",
-    },
+    optional!(0, Tag::CONTEXT_0, "very"),
+    optional!(1, Tag::CONTEXT_1, "nested"),
 ];
 
-impl AsnType for Nested {
-    const TAG: Tag = Tag::SEQUENCE;
-
-    const TAG_TREE: TagTree = TagTree::Leaf(Tag::SEQUENCE);
-
-    const CONSTRAINTS: Constraints = Constraints::NONE;
-
-    const IDENTIFIER: Identifier = Identifier::EMPTY;
-
-    const IS_CHOICE: bool = false;
-
-    const RANK: u32 = 0;
-
-    ghost shape_of = { nested_shape };
-
-    ghost value_of = { nested_value };
-
-    fn constraint_table() -> Constraints {
-        Self::CONSTRAINTS
-    }
-
-    fn shape(alloc: Global) -> Result<Shape, OutOfMemory> {
-        let mut fields = FieldShapes::new(alloc);
-        fields.optional::<Struct>("very", VERY)?;
-        fields.optional::<bool>("nested", NESTED)?;
-        Ok(fields.sequence())
-    }
-
-    ghost readable = { refl };
+impl OfKind for Nested {
+    type Kind = SequenceKind;
 }
 
-impl Constructed for Nested {
-    const FIELDS: Fields = Fields {
-        items: NESTED_FIELDS,
-    };
+impl Described for Nested {}
 
-    const EXTENDED_FIELDS: Option<Fields> = None;
+impl SequenceFields for Nested {
+    const ROWS: &'static [Field] = NESTED_FIELDS;
 
     ghost fields = { nested_fields };
 
-    fn field_table() -> Fields {
-        Self::FIELDS
+    ghost slots = { nested_slots };
+
+    fn listed() -> &'static [Field] {
+        Self::ROWS
     }
 
-    fn extended_field_table() -> Option<Fields> {
-        Self::EXTENDED_FIELDS
+    fn sequence_shape(alloc: Global) -> Result<Shape, OutOfMemory> {
+        let mut fields = FieldShapes::new(alloc);
+        fields.optional::<Struct>("very", Tag::CONTEXT_0)?;
+        fields.optional::<bool>("nested", Tag::CONTEXT_1)?;
+        Ok(fields.sequence())
     }
 
-    ghost of_fields = { refl };
-}
-
-impl Encode for Nested {
-    fn encode_with_tag_and_constraints<E: Encoder>(
-        &self,
-        encoder: &mut E,
-        tag: Tag,
-        _constraints: &Constraints,
-        identifier: Identifier,
-    ) -> Result<(), EncodeError> {
-        encoder.encode_sequence::<Nested, _>(
-            tag,
-            |encoder: &mut E| -> Result<(), EncodeError>
-                ensures written { OnOk result (Filled E.holds E.notation nested_fields (field_names nested_fields)
-                    (nested_slots self.entry.now) encoder.entry.now encoder.exit.now) }
-                ensures refused { IfErr result (CannotFill E.notation (nested_slots self.entry.now)) }
-            {
-                write_optional_field::<Struct, E>(encoder, &self.very)?;
-                write_optional_field::<bool, E>(encoder, &self.nested)?;
-                Ok(())
-            },
-            identifier,
-        )
+    fn write_fields<E: Encoder>(&self, encoder: &mut E) -> Result<(), EncodeError> {
+        write_optional_field(encoder, &self.very)?;
+        write_optional_field(encoder, &self.nested)?;
+        Ok(())
     }
-}
 
-impl Decode for Nested {
-    fn decode_with_tag_and_constraints<D: Decoder>(
-        decoder: &mut D,
-        tag: Tag,
-        _constraints: &Constraints,
-    ) -> Result<Nested, DecodeError> {
-        decoder.decode_sequence(
-            tag,
-            |decoder: &mut D| -> Result<Nested, DecodeError>
-                ensures { ScopeAnswers D.notation nested_fields nested_value (D.pending decoder.old)
-                    result (D.pending decoder.new) }
-            {
-                let very = read_optional_field::<Struct, D>(decoder, "very")?;
-                let nested = read_optional_field::<bool, D>(decoder, "nested")?;
-                Ok(Nested { very, nested })
-            },
-        )
+    fn read_fields<D: Decoder>(decoder: &mut D) -> Result<Nested, DecodeError> {
+        Ok(Nested {
+            very: read_optional_field(decoder, "very")?,
+            nested: read_optional_field(decoder, "nested")?,
+        })
     }
+
+    ghost readable = { refl };
 }

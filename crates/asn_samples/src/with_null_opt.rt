@@ -1,15 +1,12 @@
 // A SEQUENCE with a NULL that may be absent.
-ghost use Rattle.asn_samples.specs.WithNullOpt.{with_null_opt_fields, with_null_opt_shape, with_null_opt_slots, with_null_opt_value};
-ghost use Rattle.asn_traits.specs.Scopes.{ScopeAnswers};
-ghost use Rattle.asn_traits.specs.Shape.{field_names};
-ghost use Rattle.asn_traits.specs.Writing.{CannotFill, Filled};
-ghost use Rattle.std.specs.Prelude.{IfErr, OnOk, refl};
+ghost use Rattle.asn_samples.specs.WithNullOpt.{with_null_opt_fields, with_null_opt_slots};
+ghost use Rattle.std.specs.Prelude.{refl};
 
-use asn_base::{Class, Constraints, Identifier, OutOfMemory, Tag, TagTree};
+use asn_base::{OutOfMemory, Tag};
 use asn_fault::{DecodeError, EncodeError};
 use asn_traits::{
-    AsnType, Constructed, Decode, Decoder, Encode, Encoder, Field, FieldShapes, Fields, Presence,
-    Shape, read_field, read_optional_field, write_field, write_optional_field,
+    Decoder, Described, Encoder, Field, FieldShapes, OfKind, SequenceFields, SequenceKind, Shape,
+    optional, read_field, read_optional_field, required, write_field, write_optional_field,
 };
 use std::alloc::Global;
 
@@ -20,124 +17,47 @@ pub struct WithNullOpt {
     pub flag: Option<()>,
 }
 
-const NAME: Tag = Tag {
-    class: Class::Context,
-    value: 0,
-};
-
-const FLAG: Tag = Tag {
-    class: Class::Context,
-    value: 1,
-};
-
 const WITH_NULL_OPT_FIELDS: &'static [Field] = &[
-    Field {
-        index: 0,
-        tag: NAME,
-        tag_tree: TagTree::Leaf(NAME),
-        presence: Presence::Required,
-        name: "name",
-    },
-    Field {
-        index: 1,
-        tag: FLAG,
-        tag_tree: TagTree::Leaf(FLAG),
-        presence: Presence::Optional,
-        name: "flag",
-    },
+    required!(0, Tag::CONTEXT_0, "name"),
+    optional!(1, Tag::CONTEXT_1, "flag"),
 ];
 
-impl AsnType for WithNullOpt {
-    const TAG: Tag = Tag::SEQUENCE;
-
-    const TAG_TREE: TagTree = TagTree::Leaf(Tag::SEQUENCE);
-
-    const CONSTRAINTS: Constraints = Constraints::NONE;
-
-    const IDENTIFIER: Identifier = Identifier::EMPTY;
-
-    const IS_CHOICE: bool = false;
-
-    const RANK: u32 = 0;
-
-    ghost shape_of = { with_null_opt_shape };
-
-    ghost value_of = { with_null_opt_value };
-
-    fn constraint_table() -> Constraints {
-        Self::CONSTRAINTS
-    }
-
-    fn shape(alloc: Global) -> Result<Shape, OutOfMemory> {
-        let mut fields = FieldShapes::new(alloc);
-        fields.required::<String>("name", NAME)?;
-        fields.optional::<()>("flag", FLAG)?;
-        Ok(fields.sequence())
-    }
-
-    ghost readable = { refl };
+impl OfKind for WithNullOpt {
+    type Kind = SequenceKind;
 }
 
-impl Constructed for WithNullOpt {
-    const FIELDS: Fields = Fields {
-        items: WITH_NULL_OPT_FIELDS,
-    };
+impl Described for WithNullOpt {}
 
-    const EXTENDED_FIELDS: Option<Fields> = None;
+impl SequenceFields for WithNullOpt {
+    const ROWS: &'static [Field] = WITH_NULL_OPT_FIELDS;
 
     ghost fields = { with_null_opt_fields };
 
-    fn field_table() -> Fields {
-        Self::FIELDS
+    ghost slots = { with_null_opt_slots };
+
+    fn listed() -> &'static [Field] {
+        Self::ROWS
     }
 
-    fn extended_field_table() -> Option<Fields> {
-        Self::EXTENDED_FIELDS
+    fn sequence_shape(alloc: Global) -> Result<Shape, OutOfMemory> {
+        let mut fields = FieldShapes::new(alloc);
+        fields.required::<String>("name", Tag::CONTEXT_0)?;
+        fields.optional::<()>("flag", Tag::CONTEXT_1)?;
+        Ok(fields.sequence())
     }
 
-    ghost of_fields = { refl };
-}
-
-impl Encode for WithNullOpt {
-    fn encode_with_tag_and_constraints<E: Encoder>(
-        &self,
-        encoder: &mut E,
-        tag: Tag,
-        _constraints: &Constraints,
-        identifier: Identifier,
-    ) -> Result<(), EncodeError> {
-        encoder.encode_sequence::<WithNullOpt, _>(
-            tag,
-            |encoder: &mut E| -> Result<(), EncodeError>
-                ensures written { OnOk result (Filled E.holds E.notation with_null_opt_fields (field_names with_null_opt_fields)
-                    (with_null_opt_slots self.entry.now) encoder.entry.now encoder.exit.now) }
-                ensures refused { IfErr result (CannotFill E.notation (with_null_opt_slots self.entry.now)) }
-            {
-                write_field::<String, E>(encoder, &self.name)?;
-                write_optional_field::<(), E>(encoder, &self.flag)?;
-                Ok(())
-            },
-            identifier,
-        )
+    fn write_fields<E: Encoder>(&self, encoder: &mut E) -> Result<(), EncodeError> {
+        write_field(encoder, &self.name)?;
+        write_optional_field(encoder, &self.flag)?;
+        Ok(())
     }
-}
 
-impl Decode for WithNullOpt {
-    fn decode_with_tag_and_constraints<D: Decoder>(
-        decoder: &mut D,
-        tag: Tag,
-        _constraints: &Constraints,
-    ) -> Result<WithNullOpt, DecodeError> {
-        decoder.decode_sequence(
-            tag,
-            |decoder: &mut D| -> Result<WithNullOpt, DecodeError>
-                ensures { ScopeAnswers D.notation with_null_opt_fields with_null_opt_value (D.pending decoder.old)
-                    result (D.pending decoder.new) }
-            {
-                let name = read_field::<String, D>(decoder, "name")?;
-                let flag = read_optional_field::<(), D>(decoder, "flag")?;
-                Ok(WithNullOpt { name, flag })
-            },
-        )
+    fn read_fields<D: Decoder>(decoder: &mut D) -> Result<WithNullOpt, DecodeError> {
+        Ok(WithNullOpt {
+            name: read_field(decoder, "name")?,
+            flag: read_optional_field(decoder, "flag")?,
+        })
     }
+
+    ghost readable = { refl };
 }

@@ -1,6 +1,7 @@
 // Printed bounds, numbers through the bound of the integer types, tags of alternatives, and looks
 // at a text.
-use asn_base::{Bounded, Class, Codec, IntegerType, Scan, Tag, TagTree, Variants, WholeNumber};
+use asn_base::{Bounded, Class, Codec, Scan, Tag, TagTree, Variants, WholeNumber};
+use asn_traits::IntegerType;
 use std::test::Fail;
 
 #[test]

@@ -13,7 +13,7 @@ use Rattle.asn_traits.specs.Stops.{Stops, StopsFields, Path}
 use Rattle.asn_traits.specs.Answer.{OptionalAnswer, OptionalStops, Refuses}
 use Rattle.asn_traits.specs.FieldAnswer.{AddsSlot, TakesSlot, WithinField}
 use Rattle.asn_traits.specs.Writing.{Frame, named, head_name, tail_names, Filled, CannotFill}
-use Rattle.asn_traits.proofs.Filling.{fill_present, fill_absent}
+use Rattle.asn_traits.proofs.Filling.{fill_present, fill_absent, fill_end}
 use Rattle.asn_traits.proofs.Steps.{refuses_by, within_refuses}
 use Rattle.asn_traits.proofs.Taking.{Taking, taking_starts, taking_ends, takes_present, takes_optional, stops_required, stops_optional}
 
@@ -45,7 +45,7 @@ named_members [] ns = refl
 named_members (Some v ∷ ss) ns = ap (Slots.present (head_name ns) v) (named_members ss (tail_names ns))
 named_members (None ∷ ss) ns = ap (Slots.absent (head_name ns)) (named_members ss (tail_names ns))
 
-at_field : {name : List ℕ} {P : Path → Why → Type 0} (Q : Path → Why → Type 0) → ((p : Path) (w : Why) → P p w → Q (name ∷ p) w) → (p : Path) (w : Why) → WithinField name P p w → Q p w
+pub at_field : {name : List ℕ} {P : Path → Why → Type 0} (Q : Path → Why → Type 0) → ((p : Path) (w : Why) → P p w → Q (name ∷ p) w) → (p : Path) (w : Why) → WithinField name P p w → Q p w
 at_field Q stops p w (WithinField.within_field q v k) = stops q v k
 
 module _ {n : Notation} {fs : Fields} {before : List Slot} where

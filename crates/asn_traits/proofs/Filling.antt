@@ -1,10 +1,11 @@
 -- What a scope writes is what its type writes.
-use Rattle.std.proofs.Common.{true, ◌≡◌, ℕ, List, [], ◌∷◌, ◌++◌, Some, None, Ok, Result, ap, sym, ◌∙◌, append_assoc, inl, inr, MutBor, append-nil, subst}
+use Rattle.std.proofs.Common.{Bool, true, false, if◌then◌else◌, IfSome, Option, ◌≡◌, ℕ, List, [], ◌∷◌, ◌++◌, Some, None, Ok, Result, ap, sym, ◌∙◌, append_assoc, inl, inr, MutBor, append-nil, subst}
 use Rattle.std.specs.Fn.{Once, FnOnceReturnsAtMut}
 use Rattle.asn_base.specs.declared.tag.Tag.{Tag}
 use Rattle.asn_fault.specs.declared.encode.EncodeError.{EncodeError}
 use Rattle.asn_traits.specs.Notation.{Notation}
-use Rattle.asn_traits.specs.Shape.{Shape, Fields, Alternatives, AlternativeAdditions, Presence, closed_seq, all_alternatives}
+use Rattle.asn_traits.specs.Shape.{Shape, Fields, Alternatives, AlternativeAdditions, Presence, SeqKind, FieldAdditions, closed_seq, all_fields, all_alternatives, alternative_tagged, tag_eq}
+use Rattle.asn_traits.specs.Chosen.{Chosen, chosen_value}
 use Rattle.asn_traits.specs.Value.{Value, Fits, FitsFields, FitsAlternative, is_kept, may_lack}
 use Rattle.asn_traits.specs.Writing.{Frame, push, push_all, close, as_members, as_choice, named, Turns, Written, Filled, CannotWrite, ScopeRan, CannotFill, tail_names, Offered}
 
@@ -31,16 +32,23 @@ refuse_members names (CannotFill.slot_refused (CannotWrite.write_free o)) = Cann
 refuse_members {n} {ss} {e} names (CannotFill.after_slot w r) = elim (refuse_members (tail_names names) r) [ CannotWrite.no_memory o ↦ CannotWrite.no_memory o | CannotWrite.blocked b c ↦ CannotWrite.blocked (inr (w, b)) c | CannotWrite.write_free o ↦ CannotWrite.write_free o ]
 refuse_members names (CannotFill.after_absent r) = elim (refuse_members (tail_names names) r) [ CannotWrite.no_memory o ↦ CannotWrite.no_memory o | CannotWrite.blocked b c ↦ CannotWrite.blocked b c | CannotWrite.write_free o ↦ CannotWrite.write_free o ]
 
--- The whole scope.
-pub scope_members : {S F : Type 0} {g : Once F (MutBor S × Unit {0}) (Result (Unit {0}) EncodeError × (MutBor S × Unit {0}))} {f : F} {holds : S → List Frame → Type 0} {names : List (List ℕ)} {old new : S} (n : Notation) (all : Fields) (slots : Frame)
+-- The whole scope, of a sequence or set with any additions.
+pub scope_fields : {S F : Type 0} {g : Once F (MutBor S × Unit {0}) (Result (Unit {0}) EncodeError × (MutBor S × Unit {0}))} {f : F} {holds : S → List Frame → Type 0} {names : List (List ℕ)} {old new : S} (n : Notation) (kind : SeqKind) (root : Fields) (more : FieldAdditions) (slots : Frame)
     → (r : ScopeRan holds (FnOnceReturnsAtMut g f) old (Ok tt) (λ left. Turns holds (close (as_members names)) left new))
-    → Filled holds n all names slots r.answered.shown.now r.answered.left.now
-    → Written holds n (closed_seq all) (Value.members (named slots names)) old new
-scope_members {holds = holds} {names = names} n all slots r f = record {
+    → Filled holds n (all_fields root more) names slots r.answered.shown.now r.answered.left.now
+    → Written holds n (Shape.seq kind root more) (Value.members (named slots names)) old new
+scope_fields {holds = holds} {names = names} n kind root more slots r f = record {
   added = λ fs h. r.left _ (subst (holds r.end) (push_all-new slots [] fs) (subst (λ e. holds e (push_all slots ([] ∷ fs))) r.answered.leaves (f.added ([] ∷ fs) (subst (λ s. holds s ([] ∷ fs)) (sym r.answered.shows) (r.opened fs h)))));
   fit = Fits.fits_members f.fit;
   writable = f.writable;
 }
+
+-- The same, of a SEQUENCE without an extension marker.
+pub scope_members : {S F : Type 0} {g : Once F (MutBor S × Unit {0}) (Result (Unit {0}) EncodeError × (MutBor S × Unit {0}))} {f : F} {holds : S → List Frame → Type 0} {names : List (List ℕ)} {old new : S} (n : Notation) (all : Fields) (slots : Frame)
+    → (r : ScopeRan holds (FnOnceReturnsAtMut g f) old (Ok tt) (λ left. Turns holds (close (as_members names)) left new))
+    → Filled holds n all names slots r.answered.shown.now r.answered.left.now
+    → Written holds n (closed_seq all) (Value.members (named slots names)) old new
+scope_members n all slots r f = scope_fields n SeqKind.sequence all FieldAdditions.closed_fields slots r f
 
 -- What is written as the payload is offered, where it fits its alternative.
 pub offered : {S : Type 0} {holds : S → List Frame → Type 0} {n : Notation} {s : Shape} {v : Value} {all : Alternatives} {id : List ℕ} {old new : S} → Written holds n s v old new → FitsAlternative all id v → Offered holds n all id v old new
@@ -56,3 +64,18 @@ scope_choice {holds = holds} n alts added id v r f = record {
   fit = Fits.fits_choice f.fit;
   writable = f.writable;
 }
+
+tagged_or_later : (b : Bool) (id name : List ℕ) (t : Tag) (s shape : Shape) (alts : Alternatives) (named : Option (List ℕ × Shape)) (v : Value) → (named ≡ Some (name, shape) → FitsAlternative alts name v)
+    → (if b then Some (id, s) else named) ≡ Some (name, shape) → Fits shape v → FitsAlternative (Alternatives.alternative id t s alts) name v
+tagged_or_later true id name t s shape alts named v later e fit =
+    let d : ◌≡◌ {A = Option (List ℕ × Shape)} (Some (id, s)) (Some (name, shape)) = e in
+    let p : ◌≡◌ {A = List ℕ × Shape} (id, s) (name, shape) = cc d in
+    subst (λ n. FitsAlternative (Alternatives.alternative id t s alts) n v) (ap (λ (r : List ℕ × Shape). r.0) p)
+        (FitsAlternative.fits_here (subst (λ r. Fits r v) (sym (ap (λ (r : List ℕ × Shape). r.1) p)) fit))
+tagged_or_later false id name t s shape alts named v later e fit = FitsAlternative.fits_later (later e)
+
+-- A value of the shape of the alternative of a tag fits.
+pub fits_tagged : (alts : Alternatives) (tag : Tag) (name : List ℕ) (shape : Shape) (v : Value) → alternative_tagged alts tag ≡ Some (name, shape) → Fits shape v → FitsAlternative alts name v
+fits_tagged Alternatives.no_alternatives tag name shape v e fit = let d : ◌≡◌ {A = Option (List ℕ × Shape)} None (Some (name, shape)) = e in cc d
+fits_tagged (Alternatives.alternative id t s alts) tag name shape v e fit =
+    tagged_or_later (tag_eq tag t) id name t s shape alts (alternative_tagged alts tag) v (λ f. fits_tagged alts tag name shape v f fit) e fit

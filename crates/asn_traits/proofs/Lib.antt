@@ -1,6 +1,7 @@
 pub mod Meanings
 pub mod Steps
 pub mod Refusing
+pub mod LeafValues
 pub mod Taking
 pub mod Reading
 pub mod Choices
@@ -18,3 +19,4 @@ pub mod Nesting
 pub mod SameText
 pub mod ShapeNames
 pub mod FieldSteps
+pub mod Passing

@@ -1,9 +1,8 @@
 -- Laws of what slots say, in the two notations.
-use Rattle.std.proofs.Common.{List, None, Option, Some, true, false, Result, Ok, Err, ap, refl, subst, sym, map, ℕ, ℤ, ◌<ℤ◌, ◌∙◌, ◌≡◌}
-use Rattle.std.specs.Int.Signed.{clash_ℤ}
+use Rattle.std.proofs.Common.{List, None, Option, Some, true, false, Result, Ok, Err, ap, refl, subst, sym, map, ℕ, ◌∙◌, ◌≡◌}
 use Rattle.asn_fault.specs.Stop.{Why}
 use Rattle.asn_traits.specs.Notation.{Notation, IsText}
-use Rattle.asn_traits.specs.Shape.{Fields, Shape, field_names}
+use Rattle.asn_traits.specs.Shape.{Fields, Shape, all_fields, field_names}
 use Rattle.asn_traits.specs.Tree.{Slot, Tree}
 use Rattle.asn_traits.specs.Value.{Slots, Value, Values, with_field}
 use Rattle.asn_traits.specs.Says.{Says, SaysEach, SaysFields}
@@ -24,17 +23,11 @@ some_same {A} {x} {y} e f = let d : Some x ≡ Some y = sym e ∙ f in cc d
 ok_same : {A E : Type 0} {x y : A} {o : Option (Result A E)} → o ≡ Some (Ok x) → o ≡ Some (Ok y) → x ≡ y
 ok_same {A} {E} {x} {y} e f = let d : ◌≡◌ {A = Option (Result A E)} (Some (Ok x)) (Some (Ok y)) = sym e ∙ f in cc d
 
-number_same : {E : Type 0} {x y : ℤ} {o : Result ℤ E} → o ≡ Ok x → o ≡ Ok y → x ≡ y
-number_same {E} {x} {y} e f = let d : ◌≡◌ {A = Result ℤ E} (Ok x) (Ok y) = sym e ∙ f in cc d
-
 none_some : {A : Type 0} {x : A} {o : Option A} → o ≡ None → o ≡ Some x → ⊥
 none_some {A} {x} e f = let d : ◌≡◌ {A = Option A} None (Some x) = sym e ∙ f in cc d
 
 ok_err : {A E : Type 0} {x : A} {w : E} {o : Option (Result A E)} → o ≡ Some (Ok x) → o ≡ Some (Err w) → ⊥
 ok_err {A} {E} {x} {w} e f = let d : ◌≡◌ {A = Option (Result A E)} (Some (Ok x)) (Some (Err w)) = sym e ∙ f in cc d
-
-number_err : {E : Type 0} {x : ℤ} {w : E} {o : Result ℤ E} → o ≡ Ok x → o ≡ Err w → ⊥
-number_err {E} {x} {w} e f = let d : ◌≡◌ {A = Result ℤ E} (Ok x) (Err w) = sym e ∙ f in cc d
 
 abbrev Member : Type 0
 Member = List ℕ × Tree
@@ -50,25 +43,21 @@ mutual
   pub one : {n : Notation} {s : Shape} {slot : Slot} {v : Value} → IsText n → Says n s slot v → {w : Value} → Says n s slot w → v ≡ w
   one {n} x (Says.says_free s slot v e) k = absurd (not_other n x e)
   one {n} x (Says.says_leaf s t v e) (Says.says_free s2 slot w f) = absurd (not_other n x f)
-  one {n} x (Says.says_int l g k w t e a b) (Says.says_free s2 slot v f) = absurd (not_other n x f)
-  one {n} x (Says.says_seq fs t look vs e h) (Says.says_free s2 slot v f) = absurd (not_other n x f)
+  one {n} x (Says.says_seq kind fs more t look vs e h) (Says.says_free s2 slot v f) = absurd (not_other n x f)
   one {n} x (Says.says_list s t slots vs e h) (Says.says_free s2 slot v f) = absurd (not_other n x f)
   one {n} x (Says.says_choice alts added t name u id s v e f h) (Says.says_free s2 slot w g) = absurd (not_other n x g)
   one {n} x (Says.says_loop body t v h) (Says.says_free s2 slot w f) = absurd (not_other n x f)
   one x (Says.says_leaf s t v e) (Says.says_leaf s2 t2 w f) = ok_same e f
-  one x (Says.says_leaf s t v e) (Says.says_int l g k w t2 f a b) = absurd (none_some refl e)
-  one x (Says.says_leaf s t v e) (Says.says_seq fs t2 look vs f h) = absurd (none_some refl e)
+  one x (Says.says_leaf s t v e) (Says.says_seq kind fs more t2 look vs f h) = absurd (none_some refl e)
   one x (Says.says_leaf s t v e) (Says.says_list s2 t2 slots vs f h) = absurd (none_some refl e)
   one x (Says.says_leaf s t v e) (Says.says_choice alts added t2 name u id s2 w f g h) = absurd (none_some refl e)
   one x (Says.says_leaf s t v e) (Says.says_loop body t2 w h) = absurd (none_some refl e)
-  one x (Says.says_int l g k w t e a b) (Says.says_leaf s2 t2 v f) = absurd (none_some refl f)
-  one x (Says.says_seq fs t look vs e h) (Says.says_leaf s2 t2 v f) = absurd (none_some refl f)
+  one x (Says.says_seq kind fs more t look vs e h) (Says.says_leaf s2 t2 v f) = absurd (none_some refl f)
   one x (Says.says_list s t slots vs e h) (Says.says_leaf s2 t2 v f) = absurd (none_some refl f)
   one x (Says.says_choice alts added t name u id s v e f h) (Says.says_leaf s2 t2 w g) = absurd (none_some refl g)
   one x (Says.says_loop body t v h) (Says.says_leaf s2 t2 w f) = absurd (none_some refl f)
-  one x (Says.says_int l g k w t e a b) (Says.says_int l2 g2 k2 w2 t2 f c d) = ap Value.int (number_same e f)
-  one {n} x (Says.says_seq fs t look vs e h) (Says.says_seq fs2 t2 look2 ws f k) =
-      ap Value.members (one_fields x h (subst (λ m. SaysFields n fs2 (map m (field_names fs2)) ws) (some_same f e) k))
+  one {n} x (Says.says_seq kind fs more t look vs e h) (Says.says_seq kind2 fs2 more2 t2 look2 ws f k) =
+      ap Value.members (one_fields x h (subst (λ m. SaysFields n (all_fields fs2 more2) (map m (field_names (all_fields fs2 more2))) ws) (some_same f e) k))
   one {n} x (Says.says_list s t slots vs e h) (Says.says_list s2 t2 slots2 ws f k) =
       ap Value.list (one_each x h (subst (λ m. SaysEach n s2 m ws) (some_same f e) k))
   one {n} x (Says.says_choice alts added t name u id s v e f h) (Says.says_choice alts2 added2 t2 name2 u2 id2 s2 w g i k) =
@@ -96,17 +85,13 @@ mutual
   pub apart : {n : Notation} {s : Shape} {slot : Slot} {v : Value} → IsText n → Says n s slot v → {p : Path} {w : Why} → Stops n s slot p w → ⊥
   apart {n} x (Says.says_free s slot v e) k = not_other n x e
   apart {n} x (Says.says_leaf s t v e) (Stops.stops_free s2 slot p w f) = not_other n x f
-  apart {n} x (Says.says_int l g k w t e a b) (Stops.stops_free s2 slot p y f) = not_other n x f
-  apart {n} x (Says.says_seq fs t look vs e h) (Stops.stops_free s2 slot p y f) = not_other n x f
+  apart {n} x (Says.says_seq kind fs more t look vs e h) (Stops.stops_free s2 slot p y f) = not_other n x f
   apart {n} x (Says.says_list s t slots vs e h) (Stops.stops_free s2 slot p y f) = not_other n x f
   apart {n} x (Says.says_choice alts added t name u id s v e f h) (Stops.stops_free s2 slot p y g) = not_other n x g
   apart {n} x (Says.says_loop body t v h) (Stops.stops_free s2 slot p y f) = not_other n x f
   apart x (Says.says_leaf s t v e) (Stops.stops_leaf s2 t2 blame w f blamed) = ok_err e f
-  apart x (Says.says_leaf s t v e) (Stops.stops_number l g y t2 blame w f blamed) = none_some refl e
-  apart x (Says.says_leaf s t v e) (Stops.stops_below l g k y t2 f a) = none_some refl e
-  apart x (Says.says_leaf s t v e) (Stops.stops_above l g k y t2 f a) = none_some refl e
-  apart x (Says.says_leaf s t v e) (Stops.stops_no_members fs t2 w f blamed) = none_some refl e
-  apart x (Says.says_leaf s t v e) (Stops.stops_seq fs t2 look p w f h) = none_some refl e
+  apart x (Says.says_leaf s t v e) (Stops.stops_no_members kind fs more t2 w f blamed) = none_some refl e
+  apart x (Says.says_leaf s t v e) (Stops.stops_seq kind fs more t2 look p w f h) = none_some refl e
   apart x (Says.says_leaf s t v e) (Stops.stops_no_list s2 t2 w f blamed) = none_some refl e
   apart x (Says.says_leaf s t v e) (Stops.stops_list s2 t2 slots p w f h) = none_some refl e
   apart x (Says.says_leaf s t v e) (Stops.stops_no_choice alts added t2 w f blamed) = none_some refl e
@@ -114,13 +99,9 @@ mutual
   apart x (Says.says_leaf s t v e) (Stops.stops_unnamed alts added t2 name u r f g) = none_some refl e
   apart x (Says.says_leaf s t v e) (Stops.stops_payload alts added t2 name u id s2 p w f g h) = none_some refl e
   apart x (Says.says_leaf s t v e) (Stops.stops_loop body t2 p w h) = none_some refl e
-  apart x (Says.says_int l g k w t e a b) (Stops.stops_leaf s2 t2 blame y f blamed) = none_some refl f
-  apart x (Says.says_int l g k w t e a b) (Stops.stops_number l2 g2 y t2 blame z f blamed) = number_err e f
-  apart x (Says.says_int l g k w t e a b) (Stops.stops_below l2 g2 k2 y t2 f c) = clash_ℤ (subst (λ m. m <ℤ l2) (number_same f e) c) a
-  apart x (Says.says_int l g k w t e a b) (Stops.stops_above l2 g2 k2 y t2 f c) = clash_ℤ (subst (λ m. g2 <ℤ m) (number_same f e) c) b
-  apart x (Says.says_seq fs t look vs e h) (Stops.stops_leaf s2 t2 blame y f blamed) = none_some refl f
-  apart x (Says.says_seq fs t look vs e h) (Stops.stops_no_members fs2 t2 w f blamed) = none_some f e
-  apart {n} x (Says.says_seq fs t look vs e h) (Stops.stops_seq fs2 t2 look2 p w f k) = apart_fields x h (subst (λ m. StopsFields n fs2 (map m (field_names fs2)) p w) (some_same f e) k)
+  apart x (Says.says_seq kind fs more t look vs e h) (Stops.stops_leaf s2 t2 blame y f blamed) = none_some refl f
+  apart x (Says.says_seq kind fs more t look vs e h) (Stops.stops_no_members kind2 fs2 more2 t2 w f blamed) = none_some f e
+  apart {n} x (Says.says_seq kind fs more t look vs e h) (Stops.stops_seq kind2 fs2 more2 t2 look2 p w f k) = apart_fields x h (subst (λ m. StopsFields n (all_fields fs2 more2) (map m (field_names (all_fields fs2 more2))) p w) (some_same f e) k)
   apart x (Says.says_list s t slots vs e h) (Stops.stops_leaf s2 t2 blame y f blamed) = none_some refl f
   apart x (Says.says_list s t slots vs e h) (Stops.stops_no_list s2 t2 w f blamed) = none_some f e
   apart {n} x (Says.says_list s t slots vs e h) (Stops.stops_list s2 t2 slots2 p w f k) = apart_each x h (subst (λ m. StopsEach n s2 m p w) (some_same f e) k)

@@ -2,15 +2,21 @@
 use Rattle.std.proofs.Common.{◌≡◌, refl, ap, sym, ◌∙◌, subst, arith, ℕ, suc, ◌≤◌, List, [], ◌∷◌, map, Bool, true, false, if◌then◌else◌, Option, Some, None, Result, Ok, Err, Ordering, Less, Equal, Greater, option_map}
 use Rattle.std.specs.Ordering.{nat_cmp, match_ordering}
 use Rattle.std.specs.Cmp.Lexicographic.{slice_cmp}
-use Rattle.serde_json.specs.Data.{Data, Items, Members, put, depth, items_depth, members_depth}
+use Rattle.hex.specs.Hex.{decode_of}
+use Rattle.hex.specs.declared.error.FromHexError.{FromHexError}
+use Rattle.asn_base.specs.declared.codec.Codec.TheVariants.{Jer}
+use Rattle.serde_json.specs.Data.{Data, Num, Items, Members, put, depth, items_depth, members_depth}
 use Rattle.serde_json.specs.Find.{get_member}
 use Rattle.asn_traits.specs.Canonical.{jer_data, jer_items, jer_members}
-use Rattle.asn_traits.specs.Leaf.{Blame, leaf, as_null, as_boolean, as_text, as_item, result_map}
+use Rattle.asn_traits.specs.Leaf.{Blame, leaf, octets_or, as_leaf, kind_of, refine, refined}
 use Rattle.asn_traits.specs.Notation.{Notation}
+use Rattle.asn_traits.specs.Range.{is_between}
 use Rattle.asn_traits.specs.Says.{Says, SaysEach, SaysFields}
-use Rattle.asn_traits.specs.Shape.{Shape, Alphabet, Fields, is_item, all_items, field_names}
+use Rattle.asn_traits.specs.Shape.{Shape, Fields, all_fields, is_item, all_items, field_names}
 use Rattle.asn_traits.specs.Tree.{Tree, Slot, as_list, as_members, as_choice, item_slots, member_slot}
 use Rattle.asn_traits.specs.Value.{Value, Values, Slots, is_kept}
+use Rattle.asn_traits.specs.declared.leaves.LeafKind.{LeafKind}
+use Rattle.asn_traits.specs.declared.leaves.LeafKind.TheVariants.{Null, Boolean, Number, Text, Item, Octets}
 
 -- How deep a tree of JSON nests.
 abbrev tree_depth : Tree → ℕ
@@ -58,36 +64,39 @@ abbrev leaf_depth : Option (Result Value Blame) → ℕ
 leaf_depth None = 0
 leaf_depth (Some r) = answer_depth r
 
-null-flat : (t : Tree) → answer_depth (as_null Notation.jer t) ≡ 0
-null-flat (Tree.json Data.null) = refl
-null-flat (Tree.json d) = refl
-null-flat (Tree.avn t) = refl
+octets-flat : (r : Result (List ℕ) FromHexError) → answer_depth (octets_or r) ≡ 0
+octets-flat (Ok o) = refl
+octets-flat (Err e) = refl
 
-boolean-flat : (t : Tree) → answer_depth (as_boolean Notation.jer t) ≡ 0
-boolean-flat (Tree.json (Data.boolean b)) = refl
-boolean-flat (Tree.json d) = refl
-boolean-flat (Tree.avn t) = refl
+kind-flat : (k : LeafKind) (t : Tree) → answer_depth (as_leaf Notation.jer k t) ≡ 0
+kind-flat Null (Tree.json Data.null) = refl
+kind-flat Boolean (Tree.json (Data.boolean b)) = refl
+kind-flat Number (Tree.json (Data.number (Num.unsigned n))) = refl
+kind-flat Number (Tree.json (Data.number (Num.negative z))) = refl
+kind-flat Text (Tree.json (Data.string x)) = refl
+kind-flat Item (Tree.json (Data.string x)) = refl
+kind-flat Octets (Tree.json (Data.string x)) = octets-flat (decode_of x)
+kind-flat k t = refl
 
-text-flat : (t : Tree) → answer_depth (result_map Value.text (as_text Notation.jer t)) ≡ 0
-text-flat (Tree.json (Data.string x)) = refl
-text-flat (Tree.json d) = refl
-text-flat (Tree.avn t) = refl
+tested-flat : (b : Bool) (v : Value) (blame : Blame) → depth (jer_data v) ≡ 0 → answer_depth (if b then Ok v else Err blame) ≡ 0
+tested-flat true v blame e = e
+tested-flat false v blame e = refl
 
-listed-flat : (b : Bool) (x : List ℕ) (blame : Blame) → answer_depth (if b then Ok (Value.item x) else Err blame) ≡ 0
-listed-flat true x blame = refl
-listed-flat false x blame = refl
+refine-flat : (s : Shape) (v : Value) → depth (jer_data v) ≡ 0 → answer_depth (refine Jer s v) ≡ 0
+refine-flat (Shape.int l g w) (Value.int n) e = tested-flat (is_between l g n) (Value.int n) _ e
+refine-flat (Shape.enum items added) (Value.item i) e = tested-flat (is_item (all_items items added) i) (Value.item i) _ e
+refine-flat s v e = e
 
-item-flat : (items : List (List ℕ)) (t : Tree) → answer_depth (as_item Notation.jer items t) ≡ 0
-item-flat items (Tree.json (Data.string x)) = listed-flat (is_item items x) x _
-item-flat items (Tree.json d) = refl
-item-flat items (Tree.avn t) = refl
+refined-flat : (s : Shape) (r : Result Value Blame) → answer_depth r ≡ 0 → answer_depth (refined Jer s r) ≡ 0
+refined-flat s (Ok v) e = refine-flat s v e
+refined-flat s (Err b) e = refl
 
 leaf-flat : (s : Shape) (t : Tree) → leaf_depth (leaf Notation.jer s t) ≡ 0
-leaf-flat Shape.null t = null-flat t
-leaf-flat Shape.boolean t = boolean-flat t
-leaf-flat (Shape.text Alphabet.utf8) t = text-flat t
-leaf-flat (Shape.enum items added) t = item-flat (all_items items added) t
-leaf-flat s t = refl
+leaf-flat s t = by (kind_of s)
+  where
+    by : (o : Option LeafKind) → leaf_depth (option_map (λ k. refined Jer s (as_leaf Notation.jer k t)) o) ≡ 0
+    by None = refl
+    by (Some k) = refined-flat s (as_leaf Notation.jer k t) (kind-flat k t)
 
 no_list : {A : Type 0} {P : Type 0} {x : A} → ◌≡◌ {A = Option A} None (Some x) → P
 no_list e = cc e
@@ -141,10 +150,9 @@ mutual
   -- What JER writes for a value that a slot says nests no deeper than the slot's tree.
   pub says-depth : {s : Shape} {slot : Slot} {v : Value} → Says Notation.jer s slot v → depth (jer_data v) ≤ slot_depth slot
   says-depth (Says.says_leaf s t v e) = let flat : depth (jer_data v) ≡ 0 = sym (ap leaf_depth e) ∙ leaf-flat s t in omega (arith, flat)
-  says-depth (Says.says_int l g k w t e low high) = omega arith
-  says-depth (Says.says_seq fs t look vs e h) =
+  says-depth (Says.says_seq kind fs more t look vs e h) =
       let o = members-opened t look e in
-      let below = fields-depth o.inner h (looked-within look o.inner o.parts (field_names fs)) in omega (arith, below, o.outer)
+      let below = fields-depth o.inner h (looked-within look o.inner o.parts (field_names (all_fields fs more))) in omega (arith, below, o.outer)
   says-depth (Says.says_list s t slots vs e h) =
       let o = list-opened t slots e in
       let below = each-depth o.inner h o.parts in omega (arith, below, o.outer)

@@ -1,9 +1,9 @@
 -- A loop that can be read can be read unfolded, and what the parts of a shape that can be read are.
-use Rattle.std.proofs.Common.{◌≡◌, refl, ap, ◌∙◌, subst, arith, ℕ, zero, suc, ◌≤◌, ◌<◌, [], ◌∷◌, ◌++◌, Bool, true, false, not, ◌&&◌, nat_eq, nat_le, nat_lt, if◌then◌else◌, Option, Some, None}
+use Rattle.std.proofs.Common.{◌≡◌, refl, ap, ◌∙◌, subst, arith, ℕ, zero, suc, ◌≤◌, ◌<◌, ◌∷◌, ◌++◌, Bool, true, false, not, ◌&&◌, nat_eq, nat_le, nat_lt, if◌then◌else◌, Option, Some, None}
 use Rattle.std.proofs.lemmas.Bool.{leb-true, le-leb, ltb-true, lt-ltb, eq-eqb}
 use Rattle.std.proofs.lemmas.Bool.Decides.{eqb_tells}
 use Rattle.asn_base.specs.declared.tag.Tag.{Tag}
-use Rattle.asn_traits.specs.Shape.{Shape, Fields, FieldAdditions, Alternatives, AlternativeAdditions, Plain, Presence, fill, fill_fields, fill_added_fields, fill_alternatives, fill_added_alternatives, unfold_loop, opened, all_alternatives, join_alternatives, closed_seq, field_names, identifiers, tags, tag_eq, has_tag, tags_distinct, alternative_tagged, are_distinct, end_tag}
+use Rattle.asn_traits.specs.Shape.{Shape, SeqKind, Fields, FieldAdditions, all_fields, join_fields, Alternatives, AlternativeAdditions, Plain, Presence, fill, fill_fields, fill_added_fields, fill_alternatives, fill_added_alternatives, unfold_loop, opened, all_alternatives, join_alternatives, field_names, identifiers, tags, tag_eq, has_tag, tags_distinct, alternative_tagged, are_distinct, end_tag}
 use Rattle.asn_traits.specs.Readable.{are_apart, are_identifiers, all_field_names, is_of_shape, suits, has_alternative, are_told_apart, is_readable, is_readable_in, are_fields_readable, are_added_fields_readable, are_alternatives_readable, are_added_alternatives_readable}
 
 pub and-left : (a b : Bool) → (a && b) ≡ true → a ≡ true
@@ -195,11 +195,45 @@ pub opened-readable : (s : Shape) → is_readable s ≡ true → is_readable (op
 opened-readable (Shape.loop body) e = unfolded-readable body e
 opened-readable s e = e
 
+names-joined : (fs more : Fields) → field_names (join_fields fs more) ≡ field_names fs ++ field_names more
+names-joined Fields.no_fields more = refl
+names-joined (Fields.field n t p s fs) more = ap (λ l. n ∷ l) (names-joined fs more)
+
+-- The names of all fields are those of both.
+pub names-all : (fs : Fields) (added : FieldAdditions) → field_names (all_fields fs added) ≡ all_field_names fs added
+names-all fs FieldAdditions.closed_fields = refl
+names-all fs (FieldAdditions.extended_fields more) = names-joined fs more
+
+-- What the shape of a sequence that can be read says of all its fields.
+pub record FieldsRead (all : Fields) : Type 0 where
+  pub spelled : are_identifiers (field_names all) ≡ true
+  pub distinct : are_distinct (field_names all) ≡ true
+  pub parts : are_fields_readable 0 all ≡ true
+
+fields_joined : (fs more : Fields) → are_fields_readable 0 fs ≡ true → are_fields_readable 0 more ≡ true → are_fields_readable 0 (join_fields fs more) ≡ true
+fields_joined Fields.no_fields more e f = f
+fields_joined (Fields.field n t p s fs) more e f =
+    and-both _ _ (and-left (suits p s && is_readable s) (are_fields_readable 0 fs) e) (fields_joined fs more (and-right (suits p s && is_readable s) (are_fields_readable 0 fs) e) f)
+
+all_parts : (fs : Fields) (added : FieldAdditions) → are_fields_readable 0 fs ≡ true → are_added_fields_readable 0 added ≡ true → are_fields_readable 0 (all_fields fs added) ≡ true
+all_parts fs FieldAdditions.closed_fields e f = e
+all_parts fs (FieldAdditions.extended_fields more) e f = fields_joined fs more e f
+
+pub fields_read : (kind : SeqKind) (fs : Fields) (added : FieldAdditions) → is_readable (Shape.seq kind fs added) ≡ true → FieldsRead (all_fields fs added)
+fields_read kind fs added e =
+    let all = all_field_names fs added in
+    let read = are_fields_readable 0 fs && are_added_fields_readable 0 added in
+    let names = and-left (are_identifiers all && are_distinct all) read e in
+    let parts = and-right (are_identifiers all && are_distinct all) read e in
+    record {
+      spelled = ap are_identifiers (names-all fs added) ∙ and-left (are_identifiers all) (are_distinct all) names;
+      distinct = ap are_distinct (names-all fs added) ∙ and-right (are_identifiers all) (are_distinct all) names;
+      parts = all_parts fs added (and-left (are_fields_readable 0 fs) (are_added_fields_readable 0 added) parts) (and-right (are_fields_readable 0 fs) (are_added_fields_readable 0 added) parts);
+    }
+
 -- The names of the fields of a sequence that can be read are distinct.
-pub names_distinct : (s : Shape) (fs : Fields) → is_readable s ≡ true → opened s ≡ closed_seq fs → are_distinct (field_names fs) ≡ true
-names_distinct s fs e o =
-    let read = subst (λ x. is_readable x ≡ true) o (opened-readable s e) in
-    and-right (are_identifiers (field_names fs)) (are_distinct (field_names fs)) (and-left (are_identifiers (field_names fs) && are_distinct (field_names fs)) _ read)
+pub names_distinct : (s : Shape) (kind : SeqKind) (fs : Fields) (added : FieldAdditions) → is_readable s ≡ true → opened s ≡ Shape.seq kind fs added → are_distinct (field_names (all_fields fs added)) ≡ true
+names_distinct s kind fs added e o = let read = fields_read kind fs added (subst (λ x. is_readable x ≡ true) o (opened-readable s e)) in read.distinct
 
 -- The alternatives of a choice that can be read are told apart.
 told_apart : (s : Shape) (alts : Alternatives) (added : AlternativeAdditions) → is_readable s ≡ true → opened s ≡ Shape.choice alts added → are_told_apart (all_alternatives alts added) ≡ true

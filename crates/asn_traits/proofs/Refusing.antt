@@ -1,12 +1,14 @@
 -- Refusals of a decoder's calls, from what their errors tell.
-use Rattle.std.proofs.Common.{◌≡◌, sym, subst, refl, ℕ, ℤ, ◌<ℤ◌, ◌⊎◌, inl, inr, List, [], ◌∷◌, Some, None, Ok, Err}
+use Rattle.std.proofs.Common.{◌≡◌, ap, sym, ◌∙◌, subst, refl, ◌⊎◌, inl, inr, List, [], ◌∷◌, Some, None, Err}
+use Rattle.std.specs.Prelude.{option_map}
 use Rattle.asn_base.specs.declared.codec.Codec.{Codec}
 use Rattle.asn_fault.specs.Stop.{Stop, Why, at_root}
 use Rattle.asn_traits.specs.Notation.{Notation, notation_of}
-use Rattle.asn_traits.specs.Shape.{Shape, Fields, Alternatives, AlternativeAdditions, closed_seq}
+use Rattle.asn_traits.specs.Shape.{Shape, Fields, Alternatives, AlternativeAdditions, SeqKind, FieldAdditions}
 use Rattle.asn_traits.specs.Tree.{Tree, Slot, head_slot, as_list, as_members, as_choice}
-use Rattle.asn_traits.specs.Leaf.{Blame, Blamed, leaf, as_number, needs_members, needs_list, needs_choice}
+use Rattle.asn_traits.specs.Leaf.{Blame, Blamed, codec_of, as_leaf, kind_of, refined, needs_members, needs_list, needs_choice}
 use Rattle.asn_traits.specs.Stops.{Stops, Path}
+use Rattle.asn_traits.specs.declared.leaves.LeafKind.{LeafKind}
 use Rattle.asn_traits.specs.Answer.{Refuses, OfPlace, AtRoot, TellsBlame}
 use Rattle.asn_traits.proofs.Steps.{refuses_by}
 
@@ -28,29 +30,26 @@ first_stops : {n : Notation} (s : Shape) (t : Tree) (blame : Blame) (before afte
 first_stops {n} s t blame before after e was tells stops =
     refuses_by {P = AtRoot (Blamed n t blame)} {Q = Stops n s (head_slot before)} (λ p w h. rw (was, h.0) (stops w h.1)) e tells
 
--- A tree that says no value of a shape without parts.
-pub no_leaf : {n : Notation} (s : Shape) (t : Tree) (blame : Blame) (before after : List Slot) (e : Stop) → before ≡ Some t ∷ after → leaf n s t ≡ Some (Err blame) → TellsBlame n t blame e
-    → Refuses n (Stops n s (head_slot before)) e
-no_leaf s t blame before after e was says tells = first_stops s t blame before after e was tells (λ w h. Stops.stops_leaf s t blame w says h)
+-- A tree that is no value of this kind says no value of a shape whose values have the kind.
+pub no_leaf : {n : Notation} (k : LeafKind) (t : Tree) (blame : Blame) (before after : List Slot) (e : Stop) → before ≡ Some t ∷ after → as_leaf n k t ≡ Err blame → TellsBlame n t blame e
+    → (s : Shape) → kind_of s ≡ Some k → Refuses n (Stops n s (head_slot before)) e
+no_leaf {n} k t blame before after e was says tells s is =
+    first_stops s t blame before after e was tells
+    (λ w h. Stops.stops_leaf s t blame w (ap (option_map (λ j. refined (codec_of n) s (as_leaf n j t))) is ∙ ap (λ r. Some (refined (codec_of n) s r)) says) h)
 
--- A tree that is no number.
-pub no_number : {n : Notation} (least greatest : ℤ) (width : ℕ) (t : Tree) (blame : Blame) (before after : List Slot) (e : Stop) → before ≡ Some t ∷ after → as_number n t ≡ Err blame → TellsBlame n t blame e
-    → Refuses n (Stops n (Shape.int least greatest width) (head_slot before)) e
-no_number least greatest width t blame before after e was says tells =
-    first_stops (Shape.int least greatest width) t blame before after e was tells (λ w h. Stops.stops_number least greatest width t blame w says h)
+-- An error that tells why.
+pub tells_because : {n : Notation} (why : Why) (c : Codec) (t : Tree) (e : Stop) → e ≡ at_root why c → OfPlace n why c → TellsBlame n t (Blame.because why) e
+tells_because {n} why c t e is of = at_no_field {P = AtRoot (Blamed n t (Blame.because why))} why c e is of (refl, Blamed.blamed_because why)
 
--- A number out of range.
-pub out_of_range : {n : Notation} (least greatest k : ℤ) (width : ℕ) (c : Codec) (t : Tree) (before after : List Slot) (e : Stop) → before ≡ Some t ∷ after → as_number n t ≡ Ok k → (k <ℤ least) ⊎ (greatest <ℤ k)
-    → notation_of c ≡ n → e ≡ at_root (Why.integer_overflow width) c → Refuses n (Stops n (Shape.int least greatest width) (head_slot before)) e
-out_of_range {n} least greatest k width c t before after e was says (inl low) of is =
-    at_no_field {P = Stops n (Shape.int least greatest width) (head_slot before)} (Why.integer_overflow width) c e is of (rw was (Stops.stops_below least greatest k width t says low))
-out_of_range {n} least greatest k width c t before after e was says (inr high) of is =
-    at_no_field {P = Stops n (Shape.int least greatest width) (head_slot before)} (Why.integer_overflow width) c e is of (rw was (Stops.stops_above least greatest k width t says high))
+-- An error that tells why, or want of memory.
+pub tells_because_or_memory : {n : Notation} (why : Why) (c : Codec) (t : Tree) (e : Stop) → (e ≡ at_root why c) ⊎ (e ≡ at_root Why.out_of_memory c) → OfPlace n why c → TellsBlame n t (Blame.because why) e
+tells_because_or_memory why c t e (inl is) of = tells_because why c t e is of
+tells_because_or_memory {n} why c t e (inr is) of = out_of_memory {P = AtRoot (Blamed n t (Blame.because why))} c e is
 
 -- A tree that has no members.
-pub no_members : {n : Notation} (fs : Fields) (t : Tree) (before after : List Slot) (e : Stop) → before ≡ Some t ∷ after → as_members n t ≡ None → TellsBlame n t (needs_members n) e
-    → Refuses n (Stops n (closed_seq fs) (head_slot before)) e
-no_members fs t before after e was is tells = first_stops (closed_seq fs) t _ before after e was tells (λ w h. Stops.stops_no_members fs t w is h)
+pub no_members : {n : Notation} (kind : SeqKind) (fs : Fields) (added : FieldAdditions) (t : Tree) (before after : List Slot) (e : Stop) → before ≡ Some t ∷ after → as_members n t ≡ None → TellsBlame n t (needs_members n) e
+    → Refuses n (Stops n (Shape.seq kind fs added) (head_slot before)) e
+no_members kind fs added t before after e was is tells = first_stops (Shape.seq kind fs added) t _ before after e was tells (λ w h. Stops.stops_no_members kind fs added t w is h)
 
 -- A tree that is no list.
 pub no_list : {n : Notation} (s : Shape) (t : Tree) (before after : List Slot) (e : Stop) → before ≡ Some t ∷ after → as_list n t ≡ None → TellsBlame n t (needs_list n) e

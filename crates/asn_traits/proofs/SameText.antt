@@ -1,5 +1,5 @@
 -- Values of a shape that can be read whose canonical texts are equal are equal.
-use Rattle.std.proofs.Common.{◌≡◌, sym, subst, arith, ℕ, max, ◌≤◌, Some, true}
+use Rattle.std.proofs.Common.{◌≡◌, sym, subst, arith, max, Some, true}
 use Rattle.std.specs.Str.{chars}
 use Rattle.avn_grammar.specs.Depth.{deepest}
 use Rattle.avn_grammar.specs.Grammar.{Reads}

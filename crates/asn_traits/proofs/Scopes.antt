@@ -2,7 +2,7 @@
 use Rattle.std.proofs.Common.{◌≡◌, refl, sym, ◌∙◌, ap, subst, ℕ, suc, List, [], ◌∷◌, map, Result, Ok, Err}
 use Rattle.asn_fault.specs.Stop.{Stop}
 use Rattle.asn_traits.specs.Notation.{Notation}
-use Rattle.asn_traits.specs.Shape.{Fields, field_names, closed_seq}
+use Rattle.asn_traits.specs.Shape.{Shape, SeqKind, Fields, FieldAdditions, all_fields, field_names}
 use Rattle.asn_traits.specs.Tree.{Slot, head_slot}
 use Rattle.asn_traits.specs.Value.{Value}
 use Rattle.asn_traits.specs.Says.{Says}
@@ -26,9 +26,9 @@ field_names-rows k (Fields.field n t p s fs) = ap (λ l. n ∷ l) (field_names-r
 pub table_names : (fields : List Field) (fs : Fields) → rows_of fields ≡ field_rows 0 fs → names_of fields ≡ field_names fs
 table_names fields fs e = sym (names_of-rows fields) ∙ ap (map (λ (r : Row). r.name)) e ∙ field_names-rows 0 fs
 
-pub sequence_answer : {A E : Type 0} (stop : E → Stop) (n : Notation) (fs : Fields) (value : A → Value) (before after rest slots : List Slot) (slot : Slot) (names : List (List ℕ)) (r : Result A E)
-    → names ≡ field_names fs → before ≡ slot ∷ rest → HasMembers n names slot slots → ScopeAnswer stop n fs value slots rest r after → AnswerBy stop n (closed_seq fs) value before r after
-sequence_answer stop n fs value before after rest slots slot names (Ok x) e was has (is, vs, says, v) =
-    (slot, was ∙ ap (λ l. slot ∷ l) (sym is), subst (Says n (closed_seq fs) slot) (sym v) (members_say fs vs e has says))
-sequence_answer stop n fs value before after rest slots slot names (Err x) e was has h =
-    refuses_by (λ p w k. subst (λ l. Stops n (closed_seq fs) (head_slot l) p w) (sym was) (members_stop fs p w e has k)) (stop x) h
+pub sequence_answer : {A E : Type 0} (stop : E → Stop) (n : Notation) (kind : SeqKind) (fs : Fields) (added : FieldAdditions) (value : A → Value) (before after rest slots : List Slot) (slot : Slot) (names : List (List ℕ)) (r : Result A E)
+    → names ≡ field_names (all_fields fs added) → before ≡ slot ∷ rest → HasMembers n names slot slots → ScopeAnswer stop n (all_fields fs added) value slots rest r after → AnswerBy stop n (Shape.seq kind fs added) value before r after
+sequence_answer stop n kind fs added value before after rest slots slot names (Ok x) e was has (is, vs, says, v) =
+    (slot, was ∙ ap (λ l. slot ∷ l) (sym is), subst (Says n (Shape.seq kind fs added) slot) (sym v) (members_say kind fs added vs e has says))
+sequence_answer stop n kind fs added value before after rest slots slot names (Err x) e was has h =
+    refuses_by (λ p w k. subst (λ l. Stops n (Shape.seq kind fs added) (head_slot l) p w) (sym was) (members_stop kind fs added p w e has k)) (stop x) h

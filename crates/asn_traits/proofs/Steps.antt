@@ -5,7 +5,7 @@ use Rattle.asn_fault.specs.Stop.{Stop, Why, error_stop, is_memory, wrapped, at_r
 use Rattle.asn_base.specs.declared.codec.Codec.{Codec}
 use Rattle.asn_fault.specs.declared.decode.DecodeError.{DecodeError}
 use Rattle.asn_traits.specs.Notation.{Notation, notation_of}
-use Rattle.asn_traits.specs.Shape.{Shape, Fields, field_names, unfold_loop, closed_seq}
+use Rattle.asn_traits.specs.Shape.{Shape, SeqKind, Fields, FieldAdditions, all_fields, field_names, unfold_loop}
 use Rattle.asn_traits.specs.Tree.{Slot, head_slot}
 use Rattle.asn_traits.specs.Value.{Value, Values, Slots}
 use Rattle.asn_traits.specs.Says.{Says, SaysEach, SaysFields}
@@ -33,13 +33,13 @@ pub list_stops : {n : Notation} {slot : Slot} {slots : List Slot} (s : Shape) (p
 list_stops s p w (IsList.is_list t slots e) h = Stops.stops_list s t slots p w e h
 list_stops s p w (IsList.list_free slot slots e) h = Stops.stops_free _ slot p w e
 
-pub members_say : {n : Notation} {names : List (List ℕ)} {slot : Slot} {slots : List Slot} (fs : Fields) (vs : Slots) → names ≡ field_names fs → HasMembers n names slot slots → SaysFields n fs slots vs → Says n (closed_seq fs) slot (Value.members vs)
-members_say {n} fs vs e (HasMembers.has_members names t look is) h = Says.says_seq fs t look vs is (subst (λ l. SaysFields n fs (map look l) vs) e h)
-members_say fs vs e (HasMembers.members_free names slot slots is) h = Says.says_free _ slot _ is
+pub members_say : {n : Notation} {names : List (List ℕ)} {slot : Slot} {slots : List Slot} (kind : SeqKind) (fs : Fields) (added : FieldAdditions) (vs : Slots) → names ≡ field_names (all_fields fs added) → HasMembers n names slot slots → SaysFields n (all_fields fs added) slots vs → Says n (Shape.seq kind fs added) slot (Value.members vs)
+members_say {n} kind fs added vs e (HasMembers.has_members names t look is) h = Says.says_seq kind fs added t look vs is (subst (λ l. SaysFields n (all_fields fs added) (map look l) vs) e h)
+members_say kind fs added vs e (HasMembers.members_free names slot slots is) h = Says.says_free _ slot _ is
 
-pub members_stop : {n : Notation} {names : List (List ℕ)} {slot : Slot} {slots : List Slot} (fs : Fields) (p : Path) (w : Why) → names ≡ field_names fs → HasMembers n names slot slots → StopsFields n fs slots p w → Stops n (closed_seq fs) slot p w
-members_stop {n} fs p w e (HasMembers.has_members names t look is) h = Stops.stops_seq fs t look p w is (subst (λ l. StopsFields n fs (map look l) p w) e h)
-members_stop fs p w e (HasMembers.members_free names slot slots is) h = Stops.stops_free _ slot p w is
+pub members_stop : {n : Notation} {names : List (List ℕ)} {slot : Slot} {slots : List Slot} (kind : SeqKind) (fs : Fields) (added : FieldAdditions) (p : Path) (w : Why) → names ≡ field_names (all_fields fs added) → HasMembers n names slot slots → StopsFields n (all_fields fs added) slots p w → Stops n (Shape.seq kind fs added) slot p w
+members_stop {n} kind fs added p w e (HasMembers.has_members names t look is) h = Stops.stops_seq kind fs added t look p w is (subst (λ l. StopsFields n (all_fields fs added) (map look l) p w) e h)
+members_stop kind fs added p w e (HasMembers.members_free names slot slots is) h = Stops.stops_free _ slot p w is
 
 says_nothing : {n : Notation} {s : Shape} {v : Value} → Says n s None v → (r : Shape) → Says n r None v
 says_nothing (Says.says_free s slot v e) r = Says.says_free r None v e

@@ -1,8 +1,9 @@
 -- What is written says the value that was written.
-use Rattle.std.proofs.Common.{◌≡◌, refl, ap, sym, ◌∙◌, subst, arith, ℕ, ◌-◌, ◌^◌, ℤ, pos, negsuc, ◌≤ℤ◌, List, ◌∷◌, map, Bool, true, false, not, ◌&&◌, if◌then◌else◌, Some, None, Ok}
+use Rattle.std.proofs.Common.{◌≡◌, refl, ap, sym, ◌∙◌, subst, arith, ℕ, zero, suc, ◌<◌, nat_lt, slice_index, [], ◌-◌, ◌^◌, ℤ, pos, negsuc, ◌≤ℤ◌, List, ◌∷◌, map, Bool, true, false, not, ◌&&◌, if◌then◌else◌, Some, None, Ok}
 use Rattle.std.specs.Prelude.{option_map}
 use Rattle.std.specs.Int.Signed.{lt_z_no}
 use Rattle.std.proofs.lemmas.Float.{T_from_true}
+use Rattle.std.proofs.lemmas.Bool.{ltb-true}
 use Rattle.std.proofs.lemmas.Int.{ints}
 use Rattle.std.specs.Str.{bytes_eq}
 use Rattle.std.specs.Char.{to_ascii_lowercase}
@@ -10,16 +11,21 @@ use Rattle.std.proofs.lemmas.Slice.Eq.{bytes_eq-Decides}
 use Rattle.serde_json.specs.Data.{Data, Members, put}
 use Rattle.serde_json.specs.Find.{get_member}
 use Rattle.serde_json.proofs.Views.{get_member-put, get_member-put_other}
+use Rattle.asn_base.specs.declared.codec.Codec.TheVariants.{Jer}
+use Rattle.hex.proofs.HexLemmas.{decode_of-encode_upper}
+use Rattle.avn_grammar.specs.Chars.{every}
+use Rattle.avn_grammar.specs.WellFormed.{is_octet}
 use Rattle.asn_traits.specs.Canonical.{jer_data, jer_items, jer_members}
-use Rattle.asn_traits.specs.Leaf.{as_number, result_map}
+use Rattle.asn_traits.specs.Leaf.{leaf, octets_or, refined}
 use Rattle.asn_traits.specs.Notation.{Notation}
-use Rattle.asn_traits.specs.Readable.{is_readable, are_fields_readable, are_alternatives_readable, are_added_alternatives_readable, suits, has_alternative, are_told_apart, are_identifiers, are_apart, has_identifier, at_most, has_128_bits}
+use Rattle.asn_traits.specs.Readable.{is_readable, are_fields_readable, are_alternatives_readable, are_added_alternatives_readable, suits, has_alternative, are_told_apart, are_identifiers, are_apart, has_identifier, has_128_bits}
+use Rattle.asn_traits.specs.Range.{at_most}
 use Rattle.asn_traits.specs.Says.{Says, SaysEach, SaysFields}
-use Rattle.asn_traits.specs.Shape.{Shape, Fields, Alternatives, AlternativeAdditions, Alphabet, all_items, all_alternatives, join_alternatives, field_names, identifiers, tags, has_tag, tags_distinct, end_tag, are_distinct, is_item, alternative_named}
+use Rattle.asn_traits.specs.Shape.{Shape, Fields, Alternatives, AlternativeAdditions, Alphabet, all_alternatives, join_alternatives, field_names, identifiers, tags, has_tag, tags_distinct, end_tag, are_distinct, is_item, alternative_named}
 use Rattle.asn_traits.specs.Tree.{Tree, Slot, item_slots, member_slot, same_identifier}
-use Rattle.asn_traits.specs.Value.{Value, Values, Slots, Fits, FitsEach, FitsFields, FitsAlternative}
+use Rattle.asn_traits.specs.Value.{Value, Values, Slots, Fits, FitsEach, FitsFields, FitsAlternative, is_leaf_of}
 use Rattle.asn_traits.specs.Writes.{Writes, Finds, value_slots, slot_names}
-use Rattle.asn_traits.proofs.Readables.{and-left, and-right, and-both, unfolded-readable}
+use Rattle.asn_traits.proofs.Readables.{and-left, and-right, and-both, unfolded-readable, fields_read}
 
 slot_names-fields : {fs : Fields} {ms : Slots} → FitsFields fs ms → slot_names ms ≡ field_names fs
 slot_names-fields FitsFields.fits_end = refl
@@ -71,19 +77,11 @@ module _ (n : Notation) (tree : Value → Tree) (w : Writes n tree) where
   mutual
     -- The tree of a value that fits says that value.
     pub says_written : {s : Shape} {v : Value} → is_readable s ≡ true → Fits s v → Says n s (Some (tree v)) v
-    says_written a Fits.fits_null = Says.says_leaf Shape.null _ _ (ap Some w.null)
-    says_written a (Fits.fits_bool {b}) = Says.says_leaf Shape.boolean _ _ (ap Some (w.boolean b))
-    says_written a (Fits.fits_int {l} {g} {w = width} {n = k} low high) =
-        let within = within_128_bits l g k a low high in
-        Says.says_int l g k width _ (w.int k within.0 within.1) low high
-    says_written a (Fits.fits_utf8 {t} e) = Says.says_leaf (Shape.text Alphabet.utf8) _ _ (ap (λ r. Some (result_map Value.text r)) (w.text t))
-    says_written a (Fits.fits_item {items} {added} {i} e) = Says.says_leaf (Shape.enum items added) _ _ (ap Some (w.item (all_items items added) i e))
-    says_written a (Fits.fits_members {fs} {ms} fit) =
-        let names = are_identifiers (field_names fs) && are_distinct (field_names fs) in
-        let distinct = and-right (are_identifiers (field_names fs)) (are_distinct (field_names fs)) (and-left names (are_fields_readable 0 fs && true) a) in
-        let parts = and-left (are_fields_readable 0 fs) true (and-right names (are_fields_readable 0 fs && true) a) in
-        let m = w.members ms (ap are_distinct (slot_names-fields fit) ∙ distinct) in
-        Says.says_seq fs _ m.0 ms m.1 (fields_written m.0 parts fit m.2)
+    says_written a (Fits.fits_leaf {s} {v} e) = Says.says_leaf s _ v (w.leaf s v a e)
+    says_written a (Fits.fits_members {kind} {fs} {added} {ms} fit) =
+        let read = fields_read kind fs added a in
+        let m = w.members ms (ap are_distinct (slot_names-fields fit) ∙ read.distinct) in
+        Says.says_seq kind fs added _ m.0 ms m.1 (fields_written m.0 read.parts fit m.2)
     says_written a (Fits.fits_list {s} {vs} fit) = Says.says_list s _ _ vs (w.list vs) (each_written a fit)
     says_written a (Fits.fits_choice {alts} {added} {i} {v} fit) =
         let all = all_alternatives alts added in
@@ -126,9 +124,24 @@ module _ (n : Notation) (tree : Value → Tree) (w : Writes n tree) where
 abbrev pub jer_tree : Value → Tree
 jer_tree v = Tree.json (jer_data v)
 
-number-written : (k : ℤ) → as_number Notation.jer (jer_tree (Value.int k)) ≡ Ok k
-number-written (pos m) = refl
-number-written (negsuc m) = refl
+pub no_leaf : {P : Type 0} → false ≡ true → P
+no_leaf e = cc e
+
+-- Octets are bytes.
+octets-bytes : (o : List ℕ) → every is_octet o ≡ true → (i : ℕ) → slice_index o i < 256
+octets-bytes [] e i = omega arith
+octets-bytes (b ∷ bs) e zero = ltb-true b 256 (and-left (nat_lt b 256) (every is_octet bs) e)
+octets-bytes (b ∷ bs) e (suc i) = octets-bytes bs (and-right (nat_lt b 256) (every is_octet bs) e) i
+
+leaf-written : (s : Shape) (v : Value) → is_readable s ≡ true → is_leaf_of s v ≡ true → leaf Notation.jer s (jer_tree v) ≡ Some (Ok v)
+leaf-written Shape.null Value.null a e = refl
+leaf-written Shape.boolean (Value.boolean b) a e = refl
+leaf-written (Shape.int l g w) (Value.int (pos m)) a e = rw e refl
+leaf-written (Shape.int l g w) (Value.int (negsuc m)) a e = rw e refl
+leaf-written (Shape.text Alphabet.utf8) (Value.text t) a e = refl
+leaf-written (Shape.enum items added) (Value.item i) a e = rw e refl
+leaf-written Shape.octets (Value.octets o) a e = ap (λ r. Some (refined Jer Shape.octets (octets_or r))) (decode_of-encode_upper o (octets-bytes o e))
+leaf-written s v a e = no_leaf e
 
 items-written : (vs : Values) → item_slots (jer_items vs) ≡ value_slots jer_tree vs
 items-written Values.no_values = refl
@@ -171,11 +184,7 @@ finds-written (Slots.present n v ms) e = (
 -- JER writes what it reads.
 pub jer_writes : Writes Notation.jer jer_tree
 jer_writes = record {
-  null = refl;
-  boolean = λ b. refl;
-  int = λ k low high. number-written k;
-  text = λ t. refl;
-  item = λ items i e. rw e refl;
+  leaf = leaf-written;
   list = λ vs. ap Some (items-written vs);
   members = λ ms e. (member_slot (jer_members ms), refl, finds-written ms e);
   choice = λ i v. refl;

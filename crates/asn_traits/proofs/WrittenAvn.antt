@@ -1,29 +1,43 @@
 -- What AVN writes is well formed, and is read as a tree that says the value.
-use Rattle.std.proofs.Common.{◌≡◌, refl, ap, sym, ◌∙◌, subst, ℕ, ◌-◌, ◌^◌, ℤ, pos, negsuc, ◌≤ℤ◌, List, [], ◌∷◌, Bool, true, false, not, ◌&&◌, if◌then◌else◌, Some, None, Ok}
+use Rattle.std.proofs.Common.{◌≡◌, refl, ap, sym, ◌∙◌, subst, ℕ, List, [], ◌∷◌, Bool, true, false, not, ◌&&◌, if◌then◌else◌, Some, None, Ok, Err}
+use Rattle.std.specs.Fmt.{signed_decimal}
 use Rattle.std.specs.Str.{bytes_eq}
 use Rattle.std.proofs.lemmas.Slice.Eq.{bytes_eq-Decides}
+use Rattle.asn_base.specs.declared.codec.Codec.TheVariants.{Avn}
+use Rattle.asn_fault.specs.Stop.{Why}
 use Rattle.avn_grammar.specs.Tree.{Tree as AvnTree, Fields as AvnFields}
 use Rattle.avn_grammar.specs.Normal.{normal, normal_trees, normal_fields, braced}
 use Rattle.avn_grammar.specs.WellFormed.{is_identifier, is_keyword, is_well_formed, are_well_formed, are_fields_well_formed}
 use Rattle.asn_traits.specs.Canonical.{avn_tree, avn_trees, avn_fields}
-use Rattle.asn_traits.specs.Leaf.{as_number, number_or}
+use Rattle.asn_traits.specs.Leaf.{Blame, leaf, number_or, refined}
 use Rattle.asn_traits.specs.Notation.{Notation}
 use Rattle.asn_traits.specs.Readable.{is_readable, are_fields_readable, are_alternatives_readable, are_added_alternatives_readable, suits, has_alternative, are_told_apart, are_identifiers, are_words, are_apart}
-use Rattle.asn_traits.specs.Shape.{Shape, Fields, Alternatives, all_items, all_alternatives, field_names, identifiers, tags, has_tag, tags_distinct, end_tag, are_distinct, is_item}
+use Rattle.asn_traits.specs.Shape.{Shape, Fields, Alternatives, Alphabet, all_items, all_alternatives, field_names, identifiers, tags, has_tag, tags_distinct, end_tag, are_distinct, is_item}
 use Rattle.asn_traits.specs.Tree.{Tree, Slot, or_else, as_members, tree_slots, field_slot}
-use Rattle.asn_traits.specs.Value.{Value, Values, Slots, Fits, FitsEach, FitsFields, FitsAlternative}
+use Rattle.asn_traits.specs.Value.{Value, Values, Slots, Fits, FitsEach, FitsFields, FitsAlternative, is_leaf_of}
 use Rattle.asn_traits.specs.Writes.{Writes, Finds, value_slots, slot_names}
+use Rattle.asn_traits.proofs.LeafValues.{inside}
 use Rattle.asn_traits.proofs.Numerals.{number-read, number-form}
-use Rattle.asn_traits.proofs.Readables.{and-left, and-right, and-both, unfolded-readable}
-use Rattle.asn_traits.proofs.Written.{first_apart, rest_apart, none_named, others_named, different, within_128_bits, all_readable}
+use Rattle.asn_traits.proofs.Readables.{and-left, and-right, and-both, unfolded-readable, fields_read}
+use Rattle.asn_traits.proofs.Written.{first_apart, rest_apart, none_named, others_named, different, within_128_bits, all_readable, no_leaf}
 
 -- The tree that the text which AVN writes is read as.
 abbrev pub read_tree : Value → Tree
 read_tree v = Tree.avn (normal (avn_tree v))
 
-number-written : (k : ℤ) → negsuc (2 ^ 127 - 1) ≤ℤ k → k ≤ℤ pos (2 ^ 128 - 1) → as_number Notation.avn (read_tree (Value.int k)) ≡ Ok k
+leaf-written : (s : Shape) (v : Value) → is_readable s ≡ true → is_leaf_of s v ≡ true → leaf Notation.avn s (read_tree v) ≡ Some (Ok v)
 unfolding normal
-number-written k low high = ap (number_or _) (number-read k low high)
+leaf-written Shape.null Value.null a e = refl
+leaf-written Shape.boolean (Value.boolean b) a e = refl
+leaf-written (Shape.int l g w) (Value.int k) a e =
+    let r = inside l g k e in
+    let within = within_128_bits l g k a r.0 r.1 in
+    ap (λ o. Some (refined Avn (Shape.int l g w) (number_or (Blame.because (Why.integer_parse_error (signed_decimal k))) o))) (number-read k within.0 within.1)
+    ∙ ap (λ b. Some (if b then Ok (Value.int k) else Err (Blame.because (Why.integer_overflow w)))) e
+leaf-written (Shape.text Alphabet.utf8) (Value.text t) a e = refl
+leaf-written (Shape.enum items added) (Value.item i) a e = rw e refl
+leaf-written Shape.octets (Value.octets o) a e = refl
+leaf-written s v a e = no_leaf e
 
 items-written : (vs : Values) → tree_slots (normal_trees (avn_trees vs)) ≡ value_slots read_tree vs
 unfolding normal
@@ -89,11 +103,7 @@ members-written ms = braced-members (normal_fields (avn_fields ms))
 pub avn_writes : Writes Notation.avn read_tree
 unfolding normal
 avn_writes = record {
-  null = refl;
-  boolean = λ b. refl;
-  int = number-written;
-  text = λ t. refl;
-  item = λ items i e. rw e refl;
+  leaf = leaf-written;
   list = λ vs. ap Some (items-written vs);
   members = λ ms e. (field_slot (normal_fields (avn_fields ms)), members-written ms, finds-written ms e);
   choice = λ i v. refl;
@@ -111,19 +121,24 @@ word_of_item (n ∷ ns) i e h =
     (λ f. subst (λ x. (is_identifier x && not (is_keyword x)) ≡ true) (sym ((bytes_eq-Decides i n).0 f)) (and-left (is_identifier n && not (is_keyword n)) (are_words ns) e))
     (λ g. word_of_item ns i (and-right (is_identifier n && not (is_keyword n)) (are_words ns) e) g) h
 
+-- So is one of a shape whose values have no parts.
+leaf-formed : (s : Shape) (v : Value) → is_readable s ≡ true → is_leaf_of s v ≡ true → is_well_formed (avn_tree v) ≡ true
+unfolding is_well_formed
+leaf-formed Shape.null Value.null a e = refl
+leaf-formed Shape.boolean (Value.boolean b) a e = refl
+leaf-formed (Shape.int l g w) (Value.int k) a e = let r = inside l g k e in let within = within_128_bits l g k a r.0 r.1 in number-form k within.0 within.1
+leaf-formed (Shape.text Alphabet.utf8) (Value.text t) a e = e
+leaf-formed (Shape.enum items added) (Value.item i) a e = word_of_item (all_items items added) i (and-left (are_words (all_items items added)) (are_distinct (all_items items added)) a) e
+leaf-formed Shape.octets (Value.octets o) a e = e
+leaf-formed s v a e = no_leaf e
+
 mutual
   unfolding is_well_formed
 
   -- The tree that AVN writes for a value of a shape that can be read is well formed.
   pub well-formed : {s : Shape} {v : Value} → is_readable s ≡ true → Fits s v → is_well_formed (avn_tree v) ≡ true
-  well-formed a Fits.fits_null = refl
-  well-formed a Fits.fits_bool = refl
-  well-formed a (Fits.fits_int {l} {g} {w} {n = k} low high) = let within = within_128_bits l g k a low high in number-form k within.0 within.1
-  well-formed a (Fits.fits_utf8 e) = e
-  well-formed a (Fits.fits_item {items} {added} {i} e) = word_of_item (all_items items added) i (and-left (are_words (all_items items added)) (are_distinct (all_items items added)) a) e
-  well-formed a (Fits.fits_members {fs} {ms} fit) =
-      let names = are_identifiers (field_names fs) && are_distinct (field_names fs) in
-      fields-formed (and-left (are_identifiers (field_names fs)) (are_distinct (field_names fs)) (and-left names (are_fields_readable 0 fs && true) a)) (and-left (are_fields_readable 0 fs) true (and-right names (are_fields_readable 0 fs && true) a)) fit
+  well-formed a (Fits.fits_leaf {s} {v} e) = leaf-formed s v a e
+  well-formed a (Fits.fits_members {kind} {fs} {added} {ms} fit) = let read = fields_read kind fs added a in fields-formed read.spelled read.parts fit
   well-formed a (Fits.fits_list fit) = each-formed a fit
   well-formed a (Fits.fits_choice {alts} {added} {i} {v} fit) =
       let all = all_alternatives alts added in

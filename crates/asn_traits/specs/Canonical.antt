@@ -5,6 +5,7 @@ use Rattle.serde_json.specs.Data.{Data, Items, Members, put}
 use Rattle.serde_json.specs.Find.{of_integer}
 use Rattle.serde_json.specs.Written.{compact_text}
 use Rattle.avn_grammar.specs.Tree.{Tree as AvnTree, Trees as AvnTrees, Fields as AvnFields}
+use Rattle.hex.specs.Hex.{encode_upper}
 use Rattle.avn_grammar.specs.Print.{print}
 use Rattle.asn_traits.specs.Notation.{Notation}
 use Rattle.asn_traits.specs.Tree.{Tree}
@@ -17,6 +18,7 @@ abbrev mutual
   jer_data (Value.int n) = Data.number (of_integer n)
   jer_data (Value.text t) = Data.string t
   jer_data (Value.item i) = Data.string i
+  jer_data (Value.octets o) = Data.string (encode_upper o)
   jer_data (Value.members ms) = Data.object (jer_members ms)
   jer_data (Value.list vs) = Data.array (jer_items vs)
   jer_data (Value.choice i v) = Data.object (Members.member i (jer_data v) Members.no_members)
@@ -40,6 +42,7 @@ abbrev mutual
   avn_tree (Value.int n) = AvnTree.integer (signed_decimal n)
   avn_tree (Value.text t) = AvnTree.char_string t
   avn_tree (Value.item i) = AvnTree.enumerated i
+  avn_tree (Value.octets o) = AvnTree.octet_string o
   avn_tree (Value.members ms) = AvnTree.sequence (avn_fields ms)
   avn_tree (Value.list vs) = AvnTree.sequence_of (avn_trees vs)
   avn_tree (Value.choice i v) = AvnTree.choice i (avn_tree v)

@@ -1,5 +1,6 @@
 pub mod Fixed
 pub mod Notation
+pub mod Range
 pub mod Shape
 pub mod ShapeView
 pub mod Value
@@ -19,3 +20,5 @@ pub mod Tables
 pub mod Root
 pub mod Canonical
 pub mod Around
+pub mod Chosen
+pub mod Passing

@@ -3,11 +3,15 @@ use Rattle.std.specs.Prelude.{◌≡◌, ℕ, ◌<◌, List, [], ◌∷◌, ◌+
 use Rattle.asn_fault.specs.Stop.{error_stop}
 use Rattle.asn_fault.specs.declared.decode.DecodeError.{DecodeError}
 use Rattle.asn_base.specs.declared.tag.Tag.{Tag}
+use Rattle.asn_traits.specs.Leaf.{as_leaf, kind_of, kind_of_owned, IsOwned}
 use Rattle.asn_traits.specs.Notation.{Notation}
-use Rattle.asn_traits.specs.Shape.{Shape, Fields, Alternatives, AlternativeAdditions, place_named, alternative_named, alternative_tagged, closed_seq, all_alternatives}
+use Rattle.asn_traits.specs.Shape.{Shape, SeqKind, Fields, FieldAdditions, Alternatives, AlternativeAdditions, place_named, alternative_named, alternative_tagged, all_alternatives}
 use Rattle.asn_traits.specs.Tree.{Tree, Slot, slot_nodes, head_slot, as_list, as_members, as_choice, same_identifier}
 use Rattle.asn_traits.specs.Stops.{Stops}
 use Rattle.asn_traits.specs.Answer.{Refuses}
+use Rattle.asn_traits.specs.Value.{Value}
+use Rattle.asn_traits.specs.declared.leaves.LeafKind.{LeafKind}
+use Rattle.asn_traits.specs.declared.leaves.OwnedLeaf.{OwnedLeaf}
 
 -- Each slot has fewer nodes.
 abbrev pub AllBelow : ℕ → List Slot → Type 0
@@ -31,6 +35,23 @@ pub data IsChoice (n : Notation) : List (List ℕ) → Slot → Option ℕ → S
   is_empty : (names : List (List ℕ)) (t : Tree) → as_choice n t ≡ Some None → IsChoice n names (Some t) None None
   choice_free : (names : List (List ℕ)) (slot : Slot) (place : Option ℕ) (put : Slot) → n ≡ Notation.other → IsChoice n names slot place put
 
+-- The tree is a value of this kind, and the answer is that value.
+pub record IsTaken (n : Notation) (k : LeafKind) (t : Tree) (x : OwnedLeaf) : Type 0 where
+  pub value : Value
+  pub reads : as_leaf n k t ≡ Ok value
+  pub is : IsOwned value x
+  pub kind : kind_of_owned x ≡ k
+
+-- The slot is a value of this kind, and the answer is that value.
+pub data IsLeaf (n : Notation) (k : LeafKind) : Slot → OwnedLeaf → Type 0 where
+  is_leaf : (t : Tree) (x : OwnedLeaf) → IsTaken n k t x → IsLeaf n k (Some t) x
+  leaf_free : (slot : Slot) (x : OwnedLeaf) → n ≡ Notation.other → IsLeaf n k slot x
+
+-- The first pending slot, a value of this kind, is gone, or it is none.
+abbrev pub TakesLeaf : Notation → LeafKind → List Slot → Result OwnedLeaf DecodeError → List Slot → Type 0
+TakesLeaf n k before (Ok x) after = (slot : Slot) × (before ≡ slot ∷ after) × (kind_of_owned x ≡ k) × IsLeaf n k slot x
+TakesLeaf n k before (Err e) after = (s : Shape) → kind_of s ≡ Some k → Refuses n (Stops n s (head_slot before)) (error_stop e)
+
 -- The elements of the first pending slot stand in its place, each with fewer nodes, or it is no list.
 abbrev pub OpensList : Notation → List Slot → Result ℕ DecodeError → List Slot → Type 0
 OpensList n before (Ok count) after = (slot : Slot) × (slots : List Slot) × (rest : List Slot) × (before ≡ slot ∷ rest) × (after ≡ slots ++ rest) × (length slots ≡ count) × AllBelow (slot_nodes slot) slots × IsList n slot slots
@@ -39,7 +60,7 @@ OpensList n before (Err e) after = (s : Shape) → Refuses n (Stops n (Shape.lis
 -- The slots of these names in the first pending slot stand in its place, or it has no members.
 abbrev pub OpensMembers : Notation → List (List ℕ) → List Slot → Result (Unit {0}) DecodeError → List Slot → Type 0
 OpensMembers n names before (Ok u) after = (slot : Slot) × (slots : List Slot) × (rest : List Slot) × (before ≡ slot ∷ rest) × (after ≡ slots ++ rest) × (length slots ≡ length names) × AllBelow (slot_nodes slot) slots × HasMembers n names slot slots
-OpensMembers n names before (Err e) after = (fs : Fields) → Refuses n (Stops n (closed_seq fs) (head_slot before)) (error_stop e)
+OpensMembers n names before (Err e) after = (kind : SeqKind) (fs : Fields) (added : FieldAdditions) → Refuses n (Stops n (Shape.seq kind fs added) (head_slot before)) (error_stop e)
 
 -- A choice's payload stands in its place, or an absent slot, or it is no choice.
 abbrev pub OpensChoice : Notation → List (List ℕ) → List Slot → Result (Option ℕ) DecodeError → List Slot → Type 0

@@ -1,7 +1,8 @@
 -- When a shape can be read: its names tell its parts apart, AVN can spell them, and its loops end.
-use Rattle.std.specs.Prelude.{ℕ, suc, ℤ, pos, negsuc, ◌-◌, ◌^◌, int_lt, nat_le, nat_lt, List, [], ◌∷◌, ◌++◌, Bool, true, false, not, ◌&&◌, if◌then◌else◌}
+use Rattle.std.specs.Prelude.{ℕ, suc, ℤ, pos, negsuc, ◌-◌, ◌^◌, nat_le, nat_lt, List, [], ◌∷◌, ◌++◌, Bool, true, false, not, ◌&&◌, if◌then◌else◌}
 use Rattle.std.specs.Str.{is_utf8}
 use Rattle.avn_grammar.specs.WellFormed.{is_identifier, is_keyword}
+use Rattle.asn_traits.specs.Range.{at_most, is_between}
 use Rattle.asn_traits.specs.Shape.{Shape, Fields, FieldAdditions, Alternatives, AlternativeAdditions, Alphabet, Plain, Presence, all_items, all_alternatives, are_distinct, is_item, field_names, identifiers, tags, has_tag, tags_distinct, end_tag}
 use Rattle.asn_traits.specs.Tree.{same_identifier}
 
@@ -30,10 +31,6 @@ abbrev pub all_field_names : Fields → FieldAdditions → List (List ℕ)
 all_field_names fs FieldAdditions.closed_fields = field_names fs
 all_field_names fs (FieldAdditions.extended_fields more) = field_names fs ++ field_names more
 
--- The first number is at most the second.
-abbrev pub at_most : ℤ → ℤ → Bool
-at_most a b = not (int_lt b a)
-
 -- The numbers from the least to the greatest have at most 128 bits, signed or unsigned.
 abbrev pub has_128_bits : ℤ → ℤ → Bool
 has_128_bits least greatest = at_most (negsuc (2 ^ 127 - 1)) least && at_most greatest (pos (2 ^ 128 - 1))
@@ -41,7 +38,7 @@ has_128_bits least greatest = at_most (negsuc (2 ^ 127 - 1)) least && at_most gr
 -- The value that a DEFAULT names is one of the shape.
 abbrev pub is_of_shape : Shape → Plain → Bool
 is_of_shape Shape.boolean (Plain.boolean b) = true
-is_of_shape (Shape.int least greatest width) (Plain.int n) = at_most least n && at_most n greatest
+is_of_shape (Shape.int least greatest width) (Plain.int n) = is_between least greatest n
 is_of_shape (Shape.text Alphabet.utf8) (Plain.text t) = is_utf8 t
 is_of_shape (Shape.enum items added) (Plain.item i) = is_item (all_items items added) i
 is_of_shape s p = false

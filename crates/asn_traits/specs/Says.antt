@@ -1,18 +1,18 @@
 -- What value a slot says by a shape. A codec that is neither notation is bound by nothing here.
-use Rattle.std.specs.Prelude.{◌≡◌, ℕ, ℤ, ◌≤ℤ◌, List, [], ◌∷◌, map, Some, None, Ok, true}
+use Rattle.std.specs.Prelude.{◌≡◌, ℕ, List, [], ◌∷◌, map, Some, None, Ok, true}
 use Rattle.asn_base.specs.declared.tag.Tag.{Tag}
 use Rattle.asn_traits.specs.Notation.{Notation}
-use Rattle.asn_traits.specs.Shape.{Shape, Fields, Alternatives, AlternativeAdditions, Presence, closed_seq, all_alternatives, unfold_loop, alternative_named, field_names}
+use Rattle.asn_traits.specs.Shape.{Shape, SeqKind, Fields, FieldAdditions, Alternatives, AlternativeAdditions, Presence, all_fields, all_alternatives, unfold_loop, alternative_named, field_names}
 use Rattle.asn_traits.specs.Tree.{Tree, Slot, as_list, as_members, as_choice, same_identifier}
-use Rattle.asn_traits.specs.Leaf.{leaf, as_number}
+use Rattle.asn_traits.specs.Leaf.{leaf}
 use Rattle.asn_traits.specs.Value.{Value, Values, Slots, may_lack, with_field}
 
 mutual
   -- The slot says the value by the shape.
   pub data Says (n : Notation) : Shape → Slot → Value → Type 0 where
     says_leaf : (s : Shape) (t : Tree) (v : Value) → leaf n s t ≡ Some (Ok v) → Says n s (Some t) v
-    says_int : (least greatest k : ℤ) (width : ℕ) (t : Tree) → as_number n t ≡ Ok k → least ≤ℤ k → k ≤ℤ greatest → Says n (Shape.int least greatest width) (Some t) (Value.int k)
-    says_seq : (fs : Fields) (t : Tree) (look : List ℕ → Slot) (vs : Slots) → as_members n t ≡ Some look → SaysFields n fs (map look (field_names fs)) vs → Says n (closed_seq fs) (Some t) (Value.members vs)
+    says_seq : (kind : SeqKind) (fs : Fields) (added : FieldAdditions) (t : Tree) (look : List ℕ → Slot) (vs : Slots)
+        → as_members n t ≡ Some look → SaysFields n (all_fields fs added) (map look (field_names (all_fields fs added))) vs → Says n (Shape.seq kind fs added) (Some t) (Value.members vs)
     says_list : (s : Shape) (t : Tree) (slots : List Slot) (vs : Values) → as_list n t ≡ Some slots → SaysEach n s slots vs → Says n (Shape.list_of s) (Some t) (Value.list vs)
     says_choice : (alts : Alternatives) (added : AlternativeAdditions) (t : Tree) (name : List ℕ) (u : Tree) (id : List ℕ) (s : Shape) (v : Value)
         → as_choice n t ≡ Some (Some (name, u)) → alternative_named same_identifier (all_alternatives alts added) name ≡ Some (id, s) → Says n s (Some u) v → Says n (Shape.choice alts added) (Some t) (Value.choice id v)

@@ -149,6 +149,16 @@ abbrev pub all_alternatives : Alternatives → AlternativeAdditions → Alternat
 all_alternatives alts AlternativeAdditions.closed_alternatives = alts
 all_alternatives alts (AlternativeAdditions.extended_alternatives more) = join_alternatives alts more
 
+-- The fields of both, in order.
+abbrev pub join_fields : Fields → Fields → Fields
+join_fields Fields.no_fields more = more
+join_fields (Fields.field n t p s fs) more = Fields.field n t p s (join_fields fs more)
+
+-- The fields of a sequence or set, added ones last.
+abbrev pub all_fields : Fields → FieldAdditions → Fields
+all_fields fs FieldAdditions.closed_fields = fs
+all_fields fs (FieldAdditions.extended_fields more) = join_fields fs more
+
 -- A loop as its body, with the loop in the place of each `back` that means it; any other shape as it is.
 abbrev pub opened : Shape → Shape
 opened (Shape.loop body) = unfold_loop body

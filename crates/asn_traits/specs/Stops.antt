@@ -1,12 +1,12 @@
 -- Why a slot says no value by a shape: the names of the fields that lead to the place, and what is wrong there.
-use Rattle.std.specs.Prelude.{◌≡◌, ℕ, ℤ, ◌<ℤ◌, List, [], ◌∷◌, map, Some, None, Ok, Err, true, false}
+use Rattle.std.specs.Prelude.{◌≡◌, ℕ, List, [], ◌∷◌, map, Some, None, Err, true, false}
 use Rattle.asn_base.specs.declared.codec.Codec.{Codec}
 use Rattle.asn_base.specs.declared.tag.Tag.{Tag}
 use Rattle.asn_fault.specs.Stop.{Why}
 use Rattle.asn_traits.specs.Notation.{Notation, notation_of}
-use Rattle.asn_traits.specs.Shape.{Shape, Fields, Alternatives, AlternativeAdditions, Presence, closed_seq, all_alternatives, unfold_loop, alternative_named, field_names}
+use Rattle.asn_traits.specs.Shape.{Shape, SeqKind, Fields, FieldAdditions, Alternatives, AlternativeAdditions, Presence, all_fields, all_alternatives, unfold_loop, alternative_named, field_names}
 use Rattle.asn_traits.specs.Tree.{Tree, Slot, as_list, as_members, as_choice, same_identifier}
-use Rattle.asn_traits.specs.Leaf.{Blame, Blamed, leaf, as_number, needs_members, needs_list, needs_choice}
+use Rattle.asn_traits.specs.Leaf.{Blame, Blamed, leaf, needs_members, needs_list, needs_choice}
 use Rattle.asn_traits.specs.Value.{Value, may_lack}
 use Rattle.asn_traits.specs.Says.{Says}
 
@@ -19,11 +19,9 @@ mutual
   pub data Stops (n : Notation) : Shape → Slot → Path → Why → Type 0 where
     stops_absent : (s : Shape) (c : Codec) → notation_of c ≡ n → Stops n s None [] (Why.end_of_input c)
     stops_leaf : (s : Shape) (t : Tree) (b : Blame) (w : Why) → leaf n s t ≡ Some (Err b) → Blamed n t b w → Stops n s (Some t) [] w
-    stops_number : (least greatest : ℤ) (width : ℕ) (t : Tree) (b : Blame) (w : Why) → as_number n t ≡ Err b → Blamed n t b w → Stops n (Shape.int least greatest width) (Some t) [] w
-    stops_below : (least greatest k : ℤ) (width : ℕ) (t : Tree) → as_number n t ≡ Ok k → k <ℤ least → Stops n (Shape.int least greatest width) (Some t) [] (Why.integer_overflow width)
-    stops_above : (least greatest k : ℤ) (width : ℕ) (t : Tree) → as_number n t ≡ Ok k → greatest <ℤ k → Stops n (Shape.int least greatest width) (Some t) [] (Why.integer_overflow width)
-    stops_no_members : (fs : Fields) (t : Tree) (w : Why) → as_members n t ≡ None → Blamed n t (needs_members n) w → Stops n (closed_seq fs) (Some t) [] w
-    stops_seq : (fs : Fields) (t : Tree) (look : List ℕ → Slot) (p : Path) (w : Why) → as_members n t ≡ Some look → StopsFields n fs (map look (field_names fs)) p w → Stops n (closed_seq fs) (Some t) p w
+    stops_no_members : (kind : SeqKind) (fs : Fields) (added : FieldAdditions) (t : Tree) (w : Why) → as_members n t ≡ None → Blamed n t (needs_members n) w → Stops n (Shape.seq kind fs added) (Some t) [] w
+    stops_seq : (kind : SeqKind) (fs : Fields) (added : FieldAdditions) (t : Tree) (look : List ℕ → Slot) (p : Path) (w : Why)
+        → as_members n t ≡ Some look → StopsFields n (all_fields fs added) (map look (field_names (all_fields fs added))) p w → Stops n (Shape.seq kind fs added) (Some t) p w
     stops_no_list : (s : Shape) (t : Tree) (w : Why) → as_list n t ≡ None → Blamed n t (needs_list n) w → Stops n (Shape.list_of s) (Some t) [] w
     stops_list : (s : Shape) (t : Tree) (slots : List Slot) (p : Path) (w : Why) → as_list n t ≡ Some slots → StopsEach n s slots p w → Stops n (Shape.list_of s) (Some t) p w
     stops_no_choice : (alts : Alternatives) (added : AlternativeAdditions) (t : Tree) (w : Why) → as_choice n t ≡ None → Blamed n t (needs_choice n) w → Stops n (Shape.choice alts added) (Some t) [] w

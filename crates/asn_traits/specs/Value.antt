@@ -1,9 +1,12 @@
 -- What a Rust value of an ASN.1 type stands for, and what values a shape has.
-use Rattle.std.specs.Prelude.{◌≡◌, ℕ, ℤ, ◌≤ℤ◌, ◌+◌, List, [], ◌∷◌, Bool, true, false, not, if◌then◌else◌, Option}
+use Rattle.std.specs.Prelude.{◌≡◌, ℕ, ℤ, ◌+◌, List, [], ◌∷◌, Bool, true, false, not, if◌then◌else◌, Option}
 use Rattle.std.specs.Str.{bytes_eq, is_utf8}
 use Rattle.std.specs.Ordering.{int_eq}
+use Rattle.avn_grammar.specs.Chars.{every}
+use Rattle.avn_grammar.specs.WellFormed.{is_octet}
 use Rattle.asn_base.specs.declared.tag.Tag.{Tag}
-use Rattle.asn_traits.specs.Shape.{Shape, Fields, Alternatives, AlternativeAdditions, Alphabet, Plain, Presence, closed_seq, all_items, all_alternatives, unfold_loop, is_item}
+use Rattle.asn_traits.specs.Range.{is_between}
+use Rattle.asn_traits.specs.Shape.{Shape, SeqKind, Fields, FieldAdditions, Alternatives, AlternativeAdditions, Alphabet, Plain, Presence, all_fields, all_items, all_alternatives, unfold_loop, is_item}
 
 mutual
   -- The abstract value of an ASN.1 type.
@@ -112,15 +115,21 @@ may_lack _ = true
 abbrev pub with_field : Presence → List ℕ → Value → Slots → Slots
 with_field p name v vs = if is_kept p v then Slots.present name v vs else Slots.absent name vs
 
+-- The value is one of the shape, whose values have no parts.
+abbrev pub is_leaf_of : Shape → Value → Bool
+is_leaf_of Shape.null Value.null = true
+is_leaf_of Shape.boolean (Value.boolean b) = true
+is_leaf_of (Shape.int least greatest width) (Value.int n) = is_between least greatest n
+is_leaf_of (Shape.text Alphabet.utf8) (Value.text t) = is_utf8 t
+is_leaf_of (Shape.enum items added) (Value.item i) = is_item (all_items items added) i
+is_leaf_of Shape.octets (Value.octets o) = every is_octet o
+is_leaf_of s v = false
+
 mutual
   -- The value is one of the shape.
   pub data Fits : Shape → Value → Type 0 where
-    fits_null : Fits Shape.null Value.null
-    fits_bool : {b : Bool} → Fits Shape.boolean (Value.boolean b)
-    fits_int : {l g : ℤ} {w : ℕ} {n : ℤ} → l ≤ℤ n → n ≤ℤ g → Fits (Shape.int l g w) (Value.int n)
-    fits_utf8 : {t : List ℕ} → is_utf8 t ≡ true → Fits (Shape.text Alphabet.utf8) (Value.text t)
-    fits_item : {items : List (List ℕ)} {added : Option (List (List ℕ))} {i : List ℕ} → is_item (all_items items added) i ≡ true → Fits (Shape.enum items added) (Value.item i)
-    fits_members : {fs : Fields} {ms : Slots} → FitsFields fs ms → Fits (closed_seq fs) (Value.members ms)
+    fits_leaf : {s : Shape} {v : Value} → is_leaf_of s v ≡ true → Fits s v
+    fits_members : {kind : SeqKind} {fs : Fields} {added : FieldAdditions} {ms : Slots} → FitsFields (all_fields fs added) ms → Fits (Shape.seq kind fs added) (Value.members ms)
     fits_list : {s : Shape} {vs : Values} → FitsEach s vs → Fits (Shape.list_of s) (Value.list vs)
     fits_choice : {alts : Alternatives} {added : AlternativeAdditions} {i : List ℕ} {v : Value} → FitsAlternative (all_alternatives alts added) i v → Fits (Shape.choice alts added) (Value.choice i v)
     fits_loop : {b : Shape} {v : Value} → Fits (unfold_loop b) v → Fits (Shape.loop b) v

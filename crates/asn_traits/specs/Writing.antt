@@ -6,8 +6,9 @@ use Rattle.asn_fault.specs.declared.encode.EncodeErrorKind.TheVariants.{OutOfMem
 use Rattle.asn_fault.specs.Unwritten.{WhyUnwritten, encode_why}
 use Rattle.asn_base.specs.declared.whole_number.WholeNumber.{WholeNumber}
 use Rattle.asn_base.specs.Numbers.{is_negative, magnitude}
+use Rattle.asn_traits.specs.Canonical.{canonical_tree}
 use Rattle.asn_traits.specs.Notation.{Notation, notation_of}
-use Rattle.asn_traits.specs.Shape.{Shape, Fields, Alternatives, shape_under}
+use Rattle.asn_traits.specs.Shape.{Shape, Fields, Alternatives, shape_under, field_names}
 use Rattle.asn_traits.specs.Value.{Value, Values, Slots, Fits, FitsFields, FitsAlternative, value_under}
 
 -- A value, or absent.
@@ -45,6 +46,10 @@ abbrev pub named : Frame → List (List ℕ) → Slots
 named [] ns = Slots.no_slots
 named (None ∷ ss) ns = Slots.absent (head_name ns) (named ss (tail_names ns))
 named (Some v ∷ ss) ns = Slots.present (head_name ns) v (named ss (tail_names ns))
+
+-- The value of a SEQUENCE whose fields have these slots.
+abbrev pub members_value : Fields → Frame → Value
+members_value fs ss = Value.members (named ss (field_names fs))
 
 -- What is there, or else the other.
 abbrev pub or_some : {A : Type 0} → Option A → Option A → Option A
@@ -138,6 +143,11 @@ CannotWriteUnder n size s v e = CannotWrite n (value_under size s v) e
 -- Whatever frames the old state holds, the new state holds these frames turned by f.
 abbrev pub Turns : {S : Type 0} → (S → List Frame → Type 0) → (List Frame → List Frame) → S → S → Type 0
 Turns holds f old new = (fs : List Frame) → holds old fs → holds new (f fs)
+
+-- The last frame has one more slot, any value that is written as this one is, which can be written.
+pub record Puts {S : Type 0} (holds : S → List Frame → Type 0) (n : Notation) (v : Value) (old new : S) : Type 0 where
+  pub added : (w : Value) → canonical_tree n w ≡ canonical_tree n v → Turns holds (push (Some w)) old new
+  pub writable : Writable n v
 
 -- The last frame has one more slot, the value, which fits its shape and can be written.
 pub record Written {S : Type 0} (holds : S → List Frame → Type 0) (n : Notation) (s : Shape) (v : Value) (old new : S) : Type 0 where

@@ -1,21 +1,23 @@
 // Reading a value of a type from the slots that a decoder has pending.
 //
 // A codec writes the calls without a body. The calls that have a bound of this crate's are final, and are proved here once for every codec.
-ghost use Rattle.asn_fault.specs.Stop.{error_stop};
+ghost use Rattle.asn_fault.specs.Stop.{Why, at_root, error_stop};
 ghost use Rattle.asn_traits.specs.Fixed.{fixed_size};
+ghost use Rattle.asn_traits.specs.Leaf.{codec_of};
 ghost use Rattle.asn_traits.specs.Notation.{Notation, notation_of};
-ghost use Rattle.asn_traits.specs.Shape.{are_distinct, Shape, Alphabet, all_alternatives, closed_seq, field_names};
+ghost use Rattle.asn_traits.specs.Shape.{are_distinct, Shape, Alphabet, FieldAdditions, all_alternatives, field_names};
 ghost use Rattle.asn_traits.specs.Tree.{Slot, head_nodes, slot_nodes};
 ghost use Rattle.asn_traits.specs.Value.{Value, values};
 ghost use Rattle.asn_traits.specs.Answer.{Answer, AnswerBy, AnswerUnder, TakesAbsent, OptionalAnswer};
-ghost use Rattle.asn_traits.specs.Opening.{OpensList, OpensMembers, OpensChoice, OpensAlternative, AllBelow};
+ghost use Rattle.asn_traits.specs.Opening.{TakesLeaf, OpensList, OpensMembers, OpensChoice, OpensAlternative, AllBelow};
 ghost use Rattle.asn_traits.specs.Scopes.{ScopeAnswer, TagAnswer};
 ghost use Rattle.asn_traits.specs.Tables.{names_of};
 ghost use Rattle.std.specs.Prelude.{true, ◌≡◌, ℕ, pos, List, ◌∷◌, ◌++◌, ◌<◌, map, length, string_bytes};
 
+use crate::leaves::beyond_128_bits;
 use crate::tables::{listed, tag_at};
-use crate::{AsnType, Choice, Constructed, Enumerated, Field};
-use asn_base::{Codec, Constraints, IntegerType, Tag};
+use crate::{AsnType, Choice, Constructed, Enumerated, Field, IntegerType, LeafKind, OwnedLeaf};
+use asn_base::{Codec, Constraints, Tag};
 use asn_fault::{DecodeError, Refusal};
 use std::alloc::Global;
 
@@ -37,38 +39,14 @@ pub trait Decoder {
     /// The allocator that it takes memory from.
     fn allocator(&self) -> Global;
 
-    /// Reads a BOOLEAN.
-    fn decode_bool(&mut self, tag: Tag) -> Result<bool, DecodeError>
-        ensures { Answer notation Shape.boolean Value.boolean (pending self.old) result
-            (pending self.new) };
+    /// Takes the first pending slot, a value of this kind.
+    fn take_leaf(&mut self, kind: LeafKind) -> Result<OwnedLeaf, DecodeError>
+        ensures { TakesLeaf notation kind (pending self.old) result (pending self.new) };
 
-    /// Reads a NULL.
-    fn decode_null(&mut self, tag: Tag) -> Result<(), DecodeError>
-        ensures { Answer notation Shape.null (λ u. Value.null) (pending self.old) result
-            (pending self.new) };
-
-    /// Reads an INTEGER of the type's range.
-    fn decode_integer<I: IntegerType>(
-        &mut self,
-        tag: Tag,
-        constraints: &Constraints,
-    ) -> Result<I, DecodeError>
-        ensures { Answer notation (Shape.int I.LEAST (pos I.GREATEST) I.WIDTH)
-            (λ n. Value.int (I.number n)) (pending self.old) result (pending self.new) };
-
-    /// Reads a UTF8String.
-    fn decode_utf8_string(
-        &mut self,
-        tag: Tag,
-        constraints: &Constraints,
-    ) -> Result<String, DecodeError>
-        ensures { Answer notation (Shape.text Alphabet.utf8) (λ s. Value.text (string_bytes s))
-            (pending self.old) result (pending self.new) };
-
-    /// Reads an item of an ENUMERATED type.
-    fn decode_enumerated<E: Enumerated>(&mut self, tag: Tag) -> Result<E, DecodeError>
-        ensures { Answer notation (Shape.enum E.items E.added) (λ x. Value.item (E.item x))
-            (pending self.old) result (pending self.new) };
+    /// The refusal of a text that names no item of a type.
+    fn no_item(&self, text: String) -> DecodeError
+        ensures { error_stop result ≡ at_root
+            (Why.invalid_enum_discriminant (codec_of notation) (string_bytes text)) (codec_of notation) };
 
     /// Takes the first pending slot if it is absent, and tells whether it was. It refuses where none is pending.
     fn take_absent(&mut self) -> Result<bool, DecodeError>
@@ -88,6 +66,97 @@ pub trait Decoder {
     fn open_choice(&mut self, identifiers: &[&'static str]) -> Result<Option<usize>, DecodeError>
         ensures { OpensChoice notation (map (λ s. s.now) identifiers.now) (pending self.old) result
             (pending self.new) };
+
+    /// Reads a BOOLEAN.
+    final fn decode_bool(&mut self, tag: Tag) -> Result<bool, DecodeError>
+        ensures { Answer notation Shape.boolean Value.boolean (pending self.old) result
+            (pending self.new) }
+    {
+        match self.take_leaf(LeafKind::Boolean)? {
+            OwnedLeaf::Boolean(flag) => Ok(flag),
+            _ => unreachable!(),
+        }
+    }
+
+    /// Reads a NULL.
+    final fn decode_null(&mut self, tag: Tag) -> Result<(), DecodeError>
+        ensures { Answer notation Shape.null (λ u. Value.null) (pending self.old) result
+            (pending self.new) }
+    {
+        match self.take_leaf(LeafKind::Null)? {
+            OwnedLeaf::Null => Ok(()),
+            _ => unreachable!(),
+        }
+    }
+
+    /// Reads an INTEGER of the type's range.
+    final fn decode_integer<I: IntegerType>(
+        &mut self,
+        tag: Tag,
+        constraints: &Constraints,
+    ) -> Result<I, DecodeError>
+        ensures { Answer notation (Shape.int I.LEAST (pos I.GREATEST) I.WIDTH)
+            (λ n. Value.int (I.number n)) (pending self.old) result (pending self.new) }
+    {
+        match self.take_leaf(LeafKind::Number)? {
+            OwnedLeaf::Number(Some(number)) => match I::of_parts(
+                number.negative,
+                number.magnitude,
+            ) {
+                Some(value) => Ok(value),
+                None => Err(DecodeError::integer_overflow(I::WIDTH, self.codec())),
+            },
+            OwnedLeaf::Number(None) => {
+                beyond_128_bits::<I>();
+                Err(DecodeError::integer_overflow(I::WIDTH, self.codec()))
+            }
+            _ => unreachable!(),
+        }
+    }
+
+    /// Reads a UTF8String.
+    final fn decode_utf8_string(
+        &mut self,
+        tag: Tag,
+        constraints: &Constraints,
+    ) -> Result<String, DecodeError>
+        ensures { Answer notation (Shape.text Alphabet.utf8) (λ s. Value.text (string_bytes s))
+            (pending self.old) result (pending self.new) }
+    {
+        match self.take_leaf(LeafKind::Text)? {
+            OwnedLeaf::Text(text) => Ok(text),
+            _ => unreachable!(),
+        }
+    }
+
+    /// Reads an item of an ENUMERATED type.
+    final fn decode_enumerated<E: Enumerated>(&mut self, tag: Tag) -> Result<E, DecodeError>
+        ensures { Answer notation (Shape.enum E.items E.added) (λ x. Value.item (E.item x))
+            (pending self.old) result (pending self.new) }
+    {
+        match self.take_leaf(LeafKind::Item)? {
+            OwnedLeaf::Item(text) => match E::from_identifier(text.as_str()) {
+                Some(item) => Ok(item),
+                None => Err(self.no_item(text)),
+            },
+            _ => unreachable!(),
+        }
+    }
+
+    /// Reads an OCTET STRING.
+    final fn decode_octet_string(
+        &mut self,
+        tag: Tag,
+        constraints: &Constraints,
+    ) -> Result<Vec<u8>, DecodeError>
+        ensures { Answer notation Shape.octets (λ v. Value.octets v.items) (pending self.old) result
+            (pending self.new) }
+    {
+        match self.take_leaf(LeafKind::Octets)? {
+            OwnedLeaf::Octets(octets) => Ok(octets),
+            _ => unreachable!(),
+        }
+    }
 
     /// Reads a SEQUENCE OF.
     final fn decode_sequence_of<T: Decode>(
@@ -124,7 +193,8 @@ pub trait Decoder {
         requires reads { (p : _) (r : _) (q : _) (slots rest : List Slot)
             → pending p.now ≡ slots ++ rest → length slots ≡ length (field_names C.fields)
             → F.post decode_fn p r q → ScopeAnswer E.stop notation C.fields C.value_of slots rest r (pending q.now) }
-        ensures { AnswerBy E.stop notation (closed_seq C.fields) C.value_of
+        ensures { AnswerBy E.stop notation
+            (Shape.seq C.kind C.fields FieldAdditions.closed_fields) C.value_of
             (pending self.old) result (pending self.new) }
     {
         match self.open_members(C::field_table().items) {

@@ -2,17 +2,19 @@
 //
 // A codec writes the calls without a body. The calls that have a bound of this crate's are final, and are proved here once for every codec.
 ghost use Rattle.asn_traits.specs.Fixed.{fixed_size};
+ghost use Rattle.asn_traits.specs.Leaf.{leaf_value};
 ghost use Rattle.asn_traits.specs.Notation.{Notation, notation_of};
 ghost use Rattle.asn_traits.specs.Shape.{Shape, Alphabet, all_alternatives, field_names, alternative_tagged};
 ghost use Rattle.asn_traits.specs.Tables.{names_of};
 ghost use Rattle.asn_traits.specs.Value.{Value, values};
-ghost use Rattle.asn_traits.specs.Writing.{Frame, push, close, as_list, as_members, as_choice, Written, WrittenUnder, CannotWrite, CannotWriteUnder, ScopeRan, Turns};
+ghost use Rattle.asn_traits.specs.Writing.{Frame, push, close, as_list, as_members, as_choice, Written, WrittenUnder, CannotWrite, CannotWriteUnder, ScopeRan, Turns, Puts};
 ghost use Rattle.std.specs.Fn.{FnOnceReturnsAtMut};
 ghost use Rattle.std.specs.Prelude.{◌≡◌, ◌⊎◌, pos, ◌∷◌, [], ℕ, List, Option, Some, None, Ok, Err, map, option_map, OnOk, IfErr, IfSome, IsOk, IsSome, ⊤};
 
+use crate::leaves::are_octets;
 use crate::tables::{identifier_of, listed};
-use crate::{AsnType, Choice, Constructed, Enumerated, Field};
-use asn_base::{Codec, Constraints, Identifier, IntegerType, Tag};
+use crate::{AsnType, Choice, Constructed, Enumerated, Field, IntegerType, Leaf};
+use asn_base::{Codec, Constraints, Identifier, Tag, WholeNumber};
 use asn_fault::{EncodeError, EncodeErrorKind};
 use std::alloc::Global;
 
@@ -34,57 +36,10 @@ pub trait Encoder {
     /// The allocator that it takes memory from.
     fn allocator(&self) -> Global;
 
-    /// Writes a BOOLEAN.
-    fn encode_bool(
-        &mut self,
-        tag: Tag,
-        value: bool,
-        identifier: Identifier,
-    ) -> Result<(), EncodeError>
-        ensures written { OnOk result (Written holds notation Shape.boolean
-            (Value.boolean value) self.old self.new) }
-        ensures refused { IfErr result (CannotWrite notation (Value.boolean value)) };
-
-    /// Writes a NULL.
-    fn encode_null(&mut self, tag: Tag, identifier: Identifier) -> Result<(), EncodeError>
-        ensures written { OnOk result (Written holds notation Shape.null Value.null self.old self.new) }
-        ensures refused { IfErr result (CannotWrite notation Value.null) };
-
-    /// Writes an INTEGER.
-    fn encode_integer<I: IntegerType>(
-        &mut self,
-        tag: Tag,
-        constraints: &Constraints,
-        value: &I,
-        identifier: Identifier,
-    ) -> Result<(), EncodeError>
-        ensures written { OnOk result (Written holds notation
-            (Shape.int I.LEAST (pos I.GREATEST) I.WIDTH)
-            (Value.int (I.number value.now)) self.old self.new) }
-        ensures refused { IfErr result (CannotWrite notation (Value.int (I.number value.now))) };
-
-    /// Writes a UTF8String.
-    fn encode_utf8_string(
-        &mut self,
-        tag: Tag,
-        constraints: &Constraints,
-        value: &str,
-        identifier: Identifier,
-    ) -> Result<(), EncodeError>
-        ensures written { OnOk result (Written holds notation (Shape.text Alphabet.utf8)
-            (Value.text value.now) self.old self.new) }
-        ensures refused { IfErr result (CannotWrite notation (Value.text value.now)) };
-
-    /// Writes an item of an ENUMERATED type.
-    fn encode_enumerated<T: Enumerated>(
-        &mut self,
-        tag: Tag,
-        value: &T,
-        identifier: Identifier,
-    ) -> Result<(), EncodeError>
-        ensures written { OnOk result (Written holds notation (Shape.enum T.items T.added)
-            (Value.item (T.item value.now)) self.old self.new) }
-        ensures refused { IfErr result (CannotWrite notation (Value.item (T.item value.now))) };
+    /// Puts a value without parts into the last frame.
+    fn put_leaf(&mut self, leaf: Leaf<'_>) -> Result<(), EncodeError>
+        ensures put { OnOk result (Puts holds notation (leaf_value leaf.entry) self.old self.new) }
+        ensures refused { IfErr result (CannotWrite notation (leaf_value leaf.entry)) };
 
     /// Puts an absent slot into the last frame. It refuses memory alone.
     fn encode_absent(&mut self) -> Result<(), EncodeError>
@@ -112,6 +67,93 @@ pub trait Encoder {
         ensures closed { OnOk result (Turns holds (close
             (as_choice identifier.now)) self.old self.new) }
         ensures refused { IfErr result (λ e. e.kind ≡ EncodeErrorKind.OutOfMemory) };
+
+    /// Writes a BOOLEAN.
+    final fn encode_bool(
+        &mut self,
+        tag: Tag,
+        value: bool,
+        identifier: Identifier,
+    ) -> Result<(), EncodeError>
+        ensures written { OnOk result (Written holds notation Shape.boolean
+            (Value.boolean value) self.old self.new) }
+        ensures refused { IfErr result (CannotWrite notation (Value.boolean value)) }
+    {
+        self.put_leaf(Leaf::Boolean(value))
+    }
+
+    /// Writes a NULL.
+    final fn encode_null(&mut self, tag: Tag, identifier: Identifier) -> Result<(), EncodeError>
+        ensures written { OnOk result (Written holds notation Shape.null Value.null self.old self.new) }
+        ensures refused { IfErr result (CannotWrite notation Value.null) }
+    {
+        self.put_leaf(Leaf::Null)
+    }
+
+    /// Writes an INTEGER.
+    final fn encode_integer<I: IntegerType>(
+        &mut self,
+        tag: Tag,
+        constraints: &Constraints,
+        value: &I,
+        identifier: Identifier,
+    ) -> Result<(), EncodeError>
+        ensures written { OnOk result (Written holds notation
+            (Shape.int I.LEAST (pos I.GREATEST) I.WIDTH)
+            (Value.int (I.number value.now)) self.old self.new) }
+        ensures refused { IfErr result (CannotWrite notation (Value.int (I.number value.now))) }
+    {
+        let (negative, magnitude) = value.parts();
+        self.put_leaf(Leaf::Number(WholeNumber {
+            negative,
+            magnitude,
+        }))
+    }
+
+    /// Writes a UTF8String.
+    final fn encode_utf8_string(
+        &mut self,
+        tag: Tag,
+        constraints: &Constraints,
+        value: &str,
+        identifier: Identifier,
+    ) -> Result<(), EncodeError>
+        ensures written { OnOk result (Written holds notation (Shape.text Alphabet.utf8)
+            (Value.text value.now) self.old self.new) }
+        ensures refused { IfErr result (CannotWrite notation (Value.text value.now)) }
+    {
+        self.put_leaf(Leaf::Text(value))
+    }
+
+    /// Writes an item of an ENUMERATED type.
+    final fn encode_enumerated<T: Enumerated>(
+        &mut self,
+        tag: Tag,
+        value: &T,
+        identifier: Identifier,
+    ) -> Result<(), EncodeError>
+        ensures written { OnOk result (Written holds notation (Shape.enum T.items T.added)
+            (Value.item (T.item value.now)) self.old self.new) }
+        ensures refused { IfErr result (CannotWrite notation (Value.item (T.item value.now))) }
+    {
+        self.put_leaf(Leaf::Item(value.identifier()))
+    }
+
+    /// Writes an OCTET STRING.
+    final fn encode_octet_string(
+        &mut self,
+        tag: Tag,
+        constraints: &Constraints,
+        value: &[u8],
+        identifier: Identifier,
+    ) -> Result<(), EncodeError>
+        ensures written { OnOk result (Written holds notation Shape.octets
+            (Value.octets value.now) self.old self.new) }
+        ensures refused { IfErr result (CannotWrite notation (Value.octets value.now)) }
+    {
+        are_octets(value);
+        self.put_leaf(Leaf::Octets(value))
+    }
 
     /// Writes the value of an optional field.
     final fn encode_some<T: Encode>(

@@ -4,23 +4,13 @@ ghost use Rattle.asn_traits.specs.Value.{Value, values};
 ghost use Rattle.std.specs.Prelude.{refl, string_bytes};
 
 use crate::{Alphabet, AsnType, Decode, Decoder, Encode, Encoder, Shape};
-use asn_base::{Constraints, Identifier, OutOfMemory, Tag, TagTree};
+use asn_base::{Constraints, Identifier, OutOfMemory, Tag};
 use asn_fault::{DecodeError, EncodeError};
 use std::alloc::Global;
 
 /// BOOLEAN (X.680, section 18).
 impl AsnType for bool {
     const TAG: Tag = Tag::BOOL;
-
-    const TAG_TREE: TagTree = TagTree::Leaf(Tag::BOOL);
-
-    const CONSTRAINTS: Constraints = Constraints::NONE;
-
-    const IDENTIFIER: Identifier = Identifier::EMPTY;
-
-    const IS_CHOICE: bool = false;
-
-    const RANK: u32 = 0;
 
     ghost shape_of = { AbstractShape.boolean };
 
@@ -63,16 +53,6 @@ impl Decode for bool {
 impl AsnType for () {
     const TAG: Tag = Tag::NULL;
 
-    const TAG_TREE: TagTree = TagTree::Leaf(Tag::NULL);
-
-    const CONSTRAINTS: Constraints = Constraints::NONE;
-
-    const IDENTIFIER: Identifier = Identifier::EMPTY;
-
-    const IS_CHOICE: bool = false;
-
-    const RANK: u32 = 0;
-
     ghost shape_of = { AbstractShape.null };
 
     ghost value_of = { λ u. Value.null };
@@ -114,16 +94,6 @@ impl Decode for () {
 impl AsnType for String {
     const TAG: Tag = Tag::UTF8_STRING;
 
-    const TAG_TREE: TagTree = TagTree::Leaf(Tag::UTF8_STRING);
-
-    const CONSTRAINTS: Constraints = Constraints::NONE;
-
-    const IDENTIFIER: Identifier = Identifier::EMPTY;
-
-    const IS_CHOICE: bool = false;
-
-    const RANK: u32 = 0;
-
     ghost shape_of = { AbstractShape.text AbstractAlphabet.utf8 };
 
     ghost value_of = { λ s. Value.text (string_bytes s) };
@@ -163,19 +133,56 @@ impl Decode for String {
     }
 }
 
+/// OCTET STRING (X.680, section 23).
+#[derive(Drop)]
+pub struct OctetString {
+    pub octets: Vec<u8>,
+}
+
+impl AsnType for OctetString {
+    const TAG: Tag = Tag::OCTET_STRING;
+
+    ghost shape_of = { AbstractShape.octets };
+
+    ghost value_of = { λ s. Value.octets s.octets.items };
+
+    fn constraint_table() -> Constraints {
+        Self::CONSTRAINTS
+    }
+
+    fn shape(_alloc: Global) -> Result<Shape, OutOfMemory> {
+        Ok(Shape::Octets)
+    }
+
+    ghost readable = { refl };
+}
+
+impl Encode for OctetString {
+    fn encode_with_tag_and_constraints<E: Encoder>(
+        &self,
+        encoder: &mut E,
+        tag: Tag,
+        constraints: &Constraints,
+        identifier: Identifier,
+    ) -> Result<(), EncodeError> {
+        encoder.encode_octet_string(tag, constraints, self.octets.as_slice(), identifier)
+    }
+}
+
+impl Decode for OctetString {
+    fn decode_with_tag_and_constraints<D: Decoder>(
+        decoder: &mut D,
+        tag: Tag,
+        constraints: &Constraints,
+    ) -> Result<OctetString, DecodeError> {
+        let octets = decoder.decode_octet_string(tag, constraints)?;
+        Ok(OctetString { octets })
+    }
+}
+
 /// SEQUENCE OF (X.680, section 26).
 impl<T: AsnType> AsnType for Vec<T> {
     const TAG: Tag = Tag::SEQUENCE;
-
-    const TAG_TREE: TagTree = TagTree::Leaf(Tag::SEQUENCE);
-
-    const CONSTRAINTS: Constraints = Constraints::NONE;
-
-    const IDENTIFIER: Identifier = Identifier::EMPTY;
-
-    const IS_CHOICE: bool = false;
-
-    const RANK: u32 = 0;
 
     ghost shape_of = { AbstractShape.list_of T.shape_of };
 

@@ -1,13 +1,13 @@
 // What every ASN.1 type tells of itself: its shape, its values and its tables of constants.
 ghost use Rattle.asn_traits.specs.Fixed.{fixed_size};
 ghost use Rattle.asn_traits.specs.Readable.{is_readable};
-ghost use Rattle.asn_traits.specs.Shape.{Shape as AbstractShape, Fields as FieldShapes, Alternatives, AlternativeAdditions, all_alternatives, all_items, closed_seq, identifiers, is_item, opened, shape_under};
+ghost use Rattle.asn_traits.specs.Shape.{Shape as AbstractShape, Fields as FieldShapes, SeqKind, FieldAdditions, Alternatives, AlternativeAdditions, all_alternatives, all_items, identifiers, is_item, opened, shape_under};
 ghost use Rattle.asn_traits.specs.ShapeView.{shape_view};
 ghost use Rattle.asn_traits.specs.Value.{Value, value_under};
 ghost use Rattle.asn_traits.specs.Tables.{rows_of, field_rows, smallest_tags, root_tags, added_tags};
 ghost use Rattle.std.specs.Prelude.{◌≡◌, ℕ, List, Option, None, map, option_map, true, false, IfOk, MatchOption};
 
-use crate::Shape;
+use crate::{Described, EnumeratedKind, OfKind, Shape};
 use asn_base::{Constraints, Identifier, OutOfMemory, Tag, TagTree};
 use std::alloc::Global;
 
@@ -72,6 +72,34 @@ impl Field {
     }
 }
 
+/// A field that has to be present, for a constant table.
+#[macro_export]
+macro_rules! required {
+    ($index:expr, $tag:expr, $name:expr) => {
+        $crate::Field {
+            index: $index,
+            tag: $tag,
+            tag_tree: $crate::TagTree::Leaf($tag),
+            presence: $crate::Presence::Required,
+            name: $name,
+        }
+    };
+}
+
+/// A field that may be absent, for a constant table.
+#[macro_export]
+macro_rules! optional {
+    ($index:expr, $tag:expr, $name:expr) => {
+        $crate::Field {
+            index: $index,
+            tag: $tag,
+            tag_tree: $crate::TagTree::Leaf($tag),
+            presence: $crate::Presence::Optional,
+            name: $name,
+        }
+    };
+}
+
 /// The fields of a type, in order.
 #[derive(Clone, Copy)]
 pub struct Fields {
@@ -93,17 +121,17 @@ pub trait AsnType {
     const TAG: Tag;
 
     /// The tags that its value may begin with.
-    const TAG_TREE: TagTree;
+    const TAG_TREE: TagTree = TagTree::Leaf(Self::TAG);
 
-    const CONSTRAINTS: Constraints;
+    const CONSTRAINTS: Constraints = Constraints::NONE;
 
     /// The name that other encoding rules write for it. JER and AVN ignore it.
-    const IDENTIFIER: Identifier;
+    const IDENTIFIER: Identifier = Identifier::EMPTY;
 
-    const IS_CHOICE: bool;
+    const IS_CHOICE: bool = false;
 
     /// Above that of each type whose reader is handed the same tree.
-    const RANK: u32;
+    const RANK: u32 = 0;
 
     ghost shape_of: { AbstractShape };
 
@@ -129,7 +157,9 @@ pub trait Constructed: AsnType {
     const FIELDS: Fields;
 
     /// The fields after the extension marker, if there is one. A type has none yet.
-    const EXTENDED_FIELDS: Option<Fields>;
+    const EXTENDED_FIELDS: Option<Fields> = None;
+
+    ghost kind: { SeqKind } = { SeqKind.sequence };
 
     ghost fields: { FieldShapes };
 
@@ -139,10 +169,13 @@ pub trait Constructed: AsnType {
 
     /// `EXTENDED_FIELDS`.
     fn extended_field_table() -> Option<Fields>
-        ensures { result ≡ None };
+        ensures { result ≡ None }
+    {
+        None
+    }
 
     // The shape is that of these fields.
-    ghost of_fields: { opened Self.shape_of ≡ closed_seq fields };
+    ghost of_fields: { opened Self.shape_of ≡ AbstractShape.seq kind fields FieldAdditions.closed_fields };
 }
 
 /// A CHOICE (X.680, section 29).
@@ -178,7 +211,7 @@ pub trait Choice: AsnType {
 }
 
 /// An ENUMERATED type (X.680, section 20).
-pub trait Enumerated: AsnType + Sized + Drop {
+pub trait Enumerated: OfKind<Kind = EnumeratedKind> + Described {
     const IDENTIFIERS: &'static [&'static str];
 
     /// The items after the extension marker, if there is one.
@@ -209,6 +242,6 @@ pub trait Enumerated: AsnType + Sized + Drop {
         ensures { MatchOption result (is_item (all_items items added) identifier.now ≡ false)
             (λ x. (item x ≡ identifier.now) × (is_item (all_items items added) identifier.now ≡ true)) };
 
-    // The shape is that of these items.
-    ghost of_items: { Self.shape_of ≡ AbstractShape.enum items added };
+    // The shape can be read.
+    ghost readable: { is_readable (AbstractShape.enum items added) ≡ true };
 }

@@ -1,7 +1,7 @@
 pub mod Building
 pub mod Numbers
+pub mod NumbersTaken
 pub mod Octets
-pub mod Readings
 pub mod Roots
 pub mod Taken
 pub mod Views

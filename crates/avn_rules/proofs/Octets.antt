@@ -1,41 +1,34 @@
 -- Octets as texts, and braces without content.
-use Rattle.std.proofs.Common.{◌≡◌, ◌≢◌, ℕ, refl, ap, sym, ◌∙◌, List, [], ◌∷◌, Option, Some, None, Result, Ok, Err, Bool, true, false, if◌then◌else◌, String, Vec, Global, string_bytes, length, arith}
-use Rattle.std.specs.Prelude.{codes, IsOk, ◌==◌}
+use Rattle.std.proofs.Common.{◌≡◌, ◌≢◌, ℕ, refl, ap, sym, ◌∙◌, List, [], ◌∷◌, Option, Some, None, Result, Ok, Err, Bool, true, false, String, Vec, Global, string_bytes, length, arith}
+use Rattle.std.specs.Prelude.{IsOk, ◌==◌}
 use Rattle.std.specs.String.{string_vec}
 use Rattle.std.specs.Str.{is_utf8, IsUtf8}
 use Rattle.std.proofs.lemmas.Str.{IsUtf8-from_is_utf8, is_utf8-from_IsUtf8, IsUtf8-string_bytes}
-use Rattle.asn_fault.specs.Stop.{Why}
-use Rattle.asn_traits.specs.Leaf.{Blame, as_text, utf8_octets}
 use Rattle.asn_traits.specs.Notation.{Notation}
 use Rattle.asn_traits.specs.Tree.{Tree, as_list, as_members}
 use Rattle.avn_grammar.specs.Tree.{sequence, sequence_of}
 use Rattle.avn_value.specs.View.{list_trees, fields_trees}
-use Rattle.avn_value.specs.declared.value.AvnValue.{AvnValue, OctetString, Sequence, SequenceOf}
-use Rattle.avn_value.proofs.Views.{view-OctetString, view-Sequence, view-SequenceOf}
+use Rattle.avn_value.specs.declared.value.AvnValue.{AvnValue, Sequence, SequenceOf}
+use Rattle.avn_value.proofs.Views.{view-Sequence, view-SequenceOf}
 use Rattle.avn_rules.specs.Pending.{tree_of}
 
-octets-read : (v : AvnValue) (o : Vec ℕ Global) → v ≡ OctetString o → as_text Notation.avn (tree_of v) ≡ utf8_octets o.items
-octets-read v o is = ap (λ x. as_text Notation.avn (tree_of x)) is ∙ ap (λ t. as_text Notation.avn (Tree.avn t)) (view-OctetString o)
-
--- Octets that are UTF-8 are that text.
-pub octets_are_text : (v : AvnValue) (o : Vec ℕ Global) (s : String Global) → v ≡ OctetString o → string_vec s ≡ o → as_text Notation.avn (tree_of v) ≡ Ok (string_bytes s)
-octets_are_text v o s is e =
+-- Octets of a text are UTF-8.
+pub octets_are_text : (o : Vec ℕ Global) (s : String Global) → string_vec s ≡ o → is_utf8 o.items ≡ true
+octets_are_text o s e =
     let same : string_bytes s ≡ o.items = ap (λ x. x.items) e in
-    let text : is_utf8 o.items ≡ true = ap is_utf8 (sym same) ∙ is_utf8-from_IsUtf8 (string_bytes s) (IsUtf8-string_bytes s) in
-    octets-read v o is ∙ ap (λ b. if b then Ok o.items else Err (Blame.because (Why.custom (codes "Invalid UTF-8 in AVN string")))) text ∙ ap Ok (sym same)
+    ap is_utf8 (sym same) ∙ is_utf8-from_IsUtf8 (string_bytes s) (IsUtf8-string_bytes s)
 
 err-ok : {A E : Type 0} (r : Result A E) (e : E) → r ≡ Err e → IsOk r → ⊥
 err-ok (Ok x) e is h = cc is
 err-ok (Err x) e is h = cc h
 
-refused : (b : Bool) (o : List ℕ) → (b ≡ true → ⊥) → (if b then Ok o else Err (Blame.because (Why.custom (codes "Invalid UTF-8 in AVN string")))) ≡ Err (Blame.because (Why.custom (codes "Invalid UTF-8 in AVN string")))
-refused true o h = absurd (h refl)
-refused false o h = refl
+refused : (b : Bool) → (b ≡ true → ⊥) → b ≡ false
+refused true h = absurd (h refl)
+refused false h = refl
 
--- Octets that are no UTF-8.
-pub octets_are_no_text : {E : Type 0} (v : AvnValue) (o : Vec ℕ Global) (r : Result (String Global) E) (e : E) → v ≡ OctetString o → r ≡ Err e → (IsUtf8 o.items → IsOk r)
-    → as_text Notation.avn (tree_of v) ≡ Err (Blame.because (Why.custom (codes "Invalid UTF-8 in AVN string")))
-octets_are_no_text v o r e is was succeeds = octets-read v o is ∙ refused (is_utf8 o.items) o.items (λ h. err-ok r e was (succeeds (IsUtf8-from_is_utf8 o.items h)))
+-- Octets that are no text are no UTF-8.
+pub octets_are_no_text : {E : Type 0} (o : Vec ℕ Global) (r : Result (String Global) E) (e : E) → r ≡ Err e → (IsUtf8 o.items → IsOk r) → is_utf8 o.items ≡ false
+octets_are_no_text o r e was succeeds = refused (is_utf8 o.items) (λ h. err-ok r e was (succeeds (IsUtf8-from_is_utf8 o.items h)))
 
 by_first : (es : List (String Global × Option AvnValue)) → 0 ≢ length es → as_list Notation.avn (Tree.avn (sequence (fields_trees es))) ≡ None
 by_first [] h = absurd (h refl)

@@ -1,5 +1,5 @@
 -- What is written is read again.
-use Rattle.std.proofs.Common.{◌≡◌, subst, sym, ℕ, true, Result, Ok, Err, String, Global, string_bytes, IfOk}
+use Rattle.std.proofs.Common.{◌≡◌, subst, sym, true, Result, Ok, Err, String, Global, string_bytes, IfOk}
 use Rattle.std.specs.Str.{chars}
 use Rattle.avn_grammar.specs.Depth.{Deep}
 use Rattle.avn_grammar.specs.Grammar.{Reads}

@@ -1,7 +1,6 @@
 -- The tree of a value, by its variant, and numbers by their parts.
-use Rattle.std.proofs.Common.{◌≡◌, rules, refl, Bool, ℤ, pos, negsuc}
+use Rattle.std.proofs.Common.{◌≡◌, rules, Bool}
 use Rattle.avn_grammar.specs.Tree.{boolean, null}
-use Rattle.asn_base.specs.Numbers.{signed, is_negative, magnitude}
 use Rattle.avn_value.specs.View.{tree_of}
 use Rattle.avn_value.specs.declared.value.AvnValue.{the_lemmas}
 use Rattle.avn_value.specs.declared.value.AvnValue as avn
@@ -11,7 +10,3 @@ view-Boolean b = search (rules, the_lemmas)
 
 pub view-Null : tree_of avn.Null ≡ null
 view-Null = search (rules, the_lemmas)
-
-pub signed-parts : (n : ℤ) → signed (is_negative n) (magnitude n) ≡ n
-signed-parts (pos m) = refl
-signed-parts (negsuc m) = refl

@@ -1,5 +1,5 @@
 pub mod Holding
 pub mod Numbers
 pub mod Pending
-pub mod Strings
+pub mod NoLeaves
 pub mod Text

@@ -1,15 +1,14 @@
 -- The whole numbers of AVN as sign and magnitude.
-use Rattle.std.specs.Prelude.{◌≡◌, Bool, ℕ, ◌≤◌, ◌<◌, ◌^◌, List, Option, Some, None}
+use Rattle.std.specs.Prelude.{◌≡◌, Bool, ℕ, ◌≤◌, ◌^◌, List, Option, Some, None}
 use Rattle.asn_base.specs.Numbers.{signed}
 use Rattle.asn_traits.specs.Digits.{digits, signed_number}
-use Rattle.avn_rules.specs.declared.avn.numbers.Whole.{Whole}
-use Rattle.avn_rules.specs.declared.avn.numbers.Whole.TheVariants.{Parts, TooGreat, NoNumber}
+use Rattle.asn_base.specs.declared.whole_number.WholeNumber.{WholeNumber}
 
--- The text is the number of this sign and magnitude, or one whose magnitude is above the greatest, or no number.
-abbrev pub ReadsNumber : ℕ → List ℕ → Whole → Type 0
-ReadsNumber greatest text (Parts negative magnitude) = signed_number text ≡ Some (signed negative magnitude)
-ReadsNumber greatest text TooGreat = (negative : Bool) × (magnitude : ℕ) × (signed_number text ≡ Some (signed negative magnitude)) × (greatest < magnitude)
-ReadsNumber greatest text NoNumber = signed_number text ≡ None
+-- The text is this number, none inside where its magnitude has more than 128 bits, or no number.
+abbrev pub ReadsNumber : List ℕ → Option (Option WholeNumber) → Type 0
+ReadsNumber text (Some (Some n)) = signed_number text ≡ Some (signed n.negative n.magnitude)
+ReadsNumber text (Some None) = (negative : Bool) × (magnitude : ℕ) × (signed_number text ≡ Some (signed negative magnitude)) × (2 ^ 128 ≤ magnitude)
+ReadsNumber text None = signed_number text ≡ None
 
 -- The number of one or more digits, none inside where it has more than 128 bits, and nothing where the text is not of digits.
 abbrev pub ReadsDigits : List ℕ → Option (Option ℕ) → Type 0

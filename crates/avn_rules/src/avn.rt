@@ -16,6 +16,7 @@ mod build;
 pub mod de;
 pub mod enc;
 mod faults;
+mod leaves;
 mod numbers;
 mod parts;
 

@@ -6,6 +6,5 @@ pub mod Writing
 pub mod Building
 pub mod Members
 pub mod Reading
-pub mod Signs
 pub mod Floats
 pub mod Roots

@@ -1,5 +1,6 @@
 pub mod Holding
 pub mod Json
+pub mod NoLeaves
 pub mod Numbers
 pub mod Payload
 pub mod Pending

@@ -18,6 +18,7 @@ pub mod de;
 pub mod enc;
 mod faults;
 mod floats;
+mod leaves;
 mod numbers;
 mod objects;
 mod parts;

@@ -14,14 +14,10 @@ use asn_traits::Field;
 use avn_value::AvnValue;
 use std::alloc::Global;
 
-/// The number with this sign and magnitude. Memory may run out.
-pub fn integer_of(alloc: Global, negative: bool, magnitude: u128) -> Result<AvnValue, OutOfMemory>
-    ensures { IfOk result (λ v. tree_of v ≡ integer (signed_decimal (signed negative magnitude))) }
+/// The value of a whole number. Memory may run out.
+pub fn integer_of(alloc: Global, number: WholeNumber) -> Result<AvnValue, OutOfMemory>
+    ensures { IfOk result (λ v. tree_of v ≡ integer (signed_decimal (signed number.negative number.magnitude))) }
 {
-    let number = WholeNumber {
-        negative,
-        magnitude,
-    };
     let text = format!(in alloc; "{number}")?;
     Ok(AvnValue::Integer(text))
 }

@@ -10,15 +10,12 @@ ghost use Rattle.avn_grammar.specs.Tree.{Tree as AvnTree};
 ghost use Rattle.std.specs.Prelude.{◌≡◌, ◌∷◌, [], Some, IfOk, IfErr, MatchResult, option_map};
 
 use super::faults::{end_of_input, mismatch, no_item, no_number, no_utf8};
-use super::numbers::{Whole, greatest_magnitude, whole_number};
-use super::parts::{
-    into_bool, into_choice, into_fields, into_integer, into_item, into_items, into_null, into_text,
-    place_of, slots_of,
-};
-use asn_base::{Codec, Constraints, IntegerType, Tag};
+use super::leaves::{NoLeaf, leaf_of_avn};
+use super::parts::{into_choice, into_fields, into_items, place_of, slots_of};
+use asn_base::Codec;
 use asn_fault::DecodeError;
 use asn_slots::Pending;
-use asn_traits::{Enumerated, Field};
+use asn_traits::{Field, LeafKind, OwnedLeaf};
 use avn_value::{AvnValue, parse_avn};
 use std::alloc::Global;
 
@@ -95,62 +92,18 @@ impl asn_traits::Decoder for Decoder {
         self.alloc
     }
 
-    fn decode_bool(&mut self, _tag: Tag) -> Result<bool, DecodeError> {
-        match into_bool(self.take()?) {
-            Ok(flag) => Ok(flag),
-            Err(other) => Err(mismatch(self.alloc, "boolean", &other)),
+    #[inline(always)]
+    fn take_leaf(&mut self, kind: LeafKind) -> Result<OwnedLeaf, DecodeError> {
+        match leaf_of_avn(self.take()?, kind) {
+            Ok(leaf) => Ok(leaf),
+            Err(NoLeaf::Kind(other)) => Err(mismatch(self.alloc, kind.needed(Codec::Avn), &other)),
+            Err(NoLeaf::Number(text)) => Err(no_number(text)),
+            Err(NoLeaf::Utf8) => Err(no_utf8(self.alloc)),
         }
     }
 
-    fn decode_null(&mut self, _tag: Tag) -> Result<(), DecodeError> {
-        match into_null(self.take()?) {
-            Ok(()) => Ok(()),
-            Err(other) => Err(mismatch(self.alloc, "null", &other)),
-        }
-    }
-
-    fn decode_integer<I: IntegerType>(
-        &mut self,
-        _tag: Tag,
-        _constraints: &Constraints,
-    ) -> Result<I, DecodeError> {
-        let text = match into_integer(self.take()?) {
-            Ok(text) => text,
-            Err(other) => return Err(mismatch(self.alloc, "integer", &other)),
-        };
-        match whole_number(text.as_str(), greatest_magnitude::<I>()) {
-            Whole::Parts {
-                negative,
-                magnitude,
-            } => match I::of_parts(negative, magnitude) {
-                Some(number) => Ok(number),
-                None => Err(DecodeError::integer_overflow(I::WIDTH, Codec::Avn)),
-            },
-            Whole::TooGreat => { Err(DecodeError::integer_overflow(I::WIDTH, Codec::Avn)) }
-            Whole::NoNumber => Err(no_number(text)),
-        }
-    }
-
-    fn decode_utf8_string(
-        &mut self,
-        _tag: Tag,
-        _constraints: &Constraints,
-    ) -> Result<String, DecodeError> {
-        match into_text(self.take()?) {
-            Ok(Some(text)) => Ok(text),
-            Ok(None) => Err(no_utf8(self.alloc)),
-            Err(other) => Err(mismatch(self.alloc, "character string", &other)),
-        }
-    }
-
-    fn decode_enumerated<E: Enumerated>(&mut self, _tag: Tag) -> Result<E, DecodeError> {
-        match into_item(self.take()?) {
-            Ok(text) => match E::from_identifier(text.as_str()) {
-                Some(item) => Ok(item),
-                None => Err(no_item(text)),
-            },
-            Err(other) => Err(mismatch(self.alloc, "enumerated identifier", &other)),
-        }
+    fn no_item(&self, text: String) -> DecodeError {
+        no_item(text)
     }
 
     fn take_absent(&mut self) -> Result<bool, DecodeError> {

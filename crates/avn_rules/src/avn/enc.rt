@@ -9,11 +9,12 @@ ghost use Rattle.asn_traits.specs.Writing.{Frame};
 ghost use Rattle.avn_value.specs.View.{tree_of};
 ghost use Rattle.std.specs.Prelude.{◌≡◌, ◌⊎◌, ◌∷◌, [], Option, Some, None, OnOk, IfOk, IfErr, option_map, string_bytes};
 
-use super::build::{choice_of, fields_of, integer_of};
-use asn_base::{Codec, Constraints, Identifier, IntegerType, Tag};
+use super::build::{choice_of, fields_of};
+use super::leaves::avn_of_leaf;
+use asn_base::Codec;
 use asn_fault::{AvnEncodeErrorKind, CodecEncodeError, EncodeError, EncodeErrorKind};
 use asn_slots::Frames;
-use asn_traits::{Enumerated, Field};
+use asn_traits::{Field, Leaf};
 use avn_value::AvnValue;
 use std::alloc::Global;
 
@@ -110,56 +111,10 @@ impl asn_traits::Encoder for Encoder {
         self.alloc
     }
 
-    fn encode_bool(
-        &mut self,
-        _tag: Tag,
-        value: bool,
-        _identifier: Identifier,
-    ) -> Result<(), EncodeError> {
-        self.put(Some(AvnValue::Boolean(value)))
-    }
-
-    fn encode_null(&mut self, _tag: Tag, _identifier: Identifier) -> Result<(), EncodeError> {
-        self.put(Some(AvnValue::Null))
-    }
-
-    fn encode_integer<I: IntegerType>(
-        &mut self,
-        _tag: Tag,
-        _constraints: &Constraints,
-        value: &I,
-        _identifier: Identifier,
-    ) -> Result<(), EncodeError> {
-        let (negative, magnitude) = value.parts();
-        match integer_of(self.alloc, negative, magnitude) {
-            Ok(number) => self.put(Some(number)),
-            Err(_) => Err(EncodeError::out_of_memory(Codec::Avn)),
-        }
-    }
-
-    fn encode_utf8_string(
-        &mut self,
-        _tag: Tag,
-        _constraints: &Constraints,
-        value: &str,
-        _identifier: Identifier,
-    ) -> Result<(), EncodeError> {
-        match String::from_str(self.alloc, value) {
-            Ok(text) => self.put(Some(AvnValue::CharString(text))),
-            Err(_) => Err(EncodeError::out_of_memory(Codec::Avn)),
-        }
-    }
-
-    fn encode_enumerated<T: Enumerated>(
-        &mut self,
-        _tag: Tag,
-        value: &T,
-        _identifier: Identifier,
-    ) -> Result<(), EncodeError> {
-        match String::from_str(self.alloc, value.identifier()) {
-            Ok(text) => self.put(Some(AvnValue::Enumerated(text))),
-            Err(_) => Err(EncodeError::out_of_memory(Codec::Avn)),
-        }
+    #[inline(always)]
+    fn put_leaf(&mut self, leaf: Leaf<'_>) -> Result<(), EncodeError> {
+        let value = avn_of_leaf(self.alloc, leaf)?;
+        self.put(Some(value))
     }
 
     fn encode_absent(&mut self) -> Result<(), EncodeError> {

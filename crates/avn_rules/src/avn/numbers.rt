@@ -2,33 +2,22 @@
 ghost use Rattle.asn_base.specs.Numbers.{signed};
 ghost use Rattle.asn_traits.specs.Digits.{digits, signed_number};
 ghost use Rattle.avn_rules.specs.Numbers.{Counts, ReadsDigits, ReadsNumber};
-ghost use Rattle.std.specs.Prelude.{◌≡◌, option_map, Bool, ℕ, pos, ◌+◌, ◌*◌, ◌<◌, ◌<ℤ◌, ◌⊎◌};
+ghost use Rattle.std.specs.Prelude.{◌≡◌, option_map, ℕ, ◌+◌, ◌*◌};
 
-use asn_base::IntegerType;
+use asn_base::WholeNumber;
 
-/// A whole number as a text has it.
-#[derive(Drop)]
-pub enum Whole {
-    Parts { negative: bool, magnitude: u128 },
-    /// The magnitude is above the greatest one that is asked for.
-    TooGreat,
-    NoNumber,
-}
-
-/// The whole number of a text: an optional `-` and digits. Each character is looked at once.
-pub fn whole_number(text: &str, greatest: u128) -> Whole
-    ensures { ReadsNumber greatest text.now result }
+/// The whole number of a text: an optional `-` and digits, none inside where it has more than 128 bits. Each character is looked at once.
+pub fn whole_number(text: &str) -> Option<Option<WholeNumber>>
+    ensures { ReadsNumber text.now result }
 {
     let (negative, digits) = split_sign(text.as_bytes());
     match magnitude_of(digits) {
-        Some(Some(magnitude)) if magnitude <= greatest => {
-            Whole::Parts {
-                negative,
-                magnitude,
-            }
-        }
-        Some(_) => Whole::TooGreat,
-        None => Whole::NoNumber,
+        Some(Some(magnitude)) => Some(Some(WholeNumber {
+            negative,
+            magnitude,
+        })),
+        Some(None) => Some(None),
+        None => None,
     }
 }
 
@@ -44,13 +33,6 @@ fn split_sign(text: &[u8]) -> (bool, &[u8])
     } else {
         (false, text)
     }
-}
-
-/// The greatest magnitude of a number of the type.
-pub fn greatest_magnitude<I: IntegerType>() -> u128
-    ensures { (negative : Bool) (n : ℕ) → result < n → (signed negative n <ℤ I.LEAST) ⊎ (pos I.GREATEST <ℤ signed negative n) }
-{
-    I::GREATEST.max(I::LEAST.unsigned_abs())
 }
 
 // The number of one or more digits, none inside where it has more than 128 bits. None exactly where the text is not of digits.

@@ -1,81 +1,18 @@
 // The parts of an AVN value, taken out of it.
 ghost use Rattle.asn_slots.specs.Trees.{trees_of};
-ghost use Rattle.asn_traits.specs.Leaf.{Blame, as_boolean, as_null, as_number, as_text, as_item};
 ghost use Rattle.asn_traits.specs.Notation.{Notation};
 ghost use Rattle.asn_traits.specs.Shape.{are_distinct, place_named};
 ghost use Rattle.asn_traits.specs.Tables.{names_of};
 ghost use Rattle.asn_traits.specs.Tree.{as_list, as_members, as_choice, tree_slots, field_slot, same_identifier};
-ghost use Rattle.asn_traits.specs.Value.{Value};
-ghost use Rattle.avn_grammar.specs.Tree.{integer, enumerated};
 ghost use Rattle.avn_rules.specs.Pending.{tree_of};
-ghost use Rattle.avn_rules.specs.Strings.{TextOf};
-ghost use Rattle.avn_value.specs.View.{tree_of as avn_tree_of, list_trees, fields_trees};
+ghost use Rattle.avn_value.specs.View.{list_trees, fields_trees};
 ghost use Rattle.std.specs.Str.{bytes_eq};
-ghost use Rattle.std.specs.Prelude.{true, ◌≡◌, ◌<◌, ℕ, List, Some, None, Ok, Err, IfOk, IfSome, replicate, MatchResult, string_bytes, map, length, codes};
+ghost use Rattle.std.specs.Prelude.{true, ◌≡◌, ◌<◌, Some, None, IfOk, IfSome, replicate, MatchResult, string_bytes, map, length};
 
 use asn_base::OutOfMemory;
 use asn_traits::Field;
 use avn_value::AvnValue;
 use std::alloc::Global;
-
-/// The truth value, or the value where it is none.
-pub fn into_bool(value: AvnValue) -> Result<bool, AvnValue>
-    ensures { MatchResult result (λ flag. as_boolean Notation.avn (tree_of value) ≡ Ok (Value.boolean flag))
-        (λ v. (v ≡ value) × (as_boolean Notation.avn (tree_of value) ≡ Err (Blame.mismatch (codes "boolean")))) }
-{
-    match value {
-        AvnValue::Boolean(flag) => Ok(flag),
-        other => Err(other),
-    }
-}
-
-/// The null, or the value where it is none.
-pub fn into_null(value: AvnValue) -> Result<(), AvnValue>
-    ensures { MatchResult result (λ u. as_null Notation.avn (tree_of value) ≡ Ok Value.null)
-        (λ v. (v ≡ value) × (as_null Notation.avn (tree_of value) ≡ Err (Blame.mismatch (codes "null")))) }
-{
-    match value {
-        AvnValue::Null => Ok(()),
-        other => Err(other),
-    }
-}
-
-/// The text of a number, or the value where it is no Integer.
-pub fn into_integer(value: AvnValue) -> Result<String, AvnValue>
-    ensures { MatchResult result (λ text. avn_tree_of value ≡ integer (string_bytes text))
-        (λ v. (v ≡ value) × (as_number Notation.avn (tree_of value) ≡ Err (Blame.mismatch (codes "integer")))) }
-{
-    match value {
-        AvnValue::Integer(text) => Ok(text),
-        other => Err(other),
-    }
-}
-
-/// The identifier of an item, or the value where it is no Enumerated.
-pub fn into_item(value: AvnValue) -> Result<String, AvnValue>
-    ensures { MatchResult result (λ text. avn_tree_of value ≡ enumerated (string_bytes text))
-        (λ v. (v ≡ value) × ((items : List (List ℕ)) → as_item Notation.avn items (tree_of value) ≡ Err (Blame.mismatch (codes "enumerated identifier")))) }
-{
-    match value {
-        AvnValue::Enumerated(text) => Ok(text),
-        other => Err(other),
-    }
-}
-
-/// The text of a character string, or none where its octets are no UTF-8, or the value where it is no character string.
-pub fn into_text(value: AvnValue) -> Result<Option<String>, AvnValue>
-    ensures { MatchResult result (TextOf (tree_of value))
-        (λ v. (v ≡ value) × (as_text Notation.avn (tree_of value) ≡ Err (Blame.mismatch (codes "character string")))) }
-{
-    match value {
-        AvnValue::CharString(text) => Ok(Some(text)),
-        AvnValue::OctetString(octets) => match String::from_utf8(octets) {
-            Ok(text) => Ok(Some(text)),
-            Err(_) => Ok(None),
-        },
-        other => Err(other),
-    }
-}
 
 /// The elements, or the value where it is no list. A Sequence without entries is an empty list.
 pub fn into_items(alloc: Global, value: AvnValue) -> Result<Vec<AvnValue>, AvnValue>

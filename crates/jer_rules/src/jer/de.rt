@@ -10,16 +10,17 @@ ghost use Rattle.serde_json.specs.Data.{Data};
 ghost use Rattle.std.specs.Prelude.{◌≡◌, ◌∷◌, [], Some, IfOk, IfErr, MatchResult, option_map};
 
 use super::convert::json_of;
-use super::faults::{end_of_input, mismatch, no_item, no_json, no_object};
+use super::faults::{end_of_input, mismatch, no_item, no_json, no_object, no_octets};
 use super::floats::holds_float;
+use super::leaves::{NoLeaf, leaf_of_json};
 use super::objects::Object;
-use super::parts::{into_items, into_payload, into_text, whole_parts};
+use super::parts::{into_items, into_payload};
 use super::read::{Unread, read_text};
 use super::tree::Json;
-use asn_base::{Codec, Constraints, IntegerType, Tag};
+use asn_base::Codec;
 use asn_fault::DecodeError;
 use asn_slots::Pending;
-use asn_traits::{Enumerated, Field};
+use asn_traits::{Field, LeafKind, OwnedLeaf};
 use serde_json::Value;
 use std::alloc::Global;
 
@@ -119,57 +120,18 @@ impl asn_traits::Decoder for Decoder {
         self.alloc
     }
 
-    fn decode_bool(&mut self, _tag: Tag) -> Result<bool, DecodeError> {
-        let value = self.take()?;
-        match value.as_bool() {
-            Some(flag) => Ok(flag),
-            None => Err(mismatch(self.alloc, "boolean", &value)),
+    #[inline(always)]
+    fn take_leaf(&mut self, kind: LeafKind) -> Result<OwnedLeaf, DecodeError> {
+        match leaf_of_json(self.alloc, self.take()?, kind) {
+            Ok(leaf) => Ok(leaf),
+            Err(NoLeaf::Kind(other)) => Err(mismatch(self.alloc, kind.needed(Codec::Jer), &other)),
+            Err(NoLeaf::Octets) => Err(no_octets()),
+            Err(NoLeaf::OutOfMemory) => Err(DecodeError::out_of_memory(Codec::Jer)),
         }
     }
 
-    fn decode_null(&mut self, _tag: Tag) -> Result<(), DecodeError> {
-        let value = self.take()?;
-        if value.is_null() {
-            Ok(())
-        } else {
-            Err(mismatch(self.alloc, "null", &value))
-        }
-    }
-
-    fn decode_integer<I: IntegerType>(
-        &mut self,
-        _tag: Tag,
-        _constraints: &Constraints,
-    ) -> Result<I, DecodeError> {
-        let value = self.take()?;
-        let Some((negative, magnitude)) = whole_parts(&value) else {
-            return Err(mismatch(self.alloc, "number (supported range -2^63..2^64)", &value));
-        };
-        match I::of_parts(negative, magnitude) {
-            Some(number) => Ok(number),
-            None => Err(DecodeError::integer_overflow(I::WIDTH, Codec::Jer)),
-        }
-    }
-
-    fn decode_utf8_string(
-        &mut self,
-        _tag: Tag,
-        _constraints: &Constraints,
-    ) -> Result<String, DecodeError> {
-        match into_text(self.take()?) {
-            Ok(text) => Ok(text),
-            Err(other) => Err(mismatch(self.alloc, "string", &other)),
-        }
-    }
-
-    fn decode_enumerated<E: Enumerated>(&mut self, _tag: Tag) -> Result<E, DecodeError> {
-        match into_text(self.take()?) {
-            Ok(text) => match E::from_identifier(text.as_str()) {
-                Some(item) => Ok(item),
-                None => Err(no_item(self.alloc, text.as_str())),
-            },
-            Err(other) => Err(mismatch(self.alloc, "enumerated item as string", &other)),
-        }
+    fn no_item(&self, text: String) -> DecodeError {
+        no_item(text)
     }
 
     fn take_absent(&mut self) -> Result<bool, DecodeError> {

@@ -1,5 +1,4 @@
 // Writing a value of a type as a JSON value.
-ghost use Rattle.asn_base.specs.Numbers.{signed};
 ghost use Rattle.asn_base.specs.declared.codec.Codec.TheVariants.{Jer};
 ghost use Rattle.asn_fault.specs.Unwritten.{WhyUnwritten, encode_why};
 ghost use Rattle.asn_traits.specs.Canonical.{jer_data, canonical_text};
@@ -12,14 +11,16 @@ ghost use Rattle.jer_rules.specs.Text.{ReadsBack};
 ghost use Rattle.serde_json.specs.View.{view};
 ghost use Rattle.std.specs.Prelude.{◌≡◌, ◌⊎◌, ◌∷◌, [], Option, Some, None, OnOk, IfOk, IfErr, IfSome, option_map, string_bytes};
 
-use super::build::{choice_of, integer_of, object_of};
+use super::build::{choice_of, object_of};
 use super::convert::value_of;
+use super::faults::encode_error;
+use super::leaves::json_of_leaf;
 use super::tree::Json;
 use super::write::text_of;
-use asn_base::{Codec, Constraints, Identifier, IntegerType, Tag, WholeNumber};
-use asn_fault::{CodecEncodeError, EncodeError, EncodeErrorKind, JerEncodeErrorKind};
+use asn_base::Codec;
+use asn_fault::{EncodeError, EncodeErrorKind, JerEncodeErrorKind};
 use asn_slots::Frames;
-use asn_traits::{Enumerated, Field};
+use asn_traits::{Field, Leaf};
 use serde_json::Value;
 use std::alloc::Global;
 
@@ -92,7 +93,7 @@ impl Encoder {
         let mut frames = self.frames;
         match frames.close_last() {
             Some(value) => Ok(value),
-            None => Err(jer_error(JerEncodeErrorKind::NoRootValueFound)),
+            None => Err(encode_error(JerEncodeErrorKind::NoRootValueFound)),
         }
     }
 
@@ -106,22 +107,6 @@ impl Encoder {
             Err(_) => Err(EncodeError::out_of_memory(Codec::Jer)),
         }
     }
-}
-
-// The refusal of this kind.
-fn jer_error(kind: JerEncodeErrorKind) -> EncodeError
-    ensures { result ≡ record {
-      kind = EncodeErrorKind.CodecSpecific
-          (CodecEncodeError.Jer kind);
-      codec = Jer;
-    } }
-{
-    EncodeError::from_kind(
-        EncodeErrorKind::CodecSpecific {
-            inner: CodecEncodeError::Jer(kind),
-        },
-        Codec::Jer,
-    )
 }
 
 impl asn_traits::Encoder for Encoder {
@@ -139,61 +124,10 @@ impl asn_traits::Encoder for Encoder {
         self.alloc
     }
 
-    fn encode_bool(
-        &mut self,
-        _tag: Tag,
-        value: bool,
-        _identifier: Identifier,
-    ) -> Result<(), EncodeError> {
-        self.put(Some(Json::Bool(value)))
-    }
-
-    fn encode_null(&mut self, _tag: Tag, _identifier: Identifier) -> Result<(), EncodeError> {
-        self.put(Some(Json::Null))
-    }
-
-    fn encode_integer<I: IntegerType>(
-        &mut self,
-        _tag: Tag,
-        _constraints: &Constraints,
-        value: &I,
-        _identifier: Identifier,
-    ) -> Result<(), EncodeError> {
-        let (negative, magnitude) = value.parts();
-        match integer_of(negative, magnitude) {
-            Some(number) => self.put(Some(Json::Number(number))),
-            None => Err(jer_error(JerEncodeErrorKind::ExceedsSupportedIntSize {
-                value: WholeNumber {
-                    negative,
-                    magnitude,
-                },
-            })),
-        }
-    }
-
-    fn encode_utf8_string(
-        &mut self,
-        _tag: Tag,
-        _constraints: &Constraints,
-        value: &str,
-        _identifier: Identifier,
-    ) -> Result<(), EncodeError> {
-        match String::from_str(self.alloc, value) {
-            Ok(text) => self.put(Some(Json::Text(text))),
-            Err(_) => Err(EncodeError::out_of_memory(Codec::Jer)),
-        }
-    }
-
-    fn encode_enumerated<T: Enumerated>(
-        &mut self,
-        _tag: Tag,
-        value: &T,
-        _identifier: Identifier,
-    ) -> Result<(), EncodeError> {
-        match String::from_str(self.alloc, value.identifier()) {
-            Ok(text) => self.put(Some(Json::Text(text))),
-            Err(_) => Err(EncodeError::out_of_memory(Codec::Jer)),
-        }
+    #[inline(always)]
+    fn put_leaf(&mut self, leaf: Leaf<'_>) -> Result<(), EncodeError> {
+        let value = json_of_leaf(self.alloc, leaf)?;
+        self.put(Some(value))
     }
 
     fn encode_absent(&mut self) -> Result<(), EncodeError> {

@@ -6,12 +6,15 @@ ghost use Rattle.asn_traits.specs.Leaf.{Blame, needs_members};
 ghost use Rattle.asn_traits.specs.Notation.{Notation};
 ghost use Rattle.asn_traits.specs.Tree.{Tree};
 ghost use Rattle.jer_rules.specs.Json.{data_of};
-ghost use Rattle.std.specs.Prelude.{◌≡◌, ◌⊎◌, codes};
+ghost use Rattle.std.specs.Prelude.{◌≡◌, ◌⊎◌, codes, string_bytes};
 
 use super::tree::Json;
 use super::write::text_of;
 use asn_base::Codec;
-use asn_fault::{CodecDecodeError, DecodeError, DecodeErrorKind, JerDecodeErrorKind};
+use asn_fault::{
+    CodecDecodeError, CodecEncodeError, DecodeError, DecodeErrorKind, EncodeError, EncodeErrorKind,
+    JerDecodeErrorKind, JerEncodeErrorKind,
+};
 use std::alloc::Global;
 
 /// A value is due, and there is none.
@@ -51,15 +54,18 @@ pub fn no_object(alloc: Global, value: &Json) -> DecodeError
     }
 }
 
-/// The text names no item of the type. Memory may run out.
-pub fn no_item(alloc: Global, text: &str) -> DecodeError
-    ensures { (error_stop result ≡ at_root (Why.invalid_enum_discriminant Jer text.now) Jer)
-        ⊎ (error_stop result ≡ at_root Why.out_of_memory Jer) }
+/// The text names no item of the type.
+pub fn no_item(text: String) -> DecodeError
+    ensures { error_stop result ≡ at_root (Why.invalid_enum_discriminant Jer (string_bytes text)) Jer }
 {
-    match String::from_str(alloc, text) {
-        Ok(discriminant) => jer_error(JerDecodeErrorKind::InvalidEnumDiscriminant { discriminant }),
-        Err(_) => DecodeError::out_of_memory(Codec::Jer),
-    }
+    jer_error(JerDecodeErrorKind::InvalidEnumDiscriminant { discriminant: text })
+}
+
+/// The text is no hexadecimal of whole octets.
+pub fn no_octets() -> DecodeError
+    ensures { error_stop result ≡ at_root Why.invalid_jer_octet_string Jer }
+{
+    jer_error(JerDecodeErrorKind::InvalidJerOctetString {})
 }
 
 /// The text is no JSON. Memory may run out.
@@ -80,6 +86,22 @@ fn jer_error(kind: JerDecodeErrorKind) -> DecodeError
     DecodeError::from_kind(
         DecodeErrorKind::CodecSpecific {
             inner: CodecDecodeError::Jer(kind),
+        },
+        Codec::Jer,
+    )
+}
+
+/// The refusal to write of this kind.
+pub fn encode_error(kind: JerEncodeErrorKind) -> EncodeError
+    ensures { result ≡ record {
+      kind = EncodeErrorKind.CodecSpecific
+          (CodecEncodeError.Jer kind);
+      codec = Jer;
+    } }
+{
+    EncodeError::from_kind(
+        EncodeErrorKind::CodecSpecific {
+            inner: CodecEncodeError::Jer(kind),
         },
         Codec::Jer,
     )

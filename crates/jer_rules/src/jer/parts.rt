@@ -1,26 +1,18 @@
 // The parts of a JSON value, taken out of it.
 ghost use Rattle.jer_rules.specs.Json.{data_of, items_data, object_data};
-ghost use Rattle.jer_rules.specs.Numbers.{WholeParts};
+ghost use Rattle.jer_rules.specs.Numbers.{IsWhole};
 ghost use Rattle.jer_rules.specs.Payload.{PayloadOf};
 ghost use Rattle.asn_traits.specs.Shape.{place_named};
 ghost use Rattle.asn_traits.specs.Tree.{same_identifier};
 ghost use Rattle.serde_json.specs.Data.{Data};
-ghost use Rattle.serde_json.specs.Find.{as_str, as_array};
-ghost use Rattle.std.specs.Prelude.{◌≡◌, ◌<◌, None, MatchResult, IfSome, string_bytes, map, length};
+ghost use Rattle.serde_json.specs.Find.{as_array};
+ghost use Rattle.serde_json.specs.View.{number_view};
+ghost use Rattle.std.specs.Prelude.{◌≡◌, ◌<◌, None, MatchResult, IfSome, map, length};
 
 use super::objects::Object;
 use super::tree::Json;
-
-/// The text, or the value where it is no string.
-pub fn into_text(value: Json) -> Result<String, Json>
-    ensures { MatchResult result (λ s. data_of value ≡ Data.string (string_bytes s))
-        (λ v. (v ≡ value) × (as_str (data_of value) ≡ None)) }
-{
-    match value {
-        Json::Text(text) => Ok(text),
-        other => Err(other),
-    }
-}
+use asn_base::WholeNumber;
+use serde_json::Number;
 
 /// The elements, or the value where it is no array.
 pub fn into_items(value: Json) -> Result<Vec<Json>, Json>
@@ -56,18 +48,21 @@ fn place_of(identifiers: &[&'static str], name: &str) -> Option<usize>
     Some(place_of(others, name)? + 1)
 }
 
-/// The sign and the magnitude of a whole number. None exactly where the value is none.
-pub fn whole_parts(value: &Json) -> Option<(bool, u128)>
-    ensures { WholeParts (data_of value.now) result }
+/// The whole number that a number is. None exactly where it is none.
+pub fn whole_number(number: &Number) -> Option<WholeNumber>
+    ensures { IsWhole (Data.number (number_view number.now)) result }
 {
-    let Json::Number(number) = value else {
-        return None;
-    };
     if let Some(magnitude) = number.as_u64() {
-        return Some((false, magnitude as u128));
+        return Some(WholeNumber {
+            negative: false,
+            magnitude: magnitude as u128,
+        });
     }
     match number.as_i64() {
-        Some(number) => Some((number < 0, number.unsigned_abs() as u128)),
+        Some(number) => Some(WholeNumber {
+            negative: number < 0,
+            magnitude: number.unsigned_abs() as u128,
+        }),
         None => None,
     }
 }

@@ -1,9 +1,8 @@
-use Rattle.std.proofs.Common.{◌≡◌, ap, sym, ◌∙◌, true, false, ◌&&◌}
+use Rattle.std.proofs.Common.{◌≡◌, ap, sym, ◌∙◌}
 use Rattle.asn_traits.specs.Around.{loops_of}
 use Rattle.asn_traits.specs.Readable.{is_readable_in, suits}
 use Rattle.asn_traits.specs.ShapeView.{shape_view, presence_view}
 use Rattle.asn_traits.specs.declared.shape_type.AlternativeShape.{AlternativeShape}
-use Rattle.asn_traits.specs.declared.shape_type.FieldShape.{FieldShape}
 use Rattle.asn_traits.proofs.Readables.{and-both}
 use Rattle.asn_traits.proofs.ShapeNames.{field_readable, fields-more, fields-other, alternatives-more, alternatives-other, and-false, and-false_left, part_readable}
 use Rattle.asn_traits.proofs.readable.+readable.Goals as goal

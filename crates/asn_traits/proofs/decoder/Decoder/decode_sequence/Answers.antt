@@ -1,12 +1,12 @@
 use Rattle.std.proofs.Common.{◌≡◌, ◌∙◌, ap, length, subst, sym, true}
-use Rattle.asn_traits.specs.Shape.{are_distinct}
+use Rattle.asn_traits.specs.Shape.{FieldAdditions, are_distinct}
 use Rattle.asn_traits.proofs.Readables.{names_distinct}
 use Rattle.asn_traits.proofs.Scopes.{sequence_answer, table_names}
 use Rattle.asn_traits.proofs.decoder.Decoder.decode_sequence.Goals as goal
 
 pub open_members-requires : goal.open_members-requires
 open_members-requires g c =
-    let distinct = names_distinct g.C.AsnType.shape_of g.C.Constructed.fields g.met.C.AsnType.readable g.met.C.Constructed.of_fields in
+    let distinct = names_distinct g.C.AsnType.shape_of g.C.Constructed.kind g.C.Constructed.fields FieldAdditions.closed_fields g.met.C.AsnType.readable g.met.C.Constructed.of_fields in
     subst (λ ns. are_distinct ns ≡ true) (sym (table_names _ g.C.Constructed.fields c.field_table.ensures)) distinct
 
 pub decode_fn-requires : goal.decode_fn-requires
@@ -19,4 +19,4 @@ pub returns-in-Ok : goal.returns-in-Ok
 returns-in-Ok g c =
     let h = c.in-Ok.ensures in
     let names = table_names _ g.C.Constructed.fields c.field_table.ensures in
-    sequence_answer _ _ _ _ _ _ h.2 h.1 h.0 _ _ names h.3 h.7 (c.requires.reads _ _ _ h.1 h.2 h.4 (h.5 ∙ ap length names) c.decode_fn.ensures)
+    sequence_answer _ _ g.C.Constructed.kind g.C.Constructed.fields FieldAdditions.closed_fields _ _ _ h.2 h.1 h.0 _ _ names h.3 h.7 (c.requires.reads _ _ _ h.1 h.2 h.4 (h.5 ∙ ap length names) c.decode_fn.ensures)

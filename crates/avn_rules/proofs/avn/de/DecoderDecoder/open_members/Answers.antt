@@ -28,4 +28,4 @@ returns-in-Ok-put_all c =
 pub returns-in-Err : goal.returns-in-Err
 returns-in-Err c =
     let h = c.in-Err.ensures in
-    λ fs. no_members fs _ _ _ _ c.in_ok-take.ensures h.1 (rw h.0 at c.mismatch.ensures)
+    λ kind fs added. no_members kind fs added _ _ _ _ c.in_ok-take.ensures h.1 (rw h.0 at c.mismatch.ensures)

@@ -46,4 +46,4 @@ returns c =
 pub returns-in-Err : goal.returns-in-Err
 returns-in-Err c =
     let h = c.in-Err.ensures in
-    λ fs. no_members fs _ _ _ _ c.in_ok-take.ensures (members-none _ h.1) (rw h.0 at c.no_object.ensures)
+    λ kind fs added. no_members kind fs added _ _ _ _ c.in_ok-take.ensures (members-none _ h.1) (rw h.0 at c.no_object.ensures)

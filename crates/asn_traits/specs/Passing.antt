@@ -1,0 +1,45 @@
+-- Writing and reading fields, one after another.
+use Rattle.std.specs.Prelude.{◌≡◌, ℕ, List, [], ◌∷◌, Option, Some, None, Bool, true, false, is_some, ◌⊎◌}
+use Rattle.asn_base.specs.declared.tag.Tag.{Tag}
+use Rattle.asn_fault.specs.Stop.{Stop, Why}
+use Rattle.asn_fault.specs.declared.encode.EncodeError.{EncodeError}
+use Rattle.asn_traits.specs.Answer.{OptionalStops, Refuses}
+use Rattle.asn_traits.specs.FieldAnswer.{AddsSlot, TakesSlot, WithinField}
+use Rattle.asn_traits.specs.Notation.{Notation}
+use Rattle.asn_traits.specs.Shape.{Shape, Fields, Presence}
+use Rattle.asn_traits.specs.Stops.{Stops, Path}
+use Rattle.asn_traits.specs.Tree.{Slot, head_slot}
+use Rattle.asn_traits.specs.Value.{Value, is_kept, may_lack}
+use Rattle.asn_traits.specs.Writing.{Frame, CannotFill}
+
+-- The presence allows the slot.
+abbrev pub allows : Presence → Option Value → Bool
+allows Presence.required o = is_some o
+allows Presence.optional o = true
+allows (Presence.default d) None = true
+allows (Presence.default d) (Some v) = is_kept (Presence.default d) v
+
+-- The slots of the fields are added, one after another.
+pub data AddsFields {S : Type 0} (holds : S → List Frame → Type 0) (n : Notation) : Fields → Frame → S → S → Type 0 where
+  adds_none : {now : S} → AddsFields holds n Fields.no_fields [] now now
+  adds_next : {name : List ℕ} {g : Tag} {p : Presence} {s : Shape} {rest : Fields} {o : Option Value} {ss : Frame} {old mid new : S} → AddsSlot holds n s old mid o → AddsFields holds n rest ss mid new → allows p o ≡ true → AddsFields holds n (Fields.field name g p s rest) (o ∷ ss) old new
+
+-- One of the slots is refused, after those before it are added.
+pub data RefusesAdding {S : Type 0} (holds : S → List Frame → Type 0) (n : Notation) : Fields → Frame → S → EncodeError → Type 0 where
+  refuses_slot : {name : List ℕ} {g : Tag} {p : Presence} {s : Shape} {rest : Fields} {o : Option Value} {ss : Frame} {old : S} {e : EncodeError} → CannotFill n (o ∷ []) e → RefusesAdding holds n (Fields.field name g p s rest) (o ∷ ss) old e
+  refuses_later_slot : {name : List ℕ} {g : Tag} {p : Presence} {s : Shape} {rest : Fields} {o : Option Value} {ss : Frame} {old mid : S} {e : EncodeError} → AddsSlot holds n s old mid o → RefusesAdding holds n rest ss mid e → RefusesAdding holds n (Fields.field name g p s rest) (o ∷ ss) old e
+
+-- The slots of the fields are taken, one after another.
+pub data TakesFields (n : Notation) : Fields → Frame → List Slot → List Slot → Type 0 where
+  takes_none : {now : List Slot} → TakesFields n Fields.no_fields [] now now
+  takes_next : {name : List ℕ} {g : Tag} {p : Presence} {s : Shape} {rest : Fields} {o : Option Value} {ss : Frame} {before mid after : List Slot} → TakesSlot n s before mid o → TakesFields n rest ss mid after → allows p o ≡ true → TakesFields n (Fields.field name g p s rest) (o ∷ ss) before after
+
+-- Why a field is refused.
+abbrev pub FieldStops : Notation → Presence → Shape → List Slot → Path → Why → Type 0
+FieldStops n Presence.required s before = Stops n s (head_slot before)
+FieldStops n p s before = OptionalStops n s before
+
+-- One of the fields is refused, after those before it are taken.
+pub data RefusesFields (n : Notation) : Fields → List Slot → Stop → Type 0 where
+  refuses_field : {name : List ℕ} {g : Tag} {p : Presence} {s : Shape} {rest : Fields} {before : List Slot} {e : Stop} → Refuses n (WithinField name (FieldStops n p s before)) e → RefusesFields n (Fields.field name g p s rest) before e
+  refuses_later_field : {name : List ℕ} {g : Tag} {p : Presence} {s : Shape} {rest : Fields} {o : Option Value} {before mid : List Slot} {e : Stop} → TakesSlot n s before mid o → RefusesFields n rest mid e → allows p o ≡ true → RefusesFields n (Fields.field name g p s rest) before e

@@ -1,0 +1,18 @@
+use Rattle.std.proofs.Common.{refl}
+use Rattle.asn_base.specs.declared.codec.Codec.TheVariants.{Jer}
+use Rattle.asn_traits.proofs.LeafValues.{taken}
+use Rattle.asn_traits.proofs.Refusing.{no_leaf, tells_because}
+use Rattle.jer_rules.proofs.jer.de.DecoderDecoder.take_leaf.Goals as goal
+
+pub returns-in-Ok : goal.returns-in-Ok
+returns-in-Ok c = taken _ _ _ _ c.in_ok-take.ensures c.in-Ok.ensures
+
+pub returns-in-Err-Kind : goal.returns-in-Err-Kind
+returns-in-Err-Kind c =
+    let h = rw c.in-Err-Kind.field-0-is at c.in-Err-Kind.ensures in
+    no_leaf c.args.kind _ _ _ _ _ c.in_ok-take.ensures h.1 (rw (h.0, c.needed.ensures) at c.mismatch.ensures)
+
+pub returns-in-Err-Octets : goal.returns-in-Err-Octets
+returns-in-Err-Octets c =
+    let h = rw c.in-Err-Octets.field-0-is at c.in-Err-Octets.ensures in
+    no_leaf c.args.kind _ _ _ _ _ c.in_ok-take.ensures h (tells_because _ Jer _ _ c.no_octets.ensures refl)

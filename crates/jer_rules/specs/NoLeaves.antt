@@ -1,0 +1,16 @@
+-- Why a JSON value is no value of a kind.
+use Rattle.std.specs.Prelude.{◌≡◌, Err}
+use Rattle.asn_fault.specs.Stop.{Why}
+use Rattle.asn_traits.specs.Leaf.{Blame, as_leaf, needed}
+use Rattle.asn_traits.specs.Notation.{Notation}
+use Rattle.asn_traits.specs.declared.leaves.LeafKind.{LeafKind}
+use Rattle.jer_rules.specs.Pending.{json_tree}
+use Rattle.jer_rules.specs.declared.jer.leaves.NoLeaf.{NoLeaf}
+use Rattle.jer_rules.specs.declared.jer.leaves.NoLeaf.TheVariants as no
+use Rattle.jer_rules.specs.declared.jer.tree.Json.{Json}
+
+-- The value is none of the kind for this reason, or memory ran out.
+abbrev pub IsNoLeaf : LeafKind → Json → NoLeaf → Type 0
+IsNoLeaf k value (no.Kind v) = (v ≡ value) × (as_leaf Notation.jer k (json_tree value) ≡ Err (Blame.mismatch (needed Notation.jer k)))
+IsNoLeaf k value no.Octets = as_leaf Notation.jer k (json_tree value) ≡ Err (Blame.because Why.invalid_jer_octet_string)
+IsNoLeaf k value no.OutOfMemory = Unit {0}

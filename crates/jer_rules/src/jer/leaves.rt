@@ -1,0 +1,110 @@
+// Values without parts as JSON values.
+ghost use Rattle.asn_fault.specs.declared.encode.EncodeErrorKind.TheVariants.{OutOfMemory};
+ghost use Rattle.asn_traits.specs.Canonical.{jer_data};
+ghost use Rattle.asn_traits.specs.Leaf.{leaf_value};
+ghost use Rattle.asn_traits.specs.Notation.{Notation};
+ghost use Rattle.asn_traits.specs.Opening.{IsTaken};
+ghost use Rattle.asn_traits.specs.Writing.{CannotWrite, Writable};
+ghost use Rattle.jer_rules.specs.Json.{data_of};
+ghost use Rattle.jer_rules.specs.NoLeaves.{IsNoLeaf};
+ghost use Rattle.jer_rules.specs.Pending.{json_tree};
+ghost use Rattle.serde_json.specs.Data.{Data};
+ghost use Rattle.std.specs.Str.{is_utf8};
+ghost use Rattle.std.specs.Prelude.{◌≡◌, true, OnOk, IfOk, IfErr, MatchResult};
+
+use super::build::integer_of;
+use super::faults::encode_error;
+use super::parts::whole_number;
+use super::tree::Json;
+use asn_base::Codec;
+use asn_fault::{EncodeError, JerEncodeErrorKind};
+use asn_traits::{Leaf, LeafKind, OwnedLeaf};
+use std::alloc::Global;
+
+/// The JSON value that is written for a value without parts.
+///
+/// Errors: `ExceedsSupportedIntSize` where JSON doesn't have the number; `OutOfMemory`.
+#[inline(always)]
+pub fn json_of_leaf(alloc: Global, leaf: Leaf<'_>) -> Result<Json, EncodeError>
+    ensures json { IfOk result (λ v. data_of v ≡ jer_data (leaf_value leaf.entry)) }
+    ensures writable { OnOk result (Writable Notation.jer (leaf_value leaf.entry)) }
+    ensures refused { IfErr result (CannotWrite Notation.jer (leaf_value leaf.entry)) }
+{
+    match leaf {
+        Leaf::Null => Ok(Json::Null),
+        Leaf::Boolean(flag) => Ok(Json::Bool(flag)),
+        Leaf::Number(value) => match integer_of(value.negative, value.magnitude) {
+            Some(number) => Ok(Json::Number(number)),
+            None => Err(encode_error(JerEncodeErrorKind::ExceedsSupportedIntSize { value })),
+        },
+        Leaf::Text(text) => json_of_text(alloc, text),
+        Leaf::Item(name) => json_of_text(alloc, name),
+        Leaf::Octets(octets) => match hex::encode_upper(alloc, octets) {
+            Ok(text) => Ok(Json::Text(text)),
+            Err(_) => Err(EncodeError::out_of_memory(Codec::Jer)),
+        },
+    }
+}
+
+// The JSON string of a text. Its one error is want of memory.
+fn json_of_text(alloc: Global, text: &str) -> Result<Json, EncodeError>
+    ensures json { IfOk result (λ v. data_of v ≡ Data.string text.now) }
+    ensures text { is_utf8 text.now ≡ true }
+    ensures refused { IfErr result (λ e. e.kind ≡ OutOfMemory) }
+{
+    match String::from_str(alloc, text) {
+        Ok(text) => Ok(Json::Text(text)),
+        Err(_) => Err(EncodeError::out_of_memory(Codec::Jer)),
+    }
+}
+
+/// Why a JSON value is no value of a kind.
+#[derive(Drop)]
+pub enum NoLeaf {
+    /// It is of another kind.
+    Kind(Json),
+    /// Its text is no hexadecimal of whole octets.
+    Octets,
+    OutOfMemory,
+}
+
+/// The value without parts that a JSON value is, or why it is none of this kind.
+#[inline(always)]
+pub fn leaf_of_json(alloc: Global, value: Json, kind: LeafKind) -> Result<OwnedLeaf, NoLeaf>
+    ensures { MatchResult result (IsTaken Notation.jer kind (json_tree value))
+        (IsNoLeaf kind value) }
+{
+    match kind {
+        LeafKind::Null => match value {
+            Json::Null => Ok(OwnedLeaf::Null),
+            other => Err(NoLeaf::Kind(other)),
+        },
+        LeafKind::Boolean => match value {
+            Json::Bool(flag) => Ok(OwnedLeaf::Boolean(flag)),
+            other => Err(NoLeaf::Kind(other)),
+        },
+        LeafKind::Number => match value {
+            Json::Number(number) => match whole_number(&number) {
+                Some(whole) => Ok(OwnedLeaf::Number(Some(whole))),
+                None => Err(NoLeaf::Kind(Json::Number(number))),
+            },
+            other => Err(NoLeaf::Kind(other)),
+        },
+        LeafKind::Text => match value {
+            Json::Text(text) => Ok(OwnedLeaf::Text(text)),
+            other => Err(NoLeaf::Kind(other)),
+        },
+        LeafKind::Item => match value {
+            Json::Text(text) => Ok(OwnedLeaf::Item(text)),
+            other => Err(NoLeaf::Kind(other)),
+        },
+        LeafKind::Octets => match value {
+            Json::Text(text) => match hex::decode(alloc, text.as_bytes()) {
+                Ok(octets) => Ok(OwnedLeaf::Octets(octets)),
+                Err(hex::FromHexError::OutOfMemory) => Err(NoLeaf::OutOfMemory),
+                Err(_error) => Err(NoLeaf::Octets),
+            },
+            other => Err(NoLeaf::Kind(other)),
+        },
+    }
+}

@@ -4,6 +4,7 @@ ghost use Rattle.asn_traits.specs.Shape.{tag_eq, is_tag, name_tagged, class_numb
 ghost use Rattle.asn_traits.specs.Tables.{smallest_tags, or_end};
 ghost use Rattle.std.specs.Prelude.{◌≡◌, ◌++◌, [], map, option_map, get_or, Option, Some, None, unwrap_or};
 
+use crate::{Field, Fields};
 use asn_base::{Class, Tag, TagTree};
 
 /// The items of a table, and none where there is no table.
@@ -14,6 +15,13 @@ pub fn listed<T: Copy>(table: Option<&'static [T]>) -> &'static [T]
         Some(items) => items,
         None => &[],
     }
+}
+
+/// The fields of a table, and none where there is no table.
+pub fn listed_fields(table: Option<Fields>) -> &'static [Field]
+    ensures { result.now ≡ unwrap_or (option_map (λ t. t.items.now) table) [] }
+{
+    listed(table.map(|fields| fields.items))
 }
 
 /// The identifier beside the alternative of this smallest tag, where added alternatives come last.

@@ -36,4 +36,5 @@ pub use shape_parts::{AlternativeShapes, FieldShapes, enumerated_shape};
 pub use shape_type::{
     Alphabet, AlternativeShape, FieldShape, Plain, PresenceShape, SeqKind, Shape,
 };
+pub use tables::{field_name, place_of, place_of_field};
 pub use types::{AsnType, Choice, Constructed, Enumerated, Field, Fields, Presence};

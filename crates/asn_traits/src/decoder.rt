@@ -56,7 +56,8 @@ pub trait Decoder {
     fn open_list(&mut self) -> Result<usize, DecodeError>
         ensures { OpensList notation (pending self.old) result (pending self.new) };
 
-    /// Puts the slots of these fields of the first pending slot in its place: those of the root, and then the extension additions.
+    /// Puts the slots of these fields of the first pending slot in its place: those of the root
+    /// fields, and then those of the extension additions.
     fn open_members(&mut self, root: &[Field], additions: &[Field]) -> Result<(), DecodeError>
         requires { are_distinct (names_of root.now ++ names_of additions.now) ≡ true }
         ensures { OpensMembers notation (names_of root.now ++ names_of additions.now)
@@ -181,8 +182,8 @@ pub trait Decoder {
         Ok(items)
     }
 
-    /// Reads a SEQUENCE: `decode_fn` starts with one slot per field before the others, extension additions last, and takes them all.
-    /// Its error is a `DecodeError`.
+    /// Reads a SEQUENCE: `decode_fn` starts with one slot per field before the others, extension
+    /// additions last, and takes them all. Its error is a `DecodeError`.
     final fn decode_sequence<C: Constructed, E: Refusal, F: FnOnce(&mut Self) -> Result<C, E>>(
         &mut self,
         tag: Tag,
@@ -193,9 +194,11 @@ pub trait Decoder {
             → length slots ≡ length (field_names (all_fields C.fields C.added))
             → AllBelow (slot_nodes slot) slots → F.pre decode_fn p }
         requires reads { (p : _) (r : _) (q : _) (slots rest : List Slot)
-            → pending p.now ≡ slots ++ rest → length slots ≡ length (field_names (all_fields C.fields C.added))
+            → pending p.now ≡ slots ++ rest
+            → length slots ≡ length (field_names (all_fields C.fields C.added))
             → F.post decode_fn p r q
-            → ScopeAnswer E.stop notation (all_fields C.fields C.added) C.value_of slots rest r (pending q.now) }
+            → ScopeAnswer E.stop notation (all_fields C.fields C.added) C.value_of slots rest r
+            (pending q.now) }
         ensures { AnswerBy E.stop notation (Shape.seq C.kind C.fields C.added) C.value_of
             (pending self.old) result (pending self.new) }
     {

@@ -56,8 +56,8 @@ pub trait Encoder {
         ensures closed { OnOk result (Turns holds (close as_list) self.old self.new) }
         ensures refused { IfErr result (λ e. e.kind ≡ EncodeErrorKind.OutOfMemory) };
 
-    /// Puts the last frame into the one before it as members, by the names of these fields: those of the root, and then the extension
-    /// additions. It refuses memory alone.
+    /// Puts the last frame into the one before it as members, by the names of these fields: the
+    /// root fields, and then the extension additions. It refuses memory alone.
     fn close_members(&mut self, root: &[Field], additions: &[Field]) -> Result<(), EncodeError>
         ensures closed { OnOk result (Turns holds (close
             (as_members (names_of root.now ++ names_of additions.now))) self.old self.new) }
@@ -250,8 +250,8 @@ pub trait Encoder {
         self.close_list()
     }
 
-    /// Writes a SEQUENCE: the closure starts on a new frame and leaves one slot per field in it, extension additions last. What it wrote
-    /// is told by its own clauses.
+    /// Writes a SEQUENCE: the closure starts on a new frame and leaves one slot per field in it,
+    /// extension additions last. What it wrote is told by its own clauses.
     final fn encode_sequence<C: Constructed, F: FnOnce(&mut Self) -> Result<(), EncodeError>>(
         &mut self,
         tag: Tag,
@@ -261,8 +261,9 @@ pub trait Encoder {
     where
         Self: Sized,
         requires { F.IsAlwaysCallable encoder_scope }
-        ensures written { OnOk result (ScopeRan holds (FnOnceReturnsAtMut F.FnOnce encoder_scope) self.old (Ok tt)
-            (λ left. Turns holds (close (as_members (field_names (all_fields C.fields C.added)))) left self.new)) }
+        ensures written { OnOk result (ScopeRan holds (FnOnceReturnsAtMut F.FnOnce encoder_scope)
+            self.old (Ok tt) (λ left. Turns holds (close
+            (as_members (field_names (all_fields C.fields C.added)))) left self.new)) }
         ensures refused { IfErr result (λ e. (e.kind ≡ EncodeErrorKind.OutOfMemory)
             ⊎ ScopeRan holds (FnOnceReturnsAtMut F.FnOnce encoder_scope) self.old (Err e) (λ left. ⊤)) }
     {

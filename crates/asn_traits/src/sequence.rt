@@ -21,13 +21,14 @@ pub trait SequenceFields: OfKind<Kind = SequenceKind> + Described {
     const ROWS: &'static [Field];
 
     /// The extension additions, in order. None exactly where there is no extension marker.
-    const ADDED: Option<Fields> = None;
+    const ADDED: Option<&'static [Field]> = None;
 
     ghost fields: { AbstractFields };
 
     ghost added: { FieldAdditions } = { FieldAdditions.closed_fields };
 
-    // The values of the fields, in order, extension additions last: one slot for each, absent where the field is.
+    // The values of the fields, in order, extension additions last: one slot for each, absent
+    // where the field is.
     ghost slots: { Self → Frame };
 
     /// `ROWS`, which tell of the fields: their places, smallest tags, presence and names.
@@ -35,12 +36,13 @@ pub trait SequenceFields: OfKind<Kind = SequenceKind> + Described {
         ensures { rows_of result.now ≡ field_rows 0 fields };
 
     /// `ADDED`, which tell of the extension additions in the same way.
-    fn listed_added() -> Option<Fields>
-        ensures { option_map (λ t. rows_of t.items.now) result ≡ added_rows fields added };
+    fn listed_added() -> Option<&'static [Field]>
+        ensures { option_map (λ t. rows_of t.now) result ≡ added_rows fields added };
 
     /// The shape of the type. Its one error is want of memory.
     fn sequence_shape(alloc: Global) -> Result<Shape, OutOfMemory>
-        ensures { IfOk result (λ s. shape_view s ≡ AbstractShape.seq SeqKind.sequence fields added) };
+        ensures { IfOk result (λ s. shape_view s
+            ≡ AbstractShape.seq SeqKind.sequence fields added) };
 
     /// Writes the fields, by one call of `write_field` or `write_optional_field` for each, in order.
     fn write_fields<E: Encoder>(&self, encoder: &mut E) -> Result<(), EncodeError>
@@ -67,7 +69,8 @@ pub fn write_sequence<T: SequenceFields, E: Encoder>(
     tag: Tag,
     identifier: Identifier,
 ) -> Result<(), EncodeError>
-    ensures written { OnOk result (Written E.holds E.notation (AbstractShape.seq SeqKind.sequence T.fields T.added)
+    ensures written { OnOk result (Written E.holds E.notation
+        (AbstractShape.seq SeqKind.sequence T.fields T.added)
         (members_value (all_fields T.fields T.added) (T.slots value.now)) encoder.old encoder.new) }
     ensures refused { IfErr result (CannotWrite E.notation
         (members_value (all_fields T.fields T.added) (T.slots value.now))) }
@@ -95,15 +98,15 @@ pub fn read_sequence<T: SequenceFields, D: Decoder>(
     tag: Tag,
 ) -> Result<T, DecodeError>
     ensures { Answer D.notation (AbstractShape.seq SeqKind.sequence T.fields T.added)
-        (λ x. members_value (all_fields T.fields T.added) (T.slots x)) (D.pending decoder.old) result
-        (D.pending decoder.new) }
+        (λ x. members_value (all_fields T.fields T.added) (T.slots x))
+        (D.pending decoder.old) result (D.pending decoder.new) }
 {
     decoder.decode_sequence(
         tag,
         |decoder: &mut D| -> Result<T, DecodeError>
             ensures { ScopeAnswers D.notation (all_fields T.fields T.added)
-                (λ x. members_value (all_fields T.fields T.added) (T.slots x)) (D.pending decoder.old) result
-                (D.pending decoder.new) }
+                (λ x. members_value (all_fields T.fields T.added) (T.slots x))
+                (D.pending decoder.old) result (D.pending decoder.new) }
         {
             match T::read_fields(decoder) {
                 Ok(value) => Ok(value),
@@ -116,7 +119,10 @@ pub fn read_sequence<T: SequenceFields, D: Decoder>(
 impl<T: SequenceFields> Constructed for T {
     const FIELDS: Fields = Fields { items: T::ROWS };
 
-    const EXTENDED_FIELDS: Option<Fields> = T::ADDED;
+    const EXTENDED_FIELDS: Option<Fields> = match T::ADDED {
+        Some(items) => Some(Fields { items }),
+        None => None,
+    };
 
     ghost fields = { T.fields };
 
@@ -127,7 +133,7 @@ impl<T: SequenceFields> Constructed for T {
     }
 
     fn extended_field_table() -> Option<Fields> {
-        T::listed_added()
+        T::listed_added().map(|items| Fields { items })
     }
 
     ghost of_fields = { refl };

@@ -50,7 +50,8 @@ fn name_at(fields: &[Field], place: usize) -> &'static str
 
 /// The first place of the field of this name, where extension additions come last.
 pub fn place_of_field(root: &[Field], additions: &[Field], name: &str) -> Option<usize>
-    ensures is { result ≡ place_named bytes_eq (names_of root.now ++ names_of additions.now) name.now }
+    ensures is { result ≡ place_named bytes_eq (names_of root.now ++ names_of additions.now)
+        name.now }
     ensures below { IfSome result (λ k. k < length root.now + length additions.now) }
 {
     let Some((first, others)) = root.split_first() else {
@@ -68,7 +69,8 @@ pub fn place_of_field(root: &[Field], additions: &[Field], name: &str) -> Option
 
 /// The first place of the identifier. The case of ASCII letters makes no difference.
 pub fn place_of(identifiers: &[&'static str], name: &str) -> Option<usize>
-    ensures is { result ≡ place_named same_identifier (map (λ s. s.now) identifiers.now) name.now }
+    ensures is { result ≡ place_named same_identifier (map (λ s. s.now) identifiers.now)
+        name.now }
     ensures below { IfSome result (λ k. k < length identifiers.now) }
 {
     let (first, others) = identifiers.split_first()?;

@@ -21,15 +21,16 @@ pub fn integer_of(alloc: Global, number: WholeNumber) -> Result<AvnValue, OutOfM
     Ok(AvnValue::Integer(text))
 }
 
-/// The fields of the slots, each with the name of the field at its place, where extension additions come last. Memory may run out.
+/// The fields of the slots, each with the name of the field at its place, where extension
+/// additions come last. Memory may run out.
 pub fn fields_of(
     alloc: Global,
     slots: Vec<Option<AvnValue>>,
     root: &[Field],
     additions: &[Field],
 ) -> Result<Vec<(String, Option<AvnValue>)>, OutOfMemory>
-    ensures { IfOk result (λ v. fields_trees v.items
-        ≡ named_fields (trees_of tree_of slots.items) (names_of root.now ++ names_of additions.now)) }
+    ensures { IfOk result (λ v. fields_trees v.items ≡ named_fields
+        (trees_of tree_of slots.items) (names_of root.now ++ names_of additions.now)) }
 {
     let mut named = Vec::new(alloc);
     for slot in slots {

@@ -63,8 +63,8 @@ pub fn into_choice(value: AvnValue) -> Result<(String, AvnValue), AvnValue>
     }
 }
 
-/// The slot of each field, extension additions last: the value of the last present entry of its name. Entries of other names are passed over.
-/// Memory may run out.
+/// The slot of each field, extension additions last: the value of the last present entry of its
+/// name. Entries of other names are passed over. Memory may run out.
 pub fn slots_of(
     alloc: Global,
     entries: Vec<(String, Option<AvnValue>)>,
@@ -72,8 +72,8 @@ pub fn slots_of(
     additions: &[Field],
 ) -> Result<Vec<Option<AvnValue>>, OutOfMemory>
     requires { are_distinct (names_of root.now ++ names_of additions.now) ≡ true }
-    ensures { IfOk result (λ slots. trees_of tree_of slots.items
-        ≡ map (field_slot (fields_trees entries.items)) (names_of root.now ++ names_of additions.now)) }
+    ensures { IfOk result (λ slots. trees_of tree_of slots.items ≡ map
+        (field_slot (fields_trees entries.items)) (names_of root.now ++ names_of additions.now)) }
 {
     let mut slots = absent_slots(alloc, root.len() + additions.len())?;
     for (name, entry) in entries {

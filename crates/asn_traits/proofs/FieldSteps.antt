@@ -13,7 +13,7 @@ use Rattle.asn_traits.specs.Stops.{Stops, StopsFields, Path}
 use Rattle.asn_traits.specs.Answer.{OptionalAnswer, OptionalStops, Refuses}
 use Rattle.asn_traits.specs.FieldAnswer.{AddsSlot, TakesSlot, WithinField}
 use Rattle.asn_traits.specs.Writing.{Frame, named, head_name, tail_names, Filled, CannotFill}
-use Rattle.asn_traits.proofs.Filling.{fill_present, fill_absent, fill_end}
+use Rattle.asn_traits.proofs.Filling.{fill_present, fill_absent}
 use Rattle.asn_traits.proofs.Steps.{refuses_by, within_refuses}
 use Rattle.asn_traits.proofs.Taking.{Taking, taking_starts, taking_ends, takes_present, takes_optional, stops_required, stops_optional}
 

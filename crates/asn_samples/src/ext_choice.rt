@@ -7,8 +7,7 @@ ghost use Rattle.std.specs.Prelude.{refl};
 use asn_base::{OutOfMemory, Tag, TagTree};
 use asn_fault::{DecodeError, EncodeError};
 use asn_traits::{
-    AlternativeShapes, ChoiceKind, ChoicePayload, Decode, Decoder, Encode, Encoder,
-    OfKind, Shape,
+    AlternativeShapes, ChoiceKind, ChoicePayload, Decode, Decoder, Encode, Encoder, OfKind, Shape,
 };
 use std::alloc::Global;
 

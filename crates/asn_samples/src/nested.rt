@@ -6,8 +6,8 @@ use crate::Struct;
 use asn_base::{OutOfMemory, Tag};
 use asn_fault::{DecodeError, EncodeError};
 use asn_traits::{
-    Decoder, Encoder, Field, FieldShapes, OfKind, SequenceFields, SequenceKind, Shape,
-    optional, read_optional_field, write_optional_field,
+    Decoder, Encoder, Field, FieldShapes, OfKind, SequenceFields, SequenceKind, Shape, optional,
+    read_optional_field, write_optional_field,
 };
 use std::alloc::Global;
 

@@ -70,7 +70,7 @@ tagged_or_later true id name t s shape alts named v later e fit =
     let d : ◌≡◌ {A = Option (List ℕ × Shape)} (Some (id, s)) (Some (name, shape)) = e in
     let p : ◌≡◌ {A = List ℕ × Shape} (id, s) (name, shape) = cc d in
     subst (λ n. FitsAlternative (Alternatives.alternative id t s alts) n v) (ap (λ (r : List ℕ × Shape). r.0) p)
-        (FitsAlternative.fits_here (subst (λ r. Fits r v) (sym (ap (λ (r : List ℕ × Shape). r.1) p)) fit))
+    (FitsAlternative.fits_here (subst (λ r. Fits r v) (sym (ap (λ (r : List ℕ × Shape). r.1) p)) fit))
 tagged_or_later false id name t s shape alts named v later e fit = FitsAlternative.fits_later (later e)
 
 -- A value of the shape of the alternative of a tag fits.

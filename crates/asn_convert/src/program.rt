@@ -14,12 +14,9 @@ use crate::lines::split_request;
 use crate::request::{Request, requested};
 use crate::status::Status;
 use crate::whole::{Stopped, read_to_end, write_all};
-use asn_base::{Codec, Integer};
+use asn_base::Codec;
 use asn_codec::{TranscodeError, transcode};
-use asn_samples::{
-    ExtChoice, ExtEnum, Inner, Nest, Nested, Renamed, Sample, SimpleChoice, SimpleEnum, Struct,
-    WithNullOpt,
-};
+use asn_samples::SampleVisitor;
 use asn_traits::{Decode, Encode};
 use std::alloc::Global;
 
@@ -82,31 +79,35 @@ fn convert<K: Sink>(alloc: Global, request: Request, text: &str, sink: &mut K) -
     ensures complete { IsConvertible request.from request.to (sample_shape request.sample) text.now → result ≢ Refused }
 {
     let Request { from, to, sample } = request;
-    match sample {
-        Sample::Bool => convert_as::<bool, K>(alloc, from, to, text, sink),
-        Sample::Null => convert_as::<(), K>(alloc, from, to, text, sink),
-        Sample::U8 => convert_as::<u8, K>(alloc, from, to, text, sink),
-        Sample::I64 => convert_as::<i64, K>(alloc, from, to, text, sink),
-        Sample::U64 => convert_as::<u64, K>(alloc, from, to, text, sink),
-        Sample::U128 => convert_as::<u128, K>(alloc, from, to, text, sink),
-        Sample::Integer => convert_as::<Integer, K>(alloc, from, to, text, sink),
-        Sample::Utf8String => convert_as::<String, K>(alloc, from, to, text, sink),
-        Sample::SequenceOfU8 => convert_as::<Vec<u8>, K>(alloc, from, to, text, sink),
-        Sample::SequenceOfI64 => convert_as::<Vec<i64>, K>(alloc, from, to, text, sink),
-        Sample::SequenceOfBool => convert_as::<Vec<bool>, K>(alloc, from, to, text, sink),
-        Sample::SequenceOfSimpleChoice => convert_as::<Vec<SimpleChoice>, K>(
-            alloc, from, to, text, sink,
-        ),
-        Sample::Renamed => convert_as::<Renamed, K>(alloc, from, to, text, sink),
-        Sample::Inner => convert_as::<Inner, K>(alloc, from, to, text, sink),
-        Sample::SimpleEnum => convert_as::<SimpleEnum, K>(alloc, from, to, text, sink),
-        Sample::ExtEnum => convert_as::<ExtEnum, K>(alloc, from, to, text, sink),
-        Sample::SimpleChoice => convert_as::<SimpleChoice, K>(alloc, from, to, text, sink),
-        Sample::ExtChoice => convert_as::<ExtChoice, K>(alloc, from, to, text, sink),
-        Sample::Nested => convert_as::<Nested, K>(alloc, from, to, text, sink),
-        Sample::Struct => convert_as::<Struct, K>(alloc, from, to, text, sink),
-        Sample::WithNullOpt => convert_as::<WithNullOpt, K>(alloc, from, to, text, sink),
-        Sample::Nest => convert_as::<Nest, K>(alloc, from, to, text, sink),
+    sample.accept(
+        Conversion {
+            alloc,
+            from,
+            to,
+            text,
+        },
+        sink,
+    )
+}
+
+/// The conversion of a text, as a visitor that writes to a sink.
+#[derive(Drop)]
+struct Conversion<'a> {
+    alloc: Global,
+    from: Codec,
+    to: Codec,
+    text: &'a str,
+}
+
+impl<K: Sink> SampleVisitor<K> for Conversion<'_> {
+    type Output = Status;
+
+    ghost visits = { λ c shape old new status. Answers c.from c.to shape c.text.now (K.written old)
+        (K.written new) (K.faults old) (K.faults new) status
+        × (IsConvertible c.from c.to shape c.text.now → status ≢ Refused) };
+
+    fn visit<T: Encode + Decode>(self, sink: &mut K) -> Status {
+        convert_as::<T, K>(self.alloc, self.from, self.to, self.text, sink)
     }
 }
 

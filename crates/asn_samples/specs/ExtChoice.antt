@@ -4,7 +4,7 @@ use Rattle.asn_base.specs.declared.tag.Tag.{Tag}
 use Rattle.asn_traits.specs.Shape.{Shape, Alternatives, AlternativeAdditions, join_alternatives}
 use Rattle.asn_traits.specs.Value.{Value}
 use Rattle.asn_traits.specs.Chosen.{Chosen, chosen, chosen_value}
-use Rattle.asn_samples.specs.Terms.{context, unsigned, utf8_string}
+use Rattle.asn_traits.specs.Terms.{context, unsigned, utf8_string}
 use Rattle.asn_samples.specs.declared.ext_choice.ExtChoice.{ExtChoice}
 use Rattle.asn_samples.specs.declared.ext_choice.ExtChoice.TheVariants.{Test1, Test2, Test3}
 

@@ -3,7 +3,7 @@ use Rattle.std.specs.Prelude.{ℕ, pos, codes}
 use Rattle.asn_traits.specs.Shape.{Shape, Alternatives, closed_choice}
 use Rattle.asn_traits.specs.Value.{Value}
 use Rattle.asn_traits.specs.Chosen.{Chosen, chosen, chosen_value}
-use Rattle.asn_samples.specs.Terms.{context, unsigned}
+use Rattle.asn_traits.specs.Terms.{context, unsigned}
 use Rattle.asn_samples.specs.declared.inner.Inner.{Inner}
 use Rattle.asn_samples.specs.declared.inner.Inner.TheVariants.{Wine}
 

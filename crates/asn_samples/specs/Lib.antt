@@ -1,4 +1,3 @@
-pub mod Terms
 pub mod SimpleEnum
 pub mod ExtEnum
 pub mod Struct

@@ -4,7 +4,7 @@ use Rattle.asn_base.specs.declared.tag.Tag.{Tag}
 use Rattle.asn_traits.specs.Shape.{Shape, Alternatives, closed_choice}
 use Rattle.asn_traits.specs.Value.{Value}
 use Rattle.asn_traits.specs.Chosen.{Chosen, chosen, chosen_value}
-use Rattle.asn_samples.specs.Terms.{context, unsigned, utf8_string}
+use Rattle.asn_traits.specs.Terms.{context, unsigned, utf8_string}
 use Rattle.asn_samples.specs.declared.simple_choice.SimpleChoice.{SimpleChoice}
 use Rattle.asn_samples.specs.declared.simple_choice.SimpleChoice.TheVariants.{Test1, Test2}
 

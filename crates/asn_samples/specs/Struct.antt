@@ -3,7 +3,7 @@ use Rattle.std.specs.Prelude.{pos, [], ◌∷◌, option_map, codes}
 use Rattle.asn_traits.specs.Shape.{Shape, Fields, Presence, closed_seq}
 use Rattle.asn_traits.specs.Value.{Value}
 use Rattle.asn_traits.specs.Writing.{Frame, members_value}
-use Rattle.asn_samples.specs.Terms.{context, unsigned}
+use Rattle.asn_traits.specs.Terms.{context, unsigned}
 use Rattle.asn_samples.specs.declared.struct_.Struct.{Struct}
 
 -- The fields of Struct.

@@ -7,8 +7,7 @@ ghost use Rattle.std.specs.Prelude.{refl};
 use asn_base::{OutOfMemory, Tag, TagTree};
 use asn_fault::{DecodeError, EncodeError};
 use asn_traits::{
-    AlternativeShapes, ChoiceKind, ChoicePayload, Decode, Decoder, Described, Encode, Encoder,
-    OfKind, Shape,
+    AlternativeShapes, ChoiceKind, ChoicePayload, Decode, Decoder, Encode, Encoder, OfKind, Shape,
 };
 use std::alloc::Global;
 
@@ -33,8 +32,6 @@ const EXT_CHOICE_ADDED: &'static [TagTree] = &[TagTree::Leaf(TEST3)];
 impl OfKind for ExtChoice {
     type Kind = ChoiceKind;
 }
-
-impl Described for ExtChoice {}
 
 impl ChoicePayload for ExtChoice {
     const ROOT: &'static [TagTree] = EXT_CHOICE_VARIANTS;

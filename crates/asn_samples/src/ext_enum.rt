@@ -2,7 +2,7 @@
 ghost use Rattle.asn_samples.specs.ExtEnum.{ext_enum_items, ext_enum_added, ext_enum_item};
 ghost use Rattle.std.specs.Prelude.{Some, refl};
 
-use asn_traits::{Described, Enumerated, EnumeratedKind, OfKind};
+use asn_traits::{Enumerated, EnumeratedKind, OfKind};
 
 /// `ExtEnum ::= ENUMERATED { Test1, Test2, ..., Test3 }`
 #[derive(Clone, Copy, Debug, PartialEq, Eq, Drop)]
@@ -15,8 +15,6 @@ pub enum ExtEnum {
 impl OfKind for ExtEnum {
     type Kind = EnumeratedKind;
 }
-
-impl Described for ExtEnum {}
 
 const ADDED_ITEMS: &'static [&'static str] = &["Test3"];
 

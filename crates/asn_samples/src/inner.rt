@@ -7,8 +7,7 @@ ghost use Rattle.std.specs.Prelude.{refl};
 use asn_base::{OutOfMemory, Tag, TagTree};
 use asn_fault::{DecodeError, EncodeError};
 use asn_traits::{
-    AlternativeShapes, ChoiceKind, ChoicePayload, Decode, Decoder, Described, Encode, Encoder,
-    OfKind, Shape,
+    AlternativeShapes, ChoiceKind, ChoicePayload, Decode, Decoder, Encode, Encoder, OfKind, Shape,
 };
 use std::alloc::Global;
 
@@ -25,8 +24,6 @@ const INNER_VARIANTS: &'static [TagTree] = &[TagTree::Leaf(WINE)];
 impl OfKind for Inner {
     type Kind = ChoiceKind;
 }
-
-impl Described for Inner {}
 
 impl ChoicePayload for Inner {
     const ROOT: &'static [TagTree] = INNER_VARIANTS;

@@ -11,6 +11,7 @@ mod sample;
 mod simple_choice;
 mod simple_enum;
 mod struct_;
+mod visitor;
 mod with_null_opt;
 
 pub use ext_choice::ExtChoice;
@@ -23,4 +24,5 @@ pub use sample::{Sample, is_sample_name};
 pub use simple_choice::SimpleChoice;
 pub use simple_enum::SimpleEnum;
 pub use struct_::Struct;
+pub use visitor::SampleVisitor;
 pub use with_null_opt::WithNullOpt;

@@ -16,17 +16,15 @@ impl AsnType for Nest {
 
     const TAG_TREE: TagTree = TagTree::Leaf(Tag::SEQUENCE);
 
-    const CONSTRAINTS: Constraints = Constraints::NONE;
-
-    const IDENTIFIER: Identifier = Identifier::EMPTY;
-
     const IS_CHOICE: bool = false;
-
-    const RANK: u32 = 0;
 
     ghost shape_of = { nest_shape };
 
     ghost value_of = { nest_value };
+
+    fn tag_table() -> (Tag, TagTree, bool) {
+        (Self::TAG, Self::TAG_TREE, Self::IS_CHOICE)
+    }
 
     fn constraint_table() -> Constraints {
         Self::CONSTRAINTS

@@ -6,8 +6,8 @@ use crate::Struct;
 use asn_base::{OutOfMemory, Tag};
 use asn_fault::{DecodeError, EncodeError};
 use asn_traits::{
-    Decoder, Described, Encoder, Field, FieldShapes, OfKind, SequenceFields, SequenceKind, Shape,
-    optional, read_optional_field, write_optional_field,
+    Decoder, Encoder, Field, FieldShapes, OfKind, SequenceFields, SequenceKind, Shape, optional,
+    read_optional_field, write_optional_field,
 };
 use std::alloc::Global;
 
@@ -26,8 +26,6 @@ const NESTED_FIELDS: &'static [Field] = &[
 impl OfKind for Nested {
     type Kind = SequenceKind;
 }
-
-impl Described for Nested {}
 
 impl SequenceFields for Nested {
     const ROWS: &'static [Field] = NESTED_FIELDS;

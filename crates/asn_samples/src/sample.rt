@@ -1,13 +1,11 @@
-// The names of the sample types.
+// The sample types, by their names.
 ghost use Rattle.asn_samples.specs.Samples.{sample_named, sample_shape};
 ghost use Rattle.asn_traits.specs.ShapeView.{shape_view};
 ghost use Rattle.std.specs.Prelude.{◌≡◌, IfOk, is_some};
 
-use crate::{
-    ExtChoice, ExtEnum, Inner, Nest, Nested, Renamed, SimpleChoice, SimpleEnum, Struct, WithNullOpt,
-};
+use crate::SampleVisitor;
 use asn_base::{Integer, OutOfMemory};
-use asn_traits::{AsnType, Shape};
+use asn_traits::{Decode, Encode, Shape};
 use std::alloc::Global;
 
 /// A sample type. `SequenceOf<T>` is `Vec<T>`, and `Null` is `()`.
@@ -69,34 +67,57 @@ impl Sample {
         }
     }
 
+    /// Runs the visitor at the Rust type of the sample.
+    pub fn accept<S, V: SampleVisitor<S>>(self, visitor: V, state: &mut S) -> V::Output
+        ensures { V.visits visitor (sample_shape self) state.old state.new result }
+    {
+        match self {
+            Sample::Bool => visitor.visit::<bool>(state),
+            Sample::Null => visitor.visit::<()>(state),
+            Sample::U8 => visitor.visit::<u8>(state),
+            Sample::I64 => visitor.visit::<i64>(state),
+            Sample::U64 => visitor.visit::<u64>(state),
+            Sample::U128 => visitor.visit::<u128>(state),
+            Sample::Integer => visitor.visit::<Integer>(state),
+            Sample::Utf8String => visitor.visit::<String>(state),
+            Sample::SequenceOfU8 => visitor.visit::<Vec<u8>>(state),
+            Sample::SequenceOfI64 => visitor.visit::<Vec<i64>>(state),
+            Sample::SequenceOfBool => visitor.visit::<Vec<bool>>(state),
+            Sample::SequenceOfSimpleChoice => visitor.visit::<Vec<crate::SimpleChoice>>(state),
+            Sample::Renamed => visitor.visit::<crate::Renamed>(state),
+            Sample::Inner => visitor.visit::<crate::Inner>(state),
+            Sample::SimpleEnum => visitor.visit::<crate::SimpleEnum>(state),
+            Sample::ExtEnum => visitor.visit::<crate::ExtEnum>(state),
+            Sample::SimpleChoice => visitor.visit::<crate::SimpleChoice>(state),
+            Sample::ExtChoice => visitor.visit::<crate::ExtChoice>(state),
+            Sample::Nested => visitor.visit::<crate::Nested>(state),
+            Sample::Struct => visitor.visit::<crate::Struct>(state),
+            Sample::WithNullOpt => visitor.visit::<crate::WithNullOpt>(state),
+            Sample::Nest => visitor.visit::<crate::Nest>(state),
+        }
+    }
+
     /// The shape of the type. Its one error is want of memory.
     pub fn shape(self, alloc: Global) -> Result<Shape, OutOfMemory>
         ensures { IfOk result (λ s. shape_view s ≡ sample_shape self) }
     {
-        match self {
-            Sample::Bool => bool::shape(alloc),
-            Sample::Null => <()>::shape(alloc),
-            Sample::U8 => u8::shape(alloc),
-            Sample::I64 => i64::shape(alloc),
-            Sample::U64 => u64::shape(alloc),
-            Sample::U128 => u128::shape(alloc),
-            Sample::Integer => Integer::shape(alloc),
-            Sample::Utf8String => String::shape(alloc),
-            Sample::SequenceOfU8 => Vec::<u8>::shape(alloc),
-            Sample::SequenceOfI64 => Vec::<i64>::shape(alloc),
-            Sample::SequenceOfBool => Vec::<bool>::shape(alloc),
-            Sample::SequenceOfSimpleChoice => Vec::<SimpleChoice>::shape(alloc),
-            Sample::Renamed => Renamed::shape(alloc),
-            Sample::Inner => Inner::shape(alloc),
-            Sample::SimpleEnum => SimpleEnum::shape(alloc),
-            Sample::ExtEnum => ExtEnum::shape(alloc),
-            Sample::SimpleChoice => SimpleChoice::shape(alloc),
-            Sample::ExtChoice => ExtChoice::shape(alloc),
-            Sample::Nested => Nested::shape(alloc),
-            Sample::Struct => Struct::shape(alloc),
-            Sample::WithNullOpt => WithNullOpt::shape(alloc),
-            Sample::Nest => Nest::shape(alloc),
-        }
+        self.accept(ShapeOf { alloc }, &mut ())
+    }
+}
+
+/// The shape of a type, as a visitor.
+#[derive(Drop)]
+struct ShapeOf {
+    alloc: Global,
+}
+
+impl SampleVisitor<()> for ShapeOf {
+    type Output = Result<Shape, OutOfMemory>;
+
+    ghost visits = { λ visitor shape old new result. IfOk result (λ s. shape_view s ≡ shape) };
+
+    fn visit<T: Encode + Decode>(self, _state: &mut ()) -> Result<Shape, OutOfMemory> {
+        T::shape(self.alloc)
     }
 }
 

@@ -7,8 +7,7 @@ ghost use Rattle.std.specs.Prelude.{refl};
 use asn_base::{OutOfMemory, Tag, TagTree};
 use asn_fault::{DecodeError, EncodeError};
 use asn_traits::{
-    AlternativeShapes, ChoiceKind, ChoicePayload, Decode, Decoder, Described, Encode, Encoder,
-    OfKind, Shape,
+    AlternativeShapes, ChoiceKind, ChoicePayload, Decode, Decoder, Encode, Encoder, OfKind, Shape,
 };
 use std::alloc::Global;
 
@@ -28,8 +27,6 @@ const SIMPLE_CHOICE_VARIANTS: &'static [TagTree] = &[TagTree::Leaf(TEST1), TagTr
 impl OfKind for SimpleChoice {
     type Kind = ChoiceKind;
 }
-
-impl Described for SimpleChoice {}
 
 impl ChoicePayload for SimpleChoice {
     const ROOT: &'static [TagTree] = SIMPLE_CHOICE_VARIANTS;

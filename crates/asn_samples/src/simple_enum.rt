@@ -2,7 +2,7 @@
 ghost use Rattle.asn_samples.specs.SimpleEnum.{simple_enum_items, simple_enum_item};
 ghost use Rattle.std.specs.Prelude.{None, refl};
 
-use asn_traits::{Described, Enumerated, EnumeratedKind, OfKind};
+use asn_traits::{Enumerated, EnumeratedKind, OfKind};
 
 /// `SimpleEnum ::= ENUMERATED { Test1, Test2 }`
 #[derive(Clone, Copy, Debug, PartialEq, Eq, Drop)]
@@ -14,8 +14,6 @@ pub enum SimpleEnum {
 impl OfKind for SimpleEnum {
     type Kind = EnumeratedKind;
 }
-
-impl Described for SimpleEnum {}
 
 impl Enumerated for SimpleEnum {
     const IDENTIFIERS: &'static [&'static str] = &["Test1", "Test2"];

@@ -5,8 +5,8 @@ ghost use Rattle.std.specs.Prelude.{refl};
 use asn_base::{OutOfMemory, Tag};
 use asn_fault::{DecodeError, EncodeError};
 use asn_traits::{
-    Decoder, Described, Encoder, Field, FieldShapes, OfKind, SequenceFields, SequenceKind, Shape,
-    optional, read_optional_field, write_optional_field,
+    Decoder, Encoder, Field, FieldShapes, OfKind, SequenceFields, SequenceKind, Shape, optional,
+    read_optional_field, write_optional_field,
 };
 use std::alloc::Global;
 
@@ -21,8 +21,6 @@ const STRUCT_FIELDS: &'static [Field] = &[optional!(0, Tag::CONTEXT_0, "strct")]
 impl OfKind for Struct {
     type Kind = SequenceKind;
 }
-
-impl Described for Struct {}
 
 impl SequenceFields for Struct {
     const ROWS: &'static [Field] = STRUCT_FIELDS;

@@ -5,8 +5,8 @@ ghost use Rattle.std.specs.Prelude.{refl};
 use asn_base::{OutOfMemory, Tag};
 use asn_fault::{DecodeError, EncodeError};
 use asn_traits::{
-    Decoder, Described, Encoder, Field, FieldShapes, OfKind, SequenceFields, SequenceKind, Shape,
-    optional, read_field, read_optional_field, required, write_field, write_optional_field,
+    Decoder, Encoder, Field, FieldShapes, OfKind, SequenceFields, SequenceKind, Shape, optional,
+    read_field, read_optional_field, required, write_field, write_optional_field,
 };
 use std::alloc::Global;
 
@@ -25,8 +25,6 @@ const WITH_NULL_OPT_FIELDS: &'static [Field] = &[
 impl OfKind for WithNullOpt {
     type Kind = SequenceKind;
 }
-
-impl Described for WithNullOpt {}
 
 impl SequenceFields for WithNullOpt {
     const ROWS: &'static [Field] = WITH_NULL_OPT_FIELDS;

@@ -2,7 +2,7 @@
 use asn_base::{Class, Codec, Constraints, Identifier, Tag};
 use asn_convert::{MemorySink, MemorySource, Status, run};
 use asn_fault::{DecodeError, EncodeError};
-use asn_samples::{Sample, SimpleChoice, is_sample_name};
+use asn_samples::{Sample, SampleVisitor, SimpleChoice, is_sample_name};
 use asn_traits::{
     AlternativeShape, Decode, Decoder, Encode, Encoder, FieldShape, PresenceShape, SeqKind, Shape,
     is_readable,
@@ -452,39 +452,43 @@ fn shapes_that_cannot_be_read(rt: HostRuntime) -> Result<(), Fail> {
     Ok(())
 }
 
-const NAMES: [&'static str; 22] = [
-    "bool",
-    "Null",
-    "u8",
-    "i64",
-    "u64",
-    "u128",
-    "Integer",
-    "Utf8String",
-    "SequenceOf<u8>",
-    "SequenceOf<i64>",
-    "SequenceOf<bool>",
-    "SequenceOf<SimpleChoice>",
-    "Renamed",
-    "Inner",
-    "SimpleEnum",
-    "ExtEnum",
-    "SimpleChoice",
-    "ExtChoice",
-    "Nested",
-    "Struct",
-    "WithNullOpt",
-    "Nest",
+/// The tag of the type that a visitor is handed.
+#[derive(Drop)]
+struct TagOf {}
+
+impl SampleVisitor<Tag> for TagOf {
+    ghost use Rattle.std.specs.Prelude.{⊤};
+
+    type Output = bool;
+
+    ghost visits = { λ visitor shape old new output. ⊤ };
+
+    fn visit<T: Encode + Decode>(self, tag: &mut Tag) -> bool {
+        *tag = T::TAG;
+        T::IS_CHOICE
+    }
+}
+
+// Names, each with the tag of its type.
+const TAGS: [(&'static str, Tag); 5] = [
+    ("bool", Tag::BOOL),
+    ("SequenceOf<u8>", Tag::SEQUENCE),
+    ("ExtEnum", Tag::ENUMERATED),
+    ("ExtChoice", Tag::EOC),
+    ("Nest", Tag::SEQUENCE),
 ];
 
 #[test]
-fn each_sample_type_can_be_read(rt: HostRuntime) -> Result<(), Fail> {
-    for name in NAMES.iter() {
+fn a_visitor_is_run_at_the_type_of_the_name(rt: HostRuntime) -> Result<(), Fail> {
+    for (name, tag) in TAGS.iter() {
         assert!(rt; is_sample_name(*name));
-        match Sample::named(*name) {
-            Some(sample) => assert!(rt; is_readable(&sample.shape(rt.alloc())?)),
-            None => return Err(Fail::from("no sample")),
-        }
+        let Some(sample) = Sample::named(*name) else {
+            return Err(Fail::from("no sample"));
+        };
+        let mut visited = Tag::NULL;
+        assert_eq!(rt; sample.accept(TagOf {}, &mut visited), *tag == Tag::EOC);
+        assert!(rt; visited == *tag);
+        assert!(rt; is_readable(&sample.shape(rt.alloc())?));
     }
     for name in ["", "Bool", "bool ", "SequenceOf<Nest>"].iter() {
         assert!(rt; !is_sample_name(*name));

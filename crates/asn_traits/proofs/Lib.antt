@@ -20,3 +20,4 @@ pub mod SameText
 pub mod ShapeNames
 pub mod FieldSteps
 pub mod Passing
+pub mod Grouping

@@ -17,8 +17,10 @@ pub mod FieldAnswer
 pub mod Readable
 pub mod Writes
 pub mod Tables
+pub mod OwnTag
 pub mod Root
 pub mod Canonical
 pub mod Around
 pub mod Chosen
 pub mod Passing
+pub mod Terms

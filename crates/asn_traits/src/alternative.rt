@@ -8,13 +8,13 @@ ghost use Rattle.asn_traits.specs.Tables.{added_tags, root_tags, smallest_tags};
 ghost use Rattle.asn_traits.specs.Writing.{CannotWrite, Written};
 ghost use Rattle.std.specs.Prelude.{◌≡◌, IfErr, IfOk, OnOk, map, option_map, refl, true};
 
-use crate::{Choice, ChoiceKind, DecodeChoice, Decoder, Described, Encoder, OfKind, Shape};
+use crate::{Choice, ChoiceKind, DecodeChoice, Decoder, Encoder, OfKind, Shape};
 use asn_base::{Constraints, Identifier, OutOfMemory, Tag, TagTree};
 use asn_fault::{DecodeError, EncodeError};
 use std::alloc::Global;
 
 /// A CHOICE that is written by the type of its alternative.
-pub trait ChoicePayload: OfKind<Kind = ChoiceKind> + Described {
+pub trait ChoicePayload: OfKind<Kind = ChoiceKind> {
     /// The tags that the alternatives may begin with.
     const ROOT: &'static [TagTree];
 

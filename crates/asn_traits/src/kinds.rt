@@ -2,6 +2,7 @@
 ghost use Rattle.asn_traits.specs.Answer.{AnswerUnder};
 ghost use Rattle.asn_traits.specs.Chosen.{chosen_value};
 ghost use Rattle.asn_traits.specs.Fixed.{fixed_size};
+ghost use Rattle.asn_traits.specs.OwnTag.{HasTags};
 ghost use Rattle.asn_traits.specs.Readable.{is_readable};
 ghost use Rattle.asn_traits.specs.Shape.{Shape as AbstractShape, SeqKind, all_fields, shape_under};
 ghost use Rattle.asn_traits.specs.ShapeView.{shape_view};
@@ -17,14 +18,11 @@ use asn_base::{Constraints, Identifier, OutOfMemory, Tag, TagTree};
 use asn_fault::{DecodeError, EncodeError};
 use std::alloc::Global;
 
-/// A type that is written and read as all types of its kind are.
+/// A type that is described, written and read as all types of its kind are.
 pub trait OfKind: Sized + Drop {
     /// `SequenceKind`, `ChoiceKind`, `EnumeratedKind` or `IntegerKind`.
     type Kind;
 }
-
-/// A type that its kind describes.
-pub trait Described: OfKind {}
 
 /// What a kind tells of each of its types.
 pub trait DescribeKind<T> {
@@ -42,6 +40,10 @@ pub trait DescribeKind<T> {
     fn shape_as(alloc: Global) -> Result<Shape, OutOfMemory>
         ensures { IfOk result (λ s. shape_view s ≡ shape) };
 
+    /// The values of `TAG`, `TAG_TREE` and `IS_CHOICE`, which are those of the shape.
+    fn tags_as() -> (Tag, TagTree, bool)
+        ensures { HasTags shape result };
+
     // Constraints on sizes change nothing.
     ghost any_size: { (n : Option ℕ) → shape_under n shape ≡ shape };
 
@@ -51,7 +53,7 @@ pub trait DescribeKind<T> {
     ghost readable: { is_readable shape ≡ true };
 }
 
-impl<T: Described> AsnType for T
+impl<T: OfKind> AsnType for T
 where
     T::Kind: DescribeKind<T>,
 {
@@ -64,6 +66,10 @@ where
     ghost shape_of = { T.Kind.shape };
 
     ghost value_of = { T.Kind.value };
+
+    fn tag_table() -> (Tag, TagTree, bool) {
+        <T::Kind as DescribeKind<T>>::tags_as()
+    }
 
     fn constraint_table() -> Constraints {
         Constraints::NONE
@@ -139,8 +145,6 @@ impl<I: IntegerType> OfKind for I {
     type Kind = IntegerKind;
 }
 
-impl<I: IntegerType> Described for I {}
-
 impl<I: IntegerType> DescribeKind<I> for IntegerKind {
     const TAG: Tag = Tag::INTEGER;
 
@@ -154,6 +158,10 @@ impl<I: IntegerType> DescribeKind<I> for IntegerKind {
             greatest: I::GREATEST,
             width: I::WIDTH,
         })
+    }
+
+    fn tags_as() -> (Tag, TagTree, bool) {
+        (Tag::INTEGER, TagTree::Leaf(Tag::INTEGER), false)
     }
 
     ghost any_size = { λ n. refl };
@@ -197,6 +205,10 @@ impl<T: SequenceFields> DescribeKind<T> for SequenceKind {
 
     fn shape_as(alloc: Global) -> Result<Shape, OutOfMemory> {
         T::sequence_shape(alloc)
+    }
+
+    fn tags_as() -> (Tag, TagTree, bool) {
+        (Tag::SEQUENCE, TagTree::Leaf(Tag::SEQUENCE), false)
     }
 
     ghost any_size = { λ n. refl };
@@ -246,6 +258,10 @@ impl<T: ChoicePayload> DescribeKind<T> for ChoiceKind {
         T::choice_shape(alloc)
     }
 
+    fn tags_as() -> (Tag, TagTree, bool) {
+        (Tag::EOC, TagTree::Choice(T::listed_root()), true)
+    }
+
     ghost any_size = { λ n. refl };
 
     ghost any_value = { λ n x. refl };
@@ -287,6 +303,10 @@ impl<T: Enumerated> DescribeKind<T> for EnumeratedKind {
 
     fn shape_as(alloc: Global) -> Result<Shape, OutOfMemory> {
         enumerated_shape(alloc, T::identifier_table(), T::extended_identifier_table())
+    }
+
+    fn tags_as() -> (Tag, TagTree, bool) {
+        (Tag::ENUMERATED, TagTree::Leaf(Tag::ENUMERATED), false)
     }
 
     ghost any_size = { λ n. refl };

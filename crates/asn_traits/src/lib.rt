@@ -5,6 +5,7 @@ mod alternative;
 mod decoder;
 mod encoder;
 mod fields;
+mod group;
 mod integer_type;
 mod kinds;
 pub mod laws;
@@ -23,10 +24,11 @@ pub use asn_base::TagTree;
 pub use decoder::{Decode, DecodeChoice, Decoder};
 pub use encoder::{Encode, Encoder};
 pub use fields::{read_field, read_optional_field, write_field, write_optional_field};
+pub use group::{FieldGroup, read_groups, write_groups};
 pub use integer_type::IntegerType;
 pub use kinds::{
-    ChoiceKind, DecodeKind, DescribeKind, Described, EncodeKind, EnumeratedKind, IntegerKind,
-    OfKind, SequenceKind,
+    ChoiceKind, DecodeKind, DescribeKind, EncodeKind, EnumeratedKind, IntegerKind, OfKind,
+    SequenceKind,
 };
 pub use leaves::{Leaf, LeafKind, OwnedLeaf};
 pub use plain::OctetString;

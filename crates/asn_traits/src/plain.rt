@@ -4,7 +4,7 @@ ghost use Rattle.asn_traits.specs.Value.{Value, values};
 ghost use Rattle.std.specs.Prelude.{refl, string_bytes};
 
 use crate::{Alphabet, AsnType, Decode, Decoder, Encode, Encoder, Shape};
-use asn_base::{Constraints, Identifier, OutOfMemory, Tag};
+use asn_base::{Constraints, Identifier, OutOfMemory, Tag, TagTree};
 use asn_fault::{DecodeError, EncodeError};
 use std::alloc::Global;
 
@@ -12,9 +12,17 @@ use std::alloc::Global;
 impl AsnType for bool {
     const TAG: Tag = Tag::BOOL;
 
+    const TAG_TREE: TagTree = TagTree::Leaf(Tag::BOOL);
+
+    const IS_CHOICE: bool = false;
+
     ghost shape_of = { AbstractShape.boolean };
 
     ghost value_of = { Value.boolean };
+
+    fn tag_table() -> (Tag, TagTree, bool) {
+        (Self::TAG, Self::TAG_TREE, Self::IS_CHOICE)
+    }
 
     fn constraint_table() -> Constraints {
         Self::CONSTRAINTS
@@ -53,9 +61,17 @@ impl Decode for bool {
 impl AsnType for () {
     const TAG: Tag = Tag::NULL;
 
+    const TAG_TREE: TagTree = TagTree::Leaf(Tag::NULL);
+
+    const IS_CHOICE: bool = false;
+
     ghost shape_of = { AbstractShape.null };
 
     ghost value_of = { λ u. Value.null };
+
+    fn tag_table() -> (Tag, TagTree, bool) {
+        (Self::TAG, Self::TAG_TREE, Self::IS_CHOICE)
+    }
 
     fn constraint_table() -> Constraints {
         Self::CONSTRAINTS
@@ -94,9 +110,17 @@ impl Decode for () {
 impl AsnType for String {
     const TAG: Tag = Tag::UTF8_STRING;
 
+    const TAG_TREE: TagTree = TagTree::Leaf(Tag::UTF8_STRING);
+
+    const IS_CHOICE: bool = false;
+
     ghost shape_of = { AbstractShape.text AbstractAlphabet.utf8 };
 
     ghost value_of = { λ s. Value.text (string_bytes s) };
+
+    fn tag_table() -> (Tag, TagTree, bool) {
+        (Self::TAG, Self::TAG_TREE, Self::IS_CHOICE)
+    }
 
     fn constraint_table() -> Constraints {
         Self::CONSTRAINTS
@@ -142,9 +166,17 @@ pub struct OctetString {
 impl AsnType for OctetString {
     const TAG: Tag = Tag::OCTET_STRING;
 
+    const TAG_TREE: TagTree = TagTree::Leaf(Tag::OCTET_STRING);
+
+    const IS_CHOICE: bool = false;
+
     ghost shape_of = { AbstractShape.octets };
 
     ghost value_of = { λ s. Value.octets s.octets.items };
+
+    fn tag_table() -> (Tag, TagTree, bool) {
+        (Self::TAG, Self::TAG_TREE, Self::IS_CHOICE)
+    }
 
     fn constraint_table() -> Constraints {
         Self::CONSTRAINTS
@@ -184,9 +216,17 @@ impl Decode for OctetString {
 impl<T: AsnType> AsnType for Vec<T> {
     const TAG: Tag = Tag::SEQUENCE;
 
+    const TAG_TREE: TagTree = TagTree::Leaf(Tag::SEQUENCE);
+
+    const IS_CHOICE: bool = false;
+
     ghost shape_of = { AbstractShape.list_of T.shape_of };
 
     ghost value_of = { λ v. Value.list (values T.value_of v.items) };
+
+    fn tag_table() -> (Tag, TagTree, bool) {
+        (Tag::SEQUENCE, TagTree::Leaf(Tag::SEQUENCE), false)
+    }
 
     fn constraint_table() -> Constraints {
         Self::CONSTRAINTS

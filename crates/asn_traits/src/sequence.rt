@@ -10,13 +10,13 @@ ghost use Rattle.asn_traits.specs.Tables.{added_rows, field_rows, rows_of};
 ghost use Rattle.asn_traits.specs.Writing.{CannotFill, CannotWrite, Filled, Frame, Written, members_value};
 ghost use Rattle.std.specs.Prelude.{◌≡◌, IfErr, IfOk, OnOk, option_map, refl, true};
 
-use crate::{Constructed, Decoder, Described, Encoder, Field, Fields, OfKind, SequenceKind, Shape};
+use crate::{Constructed, Decoder, Encoder, Field, Fields, OfKind, SequenceKind, Shape};
 use asn_base::{Identifier, OutOfMemory, Tag};
 use asn_fault::{DecodeError, EncodeError};
 use std::alloc::Global;
 
 /// A SEQUENCE that is written and read field by field, in the order of its fields.
-pub trait SequenceFields: OfKind<Kind = SequenceKind> + Described {
+pub trait SequenceFields: OfKind<Kind = SequenceKind> {
     /// The root fields, in order.
     const ROWS: &'static [Field];
 

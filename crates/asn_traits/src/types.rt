@@ -1,5 +1,6 @@
 // What every ASN.1 type tells of itself: its shape, its values and its tables of constants.
 ghost use Rattle.asn_traits.specs.Fixed.{fixed_size};
+ghost use Rattle.asn_traits.specs.OwnTag.{HasTags};
 ghost use Rattle.asn_traits.specs.Readable.{is_readable};
 ghost use Rattle.asn_traits.specs.Shape.{Shape as AbstractShape, Fields as FieldShapes, SeqKind, FieldAdditions, Alternatives, AlternativeAdditions, all_alternatives, all_items, identifiers, is_item, opened, shape_under};
 ghost use Rattle.asn_traits.specs.ShapeView.{shape_view};
@@ -7,7 +8,7 @@ ghost use Rattle.asn_traits.specs.Value.{Value, value_under};
 ghost use Rattle.asn_traits.specs.Tables.{rows_of, field_rows, added_rows, smallest_tags, root_tags, added_tags};
 ghost use Rattle.std.specs.Prelude.{◌≡◌, ℕ, List, Option, map, option_map, true, false, IfOk, MatchOption};
 
-use crate::{Described, EnumeratedKind, OfKind, Shape};
+use crate::{EnumeratedKind, OfKind, Shape};
 use asn_base::{Constraints, Identifier, OutOfMemory, Tag, TagTree};
 use std::alloc::Global;
 
@@ -121,14 +122,14 @@ pub trait AsnType {
     const TAG: Tag;
 
     /// The tags that its value may begin with.
-    const TAG_TREE: TagTree = TagTree::Leaf(Self::TAG);
+    const TAG_TREE: TagTree;
 
     const CONSTRAINTS: Constraints = Constraints::NONE;
 
     /// The name that other encoding rules write for it. JER and AVN ignore it.
     const IDENTIFIER: Identifier = Identifier::EMPTY;
 
-    const IS_CHOICE: bool = false;
+    const IS_CHOICE: bool;
 
     /// Above that of each type whose reader is handed the same tree.
     const RANK: u32 = 0;
@@ -137,6 +138,11 @@ pub trait AsnType {
 
     // The value that a Rust value stands for.
     ghost value_of: { Self → Value };
+
+    /// `TAG`, `TAG_TREE` and `IS_CHOICE`, which are those of the shape. A generic impl, whose own
+    /// constants no proof sees, has their values once more here.
+    fn tag_table() -> (Tag, TagTree, bool)
+        ensures { HasTags shape_of result };
 
     /// `CONSTRAINTS`. The type's own shape and values are those under them.
     fn constraint_table() -> Constraints
@@ -211,7 +217,7 @@ pub trait Choice: AsnType {
 }
 
 /// An ENUMERATED type (X.680, section 20).
-pub trait Enumerated: OfKind<Kind = EnumeratedKind> + Described {
+pub trait Enumerated: OfKind<Kind = EnumeratedKind> {
     const IDENTIFIERS: &'static [&'static str];
 
     /// The items after the extension marker, if there is one.

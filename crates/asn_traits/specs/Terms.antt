@@ -1,4 +1,4 @@
--- Words for the shapes of the sample types.
+-- Words for the shapes of types.
 use Rattle.std.specs.Prelude.{ℕ, ◌-◌, ◌^◌, pos, negsuc}
 use Rattle.asn_base.specs.declared.tag.Tag.{Tag}
 use Rattle.asn_base.specs.declared.tag.Class.TheVariants.{Context}

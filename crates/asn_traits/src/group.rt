@@ -1,0 +1,65 @@
+// Groups of fields, for a SEQUENCE of more fields than one function is proved with.
+ghost use Rattle.asn_fault.specs.Stop.{error_stop};
+ghost use Rattle.asn_traits.specs.Passing.{AddsFields, RefusesAdding, RefusesFields, TakesFields};
+ghost use Rattle.asn_traits.specs.Shape.{Fields as AbstractFields, join_fields};
+ghost use Rattle.asn_traits.specs.Writing.{Frame};
+ghost use Rattle.std.specs.Prelude.{◌++◌, IfErr, IfOk, OnOk};
+
+use crate::{Decoder, Encoder};
+use asn_fault::{DecodeError, EncodeError};
+
+/// Fields that stand one after another in a SEQUENCE, as ASN.1's COMPONENTS OF puts them there.
+///
+/// A SEQUENCE of more than eight fields is a struct of two groups, and a group may be one too.
+pub trait FieldGroup: Sized + Drop {
+    ghost group: { AbstractFields };
+
+    // The values of the fields, in order: one slot for each, absent where the field is.
+    ghost group_slots: { Self → Frame };
+
+    /// Writes the fields, by one call of `write_field` or `write_optional_field` for each, in order.
+    fn write_group<E: Encoder>(&self, encoder: &mut E) -> Result<(), EncodeError>
+        ensures written { OnOk result (AddsFields E.holds E.notation group (group_slots self.now)
+            encoder.old encoder.new) }
+        ensures refused { IfErr result (RefusesAdding E.holds E.notation group (group_slots self.now)
+            encoder.old) };
+
+    /// Reads the fields, by one call of `read_field` or `read_optional_field` for each, in order.
+    fn read_group<D: Decoder>(decoder: &mut D) -> Result<Self, DecodeError>
+        ensures read { IfOk result (λ x. TakesFields D.notation group (group_slots x)
+            (D.pending decoder.old) (D.pending decoder.new)) }
+        ensures refused { IfErr result (λ e. RefusesFields D.notation group
+            (D.pending decoder.old) (error_stop e)) };
+}
+
+/// Writes the fields of two groups, one group after the other.
+#[tactic(auto, using(crate::proofs::Grouping::group_steps))]
+pub fn write_groups<A: FieldGroup, B: FieldGroup, E: Encoder>(
+    encoder: &mut E,
+    first: &A,
+    second: &B,
+) -> Result<(), EncodeError>
+    ensures written { OnOk result (AddsFields E.holds E.notation (join_fields A.group B.group)
+        (A.group_slots first.now ++ B.group_slots second.now) encoder.old encoder.new) }
+    ensures refused { IfErr result (RefusesAdding E.holds E.notation (join_fields A.group B.group)
+        (A.group_slots first.now ++ B.group_slots second.now) encoder.old) }
+{
+    first.write_group(encoder)?;
+    second.write_group(encoder)?;
+    Ok(())
+}
+
+/// Reads the fields of two groups, one group after the other.
+#[tactic(auto, using(crate::proofs::Grouping::group_steps))]
+pub fn read_groups<A: FieldGroup, B: FieldGroup, D: Decoder>(
+    decoder: &mut D,
+) -> Result<(A, B), DecodeError>
+    ensures read { IfOk result (λ x. TakesFields D.notation (join_fields A.group B.group)
+        (A.group_slots x.0 ++ B.group_slots x.1) (D.pending decoder.old) (D.pending decoder.new)) }
+    ensures refused { IfErr result (λ e. RefusesFields D.notation (join_fields A.group B.group)
+        (D.pending decoder.old) (error_stop e)) }
+{
+    let first = A::read_group(decoder)?;
+    let second = B::read_group(decoder)?;
+    Ok((first, second))
+}

@@ -40,6 +40,10 @@ impl SequenceFields for Nested {
         Self::ROWS
     }
 
+    fn listed_added() -> Option<&'static [Field]> {
+        None
+    }
+
     fn sequence_shape(alloc: Global) -> Result<Shape, OutOfMemory> {
         let mut fields = FieldShapes::new(alloc);
         fields.optional::<Struct>("very", Tag::CONTEXT_0)?;

@@ -39,6 +39,10 @@ impl SequenceFields for Renamed {
         Self::ROWS
     }
 
+    fn listed_added() -> Option<&'static [Field]> {
+        None
+    }
+
     fn sequence_shape(alloc: Global) -> Result<Shape, OutOfMemory> {
         let mut fields = FieldShapes::new(alloc);
         fields.required::<Integer>("so-very", Tag::CONTEXT_0)?;

@@ -35,6 +35,10 @@ impl SequenceFields for Struct {
         Self::ROWS
     }
 
+    fn listed_added() -> Option<&'static [Field]> {
+        None
+    }
+
     fn sequence_shape(alloc: Global) -> Result<Shape, OutOfMemory> {
         let mut fields = FieldShapes::new(alloc);
         fields.optional::<u8>("strct", Tag::CONTEXT_0)?;

@@ -4,7 +4,7 @@ use Rattle.std.specs.Fn.{Once, FnOnceReturnsAtMut}
 use Rattle.asn_base.specs.declared.tag.Tag.{Tag}
 use Rattle.asn_fault.specs.declared.encode.EncodeError.{EncodeError}
 use Rattle.asn_traits.specs.Notation.{Notation}
-use Rattle.asn_traits.specs.Shape.{Shape, Fields, Alternatives, AlternativeAdditions, Presence, SeqKind, FieldAdditions, closed_seq, all_fields, all_alternatives, alternative_tagged, tag_eq}
+use Rattle.asn_traits.specs.Shape.{Shape, Fields, Alternatives, AlternativeAdditions, Presence, SeqKind, FieldAdditions, all_fields, all_alternatives, alternative_tagged, tag_eq}
 use Rattle.asn_traits.specs.Chosen.{Chosen, chosen_value}
 use Rattle.asn_traits.specs.Value.{Value, Fits, FitsFields, FitsAlternative, is_kept, may_lack}
 use Rattle.asn_traits.specs.Writing.{Frame, push, push_all, close, as_members, as_choice, named, Turns, Written, Filled, CannotWrite, ScopeRan, CannotFill, tail_names, Offered}
@@ -43,13 +43,6 @@ scope_fields {holds = holds} {names = names} n kind root more slots r f = record
   writable = f.writable;
 }
 
--- The same, of a SEQUENCE without an extension marker.
-pub scope_members : {S F : Type 0} {g : Once F (MutBor S × Unit {0}) (Result (Unit {0}) EncodeError × (MutBor S × Unit {0}))} {f : F} {holds : S → List Frame → Type 0} {names : List (List ℕ)} {old new : S} (n : Notation) (all : Fields) (slots : Frame)
-    → (r : ScopeRan holds (FnOnceReturnsAtMut g f) old (Ok tt) (λ left. Turns holds (close (as_members names)) left new))
-    → Filled holds n all names slots r.answered.shown.now r.answered.left.now
-    → Written holds n (closed_seq all) (Value.members (named slots names)) old new
-scope_members n all slots r f = scope_fields n SeqKind.sequence all FieldAdditions.closed_fields slots r f
-
 -- What is written as the payload is offered, where it fits its alternative.
 pub offered : {S : Type 0} {holds : S → List Frame → Type 0} {n : Notation} {s : Shape} {v : Value} {all : Alternatives} {id : List ℕ} {old new : S} → Written holds n s v old new → FitsAlternative all id v → Offered holds n all id v old new
 offered w fits = record { added = w.added; fit = fits; writable = w.writable }
@@ -71,7 +64,7 @@ tagged_or_later true id name t s shape alts named v later e fit =
     let d : ◌≡◌ {A = Option (List ℕ × Shape)} (Some (id, s)) (Some (name, shape)) = e in
     let p : ◌≡◌ {A = List ℕ × Shape} (id, s) (name, shape) = cc d in
     subst (λ n. FitsAlternative (Alternatives.alternative id t s alts) n v) (ap (λ (r : List ℕ × Shape). r.0) p)
-        (FitsAlternative.fits_here (subst (λ r. Fits r v) (sym (ap (λ (r : List ℕ × Shape). r.1) p)) fit))
+    (FitsAlternative.fits_here (subst (λ r. Fits r v) (sym (ap (λ (r : List ℕ × Shape). r.1) p)) fit))
 tagged_or_later false id name t s shape alts named v later e fit = FitsAlternative.fits_later (later e)
 
 -- A value of the shape of the alternative of a tag fits.

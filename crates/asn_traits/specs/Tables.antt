@@ -1,9 +1,9 @@
 -- What tables of constants say.
-use Rattle.std.specs.Prelude.{ℕ, suc, List, [], ◌∷◌, map, Option, Some, None}
+use Rattle.std.specs.Prelude.{ℕ, suc, List, [], ◌∷◌, map, length, Option, Some, None}
 use Rattle.asn_base.specs.Tags.{smallest}
 use Rattle.asn_base.specs.declared.tag.Tag.{Tag}
 use Rattle.asn_base.specs.declared.tag_tree.TagTree.{TagTree}
-use Rattle.asn_traits.specs.Shape.{Fields, Alternatives, AlternativeAdditions, Presence, tags, end_tag}
+use Rattle.asn_traits.specs.Shape.{Fields, FieldAdditions, Alternatives, AlternativeAdditions, Presence, field_names, tags, end_tag}
 use Rattle.asn_traits.specs.declared.types.Field.{Field}
 use Rattle.asn_traits.specs.declared.types.Presence.{Presence as PresenceKind}
 use Rattle.asn_traits.specs.declared.types.Presence.TheVariants as kind
@@ -33,6 +33,11 @@ presence_kind (Presence.default p) = kind.Default
 abbrev pub field_rows : ℕ → Fields → List Row
 field_rows k Fields.no_fields = []
 field_rows k (Fields.field n t p s fs) = record { place = k; tag = Some t; presence = presence_kind p; name = n } ∷ field_rows (suc k) fs
+
+-- The rows of the extension additions, if there is an extension marker. Their places go on from those of the root fields.
+abbrev pub added_rows : Fields → FieldAdditions → Option (List Row)
+added_rows fs FieldAdditions.closed_fields = None
+added_rows fs (FieldAdditions.extended_fields more) = Some (field_rows (length (field_names fs)) more)
 
 -- The smallest tags of alternatives.
 abbrev pub smallest_tags : List TagTree → List (Option Tag)

@@ -5,7 +5,7 @@ ghost use Rattle.asn_fault.specs.Stop.{Why, at_root, error_stop};
 ghost use Rattle.asn_traits.specs.Fixed.{fixed_size};
 ghost use Rattle.asn_traits.specs.Leaf.{codec_of};
 ghost use Rattle.asn_traits.specs.Notation.{Notation, notation_of};
-ghost use Rattle.asn_traits.specs.Shape.{are_distinct, Shape, Alphabet, FieldAdditions, all_alternatives, field_names};
+ghost use Rattle.asn_traits.specs.Shape.{are_distinct, Shape, Alphabet, all_alternatives, all_fields, field_names};
 ghost use Rattle.asn_traits.specs.Tree.{Slot, head_nodes, slot_nodes};
 ghost use Rattle.asn_traits.specs.Value.{Value, values};
 ghost use Rattle.asn_traits.specs.Answer.{Answer, AnswerBy, AnswerUnder, TakesAbsent, OptionalAnswer};
@@ -15,7 +15,7 @@ ghost use Rattle.asn_traits.specs.Tables.{names_of};
 ghost use Rattle.std.specs.Prelude.{true, ◌≡◌, ℕ, pos, List, ◌∷◌, ◌++◌, ◌<◌, map, length, string_bytes};
 
 use crate::leaves::beyond_128_bits;
-use crate::tables::{listed, tag_at};
+use crate::tables::{listed, listed_fields, tag_at};
 use crate::{AsnType, Choice, Constructed, Enumerated, Field, IntegerType, LeafKind, OwnedLeaf};
 use asn_base::{Codec, Constraints, Tag};
 use asn_fault::{DecodeError, Refusal};
@@ -56,11 +56,12 @@ pub trait Decoder {
     fn open_list(&mut self) -> Result<usize, DecodeError>
         ensures { OpensList notation (pending self.old) result (pending self.new) };
 
-    /// Puts the slots of these fields of the first pending slot in its place.
-    fn open_members(&mut self, fields: &[Field]) -> Result<(), DecodeError>
-        requires { are_distinct (names_of fields.now) ≡ true }
-        ensures { OpensMembers notation (names_of fields.now) (pending self.old) result
-            (pending self.new) };
+    /// Puts the slots of these fields of the first pending slot in its place: those of the root
+    /// fields, and then those of the extension additions.
+    fn open_members(&mut self, root: &[Field], additions: &[Field]) -> Result<(), DecodeError>
+        requires { are_distinct (names_of root.now ++ names_of additions.now) ≡ true }
+        ensures { OpensMembers notation (names_of root.now ++ names_of additions.now)
+            (pending self.old) result (pending self.new) };
 
     /// Puts the payload of the first pending slot, a choice, in its place, and answers the place of its identifier.
     fn open_choice(&mut self, identifiers: &[&'static str]) -> Result<Option<usize>, DecodeError>
@@ -181,7 +182,8 @@ pub trait Decoder {
         Ok(items)
     }
 
-    /// Reads a SEQUENCE: `decode_fn` starts with one slot per field before the others, and takes them all. Its error is a `DecodeError`.
+    /// Reads a SEQUENCE: `decode_fn` starts with one slot per field before the others, extension
+    /// additions last, and takes them all. Its error is a `DecodeError`.
     final fn decode_sequence<C: Constructed, E: Refusal, F: FnOnce(&mut Self) -> Result<C, E>>(
         &mut self,
         tag: Tag,
@@ -189,15 +191,19 @@ pub trait Decoder {
     ) -> Result<C, E>
         requires callable { (p : _) (slot : Slot) (slots rest : List Slot)
             → pending self.old ≡ slot ∷ rest → pending p.now ≡ slots ++ rest
-            → length slots ≡ length (field_names C.fields) → AllBelow (slot_nodes slot) slots → F.pre decode_fn p }
+            → length slots ≡ length (field_names (all_fields C.fields C.added))
+            → AllBelow (slot_nodes slot) slots → F.pre decode_fn p }
         requires reads { (p : _) (r : _) (q : _) (slots rest : List Slot)
-            → pending p.now ≡ slots ++ rest → length slots ≡ length (field_names C.fields)
-            → F.post decode_fn p r q → ScopeAnswer E.stop notation C.fields C.value_of slots rest r (pending q.now) }
-        ensures { AnswerBy E.stop notation
-            (Shape.seq C.kind C.fields FieldAdditions.closed_fields) C.value_of
+            → pending p.now ≡ slots ++ rest
+            → length slots ≡ length (field_names (all_fields C.fields C.added))
+            → F.post decode_fn p r q
+            → ScopeAnswer E.stop notation (all_fields C.fields C.added) C.value_of slots rest r
+            (pending q.now) }
+        ensures { AnswerBy E.stop notation (Shape.seq C.kind C.fields C.added) C.value_of
             (pending self.old) result (pending self.new) }
     {
-        match self.open_members(C::field_table().items) {
+        let additions = listed_fields(C::extended_field_table());
+        match self.open_members(C::field_table().items, additions) {
             Ok(()) => decode_fn(self),
             Err(error) => Err(E::of(error)),
         }

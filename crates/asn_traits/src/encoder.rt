@@ -4,15 +4,15 @@
 ghost use Rattle.asn_traits.specs.Fixed.{fixed_size};
 ghost use Rattle.asn_traits.specs.Leaf.{leaf_value};
 ghost use Rattle.asn_traits.specs.Notation.{Notation, notation_of};
-ghost use Rattle.asn_traits.specs.Shape.{Shape, Alphabet, all_alternatives, field_names, alternative_tagged};
+ghost use Rattle.asn_traits.specs.Shape.{Shape, Alphabet, all_alternatives, all_fields, field_names, alternative_tagged};
 ghost use Rattle.asn_traits.specs.Tables.{names_of};
 ghost use Rattle.asn_traits.specs.Value.{Value, values};
 ghost use Rattle.asn_traits.specs.Writing.{Frame, push, close, as_list, as_members, as_choice, Written, WrittenUnder, CannotWrite, CannotWriteUnder, ScopeRan, Turns, Puts};
 ghost use Rattle.std.specs.Fn.{FnOnceReturnsAtMut};
-ghost use Rattle.std.specs.Prelude.{◌≡◌, ◌⊎◌, pos, ◌∷◌, [], ℕ, List, Option, Some, None, Ok, Err, map, option_map, OnOk, IfErr, IfSome, IsOk, IsSome, ⊤};
+ghost use Rattle.std.specs.Prelude.{◌≡◌, ◌⊎◌, pos, ◌∷◌, ◌++◌, [], ℕ, List, Option, Some, None, Ok, Err, map, option_map, OnOk, IfErr, IfSome, IsOk, IsSome, ⊤};
 
 use crate::leaves::are_octets;
-use crate::tables::{identifier_of, listed};
+use crate::tables::{identifier_of, listed, listed_fields};
 use crate::{AsnType, Choice, Constructed, Enumerated, Field, IntegerType, Leaf};
 use asn_base::{Codec, Constraints, Identifier, Tag, WholeNumber};
 use asn_fault::{EncodeError, EncodeErrorKind};
@@ -56,10 +56,11 @@ pub trait Encoder {
         ensures closed { OnOk result (Turns holds (close as_list) self.old self.new) }
         ensures refused { IfErr result (λ e. e.kind ≡ EncodeErrorKind.OutOfMemory) };
 
-    /// Puts the last frame into the one before it as members, by the names of these fields. It refuses memory alone.
-    fn close_members(&mut self, fields: &[Field]) -> Result<(), EncodeError>
+    /// Puts the last frame into the one before it as members, by the names of these fields: the
+    /// root fields, and then the extension additions. It refuses memory alone.
+    fn close_members(&mut self, root: &[Field], additions: &[Field]) -> Result<(), EncodeError>
         ensures closed { OnOk result (Turns holds (close
-            (as_members (names_of fields.now))) self.old self.new) }
+            (as_members (names_of root.now ++ names_of additions.now))) self.old self.new) }
         ensures refused { IfErr result (λ e. e.kind ≡ EncodeErrorKind.OutOfMemory) };
 
     /// Puts the first slot of the last frame into the one before it as the payload of a choice. It refuses memory alone.
@@ -249,7 +250,8 @@ pub trait Encoder {
         self.close_list()
     }
 
-    /// Writes a SEQUENCE: the closure starts on a new frame and leaves one slot per field in it. What it wrote is told by its own clauses.
+    /// Writes a SEQUENCE: the closure starts on a new frame and leaves one slot per field in it,
+    /// extension additions last. What it wrote is told by its own clauses.
     final fn encode_sequence<C: Constructed, F: FnOnce(&mut Self) -> Result<(), EncodeError>>(
         &mut self,
         tag: Tag,
@@ -259,13 +261,18 @@ pub trait Encoder {
     where
         Self: Sized,
         requires { F.IsAlwaysCallable encoder_scope }
-        ensures written { OnOk result (ScopeRan holds (FnOnceReturnsAtMut F.FnOnce encoder_scope) self.old (Ok tt) (λ left. Turns holds (close (as_members (field_names C.fields))) left self.new)) }
+        ensures written { OnOk result (ScopeRan holds (FnOnceReturnsAtMut F.FnOnce encoder_scope)
+            self.old (Ok tt) (λ left. Turns holds (close
+            (as_members (field_names (all_fields C.fields C.added)))) left self.new)) }
         ensures refused { IfErr result (λ e. (e.kind ≡ EncodeErrorKind.OutOfMemory)
             ⊎ ScopeRan holds (FnOnceReturnsAtMut F.FnOnce encoder_scope) self.old (Err e) (λ left. ⊤)) }
     {
         self.open_frame()?;
         encoder_scope(self)?;
-        self.close_members(C::field_table().items)
+        self.close_members(
+            C::field_table().items,
+            listed_fields(C::extended_field_table()),
+        )
     }
 
     /// Writes a CHOICE: the closure starts on a new frame and leaves the payload's slot in it. What it wrote is told by its own clauses.

@@ -3,7 +3,7 @@ ghost use Rattle.asn_traits.specs.Answer.{AnswerUnder};
 ghost use Rattle.asn_traits.specs.Chosen.{chosen_value};
 ghost use Rattle.asn_traits.specs.Fixed.{fixed_size};
 ghost use Rattle.asn_traits.specs.Readable.{is_readable};
-ghost use Rattle.asn_traits.specs.Shape.{Shape as AbstractShape, closed_seq, shape_under};
+ghost use Rattle.asn_traits.specs.Shape.{Shape as AbstractShape, SeqKind, all_fields, shape_under};
 ghost use Rattle.asn_traits.specs.ShapeView.{shape_view};
 ghost use Rattle.asn_traits.specs.Value.{Value, value_under};
 ghost use Rattle.asn_traits.specs.Writing.{CannotWriteUnder, WrittenUnder, members_value};
@@ -191,9 +191,9 @@ pub struct SequenceKind;
 impl<T: SequenceFields> DescribeKind<T> for SequenceKind {
     const TAG: Tag = Tag::SEQUENCE;
 
-    ghost shape = { closed_seq T.fields };
+    ghost shape = { AbstractShape.seq SeqKind.sequence T.fields T.added };
 
-    ghost value = { λ x. members_value T.fields (T.slots x) };
+    ghost value = { λ x. members_value (all_fields T.fields T.added) (T.slots x) };
 
     fn shape_as(alloc: Global) -> Result<Shape, OutOfMemory> {
         T::sequence_shape(alloc)

@@ -18,14 +18,15 @@ mod shape_type;
 mod tables;
 mod types;
 
-pub use asn_base::TagTree;
 pub use alternative::{ChoicePayload, write_choice};
+pub use asn_base::TagTree;
 pub use decoder::{Decode, DecodeChoice, Decoder};
 pub use encoder::{Encode, Encoder};
 pub use fields::{read_field, read_optional_field, write_field, write_optional_field};
 pub use integer_type::IntegerType;
 pub use kinds::{
-    ChoiceKind, DecodeKind, DescribeKind, Described, EncodeKind, EnumeratedKind, IntegerKind, OfKind, SequenceKind,
+    ChoiceKind, DecodeKind, DescribeKind, Described, EncodeKind, EnumeratedKind, IntegerKind,
+    OfKind, SequenceKind,
 };
 pub use leaves::{Leaf, LeafKind, OwnedLeaf};
 pub use plain::OctetString;
@@ -35,4 +36,5 @@ pub use shape_parts::{AlternativeShapes, FieldShapes, enumerated_shape};
 pub use shape_type::{
     Alphabet, AlternativeShape, FieldShape, Plain, PresenceShape, SeqKind, Shape,
 };
+pub use tables::{field_name, place_of, place_of_field};
 pub use types::{AsnType, Choice, Constructed, Enumerated, Field, Fields, Presence};

@@ -4,53 +4,62 @@ ghost use Rattle.asn_traits.specs.Answer.{Answer};
 ghost use Rattle.asn_traits.specs.Passing.{AddsFields, RefusesAdding, RefusesFields, TakesFields};
 ghost use Rattle.asn_traits.specs.Readable.{is_readable};
 ghost use Rattle.asn_traits.specs.Scopes.{ScopeAnswers};
-ghost use Rattle.asn_traits.specs.Shape.{Fields as AbstractFields, closed_seq, field_names};
+ghost use Rattle.asn_traits.specs.Shape.{Shape as AbstractShape, SeqKind, Fields as AbstractFields, FieldAdditions, all_fields, field_names};
 ghost use Rattle.asn_traits.specs.ShapeView.{shape_view};
-ghost use Rattle.asn_traits.specs.Tables.{field_rows, rows_of};
+ghost use Rattle.asn_traits.specs.Tables.{added_rows, field_rows, rows_of};
 ghost use Rattle.asn_traits.specs.Writing.{CannotFill, CannotWrite, Filled, Frame, Written, members_value};
-ghost use Rattle.std.specs.Prelude.{◌≡◌, IfErr, IfOk, None, OnOk, refl, true};
+ghost use Rattle.std.specs.Prelude.{◌≡◌, IfErr, IfOk, OnOk, option_map, refl, true};
 
-use crate::{
-    Constructed, Decoder, Described, Encoder, Field, Fields, OfKind, SequenceKind, Shape,
-};
+use crate::{Constructed, Decoder, Described, Encoder, Field, Fields, OfKind, SequenceKind, Shape};
 use asn_base::{Identifier, OutOfMemory, Tag};
 use asn_fault::{DecodeError, EncodeError};
 use std::alloc::Global;
 
 /// A SEQUENCE that is written and read field by field, in the order of its fields.
 pub trait SequenceFields: OfKind<Kind = SequenceKind> + Described {
-    /// The fields, in order.
+    /// The root fields, in order.
     const ROWS: &'static [Field];
+
+    /// The extension additions, in order. None exactly where there is no extension marker.
+    const ADDED: Option<&'static [Field]> = None;
 
     ghost fields: { AbstractFields };
 
-    // The values of the fields, in order: one slot for each, absent where the field is.
+    ghost added: { FieldAdditions } = { FieldAdditions.closed_fields };
+
+    // The values of the fields, in order, extension additions last: one slot for each, absent
+    // where the field is.
     ghost slots: { Self → Frame };
 
     /// `ROWS`, which tell of the fields: their places, smallest tags, presence and names.
     fn listed() -> &'static [Field]
         ensures { rows_of result.now ≡ field_rows 0 fields };
 
+    /// `ADDED`, which tell of the extension additions in the same way.
+    fn listed_added() -> Option<&'static [Field]>
+        ensures { option_map (λ t. rows_of t.now) result ≡ added_rows fields added };
+
     /// The shape of the type. Its one error is want of memory.
     fn sequence_shape(alloc: Global) -> Result<Shape, OutOfMemory>
-        ensures { IfOk result (λ s. shape_view s ≡ closed_seq fields) };
+        ensures { IfOk result (λ s. shape_view s
+            ≡ AbstractShape.seq SeqKind.sequence fields added) };
 
     /// Writes the fields, by one call of `write_field` or `write_optional_field` for each, in order.
     fn write_fields<E: Encoder>(&self, encoder: &mut E) -> Result<(), EncodeError>
-        ensures written { OnOk result (AddsFields E.holds E.notation fields (slots self.now)
-            encoder.old encoder.new) }
-        ensures refused { IfErr result (RefusesAdding E.holds E.notation fields (slots self.now)
-            encoder.old) };
+        ensures written { OnOk result (AddsFields E.holds E.notation (all_fields fields added)
+            (slots self.now) encoder.old encoder.new) }
+        ensures refused { IfErr result (RefusesAdding E.holds E.notation (all_fields fields added)
+            (slots self.now) encoder.old) };
 
     /// Reads the fields, by one call of `read_field` or `read_optional_field` for each, in order.
     fn read_fields<D: Decoder>(decoder: &mut D) -> Result<Self, DecodeError>
-        ensures read { IfOk result (λ x. TakesFields D.notation fields (slots x)
+        ensures read { IfOk result (λ x. TakesFields D.notation (all_fields fields added) (slots x)
             (D.pending decoder.old) (D.pending decoder.new)) }
-        ensures refused { IfErr result (λ e. RefusesFields D.notation fields
+        ensures refused { IfErr result (λ e. RefusesFields D.notation (all_fields fields added)
             (D.pending decoder.old) (error_stop e)) };
 
     // The shape can be read.
-    ghost readable: { is_readable (closed_seq fields) ≡ true };
+    ghost readable: { is_readable (AbstractShape.seq SeqKind.sequence fields added) ≡ true };
 }
 
 /// Writes a SEQUENCE by its fields.
@@ -60,15 +69,18 @@ pub fn write_sequence<T: SequenceFields, E: Encoder>(
     tag: Tag,
     identifier: Identifier,
 ) -> Result<(), EncodeError>
-    ensures written { OnOk result (Written E.holds E.notation (closed_seq T.fields)
-        (members_value T.fields (T.slots value.now)) encoder.old encoder.new) }
-    ensures refused { IfErr result (CannotWrite E.notation (members_value T.fields (T.slots value.now))) }
+    ensures written { OnOk result (Written E.holds E.notation
+        (AbstractShape.seq SeqKind.sequence T.fields T.added)
+        (members_value (all_fields T.fields T.added) (T.slots value.now)) encoder.old encoder.new) }
+    ensures refused { IfErr result (CannotWrite E.notation
+        (members_value (all_fields T.fields T.added) (T.slots value.now))) }
 {
     encoder.encode_sequence::<T, _>(
         tag,
         |encoder: &mut E| -> Result<(), EncodeError>
-            ensures written { OnOk result (Filled E.holds E.notation T.fields (field_names T.fields)
-                (T.slots value.entry.now) encoder.entry.now encoder.exit.now) }
+            ensures written { OnOk result (Filled E.holds E.notation (all_fields T.fields T.added)
+                (field_names (all_fields T.fields T.added)) (T.slots value.entry.now)
+                encoder.entry.now encoder.exit.now) }
             ensures refused { IfErr result (CannotFill E.notation (T.slots value.entry.now)) }
         {
             match value.write_fields(encoder) {
@@ -85,14 +97,16 @@ pub fn read_sequence<T: SequenceFields, D: Decoder>(
     decoder: &mut D,
     tag: Tag,
 ) -> Result<T, DecodeError>
-    ensures { Answer D.notation (closed_seq T.fields) (λ x. members_value T.fields (T.slots x)) (D.pending decoder.old) result
-        (D.pending decoder.new) }
+    ensures { Answer D.notation (AbstractShape.seq SeqKind.sequence T.fields T.added)
+        (λ x. members_value (all_fields T.fields T.added) (T.slots x))
+        (D.pending decoder.old) result (D.pending decoder.new) }
 {
     decoder.decode_sequence(
         tag,
         |decoder: &mut D| -> Result<T, DecodeError>
-            ensures { ScopeAnswers D.notation T.fields (λ x. members_value T.fields (T.slots x)) (D.pending decoder.old) result
-                (D.pending decoder.new) }
+            ensures { ScopeAnswers D.notation (all_fields T.fields T.added)
+                (λ x. members_value (all_fields T.fields T.added) (T.slots x))
+                (D.pending decoder.old) result (D.pending decoder.new) }
         {
             match T::read_fields(decoder) {
                 Ok(value) => Ok(value),
@@ -105,10 +119,21 @@ pub fn read_sequence<T: SequenceFields, D: Decoder>(
 impl<T: SequenceFields> Constructed for T {
     const FIELDS: Fields = Fields { items: T::ROWS };
 
+    const EXTENDED_FIELDS: Option<Fields> = match T::ADDED {
+        Some(items) => Some(Fields { items }),
+        None => None,
+    };
+
     ghost fields = { T.fields };
+
+    ghost added = { T.added };
 
     fn field_table() -> Fields {
         Fields { items: T::listed() }
+    }
+
+    fn extended_field_table() -> Option<Fields> {
+        T::listed_added().map(|items| Fields { items })
     }
 
     ghost of_fields = { refl };

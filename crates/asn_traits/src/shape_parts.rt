@@ -1,5 +1,5 @@
 // Putting the shapes of a type's parts together, for its call `shape`.
-ghost use Rattle.asn_traits.specs.Shape.{Shape as AbstractShape, Fields as AbstractFields, Presence as AbstractPresence, Alternatives, AlternativeAdditions, closed_seq, closed_choice};
+ghost use Rattle.asn_traits.specs.Shape.{Shape as AbstractShape, SeqKind as AbstractKind, Fields as AbstractFields, FieldAdditions, Presence as AbstractPresence, Alternatives, AlternativeAdditions, closed_seq, closed_choice};
 ghost use Rattle.asn_traits.specs.ShapeView.{shape_view, field_views, alternative_views, with_last_field, with_last_alternative, presence_view};
 ghost use Rattle.std.specs.Prelude.{◌≡◌, IfOk, OnOk, map, option_map, string_bytes};
 
@@ -70,6 +70,24 @@ impl FieldShapes {
             kind: SeqKind::Sequence,
             fields: items,
             added: None,
+        }
+    }
+
+    /// The SEQUENCE of these fields, with `added` after the extension marker.
+    pub fn extensible_sequence(self, added: FieldShapes) -> Shape
+        ensures { shape_view result ≡ AbstractShape.seq AbstractKind.sequence
+            (field_views self.items.items)
+            (FieldAdditions.extended_fields (field_views added.items.items)) }
+    {
+        let FieldShapes { alloc: _, items } = self;
+        let FieldShapes {
+            alloc: _,
+            items: added,
+        } = added;
+        Shape::Seq {
+            kind: SeqKind::Sequence,
+            fields: items,
+            added: Some(added),
         }
     }
 }

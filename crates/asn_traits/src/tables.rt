@@ -1,9 +1,13 @@
 // Looking things up in tables of constants.
 ghost use Rattle.asn_base.specs.Tags.{smallest};
-ghost use Rattle.asn_traits.specs.Shape.{tag_eq, is_tag, name_tagged, class_number, end_tag};
-ghost use Rattle.asn_traits.specs.Tables.{smallest_tags, or_end};
-ghost use Rattle.std.specs.Prelude.{◌≡◌, ◌++◌, [], map, option_map, get_or, Option, Some, None, unwrap_or};
+ghost use Rattle.asn_traits.specs.Shape.{tag_eq, is_tag, name_tagged, place_named, class_number, end_tag};
+ghost use Rattle.asn_traits.specs.Tables.{names_of, smallest_tags, or_end};
+ghost use Rattle.asn_traits.specs.Tree.{same_identifier};
+ghost use Rattle.asn_traits.specs.Writing.{head_name};
+ghost use Rattle.std.specs.Prelude.{◌≡◌, ◌+◌, ◌<◌, ◌++◌, [], map, length, drop, option_map, get_or, Option, Some, None, IfSome, unwrap_or};
+ghost use Rattle.std.specs.Str.{bytes_eq};
 
+use crate::{Field, Fields};
 use asn_base::{Class, Tag, TagTree};
 
 /// The items of a table, and none where there is no table.
@@ -14,6 +18,66 @@ pub fn listed<T: Copy>(table: Option<&'static [T]>) -> &'static [T]
         Some(items) => items,
         None => &[],
     }
+}
+
+/// The fields of a table, and none where there is no table.
+pub fn listed_fields(table: Option<Fields>) -> &'static [Field]
+    ensures { result.now ≡ unwrap_or (option_map (λ t. t.items.now) table) [] }
+{
+    listed(table.map(|fields| fields.items))
+}
+
+/// The name of the field at the place, where extension additions come last. Empty past the fields.
+pub fn field_name(root: &[Field], additions: &[Field], place: usize) -> &'static str
+    ensures { result.now ≡ head_name (drop place (names_of root.now ++ names_of additions.now)) }
+{
+    if place < root.len() {
+        name_at(root, place)
+    } else {
+        name_at(additions, place - root.len())
+    }
+}
+
+/// The name of the field at the place. Empty past the fields.
+fn name_at(fields: &[Field], place: usize) -> &'static str
+    ensures { result.now ≡ head_name (drop place (names_of fields.now)) }
+{
+    match fields.get(place) {
+        Some(field) => field.name,
+        None => "",
+    }
+}
+
+/// The first place of the field of this name, where extension additions come last.
+pub fn place_of_field(root: &[Field], additions: &[Field], name: &str) -> Option<usize>
+    ensures is { result ≡ place_named bytes_eq (names_of root.now ++ names_of additions.now)
+        name.now }
+    ensures below { IfSome result (λ k. k < length root.now + length additions.now) }
+{
+    let Some((first, others)) = root.split_first() else {
+        return if additions.is_empty() {
+            None
+        } else {
+            place_of_field(additions, &[], name)
+        };
+    };
+    if first.name == name {
+        return Some(0);
+    }
+    Some(place_of_field(others, additions, name)? + 1)
+}
+
+/// The first place of the identifier. The case of ASCII letters makes no difference.
+pub fn place_of(identifiers: &[&'static str], name: &str) -> Option<usize>
+    ensures is { result ≡ place_named same_identifier (map (λ s. s.now) identifiers.now)
+        name.now }
+    ensures below { IfSome result (λ k. k < length identifiers.now) }
+{
+    let (first, others) = identifiers.split_first()?;
+    if name.eq_ignore_ascii_case(*first) {
+        return Some(0);
+    }
+    Some(place_of(others, name)? + 1)
 }
 
 /// The identifier beside the alternative of this smallest tag, where added alternatives come last.

@@ -4,8 +4,8 @@ ghost use Rattle.asn_traits.specs.Readable.{is_readable};
 ghost use Rattle.asn_traits.specs.Shape.{Shape as AbstractShape, Fields as FieldShapes, SeqKind, FieldAdditions, Alternatives, AlternativeAdditions, all_alternatives, all_items, identifiers, is_item, opened, shape_under};
 ghost use Rattle.asn_traits.specs.ShapeView.{shape_view};
 ghost use Rattle.asn_traits.specs.Value.{Value, value_under};
-ghost use Rattle.asn_traits.specs.Tables.{rows_of, field_rows, smallest_tags, root_tags, added_tags};
-ghost use Rattle.std.specs.Prelude.{◌≡◌, ℕ, List, Option, None, map, option_map, true, false, IfOk, MatchOption};
+ghost use Rattle.asn_traits.specs.Tables.{rows_of, field_rows, added_rows, smallest_tags, root_tags, added_tags};
+ghost use Rattle.std.specs.Prelude.{◌≡◌, ℕ, List, Option, map, option_map, true, false, IfOk, MatchOption};
 
 use crate::{Described, EnumeratedKind, OfKind, Shape};
 use asn_base::{Constraints, Identifier, OutOfMemory, Tag, TagTree};
@@ -22,7 +22,7 @@ pub enum Presence {
 /// A field of a SEQUENCE or SET (X.680, sections 25 and 27).
 #[derive(Clone, Copy)]
 pub struct Field {
-    /// Its place among the fields.
+    /// Its place among all fields: those of the root, and then the extension additions.
     pub index: usize,
     pub tag: Tag,
     /// The tags that its value may begin with.
@@ -154,28 +154,28 @@ pub trait AsnType {
 
 /// A SEQUENCE or SET.
 pub trait Constructed: AsnType {
+    /// The root fields, in order.
     const FIELDS: Fields;
 
-    /// The fields after the extension marker, if there is one. A type has none yet.
+    /// The extension additions, in order. None exactly where there is no extension marker.
     const EXTENDED_FIELDS: Option<Fields> = None;
 
     ghost kind: { SeqKind } = { SeqKind.sequence };
 
     ghost fields: { FieldShapes };
 
+    ghost added: { FieldAdditions } = { FieldAdditions.closed_fields };
+
     /// `FIELDS`, which tell of the shape's fields: their places, smallest tags, presence and names.
     fn field_table() -> Fields
         ensures { rows_of result.items.now ≡ field_rows 0 fields };
 
-    /// `EXTENDED_FIELDS`.
+    /// `EXTENDED_FIELDS`, which tell of the shape's extension additions in the same way.
     fn extended_field_table() -> Option<Fields>
-        ensures { result ≡ None }
-    {
-        None
-    }
+        ensures { option_map (λ t. rows_of t.items.now) result ≡ added_rows fields added };
 
     // The shape is that of these fields.
-    ghost of_fields: { opened Self.shape_of ≡ AbstractShape.seq kind fields FieldAdditions.closed_fields };
+    ghost of_fields: { opened Self.shape_of ≡ AbstractShape.seq kind fields added };
 }
 
 /// A CHOICE (X.680, section 29).

@@ -1,16 +1,15 @@
 // AVN values made of slots.
 ghost use Rattle.asn_traits.specs.Tables.{names_of};
-ghost use Rattle.asn_traits.specs.Writing.{head_name};
 ghost use Rattle.avn_grammar.specs.Tree.{integer, choice};
 ghost use Rattle.asn_slots.specs.Trees.{trees_of};
 ghost use Rattle.avn_rules.specs.Holding.{named_fields};
 ghost use Rattle.avn_value.specs.View.{tree_of, fields_trees};
 ghost use Rattle.asn_base.specs.Numbers.{signed};
 ghost use Rattle.std.specs.Fmt.{signed_decimal};
-ghost use Rattle.std.specs.Prelude.{◌≡◌, IfOk, drop};
+ghost use Rattle.std.specs.Prelude.{◌≡◌, ◌++◌, IfOk};
 
 use asn_base::{OutOfMemory, WholeNumber};
-use asn_traits::Field;
+use asn_traits::{Field, field_name};
 use avn_value::AvnValue;
 use std::alloc::Global;
 
@@ -22,17 +21,20 @@ pub fn integer_of(alloc: Global, number: WholeNumber) -> Result<AvnValue, OutOfM
     Ok(AvnValue::Integer(text))
 }
 
-/// The fields of the slots, each with the name of the field at its place. Memory may run out.
+/// The fields of the slots, each with the name of the field at its place, where extension
+/// additions come last. Memory may run out.
 pub fn fields_of(
     alloc: Global,
     slots: Vec<Option<AvnValue>>,
-    fields: &[Field],
+    root: &[Field],
+    additions: &[Field],
 ) -> Result<Vec<(String, Option<AvnValue>)>, OutOfMemory>
-    ensures { IfOk result (λ v. fields_trees v.items ≡ named_fields (trees_of tree_of slots.items) (names_of fields.now)) }
+    ensures { IfOk result (λ v. fields_trees v.items ≡ named_fields
+        (trees_of tree_of slots.items) (names_of root.now ++ names_of additions.now)) }
 {
     let mut named = Vec::new(alloc);
     for slot in slots {
-        let name = String::from_str(alloc, field_name(fields, named.len()))?;
+        let name = String::from_str(alloc, field_name(root, additions, named.len()))?;
         named.push((name, slot))?;
     }
     Ok(named)
@@ -49,14 +51,4 @@ pub fn choice_of(
     let identifier = String::from_str(alloc, identifier)?;
     let value = Box::new(alloc, payload)?;
     Ok(AvnValue::Choice { identifier, value })
-}
-
-// The name of the field at the place, empty past the fields.
-fn field_name(fields: &[Field], place: usize) -> &'static str
-    ensures { result.now ≡ head_name (drop place (names_of fields.now)) }
-{
-    match fields.get(place) {
-        Some(field) => field.name,
-        None => "",
-    }
 }

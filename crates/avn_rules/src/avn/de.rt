@@ -11,11 +11,11 @@ ghost use Rattle.std.specs.Prelude.{◌≡◌, ◌∷◌, [], Some, IfOk, IfErr,
 
 use super::faults::{end_of_input, mismatch, no_item, no_number, no_utf8};
 use super::leaves::{NoLeaf, leaf_of_avn};
-use super::parts::{into_choice, into_fields, into_items, place_of, slots_of};
+use super::parts::{into_choice, into_fields, into_items, slots_of};
 use asn_base::Codec;
 use asn_fault::DecodeError;
 use asn_slots::Pending;
-use asn_traits::{Field, LeafKind, OwnedLeaf};
+use asn_traits::{Field, LeafKind, OwnedLeaf, place_of};
 use avn_value::{AvnValue, parse_avn};
 use std::alloc::Global;
 
@@ -126,12 +126,12 @@ impl asn_traits::Decoder for Decoder {
         }
     }
 
-    fn open_members(&mut self, fields: &[Field]) -> Result<(), DecodeError> {
+    fn open_members(&mut self, root: &[Field], additions: &[Field]) -> Result<(), DecodeError> {
         let members = match into_fields(self.alloc, self.take()?) {
             Ok(members) => members,
             Err(other) => return Err(mismatch(self.alloc, "sequence", &other)),
         };
-        let Ok(slots) = slots_of(self.alloc, members, fields) else {
+        let Ok(slots) = slots_of(self.alloc, members, root, additions) else {
             return Err(DecodeError::out_of_memory(Codec::Avn));
         };
         match self.pending.put_all(slots) {

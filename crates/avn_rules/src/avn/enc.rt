@@ -135,11 +135,11 @@ impl asn_traits::Encoder for Encoder {
         }
     }
 
-    fn close_members(&mut self, fields: &[Field]) -> Result<(), EncodeError> {
+    fn close_members(&mut self, root: &[Field], additions: &[Field]) -> Result<(), EncodeError> {
         let Ok(slots) = self.frames.close() else {
             return Err(EncodeError::out_of_memory(Codec::Avn));
         };
-        match fields_of(self.alloc, slots, fields) {
+        match fields_of(self.alloc, slots, root, additions) {
             Ok(named) => self.put(Some(AvnValue::Sequence(named))),
             Err(_) => Err(EncodeError::out_of_memory(Codec::Avn)),
         }

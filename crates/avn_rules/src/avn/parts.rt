@@ -1,16 +1,15 @@
 // The parts of an AVN value, taken out of it.
 ghost use Rattle.asn_slots.specs.Trees.{trees_of};
 ghost use Rattle.asn_traits.specs.Notation.{Notation};
-ghost use Rattle.asn_traits.specs.Shape.{are_distinct, place_named};
+ghost use Rattle.asn_traits.specs.Shape.{are_distinct};
 ghost use Rattle.asn_traits.specs.Tables.{names_of};
-ghost use Rattle.asn_traits.specs.Tree.{as_list, as_members, as_choice, tree_slots, field_slot, same_identifier};
+ghost use Rattle.asn_traits.specs.Tree.{as_list, as_members, as_choice, tree_slots, field_slot};
 ghost use Rattle.avn_rules.specs.Pending.{tree_of};
 ghost use Rattle.avn_value.specs.View.{list_trees, fields_trees};
-ghost use Rattle.std.specs.Str.{bytes_eq};
-ghost use Rattle.std.specs.Prelude.{true, ◌≡◌, ◌<◌, Some, None, IfOk, IfSome, replicate, MatchResult, string_bytes, map, length};
+ghost use Rattle.std.specs.Prelude.{true, ◌≡◌, ◌++◌, Some, None, IfOk, replicate, MatchResult, string_bytes, map};
 
 use asn_base::OutOfMemory;
-use asn_traits::Field;
+use asn_traits::{Field, place_of_field};
 use avn_value::AvnValue;
 use std::alloc::Global;
 
@@ -64,21 +63,24 @@ pub fn into_choice(value: AvnValue) -> Result<(String, AvnValue), AvnValue>
     }
 }
 
-/// The slot of each field: the value of the last present entry of its name. Entries of other names are passed over. Memory may run out.
+/// The slot of each field, extension additions last: the value of the last present entry of its
+/// name. Entries of other names are passed over. Memory may run out.
 pub fn slots_of(
     alloc: Global,
     entries: Vec<(String, Option<AvnValue>)>,
-    fields: &[Field],
+    root: &[Field],
+    additions: &[Field],
 ) -> Result<Vec<Option<AvnValue>>, OutOfMemory>
-    requires { are_distinct (names_of fields.now) ≡ true }
-    ensures { IfOk result (λ slots. trees_of tree_of slots.items ≡ map (field_slot (fields_trees entries.items)) (names_of fields.now)) }
+    requires { are_distinct (names_of root.now ++ names_of additions.now) ≡ true }
+    ensures { IfOk result (λ slots. trees_of tree_of slots.items ≡ map
+        (field_slot (fields_trees entries.items)) (names_of root.now ++ names_of additions.now)) }
 {
-    let mut slots = absent_slots(alloc, fields.len())?;
+    let mut slots = absent_slots(alloc, root.len() + additions.len())?;
     for (name, entry) in entries {
         let Some(value) = entry else {
             continue;
         };
-        let Some(place) = place_of_field(fields, name.as_str()) else {
+        let Some(place) = place_of_field(root, additions, name.as_str()) else {
             continue;
         };
         slots[place] = Some(value);
@@ -95,28 +97,4 @@ fn absent_slots(alloc: Global, count: usize) -> Result<Vec<Option<AvnValue>>, Ou
         slots.push(None)?;
     }
     Ok(slots)
-}
-
-// The first place of the field of this name.
-fn place_of_field(fields: &[Field], name: &str) -> Option<usize>
-    ensures is { result ≡ place_named bytes_eq (names_of fields.now) name.now }
-    ensures below { IfSome result (λ k. k < length fields.now) }
-{
-    let (first, others) = fields.split_first()?;
-    if first.name == name {
-        return Some(0);
-    }
-    Some(place_of_field(others, name)? + 1)
-}
-
-/// The first place of the identifier. The case of ASCII letters makes no difference.
-pub fn place_of(identifiers: &[&'static str], name: &str) -> Option<usize>
-    ensures is { result ≡ place_named same_identifier (map (λ s. s.now) identifiers.now) name.now }
-    ensures below { IfSome result (λ k. k < length identifiers.now) }
-{
-    let (first, others) = identifiers.split_first()?;
-    if name.eq_ignore_ascii_case(*first) {
-        return Some(0);
-    }
-    Some(place_of(others, name)? + 1)
 }

@@ -1,4 +1,4 @@
-use Rattle.std.proofs.Common.{◌≡◌, ap, ◌∙◌, sym, drop, length, suc, arith}
+use Rattle.std.proofs.Common.{◌≡◌, ◌++◌, ap, ◌∙◌, sym, drop, length, suc, arith}
 use Rattle.std.proofs.lemmas.List.{nil_from_length}
 use Rattle.asn_traits.specs.Tables.{names_of}
 use Rattle.asn_traits.specs.Writing.{head_name}
@@ -11,7 +11,7 @@ use Rattle.avn_rules.proofs.avn.build.fields_of.Goals as goal
 
 pub loop-slot-preserved : goal.loop-slot-preserved
 loop-slot-preserved c =
-    let names = names_of c.args.fields.now in
+    let names = names_of c.args.root.now ++ names_of c.args.additions.now in
     let xs = c.loop-slot.named in
     let ys = c.push.new.self in
     let place : c.len.result ≡ length xs.items = omega (arith, c.len.ensures, xs.ok.0) in
@@ -25,4 +25,4 @@ pub returns : goal.returns
 returns c =
     let rest = c.loop-slot.slot-iterator.rest in
     let none : length rest.items ≡ 0 = omega (arith, c.in-None.ensures.steps.0, rest.ok) in
-    all-named c.loop-slot.named.items rest.items (names_of c.args.fields.now) _ (nil_from_length rest.items none) c.loop-slot.invariant
+    all-named c.loop-slot.named.items rest.items (names_of c.args.root.now ++ names_of c.args.additions.now) _ (nil_from_length rest.items none) c.loop-slot.invariant

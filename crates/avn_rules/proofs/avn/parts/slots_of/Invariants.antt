@@ -1,4 +1,4 @@
-use Rattle.std.proofs.Common.{◌≡◌, map, length}
+use Rattle.std.proofs.Common.{◌≡◌, ◌+◌, ◌++◌, map, length}
 use Rattle.asn_slots.specs.Trees.{trees_of}
 use Rattle.asn_traits.specs.Tables.{names_of}
 use Rattle.asn_traits.specs.Tree.{field_slot}
@@ -10,6 +10,6 @@ use Rattle.avn_rules.proofs.avn.parts.slots_of.Given as goal
 -- The entries that are left, and else the slots, give the slots of all entries.
 abbrev pub invariant-loop-name : goal.invariant-loop-name
 invariant-loop-name l = record {
-  taken : over (fields_trees l.name-iterator.rest.items) (names_of l.fields) (trees_of tree_of l.slots.items) ≡ map (field_slot (fields_trees l.fn.entries.items)) (names_of l.fields);
-  each : length l.slots.items ≡ length (names_of l.fields);
+  taken : over (fields_trees l.name-iterator.rest.items) (names_of l.root ++ names_of l.additions) (trees_of tree_of l.slots.items) ≡ map (field_slot (fields_trees l.fn.entries.items)) (names_of l.root ++ names_of l.additions);
+  each : length l.slots.items ≡ length l.root + length l.additions;
 }

@@ -13,7 +13,7 @@ use Rattle.avn_rules.proofs.avn.de.DecoderDecoder.open_members.Goals as goal
 
 pub returns-in-Ok-put_all : goal.returns-in-Ok-put_all
 returns-in-Ok-put_all c =
-    let names = names_of c.args.fields.now in
+    let names = names_of c.args.root.now ++ names_of c.args.additions.now in
     let look = field_slot (fields_trees c.in-Ok.members.items) in (
       _,
       map look names,

@@ -1,3 +1,4 @@
+use Rattle.std.proofs.Common.{◌++◌}
 use Rattle.std.proofs.lemmas.Result.{on_ok_weaker}
 use Rattle.asn_traits.specs.Tables.{names_of}
 use Rattle.asn_traits.specs.Writing.{as_members}
@@ -9,5 +10,5 @@ use Rattle.avn_rules.proofs.avn.enc.EncoderEncoder.close_members.Goals as goal
 
 pub returns-in-Ok-fields_of-clause-closed : goal.returns-in-Ok-fields_of-clause-closed
 returns-in-Ok-fields_of-clause-closed c =
-    let built = members_built _ _ (names_of c.args.fields.now) c.in-Ok-fields_of.ensures in
+    let built = members_built _ _ (names_of c.args.root.now ++ names_of c.args.additions.now) c.in-Ok-fields_of.ensures in
     on_ok_weaker c.put.result (λ a. frame_closed avn_tree tree_of (as_members _) _ _ _ _ _ c.in-Ok.ensures.closed built a) c.put.ensures.added

@@ -1,5 +1,6 @@
 -- Arrays and objects that are taken apart.
-use Rattle.std.proofs.Common.{◌≡◌, refl, sym, ap, ◌∙◌, ℕ, ◌<◌, List, [], ◌∷◌, ◌++◌, map, length, Option, Some, None, true, false, cond, String, Global, BTreeMap, Ordering, Less, Equal, Greater, arith}
+use Rattle.std.proofs.Common.{◌≡◌, refl, sym, ap, ap₂, ◌∙◌, append_assoc, ℕ, ◌<◌, List, [], ◌∷◌, ◌++◌, map, length, Option, Some, None, true, false, cond, String, Global, BTreeMap, Ordering, Less, Equal, Greater, arith}
+use Rattle.std.proofs.lemmas.List.{map-append}
 use Rattle.std.proofs.lemmas.Map.Text.{btree_map_updates_text}
 use Rattle.std.specs.BTreeMap.{get_by_text, UpdatesBy}
 use Rattle.std.specs.Cmp.Lexicographic.{slice_cmp}
@@ -74,6 +75,40 @@ takes_more name names all old new found before mid after apart taken is removed 
           let differ = other_parts (bytes_eq other name) (is_item names other) h in
           others-kept name old new removed other differ.0 ∙ taken.others other differ.1;
     }
+
+-- A name that is none of two lists is none of either.
+none_of_both : (xs ys : List (List ℕ)) (name : List ℕ) → is_item (xs ++ ys) name ≡ false → (is_item xs name ≡ false) × (is_item ys name ≡ false)
+none_of_both [] ys name e = (refl, e)
+none_of_both (x ∷ xs) ys name e =
+    let here = other_parts (bytes_eq name x) (is_item (xs ++ ys) name) e in
+    let rest = none_of_both xs ys name here.1 in
+    (rw here.0 rest.0, rest.1)
+
+-- Where no name of two lists stands twice, none does in either.
+pub both_distinct : (xs ys : List (List ℕ)) → are_distinct (xs ++ ys) ≡ true → (are_distinct xs ≡ true) × (are_distinct ys ≡ true)
+both_distinct [] ys e = (refl, e)
+both_distinct (x ∷ xs) ys e =
+    let parts = distinct_parts (is_item (xs ++ ys) x) (are_distinct (xs ++ ys)) e in
+    let rest = both_distinct xs ys parts.1 in
+    (rw (none_of_both xs ys x parts.0).0 rest.0, rest.1)
+
+-- Members of the first names are the same before and after those of the second are taken.
+same_slots : (xs ys : List (List ℕ)) (all left : Members) → are_distinct (xs ++ ys) ≡ true → ((name : List ℕ) → is_item ys name ≡ false → get_member name left ≡ get_member name all)
+    → map (member_slot left) xs ≡ map (member_slot all) xs
+same_slots [] ys all left e others = refl
+same_slots (x ∷ xs) ys all left e others =
+    let parts = distinct_parts (is_item (xs ++ ys) x) (are_distinct (xs ++ ys)) e in
+    ap₂ (λ s ss. s ∷ ss) (ap (option_map Tree.json) (others x (none_of_both xs ys x parts.0).1)) (same_slots xs ys all left parts.1 others)
+
+-- The slots of the second names and then those of the first are the slots of both.
+pub both_taken : (xs ys : List (List ℕ)) (all mid left : Members) (before between after : List Slot) → are_distinct (xs ++ ys) ≡ true → TakesFields ys all mid before between → TakesFields xs mid left between after
+    → after ≡ map (member_slot all) (xs ++ ys) ++ before
+both_taken xs ys all mid left before between after e second first =
+    first.slots
+    ∙ ap (λ l. l ++ between) (same_slots xs ys all mid e second.others)
+    ∙ ap (λ l. map (member_slot all) xs ++ l) second.slots
+    ∙ sym (append_assoc (map (member_slot all) xs) (map (member_slot all) ys) before)
+    ∙ ap (λ l. l ++ before) (sym (map-append (member_slot all) xs ys))
 
 below_found : (o : Ordering) (d : Data) (rest : Option Data) (n : ℕ) → data_nodes d < n → slot_nodes (option_map Tree.json rest) < n → slot_nodes (option_map Tree.json (match_ordering o rest (Some d) rest)) < n
 below_found Less d rest n h k = k

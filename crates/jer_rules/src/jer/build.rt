@@ -3,15 +3,15 @@ ghost use Rattle.asn_base.specs.Numbers.{signed};
 ghost use Rattle.asn_slots.specs.Trees.{trees_of};
 ghost use Rattle.asn_traits.specs.Notation.{Notation};
 ghost use Rattle.asn_traits.specs.Tables.{names_of};
-ghost use Rattle.asn_traits.specs.Writing.{IntStands, head_name};
+ghost use Rattle.asn_traits.specs.Writing.{IntStands};
 ghost use Rattle.jer_rules.specs.Holding.{members_onto, one_member};
 ghost use Rattle.serde_json.specs.Data.{Members, put};
 ghost use Rattle.serde_json.specs.Find.{of_integer};
 ghost use Rattle.serde_json.specs.View.{view, number_view, members_view};
-ghost use Rattle.std.specs.Prelude.{◌≡◌, IfOk, OnOk, MatchOption, drop};
+ghost use Rattle.std.specs.Prelude.{◌≡◌, ◌++◌, IfOk, OnOk, MatchOption};
 
 use asn_base::OutOfMemory;
-use asn_traits::Field;
+use asn_traits::{Field, field_name};
 use serde_json::{Map, Number, Value};
 use std::alloc::Global;
 
@@ -27,22 +27,25 @@ pub fn integer_of(negative: bool, magnitude: u128) -> Option<Number>
     Number::from_i128(if negative { -number } else { number })
 }
 
-/// Returns the members of the slots that are present, each with the name of the field at its place.
+/// Returns the members of the slots that are present, each with the name of the field at its
+/// place, where extension additions come last.
 ///
 /// Its one error is that memory ran out.
 pub fn members_of(
     alloc: Global,
     slots: Vec<Option<Value>>,
-    fields: &[Field],
+    root: &[Field],
+    additions: &[Field],
 ) -> Result<Map<String, Value>, OutOfMemory>
     ensures { IfOk result (λ m. members_view m.entries ≡ members_onto (trees_of view slots.items)
-        (names_of fields.now) Members.no_members) }
+        (names_of root.now ++ names_of additions.now) Members.no_members) }
 {
     let mut slots = slots;
     let mut members = Map::new(alloc);
     while let Some(slot) = slots.pop() {
         if let Some(value) = slot {
-            insert(alloc, &mut members, field_name(fields, slots.len()), value)?;
+            let name = field_name(root, additions, slots.len());
+            insert(alloc, &mut members, name, value)?;
         }
     }
     Ok(members)
@@ -57,16 +60,6 @@ pub fn choice_of(alloc: Global, identifier: &str, payload: Value) -> Result<Valu
     let mut members = Map::new(alloc);
     insert(alloc, &mut members, identifier, payload)?;
     Ok(Value::Object(members))
-}
-
-// Returns the name of the field at the place, empty past the fields.
-fn field_name(fields: &[Field], place: usize) -> &'static str
-    ensures { result.now ≡ head_name (drop place (names_of fields.now)) }
-{
-    match fields.get(place) {
-        Some(field) => field.name,
-        None => "",
-    }
 }
 
 // Puts a member into an object. Its one error is that memory ran out.

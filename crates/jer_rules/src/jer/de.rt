@@ -161,12 +161,13 @@ impl asn_traits::Decoder for Decoder {
         }
     }
 
-    fn open_members(&mut self, fields: &[Field]) -> Result<(), DecodeError> {
+    fn open_members(&mut self, root: &[Field], additions: &[Field]) -> Result<(), DecodeError> {
         let mut members = match into_members(self.take()?) {
             Ok(members) => members,
             Err(other) => return Err(no_object(self.alloc, &other)),
         };
-        self.take_fields(&mut members, fields)?;
+        self.take_fields(&mut members, additions)?;
+        self.take_fields(&mut members, root)?;
         Ok(())
     }
 

@@ -128,11 +128,11 @@ impl asn_traits::Encoder for Encoder {
         }
     }
 
-    fn close_members(&mut self, fields: &[Field]) -> Result<(), EncodeError> {
+    fn close_members(&mut self, root: &[Field], additions: &[Field]) -> Result<(), EncodeError> {
         let Ok(slots) = self.frames.close() else {
             return Err(EncodeError::out_of_memory(Codec::Jer));
         };
-        match members_of(self.alloc, slots, fields) {
+        match members_of(self.alloc, slots, root, additions) {
             Ok(members) => self.put(Some(Value::Object(members))),
             Err(_) => Err(EncodeError::out_of_memory(Codec::Jer)),
         }

@@ -1,14 +1,13 @@
 // The parts of a JSON value, taken out of it.
 ghost use Rattle.jer_rules.specs.Numbers.{IsWhole};
 ghost use Rattle.jer_rules.specs.Payload.{PayloadOf};
-ghost use Rattle.asn_traits.specs.Shape.{place_named};
-ghost use Rattle.asn_traits.specs.Tree.{same_identifier};
 ghost use Rattle.serde_json.specs.Data.{Data};
 ghost use Rattle.serde_json.specs.Find.{as_array, as_object};
 ghost use Rattle.serde_json.specs.View.{view, number_view, items_view, members_view};
-ghost use Rattle.std.specs.Prelude.{◌≡◌, ◌<◌, None, MatchResult, IfSome, map, length};
+ghost use Rattle.std.specs.Prelude.{◌≡◌, None, MatchResult, map};
 
 use asn_base::WholeNumber;
+use asn_traits::place_of;
 use serde_json::{Map, Number, Value};
 
 /// The elements, or the value where it is no array.
@@ -46,18 +45,6 @@ pub fn into_payload(
     let (name, payload) = members.pop_first()?;
     let place = place_of(identifiers, name.as_str())?;
     Some((place, payload))
-}
-
-// The first place of the identifier.
-fn place_of(identifiers: &[&'static str], name: &str) -> Option<usize>
-    ensures is { result ≡ place_named same_identifier (map (λ s. s.now) identifiers.now) name.now }
-    ensures below { IfSome result (λ k. k < length identifiers.now) }
-{
-    let (first, others) = identifiers.split_first()?;
-    if name.eq_ignore_ascii_case(*first) {
-        return Some(0);
-    }
-    Some(place_of(others, name)? + 1)
 }
 
 /// The whole number that a number is. None exactly where it is none.

@@ -6,7 +6,7 @@ pub loop-slot-preserved-in-Continue-1 : goal.loop-slot-preserved-in-Continue-1
 loop-slot-preserved-in-Continue-1 c =
     let left = c.pop.new.self in
     let place : c.len.result ≡ length left.items = omega (arith, c.len.ensures, left.ok.0) in
-    onto-inserted _ left.items _ _ _ _ _ _ (rw c.in-Some-slot.is at c.in-Some.ensures.items) c.field_name.ensures place c.in_ok-insert.ensures ∙ c.loop-slot.invariant
+    onto-inserted _ left.items _ _ _ _ _ _ (rw c.in-Some-slot.is at c.in-Some.ensures.items) c.field_name-name.ensures place c.in_ok-insert.ensures ∙ c.loop-slot.invariant
 
 pub loop-slot-preserved : goal.loop-slot-preserved
 loop-slot-preserved c = onto-passed _ _ _ _ (rw c.in_default-slot.is at c.in-Some.ensures.items) ∙ c.loop-slot.invariant

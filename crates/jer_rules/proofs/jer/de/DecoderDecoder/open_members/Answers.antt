@@ -1,4 +1,4 @@
-use Rattle.std.proofs.Common.{refl, arith, map}
+use Rattle.std.proofs.Common.{◌++◌, refl, arith, map}
 use Rattle.std.proofs.lemmas.List.{length-map}
 use Rattle.serde_json.specs.View.{members_view}
 use Rattle.asn_traits.specs.Opening.{HasMembers}
@@ -7,18 +7,26 @@ use Rattle.asn_traits.specs.Tree.{member_slot}
 use Rattle.asn_traits.proofs.Refusing.{no_members}
 use Rattle.jer_rules.specs.Pending.{pending_of}
 use Rattle.jer_rules.proofs.Readings.{members-none}
-use Rattle.jer_rules.proofs.Taken.{members_below}
+use Rattle.jer_rules.proofs.Taken.{both_distinct, both_taken, members_below}
 use Rattle.jer_rules.proofs.jer.de.DecoderDecoder.open_members.Goals as goal
+
+pub take_fields-requires : goal.take_fields-requires
+take_fields-requires c = (both_distinct (names_of c.args.root.now) (names_of c.args.additions.now) c.requires).1
+
+pub take_fields-requires-2 : goal.take_fields-requires-2
+take_fields-requires-2 c = (both_distinct (names_of c.args.root.now) (names_of c.args.additions.now) c.requires).0
 
 pub returns : goal.returns
 returns c =
     let ms = members_view c.in-Ok.members.entries in
-    let names = names_of c.args.fields.now in (
+    let root = names_of c.args.root.now in
+    let additions = names_of c.args.additions.now in
+    let names = root ++ additions in (
       _,
       map (member_slot ms) names,
       pending_of c.take.new.self,
       rw c.in-Ok.ensures at c.in_ok-take.ensures,
-      c.in_ok-take_fields.ensures.taken.slots,
+      both_taken root additions ms _ _ _ _ _ c.requires c.in_ok-take_fields.ensures.taken c.in_ok-take_fields-2.ensures.taken,
       length-map names (member_slot ms),
       members_below ms names _ (omega arith),
       HasMembers.has_members names _ (member_slot ms) refl,

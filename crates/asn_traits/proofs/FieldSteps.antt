@@ -1,5 +1,5 @@
 -- Steps of reading and writing the fields of a SEQUENCE, by the calls on a single field.
-use Rattle.std.proofs.Common.{◌≡◌, refl, ap, sym, ◌∙◌, ℕ, List, [], ◌∷◌, ◌++◌, length, Option, Some, None, Ok, ◌⊎◌, option_map}
+use Rattle.std.proofs.Common.{◌≡◌, refl, ℕ, List, [], ◌∷◌, ◌++◌, length, Option, Some, None, Ok, ◌⊎◌, option_map}
 use Rattle.asn_base.specs.declared.codec.Codec.{Codec}
 use Rattle.asn_base.specs.declared.tag.Tag.{Tag}
 use Rattle.asn_fault.specs.Stop.{Stop, Why, wrapped, at_root}
@@ -8,14 +8,12 @@ use Rattle.asn_traits.specs.Notation.{Notation, notation_of}
 use Rattle.asn_traits.specs.Shape.{Shape, Fields, Presence, field_names}
 use Rattle.asn_traits.specs.Tree.{Slot, head_slot}
 use Rattle.asn_traits.specs.Value.{Value, Slots}
-use Rattle.asn_traits.specs.Says.{SaysFields}
 use Rattle.asn_traits.specs.Stops.{Stops, StopsFields, Path}
-use Rattle.asn_traits.specs.Answer.{OptionalAnswer, OptionalStops, Refuses}
+use Rattle.asn_traits.specs.Answer.{OptionalAnswer, Refuses}
 use Rattle.asn_traits.specs.FieldAnswer.{AddsSlot, TakesSlot, WithinField}
-use Rattle.asn_traits.specs.Writing.{Frame, named, head_name, tail_names, Filled, CannotFill}
-use Rattle.asn_traits.proofs.Filling.{fill_present, fill_absent, fill_end}
+use Rattle.asn_traits.specs.Writing.{Frame, CannotFill}
 use Rattle.asn_traits.proofs.Steps.{refuses_by, within_refuses}
-use Rattle.asn_traits.proofs.Taking.{Taking, taking_starts, taking_ends, takes_present, takes_optional, stops_required, stops_optional}
+use Rattle.asn_traits.proofs.Taking.{Taking, taking_starts, stops_required}
 
 -- A field's refusal, wrapped once, is one within that field.
 pub field_refused : {n : Notation} {P : Path → Why → Type 0} (name : List ℕ) (c : Codec) → notation_of c ≡ n → (e r : Stop) → (r ≡ wrapped name c e) ⊎ (r ≡ at_root Why.out_of_memory c) → Refuses n P e
@@ -35,16 +33,6 @@ abbrev pub member : List ℕ → Option Value → Slots → Slots
 member name (Some v) vs = Slots.present name v vs
 member name None vs = Slots.absent name vs
 
--- The members of these names, in order.
-abbrev pub members_of : Frame → List (List ℕ) → Slots
-members_of [] ns = Slots.no_slots
-members_of (s ∷ ss) ns = member (head_name ns) s (members_of ss (tail_names ns))
-
-named_members : (ss : Frame) (ns : List (List ℕ)) → members_of ss ns ≡ named ss ns
-named_members [] ns = refl
-named_members (Some v ∷ ss) ns = ap (Slots.present (head_name ns) v) (named_members ss (tail_names ns))
-named_members (None ∷ ss) ns = ap (Slots.absent (head_name ns)) (named_members ss (tail_names ns))
-
 pub at_field : {name : List ℕ} {P : Path → Why → Type 0} (Q : Path → Why → Type 0) → ((p : Path) (w : Why) → P p w → Q (name ∷ p) w) → (p : Path) (w : Why) → WithinField name P p w → Q p w
 at_field Q stops p w (WithinField.within_field q v k) = stops q v k
 
@@ -53,20 +41,6 @@ module _ {n : Notation} {fs : Fields} {before : List Slot} where
   pub reads_start : FieldsRead n fs before fs (λ vs. vs) before
   reads_start = record { taking = λ slots rest count e. taking_starts n fs slots rest before count e }
 
-  -- A field that has to be present is read.
-  pub reads_required : {name : List ℕ} {g : Tag} {s : Shape} {todo : Fields} {front : Slots → Slots} {now after : List Slot} {v : Value} → FieldsRead n fs before (Fields.field name g Presence.required s todo) front now
-      → TakesSlot n s now after (Some v) → FieldsRead n fs before todo (λ vs. front (Slots.present name v vs)) after
-  reads_required {name} {g} {s} {todo} {front} {now} {after} r (TakesSlot.takes_value slot v shown says) =
-      record { taking = λ slots rest count e. takes_present n fs slots rest name g Presence.required s todo front (λ (u : Value). u) now after v (r.taking slots rest count e) (slot, shown, says) }
-
-  -- A field that may be absent is read.
-  pub reads_optional : {name : List ℕ} {g : Tag} {s : Shape} {todo : Fields} {front : Slots → Slots} {now after : List Slot} {o : Option Value} → FieldsRead n fs before (Fields.field name g Presence.optional s todo) front now
-      → TakesSlot n s now after o → FieldsRead n fs before todo (λ vs. front (member name o vs)) after
-  reads_optional {name} {g} {s} {todo} {front} {now} {after} r (TakesSlot.takes_value slot v shown says) =
-      record { taking = λ slots rest count e. takes_present n fs slots rest name g Presence.optional s todo front (λ (u : Value). u) now after v (r.taking slots rest count e) (slot, shown, says) }
-  reads_optional {name} {g} {s} {todo} {front} {now} {after} r (TakesSlot.takes_nothing shown) =
-      record { taking = λ slots rest count e. takes_optional n fs slots rest name g Presence.optional s todo front refl (λ (v : Value). v) now after None (r.taking slots rest count e) shown }
-
   -- A field that has to be present is refused.
   pub refuses_required : {name : List ℕ} {g : Tag} {s : Shape} {todo : Fields} {front : Slots → Slots} {now : List Slot} {e : Stop} → FieldsRead n fs before (Fields.field name g Presence.required s todo) front now
       → Refuses n (WithinField name (Stops n s (head_slot now))) e
@@ -74,33 +48,7 @@ module _ {n : Notation} {fs : Fields} {before : List Slot} where
   refuses_required {name} {g} {s} {todo} {front} {now} {e} r h slots rest count is =
       refuses_by (at_field (StopsFields n fs slots) (stops_required n fs slots rest name g Presence.required s todo front refl now (r.taking slots rest count is))) e h
 
-  -- A field that may be absent is refused.
-  pub refuses_optional : {name : List ℕ} {g : Tag} {s : Shape} {todo : Fields} {front : Slots → Slots} {now : List Slot} {e : Stop} → FieldsRead n fs before (Fields.field name g Presence.optional s todo) front now
-      → Refuses n (WithinField name (OptionalStops n s now)) e
-      → (slots rest : List Slot) → length slots ≡ length (field_names fs) → before ≡ slots ++ rest → Refuses n (StopsFields n fs slots) e
-  refuses_optional {name} {g} {s} {todo} {front} {now} {e} r h slots rest count is =
-      refuses_by (at_field (StopsFields n fs slots) (stops_optional n fs slots rest name g Presence.optional s todo front refl now (r.taking slots rest count is))) e h
-
-  -- All are read, and say the members that these slots are.
-  pub reads_all : {front : Slots → Slots} {now : List Slot} (ss : Frame) → FieldsRead n fs before Fields.no_fields front now → front Slots.no_slots ≡ members_of ss (field_names fs)
-      → (slots rest : List Slot) → length slots ≡ length (field_names fs) → before ≡ slots ++ rest
-      → (now ≡ rest) × (vs : Slots) × SaysFields n fs slots vs × (Value.members (named ss (field_names fs)) ≡ Value.members vs)
-  reads_all {front} {now} ss r e slots rest count is =
-      let done = taking_ends n fs slots rest front now (r.taking slots rest count is) in
-      (done.0, front Slots.no_slots, done.1, ap Value.members (sym (e ∙ named_members ss (field_names fs))))
-
 module _ {S : Type 0} {holds : S → List Frame → Type 0} {n : Notation} where
-  -- A field that has to be present is written, and then the others.
-  pub fills_required : {name : List ℕ} {g : Tag} {s : Shape} {v : Value} {rest : Fields} {names : List (List ℕ)} {ss : Frame} {old mid new : S} → AddsSlot holds n s old mid (Some v) → Filled holds n rest names ss mid new
-      → Filled holds n (Fields.field name g Presence.required s rest) (name ∷ names) (Some v ∷ ss) old new
-  fills_required (AddsSlot.adds_value v w) f = fill_present w refl f
-
-  -- A field that may be absent is written, and then the others.
-  pub fills_optional : {name : List ℕ} {g : Tag} {s : Shape} {o : Option Value} {rest : Fields} {names : List (List ℕ)} {ss : Frame} {old mid new : S} → AddsSlot holds n s old mid o → Filled holds n rest names ss mid new
-      → Filled holds n (Fields.field name g Presence.optional s rest) (name ∷ names) (o ∷ ss) old new
-  fills_optional (AddsSlot.adds_value v w) f = fill_present w refl f
-  fills_optional (AddsSlot.adds_nothing w) f = fill_absent w refl f
-
   -- A field is written, and a later one is refused.
   pub refused_after : {s : Shape} {o : Option Value} {ss : Frame} {old mid : S} {e : EncodeError} → AddsSlot holds n s old mid o → CannotFill n ss e → CannotFill n (o ∷ ss) e
   refused_after (AddsSlot.adds_value v w) r = CannotFill.after_slot w.writable r

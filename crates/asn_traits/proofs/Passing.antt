@@ -1,8 +1,8 @@
 -- What is written and read field by field is what the SEQUENCE writes and reads.
-use Rattle.std.proofs.Common.{◌≡◌, refl, ap, sym, subst, ℕ, List, [], ◌∷◌, ◌++◌, length, Option, Some, None, Bool, true, false, if◌then◌else◌, not}
+use Rattle.std.proofs.Common.{◌≡◌, refl, subst, ℕ, List, ◌∷◌, ◌++◌, length, Option, Some, None, Bool, true, false, if◌then◌else◌}
 use Rattle.std.proofs.lemmas.Int.{to_z-of_z}
 use Rattle.asn_base.specs.declared.tag.Tag.{Tag}
-use Rattle.asn_fault.specs.Stop.{Stop, Why}
+use Rattle.asn_fault.specs.Stop.{Stop}
 use Rattle.asn_fault.specs.declared.encode.EncodeError.{EncodeError}
 use Rattle.asn_traits.specs.Answer.{OptionalStops, Refuses}
 use Rattle.asn_traits.specs.FieldAnswer.{AddsSlot, TakesSlot, WithinField}
@@ -14,11 +14,11 @@ use Rattle.asn_traits.specs.Passing.TakesFields.{takes_none, takes_next}
 use Rattle.asn_traits.specs.Passing.RefusesFields.{refuses_field, refuses_later_field}
 use Rattle.asn_traits.specs.Says.{SaysFields}
 use Rattle.asn_traits.specs.Shape.{Shape, Fields, Presence, field_names}
-use Rattle.asn_traits.specs.Stops.{Stops, StopsFields, Path}
-use Rattle.asn_traits.specs.Tree.{Slot, head_slot}
+use Rattle.asn_traits.specs.Stops.{StopsFields}
+use Rattle.asn_traits.specs.Tree.{Slot}
 use Rattle.asn_traits.specs.Value.{Value, Slots, is_kept, may_lack, with_field}
 use Rattle.asn_traits.specs.Writing.{Frame, named, Filled, CannotFill}
-use Rattle.asn_traits.proofs.FieldSteps.{FieldsRead, reads_start, refused_at, refused_after, refuses_required, refuses_optional, member, at_field}
+use Rattle.asn_traits.proofs.FieldSteps.{FieldsRead, reads_start, refused_at, refused_after, refuses_required, member, at_field}
 use Rattle.asn_traits.proofs.Filling.{fill_end, fill_present, fill_absent}
 use Rattle.asn_traits.proofs.Steps.{refuses_by}
 use Rattle.asn_traits.proofs.Taking.{Taking, takes_present, takes_optional, taking_ends, stops_optional}

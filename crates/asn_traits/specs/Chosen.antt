@@ -1,5 +1,5 @@
 -- The alternative that a value of a CHOICE is of, with its payload.
-use Rattle.std.specs.Prelude.{◌≡◌, ℕ, List, Option, Some}
+use Rattle.std.specs.Prelude.{◌≡◌, ℕ, List, Some}
 use Rattle.asn_base.specs.declared.tag.Tag.{Tag}
 use Rattle.asn_traits.specs.Shape.{Shape, Alternatives, alternative_tagged}
 use Rattle.asn_traits.specs.Value.{Value}

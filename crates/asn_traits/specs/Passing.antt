@@ -1,5 +1,5 @@
 -- Writing and reading fields, one after another.
-use Rattle.std.specs.Prelude.{◌≡◌, ℕ, List, [], ◌∷◌, Option, Some, None, Bool, true, false, is_some, ◌⊎◌}
+use Rattle.std.specs.Prelude.{◌≡◌, ℕ, List, [], ◌∷◌, Option, Some, None, Bool, true, is_some}
 use Rattle.asn_base.specs.declared.tag.Tag.{Tag}
 use Rattle.asn_fault.specs.Stop.{Stop, Why}
 use Rattle.asn_fault.specs.declared.encode.EncodeError.{EncodeError}
@@ -9,7 +9,7 @@ use Rattle.asn_traits.specs.Notation.{Notation}
 use Rattle.asn_traits.specs.Shape.{Shape, Fields, Presence}
 use Rattle.asn_traits.specs.Stops.{Stops, Path}
 use Rattle.asn_traits.specs.Tree.{Slot, head_slot}
-use Rattle.asn_traits.specs.Value.{Value, is_kept, may_lack}
+use Rattle.asn_traits.specs.Value.{Value, is_kept}
 use Rattle.asn_traits.specs.Writing.{Frame, CannotFill}
 
 -- The presence allows the slot.

@@ -1,11 +1,18 @@
 -- Objects that are choices.
-use Rattle.std.proofs.Common.{◌≡◌, refl, sym, ℕ, ◌<◌, List, Option, Some, None, arith}
+use Rattle.std.proofs.Common.{◌≡◌, refl, sym, subst, ℕ, ◌<◌, List, [], ◌∷◌, length, Option, Some, None, String, Global, string_bytes, arith}
 use Rattle.serde_json.specs.Data.{Data, Members}
+use Rattle.serde_json.specs.View.{view, members_view}
+use Rattle.serde_json.specs.declared.value.Value.{Value}
 use Rattle.asn_traits.specs.Notation.{Notation}
 use Rattle.asn_traits.specs.Opening.{IsChoice}
 use Rattle.asn_traits.specs.Shape.{place_named}
 use Rattle.asn_traits.specs.Tree.{Tree, Slot, slot_nodes, same_identifier}
 use Rattle.jer_rules.specs.Payload.{First, NoPayload}
+
+-- An object without entries has no payload.
+pub no_payload-empty : (identifiers : List (List ℕ)) (es : List (String Global × Value)) → length es ≡ 0 → NoPayload identifiers (members_view es)
+no_payload-empty identifiers [] e = NoPayload.no_member
+no_payload-empty identifiers (x ∷ es) e = absurd (omega (arith, e))
 
 abbrev Opens : List (List ℕ) → Members → Option ℕ → Slot → Type 0
 Opens identifiers ms place put = (slot_nodes put < slot_nodes (Some (Tree.json (Data.object ms)))) × IsChoice Notation.jer identifiers (Some (Tree.json (Data.object ms))) place put
@@ -19,11 +26,17 @@ pub opens_none : {identifiers : List (List ℕ)} {ms : Members} → NoPayload id
 opens_none NoPayload.no_member = (omega arith, IsChoice.is_empty _ _ refl)
 opens_none (NoPayload.no_such_name name d more e) = (omega arith, IsChoice.is_unnamed _ _ _ name refl e)
 
+abbrev Entry : Type 0
+Entry = String Global × Value
+
 -- The first member's name is none of the identifiers.
-pub payload_lost : {ms : Members} {name : List ℕ} {d : Data} (identifiers : List (List ℕ)) (text : List ℕ) → First ms name d → text ≡ name → None ≡ place_named same_identifier identifiers text → NoPayload identifiers ms
-payload_lost identifiers text (First.first name d more) same none = NoPayload.no_such_name name d more (rw (← same) (sym none))
+pub payload_lost : (identifiers : List (List ℕ)) (old new : List Entry) (name : String Global) (v : Value) (text : List ℕ) → old ≡ (name, v) ∷ new → text ≡ string_bytes name
+    → None ≡ place_named same_identifier identifiers text → NoPayload identifiers (members_view old)
+payload_lost identifiers old new name v text e same none =
+    subst (λ es. NoPayload identifiers (members_view es)) (sym e) (NoPayload.no_such_name (string_bytes name) (view v) (members_view new) (rw (← same) (sym none)))
 
 -- The first member's name is the identifier at this place.
-pub payload_found : {ms : Members} {name : List ℕ} {d : Data} (identifiers : List (List ℕ)) (text : List ℕ) (k : ℕ) → First ms name d → text ≡ name
-    → Some k ≡ place_named same_identifier identifiers text → (n : List ℕ) × First ms n d × (place_named same_identifier identifiers n ≡ Some k)
-payload_found {name = name} identifiers text k f same some = (name, f, rw (← same) (sym some))
+pub payload_found : (identifiers : List (List ℕ)) (old new : List Entry) (name : String Global) (v : Value) (text : List ℕ) (k : ℕ) → old ≡ (name, v) ∷ new → text ≡ string_bytes name
+    → Some k ≡ place_named same_identifier identifiers text → (n : List ℕ) × First (members_view old) n (view v) × (place_named same_identifier identifiers n ≡ Some k)
+payload_found identifiers old new name v text k e same some =
+    (string_bytes name, subst (λ es. First (members_view es) (string_bytes name) (view v)) (sym e) (First.first (string_bytes name) (view v) (members_view new)), rw (← same) (sym some))

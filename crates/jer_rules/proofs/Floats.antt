@@ -1,5 +1,5 @@
--- What holds no float.
-use Rattle.std.proofs.Common.{◌≡◌, refl, ap, sym, ◌∙◌, subst, ℕ, ℤ, pos, negsuc, List, [], ◌∷◌, ◌++◌, false, ◌||◌, Ordering, Less, Equal, Greater, Option, Some, None}
+-- What JER writes holds no float.
+use Rattle.std.proofs.Common.{◌≡◌, refl, ap, sym, ◌∙◌, subst, ℕ, ℤ, pos, negsuc, List, false, ◌||◌, Ordering, Less, Equal, Greater, Option, Some, None}
 use Rattle.std.proofs.lemmas.Bool.{or_from, or_parts}
 use Rattle.std.specs.Cmp.Lexicographic.{slice_cmp}
 use Rattle.std.specs.Ordering.{nat_cmp, match_ordering}
@@ -11,17 +11,14 @@ use Rattle.serde_json.specs.Written.{compact_text, has_float, items_have_float, 
 use Rattle.asn_traits.specs.Canonical.{jer_data, jer_items, jer_members, canonical_text}
 use Rattle.asn_traits.specs.Notation.{Notation}
 use Rattle.asn_traits.specs.Value.{Value, Values, Slots}
-use Rattle.jer_rules.specs.Json.{data_of, items_data}
 use Rattle.jer_rules.specs.Text.{ReadsBack}
-use Rattle.jer_rules.specs.declared.jer.tree.Json.{Json}
 
 ordered-false : (o : Ordering) (a b c : Members) → members_have_float a ≡ false → members_have_float b ≡ false → members_have_float c ≡ false → members_have_float (match_ordering o a b c) ≡ false
 ordered-false Less a b c h j k = h
 ordered-false Equal a b c h j k = j
 ordered-false Greater a b c h j k = k
 
--- A member without floats leaves an object without them.
-pub put-false : (n : List ℕ) (d : Data) (ms : Members) → has_float d ≡ false → members_have_float ms ≡ false → members_have_float (put n d ms) ≡ false
+put-false : (n : List ℕ) (d : Data) (ms : Members) → has_float d ≡ false → members_have_float ms ≡ false → members_have_float (put n d ms) ≡ false
 put-false n d Members.no_members h k = or_from (has_float d) false h refl
 put-false n d (Members.member m e ms) h k =
     let (first, others) = or_parts (has_float e) (members_have_float ms) k in
@@ -29,13 +26,6 @@ put-false n d (Members.member m e ms) h k =
     (or_from (has_float d) (has_float e || members_have_float ms) h k)
     (or_from (has_float d) (members_have_float ms) h others)
     (or_from (has_float e) (members_have_float (put n d ms)) first (put-false n d ms h others))
-
--- An element without floats leaves a list without them.
-pub item-false : (vs : List Json) (v : Json) → items_have_float (items_data vs) ≡ false → has_float (data_of v) ≡ false → items_have_float (items_data (vs ++ v ∷ [])) ≡ false
-item-false [] v h k = or_from (has_float (data_of v)) false k refl
-item-false (w ∷ vs) v h k =
-    let (first, others) = or_parts (has_float (data_of w)) (items_have_float (items_data vs)) h in
-    or_from (has_float (data_of w)) (items_have_float (items_data (vs ++ v ∷ []))) first (item-false vs v others k)
 
 integer-false : (n : ℤ) → is_float (of_integer n) ≡ false
 integer-false (pos n) = refl

@@ -1,10 +1,6 @@
 pub mod Readings
 pub mod Taken
 pub mod Choosing
-pub mod Views
-pub mod Writing
 pub mod Building
-pub mod Members
-pub mod Reading
 pub mod Floats
 pub mod Roots

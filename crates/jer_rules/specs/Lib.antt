@@ -1,5 +1,4 @@
 pub mod Holding
-pub mod Json
 pub mod NoLeaves
 pub mod Numbers
 pub mod Payload

@@ -4,13 +4,13 @@ use Rattle.asn_fault.specs.Stop.{Why}
 use Rattle.asn_traits.specs.Leaf.{Blame, as_leaf, needed}
 use Rattle.asn_traits.specs.Notation.{Notation}
 use Rattle.asn_traits.specs.declared.leaves.LeafKind.{LeafKind}
-use Rattle.jer_rules.specs.Pending.{json_tree}
+use Rattle.jer_rules.specs.Pending.{tree_of}
 use Rattle.jer_rules.specs.declared.jer.leaves.NoLeaf.{NoLeaf}
 use Rattle.jer_rules.specs.declared.jer.leaves.NoLeaf.TheVariants as no
-use Rattle.jer_rules.specs.declared.jer.tree.Json.{Json}
+use Rattle.serde_json.specs.declared.value.Value.{Value}
 
 -- The value is none of the kind for this reason, or memory ran out.
-abbrev pub IsNoLeaf : LeafKind → Json → NoLeaf → Type 0
-IsNoLeaf k value (no.Kind v) = (v ≡ value) × (as_leaf Notation.jer k (json_tree value) ≡ Err (Blame.mismatch (needed Notation.jer k)))
-IsNoLeaf k value no.Octets = as_leaf Notation.jer k (json_tree value) ≡ Err (Blame.because Why.invalid_jer_octet_string)
+abbrev pub IsNoLeaf : LeafKind → Value → NoLeaf → Type 0
+IsNoLeaf k value (no.Kind v) = (v ≡ value) × (as_leaf Notation.jer k (tree_of value) ≡ Err (Blame.mismatch (needed Notation.jer k)))
+IsNoLeaf k value no.Octets = as_leaf Notation.jer k (tree_of value) ≡ Err (Blame.because Why.invalid_jer_octet_string)
 IsNoLeaf k value no.OutOfMemory = Unit {0}

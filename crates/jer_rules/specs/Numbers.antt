@@ -1,5 +1,5 @@
 -- The whole numbers of JSON as sign and magnitude.
-use Rattle.std.specs.Prelude.{◌≡◌, Bool, false, Option, Some, None, Ok, Err}
+use Rattle.std.specs.Prelude.{◌≡◌, Option, Some, None, Ok, Err}
 use Rattle.serde_json.specs.Data.{Data}
 use Rattle.asn_base.specs.Numbers.{signed}
 use Rattle.asn_traits.specs.Leaf.{Blame, as_leaf, needed}
@@ -13,7 +13,3 @@ use Rattle.asn_base.specs.declared.whole_number.WholeNumber.{WholeNumber}
 abbrev pub IsWhole : Data → Option WholeNumber → Type 0
 IsWhole d (Some n) = as_leaf Notation.jer Number (Tree.json d) ≡ Ok (Value.int (signed n.negative n.magnitude))
 IsWhole d None = as_leaf Notation.jer Number (Tree.json d) ≡ Err (Blame.mismatch (needed Notation.jer Number))
-
--- The flag was false before, and there is no float, where it is false after.
-abbrev pub WithoutFloats : Bool → Bool → Bool → Type 0
-WithoutFloats before after has = after ≡ false → (before ≡ false) × (has ≡ false)

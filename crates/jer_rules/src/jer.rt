@@ -13,18 +13,12 @@ ghost use Rattle.serde_json.specs.Data.{Data};
 ghost use Rattle.std.specs.Prelude.{◌≡◌, Some, IfOk, IfErr, OnOk, string_bytes};
 
 mod build;
-mod convert;
 pub mod de;
 pub mod enc;
 mod faults;
 mod floats;
 mod leaves;
-mod numbers;
-mod objects;
 mod parts;
-mod read;
-mod tree;
-mod write;
 
 use asn_fault::{DecodeError, EncodeError};
 use asn_traits::{Decode, Encode};

@@ -3,22 +3,19 @@ ghost use Rattle.asn_base.specs.Numbers.{signed};
 ghost use Rattle.asn_slots.specs.Trees.{trees_of};
 ghost use Rattle.asn_traits.specs.Notation.{Notation};
 ghost use Rattle.asn_traits.specs.Tables.{names_of};
-ghost use Rattle.asn_traits.specs.Writing.{IntStands, head_name};
+ghost use Rattle.asn_traits.specs.Writing.{IntStands};
 ghost use Rattle.jer_rules.specs.Holding.{members_onto, one_member};
-ghost use Rattle.jer_rules.specs.Json.{data_of, object_data};
-ghost use Rattle.serde_json.specs.Data.{Data, Members};
+ghost use Rattle.serde_json.specs.Data.{Members, put};
 ghost use Rattle.serde_json.specs.Find.{of_integer};
-ghost use Rattle.serde_json.specs.View.{number_view};
-ghost use Rattle.std.specs.Prelude.{◌≡◌, IfOk, MatchOption, drop};
+ghost use Rattle.serde_json.specs.View.{view, number_view, members_view};
+ghost use Rattle.std.specs.Prelude.{◌≡◌, ◌++◌, IfOk, OnOk, MatchOption};
 
-use super::objects::Object;
-use super::tree::Json;
 use asn_base::OutOfMemory;
-use asn_traits::Field;
-use serde_json::Number;
+use asn_traits::{Field, field_name};
+use serde_json::{Map, Number, Value};
 use std::alloc::Global;
 
-/// The number with this sign and magnitude. None exactly where it is below -2^63 or not below 2^64.
+/// Returns the number with this sign and magnitude. None exactly where it is below -2^63 or not below 2^64.
 pub fn integer_of(negative: bool, magnitude: u128) -> Option<Number>
     ensures { MatchOption result (IntStands Notation.jer (signed negative magnitude) → ⊥)
         (λ n. IntStands Notation.jer (signed negative magnitude) × (number_view n ≡ of_integer (signed negative magnitude))) }
@@ -30,52 +27,52 @@ pub fn integer_of(negative: bool, magnitude: u128) -> Option<Number>
     Number::from_i128(if negative { -number } else { number })
 }
 
-/// The object of the slots that are present, each with the name of the field at its place. Memory may run out.
-pub fn object_of(
+/// Returns the members of the slots that are present, each with the name of the field at its
+/// place, where extension additions come last.
+///
+/// Its one error is that memory ran out.
+pub fn members_of(
     alloc: Global,
-    slots: Vec<Option<Json>>,
-    fields: &[Field],
-) -> Result<Json, OutOfMemory>
-    ensures { IfOk result (λ v. data_of v ≡ Data.object (members_onto (trees_of data_of slots.items)
-        (names_of fields.now) Members.no_members)) }
-{
-    members_of(alloc, slots, fields)?.into_json(alloc)
-}
-
-// The members of that object.
-fn members_of(
-    alloc: Global,
-    slots: Vec<Option<Json>>,
-    fields: &[Field],
-) -> Result<Object, OutOfMemory>
-    ensures { IfOk result (λ o. object_data o ≡ members_onto (trees_of data_of slots.items)
-        (names_of fields.now) Members.no_members) }
+    slots: Vec<Option<Value>>,
+    root: &[Field],
+    additions: &[Field],
+) -> Result<Map<String, Value>, OutOfMemory>
+    ensures { IfOk result (λ m. members_view m.entries ≡ members_onto (trees_of view slots.items)
+        (names_of root.now ++ names_of additions.now) Members.no_members) }
 {
     let mut slots = slots;
-    let mut members = Object::Empty;
+    let mut members = Map::new(alloc);
     while let Some(slot) = slots.pop() {
         if let Some(value) = slot {
-            let name = String::from_str(alloc, field_name(fields, slots.len()))?;
-            members = members.with(alloc, name, value)?;
+            let name = field_name(root, additions, slots.len());
+            insert(alloc, &mut members, name, value)?;
         }
     }
     Ok(members)
 }
 
-/// The choice of this alternative and payload, an object with one member. Memory may run out.
-pub fn choice_of(alloc: Global, identifier: &str, payload: Json) -> Result<Json, OutOfMemory>
-    ensures { IfOk result (λ v. data_of v ≡ one_member identifier.now (data_of payload)) }
+/// Returns the choice of this alternative and payload, an object with one member.
+///
+/// Its one error is that memory ran out.
+pub fn choice_of(alloc: Global, identifier: &str, payload: Value) -> Result<Value, OutOfMemory>
+    ensures { IfOk result (λ v. view v ≡ one_member identifier.now (view payload)) }
 {
-    let name = String::from_str(alloc, identifier)?;
-    Object::One(name, payload).into_json(alloc)
+    let mut members = Map::new(alloc);
+    insert(alloc, &mut members, identifier, payload)?;
+    Ok(Value::Object(members))
 }
 
-// The name of the field at the place, empty past the fields.
-fn field_name(fields: &[Field], place: usize) -> &'static str
-    ensures { result.now ≡ head_name (drop place (names_of fields.now)) }
+// Puts a member into an object. Its one error is that memory ran out.
+fn insert(
+    alloc: Global,
+    members: &mut Map<String, Value>,
+    name: &str,
+    value: Value,
+) -> Result<(), OutOfMemory>
+    ensures { OnOk result (members_view members.new.entries ≡ put name.now (view value)
+        (members_view members.old.entries)) }
 {
-    match fields.get(place) {
-        Some(field) => field.name,
-        None => "",
-    }
+    let name = String::from_str(alloc, name)?;
+    members.insert(name, value)?;
+    Ok(())
 }

@@ -3,36 +3,34 @@ ghost use Rattle.asn_base.specs.declared.codec.Codec.TheVariants.{Jer};
 ghost use Rattle.asn_fault.specs.Stop.{Why, error_stop, at_root};
 ghost use Rattle.asn_traits.specs.Answer.{Refuses};
 ghost use Rattle.asn_traits.specs.Notation.{Notation};
-ghost use Rattle.asn_traits.specs.Shape.{Shape};
+ghost use Rattle.asn_traits.specs.Shape.{Shape, are_distinct};
 ghost use Rattle.asn_traits.specs.Stops.{Stops};
+ghost use Rattle.asn_traits.specs.Tables.{names_of};
 ghost use Rattle.asn_traits.specs.Tree.{Tree, head_slot};
 ghost use Rattle.serde_json.specs.Data.{Data};
-ghost use Rattle.std.specs.Prelude.{◌≡◌, ◌∷◌, [], Some, IfOk, IfErr, MatchResult, option_map};
+ghost use Rattle.serde_json.specs.View.{members_view};
+ghost use Rattle.std.specs.Prelude.{◌≡◌, ◌∷◌, [], Some, true, IfOk, IfErr, OnOk, MatchResult, option_map};
 
-use super::convert::json_of;
 use super::faults::{end_of_input, mismatch, no_item, no_json, no_object, no_octets};
 use super::floats::holds_float;
 use super::leaves::{NoLeaf, leaf_of_json};
-use super::objects::Object;
-use super::parts::{into_items, into_payload};
-use super::read::{Unread, read_text};
-use super::tree::Json;
+use super::parts::{into_items, into_members, into_payload};
 use asn_base::Codec;
 use asn_fault::DecodeError;
 use asn_slots::Pending;
 use asn_traits::{Field, LeafKind, OwnedLeaf};
-use serde_json::Value;
+use serde_json::{Map, Value};
 use std::alloc::Global;
 
 /// A reader of one JSON value, which it takes apart as it reads.
 #[derive(Drop)]
 pub struct Decoder {
     alloc: Global,
-    pending: Pending<Json>,
+    pending: Pending<Value>,
 }
 
 impl Decoder {
-    ghost use Rattle.jer_rules.specs.Pending.{tree_of, json_tree, pending_of};
+    ghost use Rattle.jer_rules.specs.Pending.{tree_of, pending_of, TakesFields};
     ghost use Rattle.jer_rules.specs.Text.{IsJer, NoTree};
 
     /// A reader of a text.
@@ -43,16 +41,17 @@ impl Decoder {
             × (pending_of d ≡ Some (Tree.json t) ∷ [])) }
         ensures refused { IfErr result (λ e. NoTree input.now (error_stop e)) }
     {
-        let (value, floats) = match read_text(alloc, input) {
-            Ok(found) => found,
-            Err(Unread::NoJson) => return Err(no_json(alloc)),
-            Err(Unread::OutOfMemory) => return Err(DecodeError::out_of_memory(Codec::Jer)),
+        let value = match Value::from_str(alloc, input) {
+            Ok(value) => value,
+            Err(error) if error.is_memory() => {
+                return Err(DecodeError::out_of_memory(Codec::Jer));
+            }
+            Err(_error) => return Err(no_json(alloc)),
         };
-        // A later value of the same name may have replaced the float.
-        if floats && holds_float(&value) {
+        if holds_float(&value) {
             return Err(DecodeError::real_not_supported(Codec::Jer));
         }
-        Decoder::of(alloc, value)
+        Decoder::from_value(alloc, value)
     }
 
     /// A reader of a JSON value. A float in it is of no kind that a type needs.
@@ -60,17 +59,6 @@ impl Decoder {
     /// Errors: `OutOfMemory`.
     pub fn from_value(alloc: Global, value: Value) -> Result<Decoder, DecodeError>
         ensures tree { IfOk result (λ d. pending_of d ≡ Some (tree_of value) ∷ []) }
-        ensures refused { IfErr result (λ e. error_stop e ≡ at_root Why.out_of_memory Jer) }
-    {
-        match json_of(alloc, value) {
-            Ok(value) => Decoder::of(alloc, value),
-            Err(_) => Err(DecodeError::out_of_memory(Codec::Jer)),
-        }
-    }
-
-    // A reader of this value.
-    fn of(alloc: Global, value: Json) -> Result<Decoder, DecodeError>
-        ensures tree { IfOk result (λ d. pending_of d ≡ Some (json_tree value) ∷ []) }
         ensures refused { IfErr result (λ e. error_stop e ≡ at_root Why.out_of_memory Jer) }
     {
         let mut pending = Pending::new(alloc);
@@ -81,9 +69,9 @@ impl Decoder {
     }
 
     // Takes the first pending slot, if it is present.
-    fn take(&mut self) -> Result<Json, DecodeError>
+    fn take(&mut self) -> Result<Value, DecodeError>
         ensures { MatchResult result (λ v. pending_of self.old ≡ Some
-            (json_tree v) ∷ pending_of self.new) (λ e. (s : Shape) → Refuses Notation.jer
+            (tree_of v) ∷ pending_of self.new) (λ e. (s : Shape) → Refuses Notation.jer
             (Stops Notation.jer s (head_slot (pending_of self.old))) (error_stop e)) }
     {
         match self.pending.take() {
@@ -94,14 +82,33 @@ impl Decoder {
     }
 
     // Puts a slot before the pending ones.
-    fn put(&mut self, slot: Option<Json>) -> Result<(), DecodeError>
-        ensures { MatchResult result (λ _. pending_of self.new ≡ option_map json_tree slot ∷ pending_of self.old)
+    fn put(&mut self, slot: Option<Value>) -> Result<(), DecodeError>
+        ensures { MatchResult result (λ _. pending_of self.new ≡ option_map tree_of slot ∷ pending_of self.old)
             (λ e. error_stop e ≡ at_root Why.out_of_memory Jer) }
     {
         match self.pending.put(slot) {
             Ok(()) => Ok(()),
             Err(_) => Err(DecodeError::out_of_memory(Codec::Jer)),
         }
+    }
+
+    // Takes the fields out of the members, and puts their slots before the pending ones.
+    fn take_fields(
+        &mut self,
+        members: &mut Map<String, Value>,
+        fields: &[Field],
+    ) -> Result<(), DecodeError>
+        requires { are_distinct (names_of fields.now) ≡ true }
+        ensures taken { OnOk result (TakesFields (names_of fields.now)
+            (members_view members.old.entries) (members_view members.new.entries)
+            (pending_of self.old) (pending_of self.new)) }
+        ensures refused { IfErr result (λ e. error_stop e ≡ at_root Why.out_of_memory Jer) }
+    {
+        for field in fields.iter().rev() {
+            let member = members.remove(field.name);
+            self.put(member)?;
+        }
+        Ok(())
     }
 }
 
@@ -154,22 +161,19 @@ impl asn_traits::Decoder for Decoder {
         }
     }
 
-    fn open_members(&mut self, fields: &[Field]) -> Result<(), DecodeError> {
-        let mut object = match Object::of(self.take()?) {
-            Ok(object) => object,
+    fn open_members(&mut self, root: &[Field], additions: &[Field]) -> Result<(), DecodeError> {
+        let mut members = match into_members(self.take()?) {
+            Ok(members) => members,
             Err(other) => return Err(no_object(self.alloc, &other)),
         };
-        for field in fields.iter().rev() {
-            let (member, others) = object.take(field.name);
-            object = others;
-            self.put(member)?;
-        }
+        self.take_fields(&mut members, additions)?;
+        self.take_fields(&mut members, root)?;
         Ok(())
     }
 
     fn open_choice(&mut self, identifiers: &[&'static str]) -> Result<Option<usize>, DecodeError> {
-        match Object::of(self.take()?) {
-            Ok(object) => match into_payload(object, identifiers) {
+        match into_members(self.take()?) {
+            Ok(members) => match into_payload(members, identifiers) {
                 Some((place, payload)) => {
                     self.put(Some(payload))?;
                     Ok(Some(place))

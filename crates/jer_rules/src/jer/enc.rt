@@ -6,17 +6,13 @@ ghost use Rattle.asn_traits.specs.Notation.{Notation};
 ghost use Rattle.asn_slots.specs.Frames.{join};
 ghost use Rattle.asn_slots.specs.Slots.{last_present};
 ghost use Rattle.asn_traits.specs.Writing.{Frame};
-ghost use Rattle.jer_rules.specs.Json.{data_of};
 ghost use Rattle.jer_rules.specs.Text.{ReadsBack};
 ghost use Rattle.serde_json.specs.View.{view};
 ghost use Rattle.std.specs.Prelude.{◌≡◌, ◌⊎◌, ◌∷◌, [], Option, Some, None, OnOk, IfOk, IfErr, IfSome, option_map, string_bytes};
 
-use super::build::{choice_of, object_of};
-use super::convert::value_of;
+use super::build::{choice_of, members_of};
 use super::faults::encode_error;
 use super::leaves::json_of_leaf;
-use super::tree::Json;
-use super::write::text_of;
 use asn_base::Codec;
 use asn_fault::{EncodeError, EncodeErrorKind, JerEncodeErrorKind};
 use asn_slots::Frames;
@@ -28,7 +24,7 @@ use std::alloc::Global;
 #[derive(Drop)]
 pub struct Encoder {
     alloc: Global,
-    frames: Frames<Json>,
+    frames: Frames<Value>,
 }
 
 impl Encoder {
@@ -44,9 +40,9 @@ impl Encoder {
         }
     }
 
-    /// The JSON value of the last value that was written at the root.
+    /// Returns the JSON value of the last value that was written at the root.
     ///
-    /// Errors: `NoRootValueFound` where none was; `OutOfMemory`.
+    /// Errors: `NoRootValueFound` where none was.
     pub fn to_json(self) -> Result<Value, EncodeError>
         ensures tree { IfOk result (λ t. (f : Frame) → Holds self (f ∷ []) → option_map jer_data
             (last_present f) ≡ Some (view t)) }
@@ -54,10 +50,10 @@ impl Encoder {
             ⊎ ((encode_why e.kind ≡ WhyUnwritten.no_root_value Jer) × ((f : Frame) → Holds self (f ∷ []) → last_present f ≡ None))) }
         ensures codec { IfErr result (λ e. e.codec ≡ Jer) }
     {
-        let alloc = self.alloc;
-        match value_of(alloc, self.into_root()?) {
-            Ok(value) => Ok(value),
-            Err(_) => Err(EncodeError::out_of_memory(Codec::Jer)),
+        let mut frames = self.frames;
+        match frames.close_last() {
+            Some(value) => Ok(value),
+            None => Err(encode_error(JerEncodeErrorKind::NoRootValueFound)),
         }
     }
 
@@ -74,31 +70,15 @@ impl Encoder {
         ensures codec { IfErr result (λ e. e.codec ≡ Jer) }
     {
         let alloc = self.alloc;
-        let value = self.into_root()?;
-        match text_of(alloc, &value) {
+        let value = self.to_json()?;
+        match value.to_string(alloc) {
             Ok(text) => Ok(text),
             Err(_) => Err(EncodeError::out_of_memory(Codec::Jer)),
         }
     }
 
-    // The last value that was written at the root.
-    fn into_root(self) -> Result<Json, EncodeError>
-        ensures tree { IfOk result (λ v. (f : Frame) → Holds self (f ∷ []) → option_map jer_data
-            (last_present f) ≡ Some (data_of v)) }
-        ensures kind { IfErr result (λ e. encode_why e.kind ≡ WhyUnwritten.no_root_value Jer) }
-        ensures none { IfErr result (λ e. (f : Frame) → Holds self (f ∷ [])
-            → last_present f ≡ None) }
-        ensures codec { IfErr result (λ e. e.codec ≡ Jer) }
-    {
-        let mut frames = self.frames;
-        match frames.close_last() {
-            Some(value) => Ok(value),
-            None => Err(encode_error(JerEncodeErrorKind::NoRootValueFound)),
-        }
-    }
-
     // Puts a slot into the last frame.
-    fn put(&mut self, slot: Option<Json>) -> Result<(), EncodeError>
+    fn put(&mut self, slot: Option<Value>) -> Result<(), EncodeError>
         ensures added { OnOk result (self.new.frames ≡ join slot self.old.frames) }
         ensures refused { IfErr result (λ e. e.kind ≡ EncodeErrorKind.OutOfMemory) }
     {
@@ -143,17 +123,17 @@ impl asn_traits::Encoder for Encoder {
 
     fn close_list(&mut self) -> Result<(), EncodeError> {
         match self.frames.close_list() {
-            Ok(items) => self.put(Some(Json::List(items))),
+            Ok(items) => self.put(Some(Value::Array(items))),
             Err(_) => Err(EncodeError::out_of_memory(Codec::Jer)),
         }
     }
 
-    fn close_members(&mut self, fields: &[Field]) -> Result<(), EncodeError> {
+    fn close_members(&mut self, root: &[Field], additions: &[Field]) -> Result<(), EncodeError> {
         let Ok(slots) = self.frames.close() else {
             return Err(EncodeError::out_of_memory(Codec::Jer));
         };
-        match object_of(self.alloc, slots, fields) {
-            Ok(object) => self.put(Some(object)),
+        match members_of(self.alloc, slots, root, additions) {
+            Ok(members) => self.put(Some(Value::Object(members))),
             Err(_) => Err(EncodeError::out_of_memory(Codec::Jer)),
         }
     }

@@ -5,16 +5,15 @@ ghost use Rattle.asn_traits.specs.Answer.{TellsBlame};
 ghost use Rattle.asn_traits.specs.Leaf.{Blame, needs_members};
 ghost use Rattle.asn_traits.specs.Notation.{Notation};
 ghost use Rattle.asn_traits.specs.Tree.{Tree};
-ghost use Rattle.jer_rules.specs.Json.{data_of};
+ghost use Rattle.serde_json.specs.View.{view};
 ghost use Rattle.std.specs.Prelude.{◌≡◌, ◌⊎◌, codes, string_bytes};
 
-use super::tree::Json;
-use super::write::text_of;
 use asn_base::Codec;
 use asn_fault::{
     CodecDecodeError, CodecEncodeError, DecodeError, DecodeErrorKind, EncodeError, EncodeErrorKind,
     JerDecodeErrorKind, JerEncodeErrorKind,
 };
+use serde_json::Value;
 use std::alloc::Global;
 
 /// A value is due, and there is none.
@@ -30,19 +29,19 @@ pub fn end_of_input() -> DecodeError
 }
 
 /// The JSON value is of another kind than the one that is needed. Memory may run out.
-pub fn mismatch(alloc: Global, needed: &'static str, value: &Json) -> DecodeError
-    ensures { TellsBlame Notation.jer (Tree.json (data_of value.now)) (Blame.mismatch needed.now)
+pub fn mismatch(alloc: Global, needed: &'static str, value: &Value) -> DecodeError
+    ensures { TellsBlame Notation.jer (Tree.json (view value.now)) (Blame.mismatch needed.now)
         (error_stop result) }
 {
-    match text_of(alloc, value) {
+    match value.to_string(alloc) {
         Ok(found) => jer_error(JerDecodeErrorKind::TypeMismatch { needed, found }),
         Err(_) => DecodeError::out_of_memory(Codec::Jer),
     }
 }
 
 /// The JSON value is no object where members are needed. Memory may run out.
-pub fn no_object(alloc: Global, value: &Json) -> DecodeError
-    ensures { TellsBlame Notation.jer (Tree.json (data_of value.now)) (needs_members Notation.jer)
+pub fn no_object(alloc: Global, value: &Value) -> DecodeError
+    ensures { TellsBlame Notation.jer (Tree.json (view value.now)) (needs_members Notation.jer)
         (error_stop result) }
 {
     match String::from_str(alloc, "unknown") {

@@ -1,28 +1,26 @@
 // Whether a JSON value holds a number that JER does not have.
-ghost use Rattle.jer_rules.specs.Json.{data_of, items_data, entries_data};
+ghost use Rattle.serde_json.specs.View.{view, items_view, members_view};
 ghost use Rattle.serde_json.specs.Written.{has_float, items_have_float, members_have_float};
 ghost use Rattle.std.specs.Prelude.{◌≡◌};
 
-use super::tree::Json;
-use serde_json::Map;
+use serde_json::{Map, Value};
 
 /// Whether a number in the value is neither an `i64` nor a `u64`. Each part is looked at once.
 #[cycle(floats)]
-pub fn holds_float(value: &Json) -> bool
-    ensures { result ≡ has_float (data_of value.now) }
+pub fn holds_float(value: &Value) -> bool
+    ensures { result ≡ has_float (view value.now) }
 {
     match value {
-        Json::Number(number) => number.is_f64(),
-        Json::List(items) => items_hold_float(items),
-        Json::Member(member) => holds_float(&member.1),
-        Json::Members(members) => members_hold_float(members),
+        Value::Number(number) => number.is_f64(),
+        Value::Array(items) => items_hold_float(items),
+        Value::Object(members) => members_hold_float(members),
         _ => false,
     }
 }
 
 #[cycle(floats)]
-fn items_hold_float(items: &Vec<Json>) -> bool
-    ensures { result ≡ items_have_float (items_data items.now.items) }
+fn items_hold_float(items: &Vec<Value>) -> bool
+    ensures { result ≡ items_have_float (items_view items.now.items) }
 {
     for item in items {
         if holds_float(item) {
@@ -33,8 +31,8 @@ fn items_hold_float(items: &Vec<Json>) -> bool
 }
 
 #[cycle(floats)]
-fn members_hold_float(members: &Map<String, Json>) -> bool
-    ensures { result ≡ members_have_float (entries_data members.now.entries) }
+fn members_hold_float(members: &Map<String, Value>) -> bool
+    ensures { result ≡ members_have_float (members_view members.now.entries) }
 {
     for (_name, member) in members.iter() {
         if holds_float(member) {

@@ -5,55 +5,55 @@ ghost use Rattle.asn_traits.specs.Leaf.{leaf_value};
 ghost use Rattle.asn_traits.specs.Notation.{Notation};
 ghost use Rattle.asn_traits.specs.Opening.{IsTaken};
 ghost use Rattle.asn_traits.specs.Writing.{CannotWrite, Writable};
-ghost use Rattle.jer_rules.specs.Json.{data_of};
 ghost use Rattle.jer_rules.specs.NoLeaves.{IsNoLeaf};
-ghost use Rattle.jer_rules.specs.Pending.{json_tree};
+ghost use Rattle.jer_rules.specs.Pending.{tree_of};
 ghost use Rattle.serde_json.specs.Data.{Data};
+ghost use Rattle.serde_json.specs.View.{view};
 ghost use Rattle.std.specs.Str.{is_utf8};
 ghost use Rattle.std.specs.Prelude.{◌≡◌, true, OnOk, IfOk, IfErr, MatchResult};
 
 use super::build::integer_of;
 use super::faults::encode_error;
 use super::parts::whole_number;
-use super::tree::Json;
 use asn_base::Codec;
 use asn_fault::{EncodeError, JerEncodeErrorKind};
 use asn_traits::{Leaf, LeafKind, OwnedLeaf};
+use serde_json::Value;
 use std::alloc::Global;
 
 /// The JSON value that is written for a value without parts.
 ///
 /// Errors: `ExceedsSupportedIntSize` where JSON doesn't have the number; `OutOfMemory`.
 #[inline(always)]
-pub fn json_of_leaf(alloc: Global, leaf: Leaf<'_>) -> Result<Json, EncodeError>
-    ensures json { IfOk result (λ v. data_of v ≡ jer_data (leaf_value leaf.entry)) }
+pub fn json_of_leaf(alloc: Global, leaf: Leaf<'_>) -> Result<Value, EncodeError>
+    ensures json { IfOk result (λ v. view v ≡ jer_data (leaf_value leaf.entry)) }
     ensures writable { OnOk result (Writable Notation.jer (leaf_value leaf.entry)) }
     ensures refused { IfErr result (CannotWrite Notation.jer (leaf_value leaf.entry)) }
 {
     match leaf {
-        Leaf::Null => Ok(Json::Null),
-        Leaf::Boolean(flag) => Ok(Json::Bool(flag)),
+        Leaf::Null => Ok(Value::Null),
+        Leaf::Boolean(flag) => Ok(Value::Bool(flag)),
         Leaf::Number(value) => match integer_of(value.negative, value.magnitude) {
-            Some(number) => Ok(Json::Number(number)),
+            Some(number) => Ok(Value::Number(number)),
             None => Err(encode_error(JerEncodeErrorKind::ExceedsSupportedIntSize { value })),
         },
         Leaf::Text(text) => json_of_text(alloc, text),
         Leaf::Item(name) => json_of_text(alloc, name),
         Leaf::Octets(octets) => match hex::encode_upper(alloc, octets) {
-            Ok(text) => Ok(Json::Text(text)),
+            Ok(text) => Ok(Value::String(text)),
             Err(_) => Err(EncodeError::out_of_memory(Codec::Jer)),
         },
     }
 }
 
 // The JSON string of a text. Its one error is want of memory.
-fn json_of_text(alloc: Global, text: &str) -> Result<Json, EncodeError>
-    ensures json { IfOk result (λ v. data_of v ≡ Data.string text.now) }
+fn json_of_text(alloc: Global, text: &str) -> Result<Value, EncodeError>
+    ensures json { IfOk result (λ v. view v ≡ Data.string text.now) }
     ensures text { is_utf8 text.now ≡ true }
     ensures refused { IfErr result (λ e. e.kind ≡ OutOfMemory) }
 {
     match String::from_str(alloc, text) {
-        Ok(text) => Ok(Json::Text(text)),
+        Ok(text) => Ok(Value::String(text)),
         Err(_) => Err(EncodeError::out_of_memory(Codec::Jer)),
     }
 }
@@ -62,7 +62,7 @@ fn json_of_text(alloc: Global, text: &str) -> Result<Json, EncodeError>
 #[derive(Drop)]
 pub enum NoLeaf {
     /// It is of another kind.
-    Kind(Json),
+    Kind(Value),
     /// Its text is no hexadecimal of whole octets.
     Octets,
     OutOfMemory,
@@ -70,36 +70,36 @@ pub enum NoLeaf {
 
 /// The value without parts that a JSON value is, or why it is none of this kind.
 #[inline(always)]
-pub fn leaf_of_json(alloc: Global, value: Json, kind: LeafKind) -> Result<OwnedLeaf, NoLeaf>
-    ensures { MatchResult result (IsTaken Notation.jer kind (json_tree value))
+pub fn leaf_of_json(alloc: Global, value: Value, kind: LeafKind) -> Result<OwnedLeaf, NoLeaf>
+    ensures { MatchResult result (IsTaken Notation.jer kind (tree_of value))
         (IsNoLeaf kind value) }
 {
     match kind {
         LeafKind::Null => match value {
-            Json::Null => Ok(OwnedLeaf::Null),
+            Value::Null => Ok(OwnedLeaf::Null),
             other => Err(NoLeaf::Kind(other)),
         },
         LeafKind::Boolean => match value {
-            Json::Bool(flag) => Ok(OwnedLeaf::Boolean(flag)),
+            Value::Bool(flag) => Ok(OwnedLeaf::Boolean(flag)),
             other => Err(NoLeaf::Kind(other)),
         },
         LeafKind::Number => match value {
-            Json::Number(number) => match whole_number(&number) {
+            Value::Number(number) => match whole_number(&number) {
                 Some(whole) => Ok(OwnedLeaf::Number(Some(whole))),
-                None => Err(NoLeaf::Kind(Json::Number(number))),
+                None => Err(NoLeaf::Kind(Value::Number(number))),
             },
             other => Err(NoLeaf::Kind(other)),
         },
         LeafKind::Text => match value {
-            Json::Text(text) => Ok(OwnedLeaf::Text(text)),
+            Value::String(text) => Ok(OwnedLeaf::Text(text)),
             other => Err(NoLeaf::Kind(other)),
         },
         LeafKind::Item => match value {
-            Json::Text(text) => Ok(OwnedLeaf::Item(text)),
+            Value::String(text) => Ok(OwnedLeaf::Item(text)),
             other => Err(NoLeaf::Kind(other)),
         },
         LeafKind::Octets => match value {
-            Json::Text(text) => match hex::decode(alloc, text.as_bytes()) {
+            Value::String(text) => match hex::decode(alloc, text.as_bytes()) {
                 Ok(octets) => Ok(OwnedLeaf::Octets(octets)),
                 Err(hex::FromHexError::OutOfMemory) => Err(NoLeaf::OutOfMemory),
                 Err(_error) => Err(NoLeaf::Octets),

@@ -1,12 +1,12 @@
 use Rattle.std.proofs.Common.{ap, ◌∙◌, arith, ◌++◌, refl}
 use Rattle.std.specs.Prelude.{option_map}
 use Rattle.std.proofs.lemmas.List.{map-append}
-use Rattle.jer_rules.specs.Json.{items_data}
+use Rattle.serde_json.specs.View.{items_view}
 use Rattle.asn_slots.specs.Trees.{trees_of}
 use Rattle.asn_traits.specs.Opening.{IsList}
 use Rattle.asn_traits.specs.Tree.{item_slots}
 use Rattle.asn_traits.proofs.Refusing.{no_list}
-use Rattle.jer_rules.specs.Pending.{json_tree, pending_of}
+use Rattle.jer_rules.specs.Pending.{tree_of, pending_of}
 use Rattle.jer_rules.proofs.Readings.{list-none}
 use Rattle.jer_rules.proofs.Taken.{present_slots, length-item_slots, items_below}
 use Rattle.jer_rules.proofs.jer.de.DecoderDecoder.open_list.Goals as goal
@@ -15,12 +15,12 @@ pub returns-in-Ok-put_present : goal.returns-in-Ok-put_present
 returns-in-Ok-put_present c =
     let vs = c.in-Ok.items.items in (
       _,
-      item_slots (items_data vs),
+      item_slots (items_view vs),
       pending_of c.take.new.self,
       rw c.in-Ok.ensures at c.in_ok-take.ensures,
-      ap (trees_of json_tree) c.in-Ok-put_present.ensures.put ∙ map-append (option_map json_tree) _ _ ∙ ap (λ l. l ++ pending_of c.take.new.self) (present_slots vs),
+      ap (trees_of tree_of) c.in-Ok-put_present.ensures.put ∙ map-append (option_map tree_of) _ _ ∙ ap (λ l. l ++ pending_of c.take.new.self) (present_slots vs),
       omega (arith, length-item_slots vs, c.len-count.ensures, c.in-Ok.items.ok.0),
-      items_below (items_data vs) _ (omega arith),
+      items_below (items_view vs) _ (omega arith),
       IsList.is_list _ _ refl,
     )
 

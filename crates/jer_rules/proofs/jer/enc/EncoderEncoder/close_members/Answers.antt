@@ -1,5 +1,6 @@
+use Rattle.std.proofs.Common.{◌++◌}
 use Rattle.std.proofs.lemmas.Result.{on_ok_weaker}
-use Rattle.jer_rules.specs.Json.{data_of}
+use Rattle.serde_json.specs.View.{view}
 use Rattle.asn_slots.proofs.Trees.{frame_closed}
 use Rattle.asn_traits.specs.Canonical.{jer_data}
 use Rattle.asn_traits.specs.Tables.{names_of}
@@ -7,7 +8,7 @@ use Rattle.asn_traits.specs.Writing.{as_members}
 use Rattle.jer_rules.proofs.Building.{members_built}
 use Rattle.jer_rules.proofs.jer.enc.EncoderEncoder.close_members.Goals as goal
 
-pub returns-in-Ok-object_of-clause-closed : goal.returns-in-Ok-object_of-clause-closed
-returns-in-Ok-object_of-clause-closed c =
-    let built = members_built _ _ (names_of c.args.fields.now) c.in-Ok-object_of.ensures in
-    on_ok_weaker c.put.result (λ a. frame_closed jer_data data_of (as_members _) _ _ _ _ _ c.in-Ok.ensures.closed built a) c.put.ensures.added
+pub returns-in-Ok-members_of-clause-closed : goal.returns-in-Ok-members_of-clause-closed
+returns-in-Ok-members_of-clause-closed c =
+    let built = members_built _ _ (names_of c.args.root.now ++ names_of c.args.additions.now) c.in-Ok-members_of.ensures in
+    on_ok_weaker c.put.result (λ a. frame_closed jer_data view (as_members _) _ _ _ _ _ c.in-Ok.ensures.closed built a) c.put.ensures.added

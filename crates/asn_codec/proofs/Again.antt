@@ -16,7 +16,7 @@ use Rattle.asn_traits.specs.Says.{Says}
 use Rattle.asn_traits.specs.Shape.{Shape}
 use Rattle.asn_traits.specs.Tree.{Tree}
 use Rattle.asn_traits.specs.Value.{Value, Fits}
-use Rattle.asn_traits.specs.Writing.{Writable}
+use Rattle.asn_traits.specs.Writable.{Writable}
 use Rattle.asn_traits.proofs.Meanings.{one}
 use Rattle.asn_traits.proofs.Nesting.{says-depth}
 use Rattle.asn_traits.proofs.SameText.{same_text}

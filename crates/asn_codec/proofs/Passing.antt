@@ -7,7 +7,7 @@ use Rattle.asn_fault.specs.declared.encode.EncodeError.{EncodeError}
 use Rattle.asn_traits.specs.Notation.{Notation, notation_of}
 use Rattle.asn_traits.specs.Shape.{Shape}
 use Rattle.asn_traits.specs.Value.{Value}
-use Rattle.asn_traits.specs.Writing.{Writable}
+use Rattle.asn_traits.specs.Writable.{Writable}
 use Rattle.asn_codec.specs.Conversion.{Refusal, Refuses}
 use Rattle.asn_codec.specs.Texts.{SaysValue, IsUnread, IsUnwritten}
 

@@ -8,7 +8,7 @@ use Rattle.asn_traits.specs.Canonical.{canonical_text}
 use Rattle.asn_traits.specs.Notation.{IsText, notation_of}
 use Rattle.asn_traits.specs.Shape.{Shape}
 use Rattle.asn_traits.specs.Value.{Value, Fits}
-use Rattle.asn_traits.specs.Writing.{Writable}
+use Rattle.asn_traits.specs.Writable.{Writable}
 use Rattle.asn_codec.specs.Texts.{SaysValue, IsUnread, IsUnwritten}
 use Rattle.asn_codec.specs.declared.conversion.TranscodeError.{TranscodeError}
 use Rattle.asn_codec.specs.declared.conversion.TranscodeError.TheVariants.{Decode, Encode}

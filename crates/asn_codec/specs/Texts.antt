@@ -20,7 +20,7 @@ use Rattle.asn_traits.specs.Shape.{Shape}
 use Rattle.asn_traits.specs.Stops.{Stops}
 use Rattle.asn_traits.specs.Tree.{Tree}
 use Rattle.asn_traits.specs.Value.{Value}
-use Rattle.asn_traits.specs.Writing.{Blocks}
+use Rattle.asn_traits.specs.Writable.{Blocks}
 use Rattle.jer_rules.specs.Text as jer
 use Rattle.jer_rules.specs.Text.{IsJer}
 use Rattle.avn_rules.specs.Text as avn

@@ -6,7 +6,7 @@ ghost use Rattle.asn_traits.specs.Canonical.{canonical_text};
 ghost use Rattle.asn_traits.specs.Notation.{IsText, notation_of};
 ghost use Rattle.asn_traits.specs.Root.{Reads};
 ghost use Rattle.asn_traits.specs.Value.{Value, Fits};
-ghost use Rattle.asn_traits.specs.Writing.{Writable};
+ghost use Rattle.asn_traits.specs.Writable.{Writable};
 ghost use Rattle.asn_codec.specs.Texts.{ReadsBack, SaysValue, IsUnread, IsUnwritten, no_text};
 ghost use Rattle.std.specs.Prelude.{◌≡◌, ◌⊎◌, true, IfOk, IfErr, OnOk, codes, string_bytes};
 

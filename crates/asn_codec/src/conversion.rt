@@ -5,7 +5,7 @@ ghost use Rattle.asn_base.specs.declared.codec.Codec.TheVariants.{Avn};
 ghost use Rattle.asn_traits.specs.Canonical.{avn_tree, canonical_text};
 ghost use Rattle.asn_traits.specs.Notation.{notation_of};
 ghost use Rattle.asn_traits.specs.Value.{Value, Fits};
-ghost use Rattle.asn_traits.specs.Writing.{Writable};
+ghost use Rattle.asn_traits.specs.Writable.{Writable};
 ghost use Rattle.avn_grammar.specs.Depth.{Deep, deepest};
 ghost use Rattle.std.specs.Str.{chars};
 ghost use Rattle.std.specs.Prelude.{◌≡◌, ◌⊎◌, ◌↔◌, ◌<◌, true, Some, IfOk, IfErr, string_bytes};

@@ -2,7 +2,7 @@
 use Rattle.std.proofs.Common.{◌≡◌, refl, ap, sym, ◌∙◌, ◌+◌, ◌≤◌, ◌<◌, ℕ, List, [], ◌∷◌, ◌++◌, length, take, drop, reverse, append_assoc, get_or, Option, Some, None, arith}
 use Rattle.std.proofs.lemmas.List.{take-append-le, drop-append-le, take_more, drop_more, same_from_push, reverse-append}
 use Rattle.std.specs.Option.{option_to_list}
-use Rattle.asn_slots.specs.Frames.{join, Closes, frames_from, last_start, Rise}
+use Rattle.asn_slots.specs.Frames.{push, Closes, frames_from, last_start, Rise}
 use Rattle.asn_slots.specs.Slots.{or_some, last_present, present_of, first_of}
 use Rattle.asn_slots.proofs.Lasts.{last_present-last}
 
@@ -12,7 +12,7 @@ risen near far [] h r = tt
 risen near far (start ∷ starts) h r = (omega (arith, h, r.0), r.1)
 
 -- One slot more at the end is one more in the last frame.
-pub one_more : {A : Type 0} (slot : A) (slots : List A) (starts : List ℕ) → Rise (length slots) starts → frames_from (slots ++ slot ∷ []) starts ≡ join slot (frames_from slots starts)
+pub one_more : {A : Type 0} (slot : A) (slots : List A) (starts : List ℕ) → Rise (length slots) starts → frames_from (slots ++ slot ∷ []) starts ≡ push slot (frames_from slots starts)
 one_more slot slots [] r = refl
 one_more slot slots (start ∷ starts) r =
     let back : drop start (slots ++ slot ∷ []) ≡ drop start slots ++ slot ∷ [] = drop-append-le start slots (slot ∷ []) r.0 in

@@ -2,35 +2,35 @@
 use Rattle.std.proofs.Common.{◌≡◌, refl, ap, sym, ◌∙◌, List, [], ◌∷◌, map, Option, Some, None, ◌⊎◌, inl, inr}
 use Rattle.std.proofs.lemmas.List.{map_push}
 use Rattle.std.specs.Prelude.{option_map}
-use Rattle.asn_slots.specs.Frames.{join, close, Closes}
+use Rattle.asn_slots.specs.Frames.{push, close, Closes}
 use Rattle.asn_slots.specs.Slots.{or_some, last_present, present_of, first_of}
 use Rattle.asn_slots.specs.Trees.{trees_of, SameTrees}
 
 abbrev Frames : Type 0 → Type 0
 Frames A = List (List (Option A))
 
-join-trees : {A T : Type 0} (f : A → T) (s : Option A) (fs : Frames A) → map (trees_of f) (join s fs) ≡ join (option_map f s) (map (trees_of f) fs)
-join-trees f s [] = refl
-join-trees f s (slots ∷ fs) = ap (λ g. g ∷ map (trees_of f) fs) (map_push (option_map f) slots s)
+push-trees : {A T : Type 0} (f : A → T) (s : Option A) (fs : Frames A) → map (trees_of f) (push s fs) ≡ push (option_map f s) (map (trees_of f) fs)
+push-trees f s [] = refl
+push-trees f s (slots ∷ fs) = ap (λ g. g ∷ map (trees_of f) fs) (map_push (option_map f) slots s)
 
 -- A slot that is added to both is one slot more.
-pub slot_added : {A V T : Type 0} (written : A → T) (kept : V → T) (s : Option A) (t : Option V) (old new : Frames V) → option_map kept t ≡ option_map written s → new ≡ join t old
-    → (fs : Frames A) → SameTrees written kept fs old → SameTrees written kept (join s fs) new
+pub slot_added : {A V T : Type 0} (written : A → T) (kept : V → T) (s : Option A) (t : Option V) (old new : Frames V) → option_map kept t ≡ option_map written s → new ≡ push t old
+    → (fs : Frames A) → SameTrees written kept fs old → SameTrees written kept (push s fs) new
 slot_added written kept s t old new e put fs h =
-    join-trees written s fs ∙ ap (join (option_map written s)) h ∙ ap (λ r. join r (map (trees_of kept) old)) (sym e) ∙ sym (ap (map (trees_of kept)) put ∙ join-trees kept t old)
+    push-trees written s fs ∙ ap (push (option_map written s)) h ∙ ap (λ r. push r (map (trees_of kept) old)) (sym e) ∙ sym (ap (map (trees_of kept)) put ∙ push-trees kept t old)
 
--- The last frame has the trees of the slots that closing answers, and those below it join a slot as the frames after closing do.
+-- The last frame has the trees of the slots that closing answers, and those below it take a slot as the frames after closing do.
 closed_top : {A V T : Type 0} (written : A → T) (kept : V → T) (old mid : Frames V) (slots : List (Option V)) (f : List (Option A)) (fs : Frames A) → Closes old slots mid → SameTrees written kept (f ∷ fs) old
-    → (trees_of written f ≡ trees_of kept slots) × ((s : Option T) → join s (map (trees_of written) fs) ≡ join s (map (trees_of kept) mid))
+    → (trees_of written f ≡ trees_of kept slots) × ((s : Option T) → push s (map (trees_of written) fs) ≡ push s (map (trees_of kept) mid))
 closed_top written kept [] mid slots f fs c h = absurd c
 closed_top written kept (g ∷ []) mid slots f fs c h =
     let top : trees_of written f ≡ trees_of kept g = cc h in
     let rest : map (trees_of written) fs ≡ [] = cc h in
-    (top ∙ ap (trees_of kept) (sym c.0), λ s. ap (join s) rest ∙ sym (ap (λ m. join s (map (trees_of kept) m)) c.1))
+    (top ∙ ap (trees_of kept) (sym c.0), λ s. ap (push s) rest ∙ sym (ap (λ m. push s (map (trees_of kept) m)) c.1))
 closed_top written kept (g ∷ k ∷ gs) mid slots f fs c h =
     let top : trees_of written f ≡ trees_of kept g = cc h in
     let rest : map (trees_of written) fs ≡ map (trees_of kept) (k ∷ gs) = cc h in
-    (top ∙ ap (trees_of kept) (sym c.0), λ s. ap (join s) (rest ∙ sym (ap (map (trees_of kept)) c.1)))
+    (top ∙ ap (trees_of kept) (sym c.0), λ s. ap (push s) (rest ∙ sym (ap (map (trees_of kept)) c.1)))
 
 no_frame : {A V T : Type 0} (written : A → T) (kept : V → T) (old mid : Frames V) (slots : List (Option V)) → Closes old slots mid → SameTrees written kept [] old → ⊥
 no_frame written kept [] mid slots c h = absurd c
@@ -39,12 +39,12 @@ no_frame written kept (g ∷ k ∷ gs) mid slots c h = cc h
 
 -- A slot that is put in the place of the last frame closes it.
 pub frame_closed : {A V T : Type 0} (written : A → T) (kept : V → T) (F : List (Option A) → Option A) (old mid new : Frames V) (slots : List (Option V)) (t : Option V) → Closes old slots mid
-    → ((f : List (Option A)) → trees_of written f ≡ trees_of kept slots → option_map kept t ≡ option_map written (F f)) → new ≡ join t mid
+    → ((f : List (Option A)) → trees_of written f ≡ trees_of kept slots → option_map kept t ≡ option_map written (F f)) → new ≡ push t mid
     → (fs : Frames A) → SameTrees written kept fs old → SameTrees written kept (close F fs) new
 frame_closed written kept F old mid new slots t c e put [] h = absurd (no_frame written kept old mid slots c h)
 frame_closed written kept F old mid new slots t c e put (f ∷ fs) h =
     let top = closed_top written kept old mid slots f fs c h in
-    join-trees written (F f) fs ∙ ap (λ r. join r (map (trees_of written) fs)) (sym (e f top.0)) ∙ top.1 (option_map kept t) ∙ sym (ap (map (trees_of kept)) put ∙ join-trees kept t mid)
+    push-trees written (F f) fs ∙ ap (λ r. push r (map (trees_of written) fs)) (sym (e f top.0)) ∙ top.1 (option_map kept t) ∙ sym (ap (map (trees_of kept)) put ∙ push-trees kept t mid)
 
 or_some-trees : {A T : Type 0} (f : A → T) (a b : Option A) → or_some (option_map f a) (option_map f b) ≡ option_map f (or_some a b)
 or_some-trees f (Some x) b = refl

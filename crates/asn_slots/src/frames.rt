@@ -1,5 +1,5 @@
 // The frames of slots that were written.
-ghost use Rattle.asn_slots.specs.Frames.{join, Closes, last_start};
+ghost use Rattle.asn_slots.specs.Frames.{push, Closes, last_start};
 ghost use Rattle.asn_slots.specs.Slots.{last_present, present_of, first_of};
 ghost use Rattle.std.specs.Prelude.{◌≡◌, ◌∷◌, [], List, Option, length, reverse, OnOk, OnErr, IfOk, drop};
 
@@ -75,7 +75,7 @@ impl<V: Drop> Frames<V> {
     ///
     /// Errors: `OutOfMemory`, and then nothing is added.
     pub fn add(&mut self, slot: Option<V>) -> Result<(), OutOfMemory>
-        ensures added { OnOk result (self.new ≡ join slot self.old) }
+        ensures added { OnOk result (self.new ≡ push slot self.old) }
         ensures kept { OnErr result (self.new ≡ self.old) }
     {
         self.slots.push(slot)?;

@@ -6,13 +6,13 @@ use Rattle.asn_fault.specs.Stop.{Why, error_stop}
 use Rattle.asn_base.specs.Tags.{smallest}
 use Rattle.asn_base.specs.declared.tag.Tag.{Tag}
 use Rattle.asn_fault.specs.declared.decode.DecodeError.{DecodeError}
-use Rattle.asn_traits.specs.Notation.{Notation}
-use Rattle.asn_traits.specs.Shape.{Shape, Alternatives, AlternativeAdditions, all_alternatives, join_alternatives, alternative_at, alternative_named, alternative_tagged, name_tagged, place_named, identifiers, tags, tag_eq, has_tag, tags_distinct, class_number, end_tag}
+use Rattle.asn_model.specs.Notation.{Notation}
+use Rattle.asn_model.specs.Shape.{Shape, Alternatives, AlternativeAdditions, all_alternatives, join_alternatives, alternative_at, alternative_named, alternative_tagged, name_tagged, place_named, identifiers, tags, tag_eq, has_tag, tags_distinct, class_number, end_tag}
 use Rattle.asn_traits.specs.Tables.{smallest_tags, root_tags, added_tags, or_end}
-use Rattle.asn_traits.specs.Tree.{Tree, Slot, slot_nodes, head_nodes, head_slot, same_identifier}
-use Rattle.asn_traits.specs.Value.{Value}
-use Rattle.asn_traits.specs.Says.{Says}
-use Rattle.asn_traits.specs.Stops.{Stops}
+use Rattle.asn_model.specs.Tree.{Tree, Slot, slot_nodes, head_nodes, head_slot, same_identifier}
+use Rattle.asn_model.specs.Value.{Value}
+use Rattle.asn_model.specs.Says.{Says}
+use Rattle.asn_model.specs.Stops.{Stops}
 use Rattle.asn_traits.specs.Answer.{Answer, Refuses}
 use Rattle.asn_traits.specs.Opening.{IsChoice, Chosen, OpensAlternative}
 use Rattle.asn_traits.specs.Scopes.{AlternativeAnswer, NoAlternative, TagAnswer}

@@ -3,10 +3,11 @@ use Rattle.std.proofs.Common.{◌≡◌, ℕ, ◌+◌, ◌<◌, ◌≤◌, List,
 use Rattle.std.proofs.lemmas.List.{map_push, take_more, take_all, take-append-drop}
 use Rattle.asn_fault.specs.declared.encode.EncodeError.{EncodeError}
 use Rattle.asn_fault.specs.Unwritten.{WhyUnwritten, encode_why}
-use Rattle.asn_traits.specs.Notation.{Notation}
-use Rattle.asn_traits.specs.Shape.{Shape}
-use Rattle.asn_traits.specs.Value.{Value, Values, values, Fits, FitsEach}
-use Rattle.asn_traits.specs.Writing.{Frame, push, close, as_list, present_values, Writable, WritableEach, Blocks, BlocksEach, Turns, Written, CannotWrite}
+use Rattle.asn_model.specs.Notation.{Notation}
+use Rattle.asn_model.specs.Shape.{Shape}
+use Rattle.asn_model.specs.Value.{Value, Values, values, Fits, FitsEach}
+use Rattle.asn_model.specs.Writable.{Writable, WritableEach, Blocks, BlocksEach}
+use Rattle.asn_traits.specs.Writing.{Frame, push, close, as_list, present_values, Turns, Written, CannotWrite}
 
 abbrev pub slots_of : {T : Type 0} → (T → Value) → List T → Frame
 slots_of f xs = map (λ x. Some (f x)) xs

@@ -4,11 +4,11 @@ use Rattle.asn_base.specs.declared.codec.Codec.{Codec}
 use Rattle.asn_base.specs.declared.tag.Tag.{Tag}
 use Rattle.asn_fault.specs.Stop.{Stop, Why, wrapped, at_root}
 use Rattle.asn_fault.specs.declared.encode.EncodeError.{EncodeError}
-use Rattle.asn_traits.specs.Notation.{Notation, notation_of}
-use Rattle.asn_traits.specs.Shape.{Shape, Fields, Presence, field_names}
-use Rattle.asn_traits.specs.Tree.{Slot, head_slot}
-use Rattle.asn_traits.specs.Value.{Value, Slots}
-use Rattle.asn_traits.specs.Stops.{Stops, StopsFields, Path}
+use Rattle.asn_model.specs.Notation.{Notation, notation_of}
+use Rattle.asn_model.specs.Shape.{Shape, Fields, Presence, field_names}
+use Rattle.asn_model.specs.Tree.{Slot, head_slot}
+use Rattle.asn_model.specs.Value.{Value, Slots}
+use Rattle.asn_model.specs.Stops.{Stops, StopsFields, Path}
 use Rattle.asn_traits.specs.Answer.{OptionalAnswer, Refuses}
 use Rattle.asn_traits.specs.FieldAnswer.{AddsSlot, TakesSlot, WithinField}
 use Rattle.asn_traits.specs.Writing.{Frame, CannotFill}

@@ -3,9 +3,9 @@ use Rattle.std.proofs.Common.{Bool, true, false, if◌then◌else◌, Option, �
 use Rattle.std.specs.Fn.{Once, FnOnceReturnsAtMut}
 use Rattle.asn_base.specs.declared.tag.Tag.{Tag}
 use Rattle.asn_fault.specs.declared.encode.EncodeError.{EncodeError}
-use Rattle.asn_traits.specs.Notation.{Notation}
-use Rattle.asn_traits.specs.Shape.{Shape, Fields, Alternatives, AlternativeAdditions, Presence, SeqKind, FieldAdditions, all_fields, all_alternatives, alternative_tagged, tag_eq}
-use Rattle.asn_traits.specs.Value.{Value, Fits, FitsFields, FitsAlternative, is_kept, may_lack}
+use Rattle.asn_model.specs.Notation.{Notation}
+use Rattle.asn_model.specs.Shape.{Shape, Fields, Alternatives, AlternativeAdditions, Presence, SeqKind, FieldAdditions, all_fields, all_alternatives, alternative_tagged, tag_eq}
+use Rattle.asn_model.specs.Value.{Value, Fits, FitsFields, FitsAlternative, is_kept, may_lack}
 use Rattle.asn_traits.specs.Writing.{Frame, push, push_all, close, as_members, as_choice, named, Turns, Written, Filled, CannotWrite, ScopeRan, CannotFill, tail_names, Offered}
 
 -- On a new frame the slots are the frame.

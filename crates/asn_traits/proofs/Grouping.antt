@@ -2,10 +2,10 @@
 use Rattle.std.proofs.Common.{List, ◌++◌}
 use Rattle.asn_fault.specs.Stop.{Stop}
 use Rattle.asn_fault.specs.declared.encode.EncodeError.{EncodeError}
-use Rattle.asn_traits.specs.Notation.{Notation}
+use Rattle.asn_model.specs.Notation.{Notation}
 use Rattle.asn_traits.specs.Passing.{AddsFields, RefusesAdding, TakesFields, RefusesFields}
-use Rattle.asn_traits.specs.Shape.{Fields, join_fields}
-use Rattle.asn_traits.specs.Tree.{Slot}
+use Rattle.asn_model.specs.Shape.{Fields, join_fields}
+use Rattle.asn_model.specs.Tree.{Slot}
 use Rattle.asn_traits.specs.Writing.{Frame}
 
 pub adds_both : {S : Type 0} {holds : S → List Frame → Type 0} {n : Notation} {fs gs : Fields} {ss ts : Frame} {old mid new : S}

@@ -8,42 +8,20 @@ use Rattle.asn_base.specs.Numbers.{signed, is_negative, magnitude}
 use Rattle.asn_base.specs.declared.codec.Codec.{Codec}
 use Rattle.asn_fault.specs.Stop.{Stop, Why, at_root}
 use Rattle.asn_traits.specs.Answer.{Refuses, OfPlace}
-use Rattle.asn_traits.specs.Leaf.{Blame, Blamed, codec_of, as_leaf, kind_of, refine, refined, leaf, IsOwned}
-use Rattle.asn_traits.specs.Notation.{Notation, notation_of}
+use Rattle.asn_model.specs.Leaf.{Blame, Blamed, codec_of, as_leaf, kind_of, refine, refined, leaf, IsOwned}
+use Rattle.asn_model.specs.Notation.{Notation, notation_of}
 use Rattle.asn_traits.specs.Opening.{IsLeaf, IsTaken, TakesLeaf}
-use Rattle.asn_traits.specs.Range.{at_most, is_between}
-use Rattle.asn_traits.specs.Says.{Says}
-use Rattle.asn_traits.specs.Shape.{Shape, all_items, is_item}
-use Rattle.asn_traits.specs.Stops.{Stops}
-use Rattle.asn_traits.specs.Tree.{Tree, Slot, head_slot}
-use Rattle.asn_traits.specs.Value.{Value, Fits, is_leaf_of}
+use Rattle.asn_model.specs.Range.{at_most, is_between}
+use Rattle.asn_model.specs.Says.{Says}
+use Rattle.asn_model.specs.Shape.{Shape, all_items, is_item}
+use Rattle.asn_model.specs.Stops.{Stops}
+use Rattle.asn_model.specs.Tree.{Tree, Slot, head_slot}
+use Rattle.asn_model.specs.Value.{Value, Fits, is_leaf_of}
 use Rattle.asn_traits.specs.Writing.{Frame, Written, Puts}
-use Rattle.asn_traits.specs.declared.leaves.LeafKind.{LeafKind}
-use Rattle.asn_traits.specs.declared.leaves.OwnedLeaf.{OwnedLeaf}
-use Rattle.asn_traits.proofs.Readables.{and-left, and-right, and-both}
+use Rattle.asn_model.specs.declared.leaves.LeafKind.{LeafKind}
+use Rattle.asn_model.specs.declared.leaves.OwnedLeaf.{OwnedLeaf}
+use Rattle.asn_model.proofs.Ranges.{between, outside}
 use Rattle.asn_traits.proofs.Refusing.{at_no_field}
-
-holds : (b : Bool) (x y : ℤ) → int_lt y x ≡ b → x ≤ℤ y → not b ≡ true
-holds true x y e h = absurd (omega (arith, ints))
-holds false x y e h = refl
-
-fails : (b : Bool) (x y : ℤ) → int_lt y x ≡ b → y <ℤ x → not b ≡ false
-fails true x y e h = refl
-fails false x y e h = absurd (omega (arith, ints))
-
-and-fails : (a : Bool) → (a && false) ≡ false
-and-fails true = refl
-and-fails false = refl
-
-pub between : (l g n : ℤ) → l ≤ℤ n → n ≤ℤ g → is_between l g n ≡ true
-between l g n low high = and-both (at_most l n) (at_most n g) (holds (int_lt n l) l n refl low) (holds (int_lt g n) n g refl high)
-
-pub outside : (l g n : ℤ) → (n <ℤ l) ⊎ (g <ℤ n) → is_between l g n ≡ false
-outside l g n (inl low) = ap (λ b. b && at_most n g) (fails (int_lt n l) l n refl low)
-outside l g n (inr high) = ap (λ b. at_most l n && b) (fails (int_lt g n) n g refl high) ∙ and-fails (at_most l n)
-
-pub inside : (l g n : ℤ) → is_between l g n ≡ true → (l ≤ℤ n) × (n ≤ℤ g)
-inside l g n e = (lt_z_no (T_from_true _ (and-left (at_most l n) (at_most n g) e)), lt_z_no (T_from_true _ (and-right (at_most l n) (at_most n g) e)))
 
 -- A value that is put and fits is written.
 pub leaf_written : {S : Type 0} {holds : S → List Frame → Type 0} {n : Notation} {old new : S} (s : Shape) (v w : Value) → w ≡ v → is_leaf_of s v ≡ true → Puts holds n w old new → Written holds n s v old new

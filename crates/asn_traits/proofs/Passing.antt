@@ -6,17 +6,17 @@ use Rattle.asn_fault.specs.Stop.{Stop}
 use Rattle.asn_fault.specs.declared.encode.EncodeError.{EncodeError}
 use Rattle.asn_traits.specs.Answer.{OptionalStops, Refuses}
 use Rattle.asn_traits.specs.FieldAnswer.{AddsSlot, TakesSlot, WithinField}
-use Rattle.asn_traits.specs.Notation.{Notation}
+use Rattle.asn_model.specs.Notation.{Notation}
 use Rattle.asn_traits.specs.Passing.{allows, AddsFields, RefusesAdding, TakesFields, RefusesFields, FieldStops}
 use Rattle.asn_traits.specs.Passing.AddsFields.{adds_none, adds_next}
 use Rattle.asn_traits.specs.Passing.RefusesAdding.{refuses_slot, refuses_later_slot}
 use Rattle.asn_traits.specs.Passing.TakesFields.{takes_none, takes_next}
 use Rattle.asn_traits.specs.Passing.RefusesFields.{refuses_field, refuses_later_field}
-use Rattle.asn_traits.specs.Says.{SaysFields}
-use Rattle.asn_traits.specs.Shape.{Shape, Fields, Presence, field_names}
-use Rattle.asn_traits.specs.Stops.{StopsFields}
-use Rattle.asn_traits.specs.Tree.{Slot}
-use Rattle.asn_traits.specs.Value.{Value, Slots, is_kept, may_lack, with_field}
+use Rattle.asn_model.specs.Says.{SaysFields}
+use Rattle.asn_model.specs.Shape.{Shape, Fields, Presence, field_names}
+use Rattle.asn_model.specs.Stops.{StopsFields}
+use Rattle.asn_model.specs.Tree.{Slot}
+use Rattle.asn_model.specs.Value.{Value, Slots, is_kept, may_lack, with_field}
 use Rattle.asn_traits.specs.Writing.{Frame, named, Filled, CannotFill}
 use Rattle.asn_traits.proofs.FieldSteps.{FieldsRead, reads_start, refused_at, refused_after, refuses_required, member, at_field}
 use Rattle.asn_traits.proofs.Filling.{fill_end, fill_present, fill_absent}

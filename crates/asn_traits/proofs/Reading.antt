@@ -1,12 +1,12 @@
 -- Steps of reading an open list.
 use Rattle.std.proofs.Common.{◌≡◌, refl, ap, sym, ◌∙◌, List, [], ◌∷◌, ◌++◌, subst, ℕ, ◌+◌, ◌<◌, ◌≤◌, length, Ok, arith}
 use Rattle.asn_fault.specs.Stop.{Stop, Why}
-use Rattle.asn_traits.specs.Notation.{Notation}
-use Rattle.asn_traits.specs.Shape.{Shape}
-use Rattle.asn_traits.specs.Tree.{Slot, slot_nodes, head_nodes, head_slot}
-use Rattle.asn_traits.specs.Value.{Value, Values, values}
-use Rattle.asn_traits.specs.Says.{Says, SaysEach}
-use Rattle.asn_traits.specs.Stops.{Stops, StopsEach, Path}
+use Rattle.asn_model.specs.Notation.{Notation}
+use Rattle.asn_model.specs.Shape.{Shape}
+use Rattle.asn_model.specs.Tree.{Slot, slot_nodes, head_nodes, head_slot}
+use Rattle.asn_model.specs.Value.{Value, Values, values}
+use Rattle.asn_model.specs.Says.{Says, SaysEach}
+use Rattle.asn_model.specs.Stops.{Stops, StopsEach, Path}
 use Rattle.asn_traits.specs.Answer.{Answer, Refuses}
 use Rattle.asn_traits.specs.Opening.{OpensList, AllBelow, IsList}
 use Rattle.asn_traits.proofs.Steps.{refuses_by, same_head, same_tail, list_says, list_stops}

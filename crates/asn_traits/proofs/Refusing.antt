@@ -3,12 +3,12 @@ use Rattle.std.proofs.Common.{◌≡◌, ap, sym, ◌∙◌, subst, refl, ◌⊎
 use Rattle.std.specs.Prelude.{option_map}
 use Rattle.asn_base.specs.declared.codec.Codec.{Codec}
 use Rattle.asn_fault.specs.Stop.{Stop, Why, at_root}
-use Rattle.asn_traits.specs.Notation.{Notation, notation_of}
-use Rattle.asn_traits.specs.Shape.{Shape, Fields, Alternatives, AlternativeAdditions, SeqKind, FieldAdditions}
-use Rattle.asn_traits.specs.Tree.{Tree, Slot, head_slot, as_list, as_members, as_choice}
-use Rattle.asn_traits.specs.Leaf.{Blame, Blamed, codec_of, as_leaf, kind_of, refined, needs_members, needs_list, needs_choice}
-use Rattle.asn_traits.specs.Stops.{Stops, Path}
-use Rattle.asn_traits.specs.declared.leaves.LeafKind.{LeafKind}
+use Rattle.asn_model.specs.Notation.{Notation, notation_of}
+use Rattle.asn_model.specs.Shape.{Shape, Fields, Alternatives, AlternativeAdditions, SeqKind, FieldAdditions}
+use Rattle.asn_model.specs.Tree.{Tree, Slot, head_slot, as_list, as_members, as_choice}
+use Rattle.asn_model.specs.Leaf.{Blame, Blamed, codec_of, as_leaf, kind_of, refined, needs_members, needs_list, needs_choice}
+use Rattle.asn_model.specs.Stops.{Stops, Path}
+use Rattle.asn_model.specs.declared.leaves.LeafKind.{LeafKind}
 use Rattle.asn_traits.specs.Answer.{Refuses, OfPlace, AtRoot, TellsBlame}
 use Rattle.asn_traits.proofs.Steps.{refuses_by}
 

@@ -1,19 +1,19 @@
 -- A sequence is what its slots are.
 use Rattle.std.proofs.Common.{◌≡◌, refl, sym, ◌∙◌, ap, subst, ℕ, suc, List, [], ◌∷◌, ◌++◌, append-nil, map, length, Option, Some, None, option_map, unwrap_or, Result, Ok, Err}
 use Rattle.asn_fault.specs.Stop.{Stop}
-use Rattle.asn_traits.specs.Notation.{Notation}
-use Rattle.asn_traits.specs.Shape.{Shape, SeqKind, Fields, FieldAdditions, all_fields, field_names}
-use Rattle.asn_traits.specs.Tree.{Slot, head_slot}
-use Rattle.asn_traits.specs.Value.{Value}
-use Rattle.asn_traits.specs.Says.{Says}
-use Rattle.asn_traits.specs.Stops.{Stops}
+use Rattle.asn_model.specs.Notation.{Notation}
+use Rattle.asn_model.specs.Shape.{Shape, SeqKind, Fields, FieldAdditions, all_fields, field_names}
+use Rattle.asn_model.specs.Tree.{Slot, head_slot}
+use Rattle.asn_model.specs.Value.{Value}
+use Rattle.asn_model.specs.Says.{Says}
+use Rattle.asn_model.specs.Stops.{Stops}
 use Rattle.asn_traits.specs.Answer.{AnswerBy}
 use Rattle.asn_traits.specs.Opening.{HasMembers}
 use Rattle.asn_traits.specs.Scopes.{ScopeAnswer}
 use Rattle.asn_traits.specs.Tables.{Row, names_of, rows_of, field_rows, added_rows}
 use Rattle.asn_traits.specs.declared.types.Field.{Field}
 use Rattle.asn_traits.specs.declared.types.Fields.{Fields as FieldTable}
-use Rattle.asn_traits.proofs.Readables.{names-all}
+use Rattle.asn_model.proofs.Readables.{names-all}
 use Rattle.asn_traits.proofs.Steps.{refuses_by, members_say, members_stop}
 
 names_of-rows : (fields : List Field) → map (λ (r : Row). r.name) (rows_of fields) ≡ names_of fields

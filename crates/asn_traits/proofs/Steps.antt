@@ -4,12 +4,12 @@ use Rattle.std.proofs.Common.{sym, ◌∙◌, subst, inl, inr, refl}
 use Rattle.asn_fault.specs.Stop.{Stop, Why, error_stop, is_memory, wrapped, at_root}
 use Rattle.asn_base.specs.declared.codec.Codec.{Codec}
 use Rattle.asn_fault.specs.declared.decode.DecodeError.{DecodeError}
-use Rattle.asn_traits.specs.Notation.{Notation, notation_of}
-use Rattle.asn_traits.specs.Shape.{Shape, SeqKind, Fields, FieldAdditions, all_fields, field_names, unfold_loop}
-use Rattle.asn_traits.specs.Tree.{Slot, head_slot}
-use Rattle.asn_traits.specs.Value.{Value, Values, Slots}
-use Rattle.asn_traits.specs.Says.{Says, SaysEach, SaysFields}
-use Rattle.asn_traits.specs.Stops.{Stops, StopsEach, StopsFields, Path}
+use Rattle.asn_model.specs.Notation.{Notation, notation_of}
+use Rattle.asn_model.specs.Shape.{Shape, SeqKind, Fields, FieldAdditions, all_fields, field_names, unfold_loop}
+use Rattle.asn_model.specs.Tree.{Slot, head_slot}
+use Rattle.asn_model.specs.Value.{Value, Values, Slots}
+use Rattle.asn_model.specs.Says.{Says, SaysEach, SaysFields}
+use Rattle.asn_model.specs.Stops.{Stops, StopsEach, StopsFields, Path}
 use Rattle.asn_traits.specs.Answer.{Answer, Refuses}
 use Rattle.asn_traits.specs.Opening.{IsList, HasMembers}
 

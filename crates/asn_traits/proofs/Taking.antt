@@ -3,12 +3,12 @@ use Rattle.std.specs.Prelude.{◌≡◌, ℕ, suc, List, [], ◌∷◌, ◌++◌
 use Rattle.std.proofs.Common.{sym, ◌∙◌, subst, arith, inl, inr}
 use Rattle.asn_base.specs.declared.tag.Tag.{Tag}
 use Rattle.asn_fault.specs.Stop.{Why}
-use Rattle.asn_traits.specs.Notation.{Notation}
-use Rattle.asn_traits.specs.Shape.{Shape, Fields, Presence, field_names}
-use Rattle.asn_traits.specs.Tree.{Tree, Slot, head_slot}
-use Rattle.asn_traits.specs.Value.{Value, Slots, may_lack, with_field}
-use Rattle.asn_traits.specs.Says.{Says, SaysFields}
-use Rattle.asn_traits.specs.Stops.{Stops, StopsFields, Path}
+use Rattle.asn_model.specs.Notation.{Notation}
+use Rattle.asn_model.specs.Shape.{Shape, Fields, Presence, field_names}
+use Rattle.asn_model.specs.Tree.{Tree, Slot, head_slot}
+use Rattle.asn_model.specs.Value.{Value, Slots, may_lack, with_field}
+use Rattle.asn_model.specs.Says.{Says, SaysFields}
+use Rattle.asn_model.specs.Stops.{Stops, StopsFields, Path}
 use Rattle.asn_traits.specs.Answer.{Answer, OptionalAnswer, OptionalStops}
 use Rattle.asn_traits.proofs.Steps.{same_head, same_tail}
 

@@ -5,16 +5,17 @@ use Rattle.asn_fault.specs.Unwritten.{WhyUnwritten}
 use Rattle.asn_fault.specs.declared.decode.DecodeError.{DecodeError}
 use Rattle.asn_fault.specs.declared.encode.EncodeError.{EncodeError}
 use Rattle.asn_fault.specs.declared.encode.EncodeErrorKind.TheVariants.{OutOfMemory}
-use Rattle.asn_traits.specs.Notation.{Notation, IsText}
-use Rattle.asn_traits.specs.Shape.{Shape}
-use Rattle.asn_traits.specs.Tree.{Tree, Slot}
-use Rattle.asn_traits.specs.Value.{Value, Values, Slots}
-use Rattle.asn_traits.specs.Says.{Says}
-use Rattle.asn_traits.specs.Stops.{Stops}
+use Rattle.asn_model.specs.Notation.{Notation, IsText}
+use Rattle.asn_model.specs.Shape.{Shape}
+use Rattle.asn_model.specs.Tree.{Tree, Slot}
+use Rattle.asn_model.specs.Value.{Value, Values, Slots}
+use Rattle.asn_model.specs.Says.{Says}
+use Rattle.asn_model.specs.Stops.{Stops}
 use Rattle.asn_traits.specs.Answer.{Answer, Refuses}
 use Rattle.asn_traits.specs.Root.{RootAnswer, Reads}
-use Rattle.asn_traits.specs.Writing.{Writable, WritableEach, WritableSlots, Blocks, BlocksEach, BlocksSlots, CannotWrite}
-use Rattle.asn_traits.proofs.Meanings.{one, apart, not_other}
+use Rattle.asn_model.specs.Writable.{Writable, WritableEach, WritableSlots, Blocks, BlocksEach, BlocksSlots}
+use Rattle.asn_traits.specs.Writing.{CannotWrite}
+use Rattle.asn_model.proofs.Meanings.{one, apart, not_other}
 use Rattle.asn_traits.proofs.Steps.{same_head}
 
 -- The answer of a reader whose first slot is the tree.

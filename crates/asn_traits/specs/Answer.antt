@@ -4,13 +4,13 @@ use Rattle.asn_fault.specs.Stop.{Stop, Level, Why, error_stop, is_memory}
 use Rattle.asn_fault.specs.declared.decode.DecodeError.{DecodeError}
 use Rattle.asn_base.specs.declared.codec.Codec.{Codec}
 use Rattle.asn_base.specs.declared.codec.Codec.TheVariants.{Ber}
-use Rattle.asn_traits.specs.Notation.{Notation, notation_of}
-use Rattle.asn_traits.specs.Shape.{Shape, shape_under}
-use Rattle.asn_traits.specs.Tree.{Tree, Slot, head_slot}
-use Rattle.asn_traits.specs.Leaf.{Blame, Blamed}
-use Rattle.asn_traits.specs.Value.{Value, value_under}
-use Rattle.asn_traits.specs.Says.{Says}
-use Rattle.asn_traits.specs.Stops.{Stops, Path}
+use Rattle.asn_model.specs.Notation.{Notation, notation_of}
+use Rattle.asn_model.specs.Shape.{Shape, shape_under}
+use Rattle.asn_model.specs.Tree.{Tree, Slot, head_slot}
+use Rattle.asn_model.specs.Leaf.{Blame, Blamed}
+use Rattle.asn_model.specs.Value.{Value, value_under}
+use Rattle.asn_model.specs.Says.{Says}
+use Rattle.asn_model.specs.Stops.{Stops, Path}
 
 -- The codec of each level is the notation's.
 abbrev pub OfLevels : Notation → List Level → Type 0

@@ -1,8 +1,8 @@
 -- The alternative that a value of a CHOICE is of, with its payload.
 use Rattle.std.specs.Prelude.{◌≡◌, ℕ, List, Some}
 use Rattle.asn_base.specs.declared.tag.Tag.{Tag}
-use Rattle.asn_traits.specs.Shape.{Shape, Alternatives, alternative_tagged}
-use Rattle.asn_traits.specs.Value.{Value}
+use Rattle.asn_model.specs.Shape.{Shape, Alternatives, alternative_tagged}
+use Rattle.asn_model.specs.Value.{Value}
 
 -- Identifier, tag and shape of the alternative, and the payload's value.
 pub record Chosen : Type 0 where

@@ -1,12 +1,12 @@
 -- What reading and writing a single field answers.
 use Rattle.std.specs.Prelude.{◌≡◌, ℕ, List, ◌∷◌, Option, Some, None}
 use Rattle.asn_fault.specs.Stop.{Why}
-use Rattle.asn_traits.specs.Notation.{Notation}
-use Rattle.asn_traits.specs.Shape.{Shape}
-use Rattle.asn_traits.specs.Tree.{Slot}
-use Rattle.asn_traits.specs.Value.{Value}
-use Rattle.asn_traits.specs.Says.{Says}
-use Rattle.asn_traits.specs.Stops.{Path}
+use Rattle.asn_model.specs.Notation.{Notation}
+use Rattle.asn_model.specs.Shape.{Shape}
+use Rattle.asn_model.specs.Tree.{Slot}
+use Rattle.asn_model.specs.Value.{Value}
+use Rattle.asn_model.specs.Says.{Says}
+use Rattle.asn_model.specs.Stops.{Path}
 use Rattle.asn_traits.specs.Writing.{Frame, push, Turns, Written}
 
 -- The first pending slot is gone: it says the value, or it was absent.

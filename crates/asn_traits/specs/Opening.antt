@@ -3,15 +3,15 @@ use Rattle.std.specs.Prelude.{◌≡◌, ℕ, ◌<◌, List, [], ◌∷◌, ◌+
 use Rattle.asn_fault.specs.Stop.{error_stop}
 use Rattle.asn_fault.specs.declared.decode.DecodeError.{DecodeError}
 use Rattle.asn_base.specs.declared.tag.Tag.{Tag}
-use Rattle.asn_traits.specs.Leaf.{as_leaf, kind_of, kind_of_owned, IsOwned}
-use Rattle.asn_traits.specs.Notation.{Notation}
-use Rattle.asn_traits.specs.Shape.{Shape, SeqKind, Fields, FieldAdditions, Alternatives, AlternativeAdditions, place_named, alternative_named, alternative_tagged, all_alternatives}
-use Rattle.asn_traits.specs.Tree.{Tree, Slot, slot_nodes, head_slot, as_list, as_members, as_choice, same_identifier}
-use Rattle.asn_traits.specs.Stops.{Stops}
+use Rattle.asn_model.specs.Leaf.{as_leaf, kind_of, kind_of_owned, IsOwned}
+use Rattle.asn_model.specs.Notation.{Notation}
+use Rattle.asn_model.specs.Shape.{Shape, SeqKind, Fields, FieldAdditions, Alternatives, AlternativeAdditions, place_named, alternative_named, alternative_tagged, all_alternatives}
+use Rattle.asn_model.specs.Tree.{Tree, Slot, slot_nodes, head_slot, as_list, as_members, as_choice, same_identifier}
+use Rattle.asn_model.specs.Stops.{Stops}
 use Rattle.asn_traits.specs.Answer.{Refuses}
-use Rattle.asn_traits.specs.Value.{Value}
-use Rattle.asn_traits.specs.declared.leaves.LeafKind.{LeafKind}
-use Rattle.asn_traits.specs.declared.leaves.OwnedLeaf.{OwnedLeaf}
+use Rattle.asn_model.specs.Value.{Value}
+use Rattle.asn_model.specs.declared.leaves.LeafKind.{LeafKind}
+use Rattle.asn_model.specs.declared.leaves.OwnedLeaf.{OwnedLeaf}
 
 -- Each slot has fewer nodes.
 abbrev pub AllBelow : ℕ → List Slot → Type 0

@@ -4,7 +4,7 @@ use Rattle.asn_base.specs.Tags.{smaller_tag, smallest}
 use Rattle.asn_base.specs.declared.tag.Tag.{Tag}
 use Rattle.asn_base.specs.declared.tag_tree.TagTree.{TagTree}
 use Rattle.asn_base.specs.declared.tag.Class.TheVariants.{Universal}
-use Rattle.asn_traits.specs.Shape.{Shape, Alphabet, SeqKind, end_tag, opened, tag_eq}
+use Rattle.asn_model.specs.Shape.{Shape, Alphabet, SeqKind, end_tag, opened, tag_eq}
 use Rattle.asn_traits.specs.Tables.{root_tags}
 
 -- The number of a string type's tag.

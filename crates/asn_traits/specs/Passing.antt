@@ -5,11 +5,11 @@ use Rattle.asn_fault.specs.Stop.{Stop, Why}
 use Rattle.asn_fault.specs.declared.encode.EncodeError.{EncodeError}
 use Rattle.asn_traits.specs.Answer.{OptionalStops, Refuses}
 use Rattle.asn_traits.specs.FieldAnswer.{AddsSlot, TakesSlot, WithinField}
-use Rattle.asn_traits.specs.Notation.{Notation}
-use Rattle.asn_traits.specs.Shape.{Shape, Fields, Presence}
-use Rattle.asn_traits.specs.Stops.{Stops, Path}
-use Rattle.asn_traits.specs.Tree.{Slot, head_slot}
-use Rattle.asn_traits.specs.Value.{Value, is_kept}
+use Rattle.asn_model.specs.Notation.{Notation}
+use Rattle.asn_model.specs.Shape.{Shape, Fields, Presence}
+use Rattle.asn_model.specs.Stops.{Stops, Path}
+use Rattle.asn_model.specs.Tree.{Slot, head_slot}
+use Rattle.asn_model.specs.Value.{Value, is_kept}
 use Rattle.asn_traits.specs.Writing.{Frame, CannotFill}
 
 -- The presence allows the slot.

@@ -2,12 +2,12 @@
 use Rattle.std.specs.Prelude.{◌≡◌, Some, true, Result, Ok, Err}
 use Rattle.asn_fault.specs.Stop.{error_stop, is_memory}
 use Rattle.asn_fault.specs.declared.decode.DecodeError.{DecodeError}
-use Rattle.asn_traits.specs.Notation.{Notation}
-use Rattle.asn_traits.specs.Shape.{Shape}
-use Rattle.asn_traits.specs.Tree.{Tree}
-use Rattle.asn_traits.specs.Value.{Value}
-use Rattle.asn_traits.specs.Says.{Says}
-use Rattle.asn_traits.specs.Stops.{Stops}
+use Rattle.asn_model.specs.Notation.{Notation}
+use Rattle.asn_model.specs.Shape.{Shape}
+use Rattle.asn_model.specs.Tree.{Tree}
+use Rattle.asn_model.specs.Value.{Value}
+use Rattle.asn_model.specs.Says.{Says}
+use Rattle.asn_model.specs.Stops.{Stops}
 use Rattle.asn_traits.specs.Answer.{Refuses}
 
 -- The tree says the value, or it is refused for a reason that it has.

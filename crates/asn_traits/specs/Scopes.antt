@@ -3,12 +3,12 @@ use Rattle.std.specs.Prelude.{◌≡◌, ℕ, List, [], ◌∷◌, ◌++◌, len
 use Rattle.asn_fault.specs.Stop.{Stop, Why, error_stop}
 use Rattle.asn_base.specs.declared.tag.Tag.{Tag}
 use Rattle.asn_fault.specs.declared.decode.DecodeError.{DecodeError}
-use Rattle.asn_traits.specs.Notation.{Notation}
-use Rattle.asn_traits.specs.Shape.{Shape, Fields, Alternatives, field_names, alternative_tagged}
-use Rattle.asn_traits.specs.Tree.{Slot, head_slot}
-use Rattle.asn_traits.specs.Value.{Value, Slots}
-use Rattle.asn_traits.specs.Says.{Says, SaysFields}
-use Rattle.asn_traits.specs.Stops.{Stops, StopsFields, Path}
+use Rattle.asn_model.specs.Notation.{Notation}
+use Rattle.asn_model.specs.Shape.{Shape, Fields, Alternatives, field_names, alternative_tagged}
+use Rattle.asn_model.specs.Tree.{Slot, head_slot}
+use Rattle.asn_model.specs.Value.{Value, Slots}
+use Rattle.asn_model.specs.Says.{Says, SaysFields}
+use Rattle.asn_model.specs.Stops.{Stops, StopsFields, Path}
 use Rattle.asn_traits.specs.Answer.{Refuses}
 
 -- The slots were taken and say the value, or they are refused for a reason that they have.

@@ -3,7 +3,7 @@ use Rattle.std.specs.Prelude.{ℕ, suc, List, [], ◌∷◌, map, length, Option
 use Rattle.asn_base.specs.Tags.{smallest}
 use Rattle.asn_base.specs.declared.tag.Tag.{Tag}
 use Rattle.asn_base.specs.declared.tag_tree.TagTree.{TagTree}
-use Rattle.asn_traits.specs.Shape.{Fields, FieldAdditions, Alternatives, AlternativeAdditions, Presence, field_names, tags, end_tag}
+use Rattle.asn_model.specs.Shape.{Fields, FieldAdditions, Alternatives, AlternativeAdditions, Presence, field_names, tags, end_tag}
 use Rattle.asn_traits.specs.declared.types.Field.{Field}
 use Rattle.asn_traits.specs.declared.types.Presence.{Presence as PresenceKind}
 use Rattle.asn_traits.specs.declared.types.Presence.TheVariants as kind

@@ -2,7 +2,7 @@
 use Rattle.std.specs.Prelude.{ℕ, ◌-◌, ◌^◌, pos, negsuc}
 use Rattle.asn_base.specs.declared.tag.Tag.{Tag}
 use Rattle.asn_base.specs.declared.tag.Class.TheVariants.{Context}
-use Rattle.asn_traits.specs.Shape.{Shape, Alphabet}
+use Rattle.asn_model.specs.Shape.{Shape, Alphabet}
 
 -- The context tag of that number.
 abbrev pub context : ℕ → Tag

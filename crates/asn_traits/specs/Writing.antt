@@ -1,24 +1,19 @@
 -- What an encoder holds, what a call adds to it, and why it refuses.
-use Rattle.std.specs.Prelude.{◌≡◌, ◌≤ℤ◌, ◌⊎◌, pos, negsuc, ℕ, ℤ, ◌-◌, ◌^◌, List, [], ◌∷◌, ◌++◌, Option, Some, None, true}
-use Rattle.std.specs.Str.{is_utf8}
+use Rattle.std.specs.Prelude.{◌≡◌, ℕ, List, [], ◌∷◌, Option, Some, None}
 use Rattle.asn_fault.specs.declared.encode.EncodeError.{EncodeError}
 use Rattle.asn_fault.specs.declared.encode.EncodeErrorKind.TheVariants.{OutOfMemory}
-use Rattle.asn_fault.specs.Unwritten.{WhyUnwritten, encode_why}
-use Rattle.asn_base.specs.declared.whole_number.WholeNumber.{WholeNumber}
-use Rattle.asn_base.specs.Numbers.{is_negative, magnitude}
-use Rattle.asn_traits.specs.Canonical.{canonical_tree}
-use Rattle.asn_traits.specs.Notation.{Notation, notation_of}
-use Rattle.asn_traits.specs.Shape.{Shape, Fields, Alternatives, shape_under, field_names}
-use Rattle.asn_traits.specs.Value.{Value, Values, Slots, Fits, FitsFields, FitsAlternative, value_under}
+use Rattle.asn_fault.specs.Unwritten.{encode_why}
+use Rattle.asn_model.specs.Canonical.{canonical_tree}
+use Rattle.asn_model.specs.Notation.{Notation, notation_of}
+use Rattle.asn_model.specs.Shape.{Shape, Fields, Alternatives, shape_under, field_names}
+use Rattle.asn_model.specs.Writable.{Writable, WritableSlots, Blocks}
+use Rattle.asn_model.specs.Value.{Value, Values, Slots, Fits, FitsFields, FitsAlternative, value_under}
+pub use Rattle.asn_slots.specs.Frames.{push, close}
+pub use Rattle.asn_slots.specs.Slots.{last_present}
 
 -- A value, or absent.
 abbrev pub Frame : Type 0
 Frame = List (Option Value)
-
--- One more slot in the last frame, which stands first; where no frame is open, one opens.
-abbrev pub push : Option Value → List Frame → List Frame
-push s [] = (s ∷ []) ∷ []
-push s (f ∷ fs) = (f ++ (s ∷ [])) ∷ fs
 
 -- More slots in the last frame, in order.
 abbrev pub push_all : Frame → List Frame → List Frame
@@ -51,21 +46,6 @@ named (Some v ∷ ss) ns = Slots.present (head_name ns) v (named ss (tail_names 
 abbrev pub members_value : Fields → Frame → Value
 members_value fs ss = Value.members (named ss (field_names fs))
 
--- What is there, or else the other.
-abbrev pub or_some : {A : Type 0} → Option A → Option A → Option A
-or_some (Some x) o = Some x
-or_some None o = o
-
--- The last one that is present.
-abbrev pub last_present : {A : Type 0} → List (Option A) → Option A
-last_present [] = None
-last_present (s ∷ ss) = or_some (last_present ss) s
-
--- The last frame becomes one slot of the frame before it.
-abbrev pub close : (Frame → Option Value) → List Frame → List Frame
-close f [] = []
-close f (ss ∷ fs) = push (f ss) fs
-
 -- The list of a frame's present values.
 abbrev pub as_list : Frame → Option Value
 as_list ss = Some (Value.list (present_values ss))
@@ -79,56 +59,6 @@ abbrev pub as_choice : List ℕ → Frame → Option Value
 as_choice i [] = None
 as_choice i (None ∷ ss) = None
 as_choice i (Some v ∷ ss) = Some (Value.choice i v)
-
--- The notation has the number.
-abbrev pub IntStands : Notation → ℤ → Type 0
-IntStands Notation.jer n = (negsuc (2 ^ 63 - 1) ≤ℤ n) × (n ≤ℤ pos (2 ^ 64 - 1))
-IntStands _ n = Unit {0}
-
-abbrev mutual
-  -- The notation can write the value.
-  pub Writable : Notation → Value → Type 0
-  Writable n (Value.int k) = IntStands n k
-  Writable n (Value.text t) = is_utf8 t ≡ true
-  Writable n (Value.members ms) = WritableSlots n ms
-  Writable n (Value.list vs) = WritableEach n vs
-  Writable n (Value.choice i v) = Writable n v
-  Writable n _ = Unit {0}
-
-  -- The notation can write each element.
-  pub WritableEach : Notation → Values → Type 0
-  WritableEach n Values.no_values = Unit {0}
-  WritableEach n (Values.value v vs) = Writable n v × WritableEach n vs
-
-  -- The notation can write each present member.
-  pub WritableSlots : Notation → Slots → Type 0
-  WritableSlots n Slots.no_slots = Unit {0}
-  WritableSlots n (Slots.absent m ms) = WritableSlots n ms
-  WritableSlots n (Slots.present m v ms) = Writable n v × WritableSlots n ms
-
--- The number as an error names it.
-abbrev pub whole : ℤ → WholeNumber
-whole n = record { negative = is_negative n; magnitude = magnitude n }
-
-abbrev mutual
-  -- The first part of the value that the notation cannot write is refused so.
-  pub Blocks : Notation → Value → WhyUnwritten → Type 0
-  Blocks n (Value.int k) why = (IntStands n k → ⊥) × (why ≡ WhyUnwritten.exceeds_supported_int_size (whole k))
-  Blocks n (Value.members ms) why = BlocksSlots n ms why
-  Blocks n (Value.list vs) why = BlocksEach n vs why
-  Blocks n (Value.choice i v) why = Blocks n v why
-  Blocks n _ why = ⊥
-
-  -- The first element that cannot be written is refused so.
-  pub BlocksEach : Notation → Values → WhyUnwritten → Type 0
-  BlocksEach n Values.no_values why = ⊥
-  BlocksEach n (Values.value v vs) why = Blocks n v why ⊎ (Writable n v × BlocksEach n vs why)
-
-  -- The first present member that cannot be written is refused so.
-  pub BlocksSlots : Notation → Slots → WhyUnwritten → Type 0
-  BlocksSlots n Slots.no_slots why = ⊥
-  BlocksSlots n (Slots.absent m ms) why = BlocksSlots n ms why
-  BlocksSlots n (Slots.present m v ms) why = Blocks n v why ⊎ (Writable n v × BlocksSlots n ms why)
 
 -- Memory is out, or the value has a part that the notation cannot write, or the codec is neither notation.
 pub data CannotWrite (n : Notation) (v : Value) (e : EncodeError) : Type 0 where

@@ -1,9 +1,9 @@
 // A CHOICE by its alternatives: what a type writes is one call an alternative.
 ghost use Rattle.asn_traits.specs.Chosen.{Chosen, IsChosen, chosen_value};
-ghost use Rattle.asn_traits.specs.Readable.{is_readable};
+ghost use Rattle.asn_model.specs.Readable.{is_readable};
 ghost use Rattle.asn_traits.specs.Scopes.{TagAnswer};
-ghost use Rattle.asn_traits.specs.Shape.{Shape as AbstractShape, Alternatives, AlternativeAdditions, all_alternatives, identifiers};
-ghost use Rattle.asn_traits.specs.ShapeView.{shape_view};
+ghost use Rattle.asn_model.specs.Shape.{Shape as AbstractShape, Alternatives, AlternativeAdditions, all_alternatives, identifiers};
+ghost use Rattle.asn_model.specs.ShapeView.{shape_view};
 ghost use Rattle.asn_traits.specs.Tables.{added_tags, root_tags, smallest_tags};
 ghost use Rattle.asn_traits.specs.Writing.{CannotWrite, Written};
 ghost use Rattle.std.specs.Prelude.{◌≡◌, IfErr, IfOk, OnOk, map, option_map, refl, true};

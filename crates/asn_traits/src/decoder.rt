@@ -2,19 +2,19 @@
 //
 // A codec writes the calls without a body. The calls that have a bound of this crate's are final, and are proved here once for every codec.
 ghost use Rattle.asn_fault.specs.Stop.{Why, at_root, error_stop};
-ghost use Rattle.asn_traits.specs.Fixed.{fixed_size};
-ghost use Rattle.asn_traits.specs.Leaf.{codec_of};
-ghost use Rattle.asn_traits.specs.Notation.{Notation, notation_of};
-ghost use Rattle.asn_traits.specs.Shape.{are_distinct, Shape, Alphabet, all_alternatives, all_fields, field_names};
-ghost use Rattle.asn_traits.specs.Tree.{Slot, head_nodes, slot_nodes};
-ghost use Rattle.asn_traits.specs.Value.{Value, values};
+ghost use Rattle.asn_model.specs.Fixed.{fixed_size};
+ghost use Rattle.asn_model.specs.Leaf.{codec_of};
+ghost use Rattle.asn_model.specs.Notation.{Notation, notation_of};
+ghost use Rattle.asn_model.specs.Shape.{are_distinct, Shape, Alphabet, all_alternatives, all_fields, field_names};
+ghost use Rattle.asn_model.specs.Tree.{Slot, head_nodes, slot_nodes};
+ghost use Rattle.asn_model.specs.Value.{Value, values};
 ghost use Rattle.asn_traits.specs.Answer.{Answer, AnswerBy, AnswerUnder, TakesAbsent, OptionalAnswer};
 ghost use Rattle.asn_traits.specs.Opening.{TakesLeaf, OpensList, OpensMembers, OpensChoice, OpensAlternative, AllBelow};
 ghost use Rattle.asn_traits.specs.Scopes.{ScopeAnswer, TagAnswer};
 ghost use Rattle.asn_traits.specs.Tables.{names_of};
 ghost use Rattle.std.specs.Prelude.{true, ◌≡◌, ℕ, pos, List, ◌∷◌, ◌++◌, ◌<◌, map, length, string_bytes};
 
-use crate::leaves::beyond_128_bits;
+use crate::integer_type::beyond_128_bits;
 use crate::tables::{listed, listed_fields, tag_at};
 use crate::{AsnType, Choice, Constructed, Enumerated, Field, IntegerType, LeafKind, OwnedLeaf};
 use asn_base::{Codec, Constraints, Tag};

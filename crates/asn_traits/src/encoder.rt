@@ -1,21 +1,21 @@
 // Writing a value of a type as one slot more of what an encoder holds.
 //
 // A codec writes the calls without a body. The calls that have a bound of this crate's are final, and are proved here once for every codec.
-ghost use Rattle.asn_traits.specs.Fixed.{fixed_size};
-ghost use Rattle.asn_traits.specs.Leaf.{leaf_value};
-ghost use Rattle.asn_traits.specs.Notation.{Notation, notation_of};
-ghost use Rattle.asn_traits.specs.Shape.{Shape, Alphabet, all_alternatives, all_fields, field_names, alternative_tagged};
+ghost use Rattle.asn_model.specs.Fixed.{fixed_size};
+ghost use Rattle.asn_model.specs.Leaf.{leaf_value};
+ghost use Rattle.asn_model.specs.Notation.{Notation, notation_of};
+ghost use Rattle.asn_model.specs.Shape.{Shape, Alphabet, all_alternatives, all_fields, field_names, alternative_tagged};
 ghost use Rattle.asn_traits.specs.Tables.{names_of};
-ghost use Rattle.asn_traits.specs.Value.{Value, values};
+ghost use Rattle.asn_model.specs.Value.{Value, values};
 ghost use Rattle.asn_traits.specs.Writing.{Frame, push, close, as_list, as_members, as_choice, Written, WrittenUnder, CannotWrite, CannotWriteUnder, ScopeRan, Turns, Puts};
 ghost use Rattle.std.specs.Fn.{FnOnceReturnsAtMut};
 ghost use Rattle.std.specs.Prelude.{◌≡◌, ◌⊎◌, pos, ◌∷◌, ◌++◌, [], ℕ, List, Option, Some, None, Ok, Err, map, option_map, OnOk, IfErr, IfSome, IsOk, IsSome, ⊤};
 
-use crate::leaves::are_octets;
 use crate::tables::{identifier_of, listed, listed_fields};
 use crate::{AsnType, Choice, Constructed, Enumerated, Field, IntegerType, Leaf};
 use asn_base::{Codec, Constraints, Identifier, Tag, WholeNumber};
 use asn_fault::{EncodeError, EncodeErrorKind};
+use asn_model::are_octets;
 use std::alloc::Global;
 
 /// A writer of one notation. It is seen as a list of open frames, each a list of slots: a value or absent.

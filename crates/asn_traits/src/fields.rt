@@ -3,9 +3,9 @@ ghost use Rattle.asn_base.specs.declared.codec.Codec.{Codec};
 ghost use Rattle.asn_fault.specs.Stop.{Why, at_root, error_stop, wrapped};
 ghost use Rattle.asn_traits.specs.Answer.{OptionalStops, Refuses};
 ghost use Rattle.asn_traits.specs.FieldAnswer.{AddsSlot, TakesSlot, WithinField};
-ghost use Rattle.asn_traits.specs.Notation.{notation_of};
-ghost use Rattle.asn_traits.specs.Stops.{Stops};
-ghost use Rattle.asn_traits.specs.Tree.{head_slot};
+ghost use Rattle.asn_model.specs.Notation.{notation_of};
+ghost use Rattle.asn_model.specs.Stops.{Stops};
+ghost use Rattle.asn_model.specs.Tree.{head_slot};
 ghost use Rattle.asn_traits.specs.Writing.{CannotFill};
 ghost use Rattle.std.specs.Prelude.{◌≡◌, ◌⊎◌, Some, [], ◌∷◌, option_map, IfOk, OnOk, IfErr};
 

@@ -1,7 +1,7 @@
 // Groups of fields, for a SEQUENCE of more fields than one function is proved with.
 ghost use Rattle.asn_fault.specs.Stop.{error_stop};
 ghost use Rattle.asn_traits.specs.Passing.{AddsFields, RefusesAdding, RefusesFields, TakesFields};
-ghost use Rattle.asn_traits.specs.Shape.{Fields as AbstractFields, join_fields};
+ghost use Rattle.asn_model.specs.Shape.{Fields as AbstractFields, join_fields};
 ghost use Rattle.asn_traits.specs.Writing.{Frame};
 ghost use Rattle.std.specs.Prelude.{◌++◌, IfErr, IfOk, OnOk};
 

@@ -1,7 +1,7 @@
 // The integer types of the language, as numbers of a range.
 ghost use Rattle.asn_base.specs.Numbers.{OfParts, signed, is_negative, magnitude};
-ghost use Rattle.asn_traits.specs.Readable.{has_128_bits};
-ghost use Rattle.std.specs.Prelude.{◌≡◌, ℕ, ℤ, pos, negsuc, ◌-◌, ◌^◌, ◌≤◌, ◌<◌, ◌≤ℤ◌, IfSome, true, refl};
+ghost use Rattle.asn_model.specs.Readable.{has_128_bits};
+ghost use Rattle.std.specs.Prelude.{◌≡◌, ◌⊎◌, Bool, ℕ, ℤ, pos, negsuc, ◌-◌, ◌^◌, ◌≤◌, ◌<◌, ◌<ℤ◌, ◌≤ℤ◌, IfSome, true, refl};
 
 /// An integer type: every whole number from `LEAST` to `GREATEST`, in `WIDTH` bits.
 pub trait IntegerType: Copy {
@@ -36,6 +36,15 @@ pub trait IntegerType: Copy {
 
     // The numbers have at most 128 bits, signed or unsigned.
     ghost narrow: { has_128_bits LEAST (pos GREATEST) ≡ true };
+}
+
+/// Law: a number of more than 128 bits is none of an integer type.
+pub fn beyond_128_bits<I: IntegerType>()
+    ensures { (negative : Bool) (n : ℕ) → 2 ^ 128 ≤ n
+        → (signed negative n <ℤ I.LEAST) ⊎ (pos I.GREATEST <ℤ signed negative n) }
+{
+    let _least = I::LEAST;
+    let _greatest = I::GREATEST;
 }
 
 /// The number of this sign and magnitude, if it is from zero to `greatest`.

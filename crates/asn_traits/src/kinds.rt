@@ -1,12 +1,12 @@
 // How types of one kind are written and read.
 ghost use Rattle.asn_traits.specs.Answer.{AnswerUnder};
 ghost use Rattle.asn_traits.specs.Chosen.{chosen_value};
-ghost use Rattle.asn_traits.specs.Fixed.{fixed_size};
+ghost use Rattle.asn_model.specs.Fixed.{fixed_size};
 ghost use Rattle.asn_traits.specs.OwnTag.{HasTags};
-ghost use Rattle.asn_traits.specs.Readable.{is_readable};
-ghost use Rattle.asn_traits.specs.Shape.{Shape as AbstractShape, SeqKind, all_fields, shape_under};
-ghost use Rattle.asn_traits.specs.ShapeView.{shape_view};
-ghost use Rattle.asn_traits.specs.Value.{Value, value_under};
+ghost use Rattle.asn_model.specs.Readable.{is_readable};
+ghost use Rattle.asn_model.specs.Shape.{Shape as AbstractShape, SeqKind, all_fields, shape_under};
+ghost use Rattle.asn_model.specs.ShapeView.{shape_view};
+ghost use Rattle.asn_model.specs.Value.{Value, value_under};
 ghost use Rattle.asn_traits.specs.Writing.{CannotWriteUnder, WrittenUnder, members_value};
 ghost use Rattle.std.specs.Prelude.{◌≡◌, ℕ, Option, pos, true, refl, IfErr, IfOk, OnOk};
 

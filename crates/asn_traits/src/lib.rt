@@ -8,19 +8,18 @@ mod fields;
 mod group;
 mod integer_type;
 mod kinds;
-pub mod laws;
-mod leaves;
-mod named;
 mod plain;
-mod readable;
 mod sequence;
 mod shape_parts;
-mod shape_type;
 mod tables;
 mod types;
 
 pub use alternative::{ChoicePayload, write_choice};
 pub use asn_base::TagTree;
+pub use asn_model::{
+    Alphabet, AlternativeShape, FieldShape, Leaf, LeafKind, OwnedLeaf, Plain, PresenceShape, SeqKind,
+    Shape, is_readable, laws,
+};
 pub use decoder::{Decode, DecodeChoice, Decoder};
 pub use encoder::{Encode, Encoder};
 pub use fields::{read_field, read_optional_field, write_field, write_optional_field};
@@ -30,13 +29,8 @@ pub use kinds::{
     ChoiceKind, DecodeKind, DescribeKind, EncodeKind, EnumeratedKind, IntegerKind, OfKind,
     SequenceKind,
 };
-pub use leaves::{Leaf, LeafKind, OwnedLeaf};
 pub use plain::OctetString;
-pub use readable::is_readable;
 pub use sequence::{SequenceFields, read_sequence, write_sequence};
 pub use shape_parts::{AlternativeShapes, FieldShapes, enumerated_shape};
-pub use shape_type::{
-    Alphabet, AlternativeShape, FieldShape, Plain, PresenceShape, SeqKind, Shape,
-};
 pub use tables::{field_name, place_of, place_of_field};
 pub use types::{AsnType, Choice, Constructed, Enumerated, Field, Fields, Presence};

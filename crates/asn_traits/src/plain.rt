@@ -1,6 +1,6 @@
 // The types of the language that are ASN.1 types, but for the integers.
-ghost use Rattle.asn_traits.specs.Shape.{Shape as AbstractShape, Alphabet as AbstractAlphabet};
-ghost use Rattle.asn_traits.specs.Value.{Value, values};
+ghost use Rattle.asn_model.specs.Shape.{Shape as AbstractShape, Alphabet as AbstractAlphabet};
+ghost use Rattle.asn_model.specs.Value.{Value, values};
 ghost use Rattle.std.specs.Prelude.{refl, string_bytes};
 
 use crate::{Alphabet, AsnType, Decode, Decoder, Encode, Encoder, Shape};

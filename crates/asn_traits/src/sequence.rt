@@ -2,10 +2,10 @@
 ghost use Rattle.asn_fault.specs.Stop.{error_stop};
 ghost use Rattle.asn_traits.specs.Answer.{Answer};
 ghost use Rattle.asn_traits.specs.Passing.{AddsFields, RefusesAdding, RefusesFields, TakesFields};
-ghost use Rattle.asn_traits.specs.Readable.{is_readable};
+ghost use Rattle.asn_model.specs.Readable.{is_readable};
 ghost use Rattle.asn_traits.specs.Scopes.{ScopeAnswers};
-ghost use Rattle.asn_traits.specs.Shape.{Shape as AbstractShape, SeqKind, Fields as AbstractFields, FieldAdditions, all_fields, field_names};
-ghost use Rattle.asn_traits.specs.ShapeView.{shape_view};
+ghost use Rattle.asn_model.specs.Shape.{Shape as AbstractShape, SeqKind, Fields as AbstractFields, FieldAdditions, all_fields, field_names};
+ghost use Rattle.asn_model.specs.ShapeView.{shape_view};
 ghost use Rattle.asn_traits.specs.Tables.{added_rows, field_rows, rows_of};
 ghost use Rattle.asn_traits.specs.Writing.{CannotFill, CannotWrite, Filled, Frame, Written, members_value};
 ghost use Rattle.std.specs.Prelude.{◌≡◌, IfErr, IfOk, OnOk, option_map, refl, true};

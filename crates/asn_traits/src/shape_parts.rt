@@ -1,6 +1,6 @@
 // Putting the shapes of a type's parts together, for its call `shape`.
-ghost use Rattle.asn_traits.specs.Shape.{Shape as AbstractShape, SeqKind as AbstractKind, Fields as AbstractFields, FieldAdditions, Presence as AbstractPresence, Alternatives, AlternativeAdditions, closed_seq, closed_choice};
-ghost use Rattle.asn_traits.specs.ShapeView.{shape_view, field_views, alternative_views, with_last_field, with_last_alternative, presence_view};
+ghost use Rattle.asn_model.specs.Shape.{Shape as AbstractShape, SeqKind as AbstractKind, Fields as AbstractFields, FieldAdditions, Presence as AbstractPresence, Alternatives, AlternativeAdditions, closed_seq, closed_choice};
+ghost use Rattle.asn_model.specs.ShapeView.{shape_view, field_views, alternative_views, with_last_field, with_last_alternative, presence_view};
 ghost use Rattle.std.specs.Prelude.{◌≡◌, IfOk, OnOk, map, option_map, string_bytes};
 
 use crate::{AlternativeShape, AsnType, FieldShape, PresenceShape, SeqKind, Shape};

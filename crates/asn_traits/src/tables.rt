@@ -1,14 +1,15 @@
 // Looking things up in tables of constants.
 ghost use Rattle.asn_base.specs.Tags.{smallest};
-ghost use Rattle.asn_traits.specs.Shape.{tag_eq, is_tag, name_tagged, place_named, class_number, end_tag};
+ghost use Rattle.asn_model.specs.Shape.{tag_eq, is_tag, name_tagged, place_named, class_number, end_tag};
 ghost use Rattle.asn_traits.specs.Tables.{names_of, smallest_tags, or_end};
-ghost use Rattle.asn_traits.specs.Tree.{same_identifier};
+ghost use Rattle.asn_model.specs.Tree.{same_identifier};
 ghost use Rattle.asn_traits.specs.Writing.{head_name};
 ghost use Rattle.std.specs.Prelude.{◌≡◌, ◌+◌, ◌<◌, ◌++◌, [], map, length, drop, option_map, get_or, Option, Some, None, IfSome, unwrap_or};
 ghost use Rattle.std.specs.Str.{bytes_eq};
 
 use crate::{Field, Fields};
-use asn_base::{Class, Tag, TagTree};
+use asn_base::{Tag, TagTree};
+use asn_model::same_tag;
 
 /// The items of a table, and none where there is no table.
 pub fn listed<T: Copy>(table: Option<&'static [T]>) -> &'static [T]
@@ -138,23 +139,5 @@ fn has_tag(tree: &TagTree, tag: Tag) -> bool
     match tree.least_leaf() {
         Some(least) => same_tag(tag, least),
         None => false,
-    }
-}
-
-/// Whether the tags are equal.
-pub fn same_tag(a: Tag, b: Tag) -> bool
-    ensures { result ≡ tag_eq a b }
-{
-    class_number(a.class) == class_number(b.class) && a.value == b.value
-}
-
-fn class_number(class: Class) -> u8
-    ensures { result ≡ class_number class }
-{
-    match class {
-        Class::Universal => 0,
-        Class::Application => 1,
-        Class::Context => 2,
-        Class::Private => 3,
     }
 }

@@ -1,10 +1,10 @@
 // What every ASN.1 type tells of itself: its shape, its values and its tables of constants.
-ghost use Rattle.asn_traits.specs.Fixed.{fixed_size};
+ghost use Rattle.asn_model.specs.Fixed.{fixed_size};
 ghost use Rattle.asn_traits.specs.OwnTag.{HasTags};
-ghost use Rattle.asn_traits.specs.Readable.{is_readable};
-ghost use Rattle.asn_traits.specs.Shape.{Shape as AbstractShape, Fields as FieldShapes, SeqKind, FieldAdditions, Alternatives, AlternativeAdditions, all_alternatives, all_items, identifiers, is_item, opened, shape_under};
-ghost use Rattle.asn_traits.specs.ShapeView.{shape_view};
-ghost use Rattle.asn_traits.specs.Value.{Value, value_under};
+ghost use Rattle.asn_model.specs.Readable.{is_readable};
+ghost use Rattle.asn_model.specs.Shape.{Shape as AbstractShape, Fields as FieldShapes, SeqKind, FieldAdditions, Alternatives, AlternativeAdditions, all_alternatives, all_items, identifiers, is_item, opened, shape_under};
+ghost use Rattle.asn_model.specs.ShapeView.{shape_view};
+ghost use Rattle.asn_model.specs.Value.{Value, value_under};
 ghost use Rattle.asn_traits.specs.Tables.{rows_of, field_rows, added_rows, smallest_tags, root_tags, added_tags};
 ghost use Rattle.std.specs.Prelude.{◌≡◌, ℕ, List, Option, map, option_map, true, false, IfOk, MatchOption};
 

@@ -8,8 +8,8 @@ use Rattle.asn_traits.specs.Notation.{Notation}
 use Rattle.asn_traits.specs.Opening.{IsTaken}
 use Rattle.asn_traits.specs.Tree.{Tree}
 use Rattle.asn_traits.specs.Value.{Value}
-use Rattle.asn_traits.specs.declared.leaves.LeafKind.TheVariants.{Number}
-use Rattle.asn_traits.specs.declared.leaves.OwnedLeaf.TheVariants as got
+use Rattle.asn_model.specs.declared.leaves.LeafKind.TheVariants.{Number}
+use Rattle.asn_model.specs.declared.leaves.OwnedLeaf.TheVariants as got
 use Rattle.avn_grammar.specs.Tree.{Tree as AvnTree, integer}
 use Rattle.avn_rules.specs.Numbers.{ReadsNumber}
 

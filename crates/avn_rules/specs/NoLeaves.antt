@@ -3,7 +3,7 @@ use Rattle.std.specs.Prelude.{◌≡◌, string_bytes, codes}
 use Rattle.asn_fault.specs.Stop.{Why}
 use Rattle.asn_traits.specs.Leaf.{Blame, needed}
 use Rattle.asn_traits.specs.Notation.{Notation}
-use Rattle.asn_traits.specs.declared.leaves.LeafKind.{LeafKind}
+use Rattle.asn_model.specs.declared.leaves.LeafKind.{LeafKind}
 use Rattle.avn_rules.specs.declared.avn.leaves.NoLeaf.{NoLeaf}
 use Rattle.avn_rules.specs.declared.avn.leaves.NoLeaf.TheVariants as no
 use Rattle.avn_value.specs.declared.value.AvnValue.{AvnValue}

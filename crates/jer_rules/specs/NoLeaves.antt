@@ -3,7 +3,7 @@ use Rattle.std.specs.Prelude.{◌≡◌, Err}
 use Rattle.asn_fault.specs.Stop.{Why}
 use Rattle.asn_traits.specs.Leaf.{Blame, as_leaf, needed}
 use Rattle.asn_traits.specs.Notation.{Notation}
-use Rattle.asn_traits.specs.declared.leaves.LeafKind.{LeafKind}
+use Rattle.asn_model.specs.declared.leaves.LeafKind.{LeafKind}
 use Rattle.jer_rules.specs.Pending.{tree_of}
 use Rattle.jer_rules.specs.declared.jer.leaves.NoLeaf.{NoLeaf}
 use Rattle.jer_rules.specs.declared.jer.leaves.NoLeaf.TheVariants as no

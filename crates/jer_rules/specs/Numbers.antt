@@ -6,7 +6,7 @@ use Rattle.asn_traits.specs.Leaf.{Blame, as_leaf, needed}
 use Rattle.asn_traits.specs.Notation.{Notation}
 use Rattle.asn_traits.specs.Tree.{Tree}
 use Rattle.asn_traits.specs.Value.{Value}
-use Rattle.asn_traits.specs.declared.leaves.LeafKind.TheVariants.{Number}
+use Rattle.asn_model.specs.declared.leaves.LeafKind.TheVariants.{Number}
 use Rattle.asn_base.specs.declared.whole_number.WholeNumber.{WholeNumber}
 
 -- The whole number that a JSON value is, and none exactly where it is none.

@@ -1,7 +1,7 @@
 // Writing a value of a type as an AVN value.
 ghost use Rattle.asn_base.specs.declared.codec.Codec.TheVariants.{Avn};
 ghost use Rattle.asn_fault.specs.Unwritten.{WhyUnwritten, encode_why};
-ghost use Rattle.asn_slots.specs.Frames.{join};
+ghost use Rattle.asn_slots.specs.Frames.{push};
 ghost use Rattle.asn_slots.specs.Slots.{last_present};
 ghost use Rattle.asn_traits.specs.Canonical.{avn_tree, canonical_text};
 ghost use Rattle.asn_traits.specs.Notation.{Notation};
@@ -73,7 +73,7 @@ impl Encoder {
 
     // Puts a slot into the last frame.
     fn put(&mut self, slot: Option<AvnValue>) -> Result<(), EncodeError>
-        ensures added { OnOk result (self.new.frames ≡ join slot self.old.frames) }
+        ensures added { OnOk result (self.new.frames ≡ push slot self.old.frames) }
         ensures refused { IfErr result (λ e. e.kind ≡ EncodeErrorKind.OutOfMemory) }
     {
         match self.frames.add(slot) {

@@ -4,7 +4,7 @@ ghost use Rattle.asn_traits.specs.Canonical.{avn_tree};
 ghost use Rattle.asn_traits.specs.Leaf.{as_leaf, leaf_value};
 ghost use Rattle.asn_traits.specs.Notation.{Notation};
 ghost use Rattle.asn_traits.specs.Opening.{IsTaken};
-ghost use Rattle.asn_traits.specs.Writing.{Writable};
+ghost use Rattle.asn_traits.specs.Writable.{Writable};
 ghost use Rattle.avn_rules.specs.NoLeaves.{blame_of, IsKept};
 ghost use Rattle.avn_rules.specs.Pending.{tree_of};
 ghost use Rattle.avn_value.specs.View.{tree_of as avn_tree_of};

@@ -3,7 +3,7 @@ ghost use Rattle.asn_base.specs.Numbers.{signed};
 ghost use Rattle.asn_slots.specs.Trees.{trees_of};
 ghost use Rattle.asn_traits.specs.Notation.{Notation};
 ghost use Rattle.asn_traits.specs.Tables.{names_of};
-ghost use Rattle.asn_traits.specs.Writing.{IntStands};
+ghost use Rattle.asn_traits.specs.Writable.{IntStands};
 ghost use Rattle.jer_rules.specs.Holding.{members_onto, one_member};
 ghost use Rattle.serde_json.specs.Data.{Members, put};
 ghost use Rattle.serde_json.specs.Find.{of_integer};

@@ -3,7 +3,7 @@ ghost use Rattle.asn_base.specs.declared.codec.Codec.TheVariants.{Jer};
 ghost use Rattle.asn_fault.specs.Unwritten.{WhyUnwritten, encode_why};
 ghost use Rattle.asn_traits.specs.Canonical.{jer_data, canonical_text};
 ghost use Rattle.asn_traits.specs.Notation.{Notation};
-ghost use Rattle.asn_slots.specs.Frames.{join};
+ghost use Rattle.asn_slots.specs.Frames.{push};
 ghost use Rattle.asn_slots.specs.Slots.{last_present};
 ghost use Rattle.asn_traits.specs.Writing.{Frame};
 ghost use Rattle.jer_rules.specs.Text.{ReadsBack};
@@ -79,7 +79,7 @@ impl Encoder {
 
     // Puts a slot into the last frame.
     fn put(&mut self, slot: Option<Value>) -> Result<(), EncodeError>
-        ensures added { OnOk result (self.new.frames ≡ join slot self.old.frames) }
+        ensures added { OnOk result (self.new.frames ≡ push slot self.old.frames) }
         ensures refused { IfErr result (λ e. e.kind ≡ EncodeErrorKind.OutOfMemory) }
     {
         match self.frames.add(slot) {

@@ -1,7 +1,7 @@
 use Rattle.std.proofs.Common.{◌≡◌, sym, ap, ◌∙◌, subst, Ok, Err, ◌⊎◌, inl, inr, string_bytes}
 use Rattle.asn_traits.specs.Canonical.{canonical_text}
 use Rattle.asn_traits.specs.Value.{Fits}
-use Rattle.asn_traits.specs.Writing.{Writable}
+use Rattle.asn_traits.specs.Writable.{Writable}
 use Rattle.asn_codec.specs.Texts.{ReadsBack}
 use Rattle.asn_codec.proofs.Again.{again, deep_again, equal_texts}
 use Rattle.asn_traits.specs.Notation.{notation_of}

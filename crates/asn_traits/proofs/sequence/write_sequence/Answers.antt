@@ -1,6 +1,6 @@
 use Rattle.std.proofs.Common.{inl, inr}
 use Rattle.std.proofs.lemmas.Result.{on_ok_weaker, IfErr-weaker}
-use Rattle.asn_traits.specs.Shape.{SeqKind, all_fields, field_names}
+use Rattle.asn_model.specs.Shape.{SeqKind, all_fields, field_names}
 use Rattle.asn_traits.specs.Writing.{CannotWrite}
 use Rattle.asn_traits.proofs.Filling.{scope_fields, refuse_members}
 use Rattle.asn_traits.proofs.sequence.write_sequence.Goals as goal

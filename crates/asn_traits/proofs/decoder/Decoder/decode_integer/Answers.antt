@@ -1,10 +1,10 @@
 use Rattle.std.proofs.Common.{ap, refl, ◌∙◌, pos, inl}
 use Rattle.asn_fault.specs.Stop.{Why}
-use Rattle.asn_traits.specs.Leaf.{codec_of}
-use Rattle.asn_traits.specs.Shape.{Shape}
-use Rattle.asn_traits.specs.Value.{Value}
-use Rattle.asn_traits.specs.declared.leaves.LeafKind.TheVariants.{Number}
-use Rattle.asn_traits.specs.declared.leaves.OwnedLeaf.TheVariants as got
+use Rattle.asn_model.specs.Leaf.{codec_of}
+use Rattle.asn_model.specs.Shape.{Shape}
+use Rattle.asn_model.specs.Value.{Value}
+use Rattle.asn_model.specs.declared.leaves.LeafKind.TheVariants.{Number}
+use Rattle.asn_model.specs.declared.leaves.OwnedLeaf.TheVariants as got
 use Rattle.asn_traits.proofs.LeafValues.{leaf_said, leaf_refused, number_said, number_refused}
 use Rattle.asn_traits.proofs.decoder.Decoder.decode_integer.Goals as goal
 

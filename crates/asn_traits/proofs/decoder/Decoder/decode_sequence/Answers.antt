@@ -1,6 +1,6 @@
 use Rattle.std.proofs.Common.{◌≡◌, ◌∙◌, ap, length, subst, sym, true}
-use Rattle.asn_traits.specs.Shape.{are_distinct}
-use Rattle.asn_traits.proofs.Readables.{names_distinct}
+use Rattle.asn_model.specs.Shape.{are_distinct}
+use Rattle.asn_model.proofs.Readables.{names_distinct}
 use Rattle.asn_traits.proofs.Scopes.{sequence_answer, all_table_names}
 use Rattle.asn_traits.proofs.decoder.Decoder.decode_sequence.Goals as goal
 

@@ -1,7 +1,7 @@
 use Rattle.std.proofs.Common.{ap, refl, Ok, string_bytes}
-use Rattle.asn_traits.specs.Shape.{Shape, Alphabet}
-use Rattle.asn_traits.specs.Value.{Value}
-use Rattle.asn_traits.specs.declared.leaves.LeafKind.TheVariants.{Text}
+use Rattle.asn_model.specs.Shape.{Shape, Alphabet}
+use Rattle.asn_model.specs.Value.{Value}
+use Rattle.asn_model.specs.declared.leaves.LeafKind.TheVariants.{Text}
 use Rattle.asn_traits.proofs.LeafValues.{leaf_said}
 use Rattle.asn_traits.proofs.decoder.Decoder.decode_utf8_string.Goals as goal
 

@@ -1,9 +1,10 @@
 use Rattle.std.proofs.Common.{◌≡◌, ap, pos}
 use Rattle.std.proofs.lemmas.Result.{on_ok_weaker}
 use Rattle.asn_base.specs.Numbers.{signed}
-use Rattle.asn_traits.specs.Shape.{Shape}
-use Rattle.asn_traits.specs.Value.{Value}
-use Rattle.asn_traits.proofs.LeafValues.{leaf_written, between, signed-parts}
+use Rattle.asn_model.specs.Shape.{Shape}
+use Rattle.asn_model.specs.Value.{Value}
+use Rattle.asn_model.proofs.Ranges.{between}
+use Rattle.asn_traits.proofs.LeafValues.{leaf_written, signed-parts}
 use Rattle.asn_traits.proofs.encoder.Encoder.encode_integer.Goals as goal
 
 pub returns-clause-written : goal.returns-clause-written

@@ -1,5 +1,5 @@
 use Rattle.std.proofs.Common.{refl}
-use Rattle.asn_traits.proofs.Viewing.{alternative_views-push}
+use Rattle.asn_model.proofs.Viewing.{alternative_views-push}
 use Rattle.asn_traits.proofs.shape_parts.AlternativeShapes.alternative.Goals as goal
 
 pub returns : goal.returns

@@ -1,5 +1,5 @@
 use Rattle.std.proofs.Common.{None}
-use Rattle.asn_traits.proofs.Viewing.{choice_viewed}
+use Rattle.asn_model.proofs.Viewing.{choice_viewed}
 use Rattle.asn_traits.proofs.shape_parts.AlternativeShapes.choice.Goals as goal
 
 pub returns : goal.returns

@@ -1,5 +1,5 @@
 use Rattle.std.proofs.Common.{refl}
-use Rattle.asn_traits.proofs.Viewing.{field_views-push}
+use Rattle.asn_model.proofs.Viewing.{field_views-push}
 use Rattle.asn_traits.proofs.shape_parts.FieldShapes.push.Goals as goal
 
 pub returns : goal.returns

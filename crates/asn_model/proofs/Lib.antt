@@ -1,0 +1,11 @@
+pub mod Meanings
+pub mod Readables
+pub mod Written
+pub mod Viewing
+pub mod Numerals
+pub mod WrittenAvn
+pub mod JerTexts
+pub mod Nesting
+pub mod SameText
+pub mod ShapeNames
+pub mod Ranges

@@ -1,0 +1,172 @@
+-- What JER writes nests no deeper than what it read.
+use Rattle.std.proofs.Common.{◌≡◌, refl, ap, sym, ◌∙◌, subst, arith, ℕ, suc, ◌≤◌, List, [], ◌∷◌, map, Bool, true, false, if◌then◌else◌, Option, Some, None, Result, Ok, Err, Ordering, Less, Equal, Greater, option_map}
+use Rattle.std.specs.Ordering.{nat_cmp, match_ordering}
+use Rattle.std.specs.Cmp.Lexicographic.{slice_cmp}
+use Rattle.hex.specs.Hex.{decode_of}
+use Rattle.hex.specs.declared.error.FromHexError.{FromHexError}
+use Rattle.asn_base.specs.declared.codec.Codec.TheVariants.{Jer}
+use Rattle.serde_json.specs.Data.{Data, Num, Items, Members, put, depth, items_depth, members_depth}
+use Rattle.serde_json.specs.Find.{get_member}
+use Rattle.asn_model.specs.Canonical.{jer_data, jer_items, jer_members}
+use Rattle.asn_model.specs.Leaf.{Blame, leaf, octets_or, as_leaf, kind_of, refine, refined}
+use Rattle.asn_model.specs.Notation.{Notation}
+use Rattle.asn_model.specs.Range.{is_between}
+use Rattle.asn_model.specs.Says.{Says, SaysEach, SaysFields}
+use Rattle.asn_model.specs.Shape.{Shape, Fields, all_fields, is_item, all_items, field_names}
+use Rattle.asn_model.specs.Tree.{Tree, Slot, as_list, as_members, as_choice, item_slots, member_slot}
+use Rattle.asn_model.specs.Value.{Value, Values, Slots, is_kept}
+use Rattle.asn_model.specs.declared.leaves.LeafKind.{LeafKind}
+use Rattle.asn_model.specs.declared.leaves.LeafKind.TheVariants.{Null, Boolean, Number, Text, Item, Octets}
+
+-- How deep a tree of JSON nests.
+abbrev tree_depth : Tree → ℕ
+tree_depth (Tree.json d) = depth d
+tree_depth (Tree.avn t) = 0
+
+abbrev slot_depth : Slot → ℕ
+slot_depth None = 0
+slot_depth (Some t) = tree_depth t
+
+-- Each slot nests at most so deep.
+abbrev AllWithin : ℕ → List Slot → Type 0
+AllWithin n [] = Unit {0}
+AllWithin n (s ∷ ss) = (slot_depth s ≤ n) × AllWithin n ss
+
+ordered-depth : (o : Ordering) (a b c : Members) (n : ℕ) → members_depth a ≤ n → members_depth b ≤ n → members_depth c ≤ n → members_depth (match_ordering o a b c) ≤ n
+ordered-depth Less a b c n p q r = p
+ordered-depth Equal a b c n p q r = q
+ordered-depth Greater a b c n p q r = r
+
+put-depth : (k : List ℕ) (d : Data) (ms : Members) (n : ℕ) → depth d ≤ n → members_depth ms ≤ n → members_depth (put k d ms) ≤ n
+put-depth k d Members.no_members n p q = omega arith
+put-depth k d (Members.member l e ms) n p q =
+    ordered-depth (slice_cmp nat_cmp k l) (Members.member k d (Members.member l e ms)) (Members.member l d ms) (Members.member l e (put k d ms)) n (omega arith) (omega arith) (omega (arith, put-depth k d ms n p (omega arith)))
+
+found_at : (o : Ordering) (a b : Option Data) (n : ℕ) → slot_depth (option_map Tree.json a) ≤ n → slot_depth (option_map Tree.json b) ≤ n → slot_depth (option_map Tree.json (match_ordering o a b a)) ≤ n
+found_at Less a b n p q = p
+found_at Equal a b n p q = q
+found_at Greater a b n p q = p
+
+member-depth : (ms : Members) (name : List ℕ) → slot_depth (member_slot ms name) ≤ members_depth ms
+member-depth Members.no_members name = omega arith
+member-depth (Members.member l e ms) name = found_at (slice_cmp nat_cmp name l) (get_member name ms) (Some e) _ (omega (arith, member-depth ms name)) (omega arith)
+
+items-within : (ds : Items) (n : ℕ) → items_depth ds ≤ n → AllWithin n (item_slots ds)
+items-within Items.no_items n h = tt
+items-within (Items.item d ds) n h = (omega (arith, h), items-within ds n (omega (arith, h)))
+
+-- How deep the tree of an answer nests.
+abbrev answer_depth : Result Value Blame → ℕ
+answer_depth (Ok v) = depth (jer_data v)
+answer_depth (Err b) = 0
+
+abbrev leaf_depth : Option (Result Value Blame) → ℕ
+leaf_depth None = 0
+leaf_depth (Some r) = answer_depth r
+
+octets-flat : (r : Result (List ℕ) FromHexError) → answer_depth (octets_or r) ≡ 0
+octets-flat (Ok o) = refl
+octets-flat (Err e) = refl
+
+kind-flat : (k : LeafKind) (t : Tree) → answer_depth (as_leaf Notation.jer k t) ≡ 0
+kind-flat Null (Tree.json Data.null) = refl
+kind-flat Boolean (Tree.json (Data.boolean b)) = refl
+kind-flat Number (Tree.json (Data.number (Num.unsigned n))) = refl
+kind-flat Number (Tree.json (Data.number (Num.negative z))) = refl
+kind-flat Text (Tree.json (Data.string x)) = refl
+kind-flat Item (Tree.json (Data.string x)) = refl
+kind-flat Octets (Tree.json (Data.string x)) = octets-flat (decode_of x)
+kind-flat k t = refl
+
+tested-flat : (b : Bool) (v : Value) (blame : Blame) → depth (jer_data v) ≡ 0 → answer_depth (if b then Ok v else Err blame) ≡ 0
+tested-flat true v blame e = e
+tested-flat false v blame e = refl
+
+refine-flat : (s : Shape) (v : Value) → depth (jer_data v) ≡ 0 → answer_depth (refine Jer s v) ≡ 0
+refine-flat (Shape.int l g w) (Value.int n) e = tested-flat (is_between l g n) (Value.int n) _ e
+refine-flat (Shape.enum items added) (Value.item i) e = tested-flat (is_item (all_items items added) i) (Value.item i) _ e
+refine-flat s v e = e
+
+refined-flat : (s : Shape) (r : Result Value Blame) → answer_depth r ≡ 0 → answer_depth (refined Jer s r) ≡ 0
+refined-flat s (Ok v) e = refine-flat s v e
+refined-flat s (Err b) e = refl
+
+leaf-flat : (s : Shape) (t : Tree) → leaf_depth (leaf Notation.jer s t) ≡ 0
+leaf-flat s t = by (kind_of s)
+  where
+    by : (o : Option LeafKind) → leaf_depth (option_map (λ k. refined Jer s (as_leaf Notation.jer k t)) o) ≡ 0
+    by None = refl
+    by (Some k) = refined-flat s (as_leaf Notation.jer k t) (kind-flat k t)
+
+no_list : {A : Type 0} {P : Type 0} {x : A} → ◌≡◌ {A = Option A} None (Some x) → P
+no_list e = cc e
+
+same_some : {A : Type 0} {x y : A} → ◌≡◌ {A = Option A} (Some x) (Some y) → x ≡ y
+same_some e = cc e
+
+-- A tree that is opened nests one deeper than so deep, and its parts no deeper.
+record Opened (t : Tree) (Parts : ℕ → Type 0) : Type 0 where
+  pub inner : ℕ
+  pub outer : tree_depth t ≡ suc inner
+  pub parts : Parts inner
+
+list-opened : (t : Tree) (slots : List Slot) → as_list Notation.jer t ≡ Some slots → Opened t (λ n. AllWithin n slots)
+list-opened (Tree.json (Data.array ds)) slots e = record { inner = items_depth ds; outer = refl; parts = subst (AllWithin (items_depth ds)) (same_some e) (items-within ds (items_depth ds) (omega arith)) }
+list-opened (Tree.json d) slots e = no_list e
+list-opened (Tree.avn t) slots e = no_list e
+
+members-opened : (t : Tree) (look : List ℕ → Slot) → as_members Notation.jer t ≡ Some look → Opened t (λ n. (name : List ℕ) → slot_depth (look name) ≤ n)
+members-opened (Tree.json (Data.object ms)) look e = record { inner = members_depth ms; outer = refl; parts = λ name. subst (λ (l : List ℕ → Slot). slot_depth (l name) ≤ members_depth ms) (same_some e) (member-depth ms name) }
+members-opened (Tree.json d) look e = no_list e
+members-opened (Tree.avn t) look e = no_list e
+
+abbrev second : {A B : Type 0} → A × B → B
+second p = p.1
+
+no_first : {A P : Type 0} {x : A} → ◌≡◌ {A = Option (Option A)} (Some None) (Some (Some x)) → P
+no_first e = cc e
+
+same_first : {A : Type 0} {x y : A} → ◌≡◌ {A = Option (Option A)} (Some (Some x)) (Some (Some y)) → x ≡ y
+same_first e = cc e
+
+choice-opened : (t : Tree) (name : List ℕ) (u : Tree) → as_choice Notation.jer t ≡ Some (Some (name, u)) → suc (tree_depth u) ≤ tree_depth t
+choice-opened (Tree.json (Data.object Members.no_members)) name u e = no_first e
+choice-opened (Tree.json (Data.object (Members.member n d ms))) name u e = subst (λ x. suc (tree_depth x) ≤ depth (Data.object (Members.member n d ms))) (ap (λ (p : List ℕ × Tree). p.1) (same_first e)) (omega arith)
+choice-opened (Tree.json d) name u e = no_list e
+choice-opened (Tree.avn t) name u e = no_list e
+
+looked-within : (look : List ℕ → Slot) (n : ℕ) → ((name : List ℕ) → slot_depth (look name) ≤ n) → (names : List (List ℕ)) → AllWithin n (map look names)
+looked-within look n h [] = tt
+looked-within look n h (m ∷ ms) = (h m, looked-within look n h ms)
+
+kept-depth : (b : Bool) (name : List ℕ) (v : Value) (vs : Slots) (n : ℕ) → depth (jer_data v) ≤ n → members_depth (jer_members vs) ≤ n → members_depth (jer_members (if b then Slots.present name v vs else Slots.absent name vs)) ≤ n
+kept-depth true name v vs n h k = put-depth name (jer_data v) (jer_members vs) n h k
+kept-depth false name v vs n h k = k
+
+no_other : {P : Type 0} → Notation.jer ≡ Notation.other → P
+no_other e = cc e
+
+mutual
+  -- What JER writes for a value that a slot says nests no deeper than the slot's tree.
+  pub says-depth : {s : Shape} {slot : Slot} {v : Value} → Says Notation.jer s slot v → depth (jer_data v) ≤ slot_depth slot
+  says-depth (Says.says_leaf s t v e) = let flat : depth (jer_data v) ≡ 0 = sym (ap leaf_depth e) ∙ leaf-flat s t in omega (arith, flat)
+  says-depth (Says.says_seq kind fs more t look vs e h) =
+      let o = members-opened t look e in
+      let below = fields-depth o.inner h (looked-within look o.inner o.parts (field_names (all_fields fs more))) in omega (arith, below, o.outer)
+  says-depth (Says.says_list s t slots vs e h) =
+      let o = list-opened t slots e in
+      let below = each-depth o.inner h o.parts in omega (arith, below, o.outer)
+  says-depth (Says.says_choice alts added t name u id s v e f h) = let below = says-depth h in let outer = choice-opened t name u e in omega (arith, below, outer)
+  says-depth (Says.says_loop body t v h) = says-depth h
+  says-depth (Says.says_free s slot v e) = no_other e
+
+  each-depth : {s : Shape} {slots : List Slot} {vs : Values} (n : ℕ) → SaysEach Notation.jer s slots vs → AllWithin n slots → items_depth (jer_items vs) ≤ n
+  each-depth n (SaysEach.says_none s) w = omega arith
+  each-depth n (SaysEach.says_one s slot rest v vs h hs) w = let first = says-depth h in let others = each-depth n hs w.1 in omega (arith, first, others, w.0)
+
+  fields-depth : {fs : Fields} {slots : List Slot} {vs : Slots} (n : ℕ) → SaysFields Notation.jer fs slots vs → AllWithin n slots → members_depth (jer_members vs) ≤ n
+  fields-depth n SaysFields.says_end w = omega arith
+  fields-depth n (SaysFields.says_present name g p s fs slot rest v vs h hs) w =
+      let first = says-depth h in
+      kept-depth (is_kept p v) name v vs n (omega (arith, first, w.0)) (fields-depth n hs w.1)
+  fields-depth n (SaysFields.says_absent name g p s fs rest vs lack hs) w = fields-depth n hs w.1

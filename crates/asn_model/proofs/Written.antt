@@ -1,0 +1,191 @@
+-- What is written says the value that was written.
+use Rattle.std.proofs.Common.{◌≡◌, refl, ap, sym, ◌∙◌, subst, arith, ℕ, zero, suc, ◌<◌, nat_lt, slice_index, [], ◌-◌, ◌^◌, ℤ, pos, negsuc, ◌≤ℤ◌, List, ◌∷◌, map, Bool, true, false, not, ◌&&◌, if◌then◌else◌, Some, None, Ok}
+use Rattle.std.specs.Prelude.{option_map}
+use Rattle.std.specs.Int.Signed.{lt_z_no}
+use Rattle.std.proofs.lemmas.Float.{T_from_true}
+use Rattle.std.proofs.lemmas.Bool.{ltb-true}
+use Rattle.std.proofs.lemmas.Int.{ints}
+use Rattle.std.specs.Str.{bytes_eq}
+use Rattle.std.specs.Char.{to_ascii_lowercase}
+use Rattle.std.proofs.lemmas.Slice.Eq.{bytes_eq-Decides}
+use Rattle.serde_json.specs.Data.{Data, Members, put}
+use Rattle.serde_json.specs.Find.{get_member}
+use Rattle.serde_json.proofs.Views.{get_member-put, get_member-put_other}
+use Rattle.asn_base.specs.declared.codec.Codec.TheVariants.{Jer}
+use Rattle.hex.proofs.HexLemmas.{decode_of-encode_upper}
+use Rattle.avn_grammar.specs.Chars.{every}
+use Rattle.avn_grammar.specs.WellFormed.{is_octet}
+use Rattle.asn_model.specs.Canonical.{jer_data, jer_items, jer_members}
+use Rattle.asn_model.specs.Leaf.{leaf, octets_or, refined}
+use Rattle.asn_model.specs.Notation.{Notation}
+use Rattle.asn_model.specs.Readable.{is_readable, are_fields_readable, are_alternatives_readable, are_added_alternatives_readable, suits, has_alternative, are_told_apart, are_identifiers, are_apart, has_identifier, has_128_bits}
+use Rattle.asn_model.specs.Range.{at_most}
+use Rattle.asn_model.specs.Says.{Says, SaysEach, SaysFields}
+use Rattle.asn_model.specs.Shape.{Shape, Fields, Alternatives, AlternativeAdditions, Alphabet, all_alternatives, join_alternatives, field_names, identifiers, tags, has_tag, tags_distinct, end_tag, are_distinct, is_item, alternative_named}
+use Rattle.asn_model.specs.Tree.{Tree, Slot, item_slots, member_slot, same_identifier}
+use Rattle.asn_model.specs.Value.{Value, Values, Slots, Fits, FitsEach, FitsFields, FitsAlternative, is_leaf_of}
+use Rattle.asn_model.specs.Writes.{Writes, Finds, value_slots, slot_names}
+use Rattle.asn_model.proofs.Readables.{and-left, and-right, and-both, unfolded-readable, fields_read}
+
+slot_names-fields : {fs : Fields} {ms : Slots} → FitsFields fs ms → slot_names ms ≡ field_names fs
+slot_names-fields FitsFields.fits_end = refl
+slot_names-fields (FitsFields.fits_present {n} fit kept rest) = ap (λ l. n ∷ l) (slot_names-fields rest)
+slot_names-fields (FitsFields.fits_absent {n} lack rest) = ap (λ l. n ∷ l) (slot_names-fields rest)
+
+same_identifier-itself : (i : List ℕ) → same_identifier i i ≡ true
+same_identifier-itself i = (bytes_eq-Decides (map to_ascii_lowercase i) (map to_ascii_lowercase i)).1 refl
+
+pub first_apart : (b rest : Bool) → (if b then true else rest) ≡ false → b ≡ false
+first_apart true rest e = let d : true ≡ false = e in cc d
+first_apart false rest e = refl
+
+pub rest_apart : (b rest : Bool) → (if b then true else rest) ≡ false → rest ≡ false
+rest_apart true rest e = let d : true ≡ false = e in cc d
+rest_apart false rest e = e
+
+pub none_named : (b rest : Bool) → (if b then false else rest) ≡ true → b ≡ false
+none_named true rest e = let d : false ≡ true = e in cc d
+none_named false rest e = refl
+
+pub others_named : (b rest : Bool) → (if b then false else rest) ≡ true → rest ≡ true
+others_named true rest e = let d : false ≡ true = e in cc d
+others_named false rest e = e
+
+-- An alternative that is there differs from an identifier that is none of theirs.
+differs : {alts : Alternatives} {i : List ℕ} {v : Value} (j : List ℕ) → FitsAlternative alts i v → has_identifier (identifiers alts) j ≡ false → same_identifier i j ≡ false
+differs j (FitsAlternative.fits_here {i} {t} {s} {alts} fit) h = first_apart (same_identifier i j) (has_identifier (identifiers alts) j) h
+differs j (FitsAlternative.fits_later {i} {j = k} {t} {s} {alts} rest) h = differs j rest (rest_apart (same_identifier k j) (has_identifier (identifiers alts) j) h)
+
+-- A number of a type that has at most 128 bits has no more.
+pub within_128_bits : (l g k : ℤ) → has_128_bits l g ≡ true → l ≤ℤ k → k ≤ℤ g → (negsuc (2 ^ 127 - 1) ≤ℤ k) × (k ≤ℤ pos (2 ^ 128 - 1))
+within_128_bits l g k e low high =
+    let least : negsuc (2 ^ 127 - 1) ≤ℤ l = lt_z_no (T_from_true _ (and-left (at_most (negsuc (2 ^ 127 - 1)) l) (at_most g (pos (2 ^ 128 - 1))) e)) in
+    let greatest : g ≤ℤ pos (2 ^ 128 - 1) = lt_z_no (T_from_true _ (and-right (at_most (negsuc (2 ^ 127 - 1)) l) (at_most g (pos (2 ^ 128 - 1))) e)) in
+    (omega (arith, ints, least, low), omega (arith, ints, greatest, high))
+
+alternatives_joined : (alts more : Alternatives) → are_alternatives_readable 0 alts ≡ true → are_alternatives_readable 0 more ≡ true → are_alternatives_readable 0 (join_alternatives alts more) ≡ true
+alternatives_joined Alternatives.no_alternatives more e f = f
+alternatives_joined (Alternatives.alternative i t s alts) more e f =
+    and-both _ _ (and-left (is_readable s) (are_alternatives_readable 0 alts) e) (alternatives_joined alts more (and-right (is_readable s) (are_alternatives_readable 0 alts) e) f)
+
+-- All alternatives can be read.
+pub all_readable : (alts : Alternatives) (added : AlternativeAdditions) → are_alternatives_readable 0 alts ≡ true → are_added_alternatives_readable 0 added ≡ true → are_alternatives_readable 0 (all_alternatives alts added) ≡ true
+all_readable alts AlternativeAdditions.closed_alternatives e f = e
+all_readable alts (AlternativeAdditions.extended_alternatives more) e f = alternatives_joined alts more e f
+
+module _ (n : Notation) (tree : Value → Tree) (w : Writes n tree) where
+  mutual
+    -- The tree of a value that fits says that value.
+    pub says_written : {s : Shape} {v : Value} → is_readable s ≡ true → Fits s v → Says n s (Some (tree v)) v
+    says_written a (Fits.fits_leaf {s} {v} e) = Says.says_leaf s _ v (w.leaf s v a e)
+    says_written a (Fits.fits_members {kind} {fs} {added} {ms} fit) =
+        let read = fields_read kind fs added a in
+        let m = w.members ms (ap are_distinct (slot_names-fields fit) ∙ read.distinct) in
+        Says.says_seq kind fs added _ m.0 ms m.1 (fields_written m.0 read.parts fit m.2)
+    says_written a (Fits.fits_list {s} {vs} fit) = Says.says_list s _ _ vs (w.list vs) (each_written a fit)
+    says_written a (Fits.fits_choice {alts} {added} {i} {v} fit) =
+        let all = all_alternatives alts added in
+        let names = has_alternative alts && are_told_apart all in
+        let told = and-right (has_alternative alts) (are_told_apart all) (and-left names (are_alternatives_readable 0 alts && are_added_alternatives_readable 0 added) a) in
+        let apart = and-right (are_identifiers (identifiers all)) (are_apart (identifiers all)) (and-left (are_identifiers (identifiers all) && are_apart (identifiers all)) (tags_distinct (tags all) && not (has_tag (tags all) end_tag)) told) in
+        let read = and-right names (are_alternatives_readable 0 alts && are_added_alternatives_readable 0 added) a in
+        let parts = all_readable alts added (and-left (are_alternatives_readable 0 alts) (are_added_alternatives_readable 0 added) read) (and-right (are_alternatives_readable 0 alts) (are_added_alternatives_readable 0 added) read) in
+        let c = alternative_written apart parts fit in
+        Says.says_choice alts added _ i (tree v) i c.0 v (w.choice i v) c.1 c.2
+    says_written a (Fits.fits_loop {b} {v} fit) = Says.says_loop b _ v (says_written (unfolded-readable b a) fit)
+
+    each_written : {s : Shape} {vs : Values} → is_readable s ≡ true → FitsEach s vs → SaysEach n s (value_slots tree vs) vs
+    each_written a (FitsEach.fits_none {s}) = SaysEach.says_none s
+    each_written a (FitsEach.fits_one {s} {v} {vs} fit rest) = SaysEach.says_one s _ _ v vs (says_written a fit) (each_written a rest)
+
+    fields_written : {fs : Fields} {ms : Slots} (look : List ℕ → Slot) → are_fields_readable 0 fs ≡ true → FitsFields fs ms → Finds tree look ms → SaysFields n fs (map look (field_names fs)) ms
+    fields_written look a FitsFields.fits_end f = SaysFields.says_end
+    fields_written look a (FitsFields.fits_present {n = name} {t = g} {p} {s} {fs} {v} {ms} fit kept rest) f =
+        let first = and-right (suits p s) (is_readable s) (and-left (suits p s && is_readable s) (are_fields_readable 0 fs) a) in
+        let said = subst (λ slot. Says n s slot v) (sym f.0) (says_written first fit) in
+        let others = fields_written look (and-right (suits p s && is_readable s) (are_fields_readable 0 fs) a) rest f.1 in
+        subst (SaysFields n (Fields.field name g p s fs) (look name ∷ map look (field_names fs))) (ap (λ b. if b then Slots.present name v ms else Slots.absent name ms) kept)
+        (SaysFields.says_present name g p s fs (look name) (map look (field_names fs)) v ms said others)
+    fields_written look a (FitsFields.fits_absent {n = name} {t = g} {p} {s} {fs} {ms} lack rest) f =
+        let others = fields_written look (and-right (suits p s && is_readable s) (are_fields_readable 0 fs) a) rest f.1 in
+        subst (λ slot. SaysFields n (Fields.field name g p s fs) (slot ∷ map look (field_names fs)) (Slots.absent name ms)) (sym f.0)
+        (SaysFields.says_absent name g p s fs (map look (field_names fs)) ms lack others)
+
+    alternative_written : {alts : Alternatives} {i : List ℕ} {v : Value} → are_apart (identifiers alts) ≡ true → are_alternatives_readable 0 alts ≡ true → FitsAlternative alts i v
+        → (s : Shape) × (alternative_named same_identifier alts i ≡ Some (i, s)) × Says n s (Some (tree v)) v
+    alternative_written apart a (FitsAlternative.fits_here {i} {t} {s} {alts} {v} fit) =
+        (s, ap (λ b. if b then Some (i, s) else alternative_named same_identifier alts i) (same_identifier-itself i), says_written (and-left (is_readable s) (are_alternatives_readable 0 alts) a) fit)
+    alternative_written apart a (FitsAlternative.fits_later {i} {j} {t} {s} {alts} {v} rest) =
+        let none = none_named (has_identifier (identifiers alts) j) (are_apart (identifiers alts)) apart in
+        let r = alternative_written (others_named (has_identifier (identifiers alts) j) (are_apart (identifiers alts)) apart) (and-right (is_readable s) (are_alternatives_readable 0 alts) a) rest in
+        (r.0, ap (λ b. if b then Some (j, s) else alternative_named same_identifier alts i) (differs j rest none) ∙ r.1, r.2)
+
+-- The tree that JER writes.
+abbrev pub jer_tree : Value → Tree
+jer_tree v = Tree.json (jer_data v)
+
+pub no_leaf : {P : Type 0} → false ≡ true → P
+no_leaf e = cc e
+
+-- Octets are bytes.
+octets-bytes : (o : List ℕ) → every is_octet o ≡ true → (i : ℕ) → slice_index o i < 256
+octets-bytes [] e i = omega arith
+octets-bytes (b ∷ bs) e zero = ltb-true b 256 (and-left (nat_lt b 256) (every is_octet bs) e)
+octets-bytes (b ∷ bs) e (suc i) = octets-bytes bs (and-right (nat_lt b 256) (every is_octet bs) e) i
+
+leaf-written : (s : Shape) (v : Value) → is_readable s ≡ true → is_leaf_of s v ≡ true → leaf Notation.jer s (jer_tree v) ≡ Some (Ok v)
+leaf-written Shape.null Value.null a e = refl
+leaf-written Shape.boolean (Value.boolean b) a e = refl
+leaf-written (Shape.int l g w) (Value.int (pos m)) a e = rw e refl
+leaf-written (Shape.int l g w) (Value.int (negsuc m)) a e = rw e refl
+leaf-written (Shape.text Alphabet.utf8) (Value.text t) a e = refl
+leaf-written (Shape.enum items added) (Value.item i) a e = rw e refl
+leaf-written Shape.octets (Value.octets o) a e = ap (λ r. Some (refined Jer Shape.octets (octets_or r))) (decode_of-encode_upper o (octets-bytes o e))
+leaf-written s v a e = no_leaf e
+
+items-written : (vs : Values) → item_slots (jer_items vs) ≡ value_slots jer_tree vs
+items-written Values.no_values = refl
+items-written (Values.value v vs) = ap (λ l. Some (jer_tree v) ∷ l) (items-written vs)
+
+pub different : (n m : List ℕ) → bytes_eq n m ≡ false → m ≡ n → ⊥
+different n m e same = let d : true ≡ false = sym ((bytes_eq-Decides n m).1 (sym same)) ∙ e in cc d
+
+-- A name that no member has finds nothing.
+lost : (ms : Slots) (n : List ℕ) → is_item (slot_names ms) n ≡ false → get_member n (jer_members ms) ≡ None
+lost Slots.no_slots n e = refl
+lost (Slots.absent m ms) n e = lost ms n (rest_apart (bytes_eq n m) (is_item (slot_names ms) n) e)
+lost (Slots.present m v ms) n e =
+    get_member-put_other n m (jer_data v) (jer_members ms) (λ same. different n m (first_apart (bytes_eq n m) (is_item (slot_names ms) n) e) (sym same))
+    ∙ lost ms n (rest_apart (bytes_eq n m) (is_item (slot_names ms) n) e)
+
+-- A member that is put leaves those of other names.
+finds-put : (n : List ℕ) (d : Data) (all : Members) (ms : Slots) → is_item (slot_names ms) n ≡ false → Finds jer_tree (member_slot all) ms → Finds jer_tree (member_slot (put n d all)) ms
+finds-put n d all Slots.no_slots e f = tt
+finds-put n d all (Slots.absent m ms) e f = (
+  ap (option_map Tree.json) (get_member-put_other m n d all (different n m (first_apart (bytes_eq n m) (is_item (slot_names ms) n) e))) ∙ f.0,
+  finds-put n d all ms (rest_apart (bytes_eq n m) (is_item (slot_names ms) n) e) f.1,
+)
+finds-put n d all (Slots.present m v ms) e f = (
+  ap (option_map Tree.json) (get_member-put_other m n d all (different n m (first_apart (bytes_eq n m) (is_item (slot_names ms) n) e))) ∙ f.0,
+  finds-put n d all ms (rest_apart (bytes_eq n m) (is_item (slot_names ms) n) e) f.1,
+)
+
+finds-written : (ms : Slots) → are_distinct (slot_names ms) ≡ true → Finds jer_tree (member_slot (jer_members ms)) ms
+finds-written Slots.no_slots e = tt
+finds-written (Slots.absent n ms) e = (
+  ap (option_map Tree.json) (lost ms n (none_named (is_item (slot_names ms) n) (are_distinct (slot_names ms)) e)),
+  finds-written ms (others_named (is_item (slot_names ms) n) (are_distinct (slot_names ms)) e),
+)
+finds-written (Slots.present n v ms) e = (
+  ap (option_map Tree.json) (get_member-put n (jer_data v) (jer_members ms)),
+  finds-put n (jer_data v) (jer_members ms) ms (none_named (is_item (slot_names ms) n) (are_distinct (slot_names ms)) e) (finds-written ms (others_named (is_item (slot_names ms) n) (are_distinct (slot_names ms)) e)),
+)
+
+-- JER writes what it reads.
+pub jer_writes : Writes Notation.jer jer_tree
+jer_writes = record {
+  leaf = leaf-written;
+  list = λ vs. ap Some (items-written vs);
+  members = λ ms e. (member_slot (jer_members ms), refl, finds-written ms e);
+  choice = λ i v. refl;
+}

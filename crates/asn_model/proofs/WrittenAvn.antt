@@ -1,0 +1,171 @@
+-- What AVN writes is well formed, and is read as a tree that says the value.
+use Rattle.std.proofs.Common.{◌≡◌, refl, ap, sym, ◌∙◌, subst, ℕ, List, [], ◌∷◌, Bool, true, false, not, ◌&&◌, if◌then◌else◌, Some, None, Ok, Err}
+use Rattle.std.specs.Fmt.{signed_decimal}
+use Rattle.std.specs.Str.{bytes_eq}
+use Rattle.std.proofs.lemmas.Slice.Eq.{bytes_eq-Decides}
+use Rattle.asn_base.specs.declared.codec.Codec.TheVariants.{Avn}
+use Rattle.asn_fault.specs.Stop.{Why}
+use Rattle.avn_grammar.specs.Tree.{Tree as AvnTree, Fields as AvnFields}
+use Rattle.avn_grammar.specs.Normal.{normal, normal_trees, normal_fields, braced}
+use Rattle.avn_grammar.specs.WellFormed.{is_identifier, is_keyword, is_well_formed, are_well_formed, are_fields_well_formed}
+use Rattle.asn_model.specs.Canonical.{avn_tree, avn_trees, avn_fields}
+use Rattle.asn_model.specs.Leaf.{Blame, leaf, number_or, refined}
+use Rattle.asn_model.specs.Notation.{Notation}
+use Rattle.asn_model.specs.Readable.{is_readable, are_fields_readable, are_alternatives_readable, are_added_alternatives_readable, suits, has_alternative, are_told_apart, are_identifiers, are_words, are_apart}
+use Rattle.asn_model.specs.Shape.{Shape, Fields, Alternatives, Alphabet, all_items, all_alternatives, field_names, identifiers, tags, has_tag, tags_distinct, end_tag, are_distinct, is_item}
+use Rattle.asn_model.specs.Tree.{Tree, Slot, or_else, as_members, tree_slots, field_slot}
+use Rattle.asn_model.specs.Value.{Value, Values, Slots, Fits, FitsEach, FitsFields, FitsAlternative, is_leaf_of}
+use Rattle.asn_model.specs.Writes.{Writes, Finds, value_slots, slot_names}
+use Rattle.asn_model.proofs.Ranges.{inside}
+use Rattle.asn_model.proofs.Numerals.{number-read, number-form}
+use Rattle.asn_model.proofs.Readables.{and-left, and-right, and-both, unfolded-readable, fields_read}
+use Rattle.asn_model.proofs.Written.{first_apart, rest_apart, none_named, others_named, different, within_128_bits, all_readable, no_leaf}
+
+-- The tree that the text which AVN writes is read as.
+abbrev pub read_tree : Value → Tree
+read_tree v = Tree.avn (normal (avn_tree v))
+
+leaf-written : (s : Shape) (v : Value) → is_readable s ≡ true → is_leaf_of s v ≡ true → leaf Notation.avn s (read_tree v) ≡ Some (Ok v)
+unfolding normal
+leaf-written Shape.null Value.null a e = refl
+leaf-written Shape.boolean (Value.boolean b) a e = refl
+leaf-written (Shape.int l g w) (Value.int k) a e =
+    let r = inside l g k e in
+    let within = within_128_bits l g k a r.0 r.1 in
+    ap (λ o. Some (refined Avn (Shape.int l g w) (number_or (Blame.because (Why.integer_parse_error (signed_decimal k))) o))) (number-read k within.0 within.1)
+    ∙ ap (λ b. Some (if b then Ok (Value.int k) else Err (Blame.because (Why.integer_overflow w)))) e
+leaf-written (Shape.text Alphabet.utf8) (Value.text t) a e = refl
+leaf-written (Shape.enum items added) (Value.item i) a e = rw e refl
+leaf-written Shape.octets (Value.octets o) a e = refl
+leaf-written s v a e = no_leaf e
+
+items-written : (vs : Values) → tree_slots (normal_trees (avn_trees vs)) ≡ value_slots read_tree vs
+unfolding normal
+items-written Values.no_values = refl
+items-written (Values.value v vs) = ap (λ l. Some (read_tree v) ∷ l) (items-written vs)
+
+or_none : (s : Slot) → or_else s None ≡ s
+or_none None = refl
+or_none (Some t) = refl
+
+-- A name that no field has finds nothing.
+lost : (ms : Slots) (n : List ℕ) → is_item (slot_names ms) n ≡ false → field_slot (normal_fields (avn_fields ms)) n ≡ None
+unfolding normal
+lost Slots.no_slots n e = refl
+lost (Slots.absent m ms) n e = lost ms n (rest_apart (bytes_eq n m) (is_item (slot_names ms) n) e)
+lost (Slots.present m v ms) n e =
+    ap (λ b. or_else (field_slot (normal_fields (avn_fields ms)) n) (if b then Some (read_tree v) else None)) (first_apart (bytes_eq n m) (is_item (slot_names ms) n) e)
+    ∙ or_none (field_slot (normal_fields (avn_fields ms)) n) ∙ lost ms n (rest_apart (bytes_eq n m) (is_item (slot_names ms) n) e)
+
+bytes_eq-differ : (n m : List ℕ) → bytes_eq n m ≡ false → bytes_eq m n ≡ false
+bytes_eq-differ n m e = unequal (bytes_eq m n) refl
+  where
+    unequal : (b : Bool) → bytes_eq m n ≡ b → b ≡ false
+    unequal true f = absurd (different n m e ((bytes_eq-Decides m n).0 f))
+    unequal false f = refl
+
+-- A field in front leaves those of other names.
+finds-field : (n : List ℕ) (t : AvnTree) (all : AvnFields) (ms : Slots) → is_item (slot_names ms) n ≡ false → Finds read_tree (field_slot all) ms → Finds read_tree (field_slot (AvnFields.field n t all)) ms
+finds-field n t all Slots.no_slots e f = tt
+finds-field n t all (Slots.absent m ms) e f = (
+  ap (λ b. or_else (field_slot all m) (if b then Some (Tree.avn t) else None)) (bytes_eq-differ n m (first_apart (bytes_eq n m) (is_item (slot_names ms) n) e)) ∙ or_none (field_slot all m) ∙ f.0,
+  finds-field n t all ms (rest_apart (bytes_eq n m) (is_item (slot_names ms) n) e) f.1,
+)
+finds-field n t all (Slots.present m v ms) e f = (
+  ap (λ b. or_else (field_slot all m) (if b then Some (Tree.avn t) else None)) (bytes_eq-differ n m (first_apart (bytes_eq n m) (is_item (slot_names ms) n) e)) ∙ or_none (field_slot all m) ∙ f.0,
+  finds-field n t all ms (rest_apart (bytes_eq n m) (is_item (slot_names ms) n) e) f.1,
+)
+
+own_name : (n : List ℕ) (s : Slot) (t : Tree) → s ≡ None → or_else s (if bytes_eq n n then Some t else None) ≡ Some t
+own_name n s t e = rw (e, (bytes_eq-Decides n n).1 refl) refl
+
+finds-written : (ms : Slots) → are_distinct (slot_names ms) ≡ true → Finds read_tree (field_slot (normal_fields (avn_fields ms))) ms
+unfolding normal
+finds-written Slots.no_slots e = tt
+finds-written (Slots.absent n ms) e = (lost ms n (none_named (is_item (slot_names ms) n) (are_distinct (slot_names ms)) e), finds-written ms (others_named (is_item (slot_names ms) n) (are_distinct (slot_names ms)) e))
+finds-written (Slots.present n v ms) e =
+    let new = none_named (is_item (slot_names ms) n) (are_distinct (slot_names ms)) e in (
+      own_name n (field_slot (normal_fields (avn_fields ms)) n) (read_tree v) (lost ms n new),
+      finds-field n (normal (avn_tree v)) (normal_fields (avn_fields ms)) ms new (finds-written ms (others_named (is_item (slot_names ms) n) (are_distinct (slot_names ms)) e)),
+    )
+
+-- The members of fields in braces.
+braced-members : (fs : AvnFields) → as_members Notation.avn (Tree.avn (braced fs)) ≡ Some (field_slot fs)
+braced-members AvnFields.no_fields = refl
+braced-members (AvnFields.field n t fs) = refl
+braced-members (AvnFields.absent n fs) = refl
+
+members-written : (ms : Slots) → as_members Notation.avn (read_tree (Value.members ms)) ≡ Some (field_slot (normal_fields (avn_fields ms)))
+unfolding normal
+members-written ms = braced-members (normal_fields (avn_fields ms))
+
+-- The text that AVN writes is read as what it reads.
+pub avn_writes : Writes Notation.avn read_tree
+unfolding normal
+avn_writes = record {
+  leaf = leaf-written;
+  list = λ vs. ap Some (items-written vs);
+  members = λ ms e. (field_slot (normal_fields (avn_fields ms)), members-written ms, finds-written ms e);
+  choice = λ i v. refl;
+}
+
+first_or_later : {P : Type 0} (b rest : Bool) → (b ≡ true → P) → (rest ≡ true → P) → (if b then true else rest) ≡ true → P
+first_or_later true rest f g h = f refl
+first_or_later false rest f g h = g h
+
+-- An item is spelled as a word.
+word_of_item : (items : List (List ℕ)) (i : List ℕ) → are_words items ≡ true → is_item items i ≡ true → (is_identifier i && not (is_keyword i)) ≡ true
+word_of_item [] i e h = let d : false ≡ true = h in cc d
+word_of_item (n ∷ ns) i e h =
+    first_or_later (bytes_eq i n) (is_item ns i)
+    (λ f. subst (λ x. (is_identifier x && not (is_keyword x)) ≡ true) (sym ((bytes_eq-Decides i n).0 f)) (and-left (is_identifier n && not (is_keyword n)) (are_words ns) e))
+    (λ g. word_of_item ns i (and-right (is_identifier n && not (is_keyword n)) (are_words ns) e) g) h
+
+-- So is one of a shape whose values have no parts.
+leaf-formed : (s : Shape) (v : Value) → is_readable s ≡ true → is_leaf_of s v ≡ true → is_well_formed (avn_tree v) ≡ true
+unfolding is_well_formed
+leaf-formed Shape.null Value.null a e = refl
+leaf-formed Shape.boolean (Value.boolean b) a e = refl
+leaf-formed (Shape.int l g w) (Value.int k) a e = let r = inside l g k e in let within = within_128_bits l g k a r.0 r.1 in number-form k within.0 within.1
+leaf-formed (Shape.text Alphabet.utf8) (Value.text t) a e = e
+leaf-formed (Shape.enum items added) (Value.item i) a e = word_of_item (all_items items added) i (and-left (are_words (all_items items added)) (are_distinct (all_items items added)) a) e
+leaf-formed Shape.octets (Value.octets o) a e = e
+leaf-formed s v a e = no_leaf e
+
+mutual
+  unfolding is_well_formed
+
+  -- The tree that AVN writes for a value of a shape that can be read is well formed.
+  pub well-formed : {s : Shape} {v : Value} → is_readable s ≡ true → Fits s v → is_well_formed (avn_tree v) ≡ true
+  well-formed a (Fits.fits_leaf {s} {v} e) = leaf-formed s v a e
+  well-formed a (Fits.fits_members {kind} {fs} {added} {ms} fit) = let read = fields_read kind fs added a in fields-formed read.spelled read.parts fit
+  well-formed a (Fits.fits_list fit) = each-formed a fit
+  well-formed a (Fits.fits_choice {alts} {added} {i} {v} fit) =
+      let all = all_alternatives alts added in
+      let names = has_alternative alts && are_told_apart all in
+      let told = and-right (has_alternative alts) (are_told_apart all) (and-left names (are_alternatives_readable 0 alts && are_added_alternatives_readable 0 added) a) in
+      let spelled = and-left (are_identifiers (identifiers all)) (are_apart (identifiers all)) (and-left (are_identifiers (identifiers all) && are_apart (identifiers all)) (tags_distinct (tags all) && not (has_tag (tags all) end_tag)) told) in
+      let read = and-right names (are_alternatives_readable 0 alts && are_added_alternatives_readable 0 added) a in
+      let parts = all_readable alts added (and-left (are_alternatives_readable 0 alts) (are_added_alternatives_readable 0 added) read) (and-right (are_alternatives_readable 0 alts) (are_added_alternatives_readable 0 added) read) in
+      alternative-formed spelled parts fit
+  well-formed a (Fits.fits_loop {b} fit) = well-formed (unfolded-readable b a) fit
+
+  each-formed : {s : Shape} {vs : Values} → is_readable s ≡ true → FitsEach s vs → are_well_formed (avn_trees vs) ≡ true
+  each-formed a FitsEach.fits_none = refl
+  each-formed a (FitsEach.fits_one fit rest) = and-both _ _ (well-formed a fit) (each-formed a rest)
+
+  fields-formed : {fs : Fields} {ms : Slots} → are_identifiers (field_names fs) ≡ true → are_fields_readable 0 fs ≡ true → FitsFields fs ms → are_fields_well_formed (avn_fields ms) ≡ true
+  fields-formed i a FitsFields.fits_end = refl
+  fields-formed i a (FitsFields.fits_present {n = name} {p = p} {s = s} {fs = fs} fit kept rest) =
+      and-both _ _ (and-left (is_identifier name) (are_identifiers (field_names fs)) i)
+      (and-both _ _ (well-formed (and-right (suits p s) (is_readable s) (and-left (suits p s && is_readable s) (are_fields_readable 0 fs) a)) fit)
+      (fields-formed (and-right (is_identifier name) (are_identifiers (field_names fs)) i) (and-right (suits p s && is_readable s) (are_fields_readable 0 fs) a) rest))
+  fields-formed i a (FitsFields.fits_absent {n = name} {p = p} {s = s} {fs = fs} lack rest) =
+      and-both _ _ (and-left (is_identifier name) (are_identifiers (field_names fs)) i)
+      (fields-formed (and-right (is_identifier name) (are_identifiers (field_names fs)) i) (and-right (suits p s && is_readable s) (are_fields_readable 0 fs) a) rest)
+
+  alternative-formed : {alts : Alternatives} {i : List ℕ} {v : Value} → are_identifiers (identifiers alts) ≡ true → are_alternatives_readable 0 alts ≡ true → FitsAlternative alts i v → (is_identifier i && is_well_formed (avn_tree v)) ≡ true
+  alternative-formed e a (FitsAlternative.fits_here {i} {t} {s} {alts} fit) =
+      and-both _ _ (and-left (is_identifier i) (are_identifiers (identifiers alts)) e) (well-formed (and-left (is_readable s) (are_alternatives_readable 0 alts) a) fit)
+  alternative-formed e a (FitsAlternative.fits_later {i} {j} {t} {s} {alts} rest) =
+      alternative-formed (and-right (is_identifier j) (are_identifiers (identifiers alts)) e) (and-right (is_readable s) (are_alternatives_readable 0 alts) a) rest

@@ -1,0 +1,10 @@
+use Rattle.avn_grammar.proofs.WholePrinted.{reads_whole, sinks_whole}
+use Rattle.asn_model.specs.Canonical.{avn_tree}
+use Rattle.asn_model.proofs.WrittenAvn.{well-formed}
+use Rattle.asn_model.proofs.laws.written_avn_is_read.Goals as goal
+
+pub returns : goal.returns
+returns c = record {
+  reads = λ limit s v a fit within. reads_whole limit 0 (avn_tree v) (well-formed a fit) within;
+  deep = λ limit s v a fit above. sinks_whole limit 0 (avn_tree v) (well-formed a fit) above;
+}

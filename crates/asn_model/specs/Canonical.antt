@@ -1,0 +1,70 @@
+-- The one tree and the one text that each notation writes for a value.
+use Rattle.std.specs.Prelude.{ℕ, List}
+use Rattle.std.specs.Fmt.{signed_decimal}
+use Rattle.serde_json.specs.Data.{Data, Items, Members, put}
+use Rattle.serde_json.specs.Find.{of_integer}
+use Rattle.serde_json.specs.Written.{compact_text}
+use Rattle.avn_grammar.specs.Tree.{Tree as AvnTree, Trees as AvnTrees, Fields as AvnFields}
+use Rattle.hex.specs.Hex.{encode_upper}
+use Rattle.avn_grammar.specs.Print.{print}
+use Rattle.asn_model.specs.Notation.{Notation}
+use Rattle.asn_model.specs.Tree.{Tree}
+use Rattle.asn_model.specs.Value.{Value, Values, Slots}
+
+abbrev mutual
+  -- The JSON value that JER writes for a value.
+  pub jer_data : Value → Data
+  jer_data (Value.boolean b) = Data.boolean b
+  jer_data (Value.int n) = Data.number (of_integer n)
+  jer_data (Value.text t) = Data.string t
+  jer_data (Value.item i) = Data.string i
+  jer_data (Value.octets o) = Data.string (encode_upper o)
+  jer_data (Value.members ms) = Data.object (jer_members ms)
+  jer_data (Value.list vs) = Data.array (jer_items vs)
+  jer_data (Value.choice i v) = Data.object (Members.member i (jer_data v) Members.no_members)
+  jer_data v = Data.null
+
+  -- The elements of a JSON array.
+  pub jer_items : Values → Items
+  jer_items Values.no_values = Items.no_items
+  jer_items (Values.value v vs) = Items.item (jer_data v) (jer_items vs)
+
+  -- The members of a JSON object, which are in byte order of their names; absent ones are left out.
+  pub jer_members : Slots → Members
+  jer_members Slots.no_slots = Members.no_members
+  jer_members (Slots.absent n ms) = jer_members ms
+  jer_members (Slots.present n v ms) = put n (jer_data v) (jer_members ms)
+
+abbrev mutual
+  -- The AVN value that AVN writes for a value.
+  pub avn_tree : Value → AvnTree
+  avn_tree (Value.boolean b) = AvnTree.boolean b
+  avn_tree (Value.int n) = AvnTree.integer (signed_decimal n)
+  avn_tree (Value.text t) = AvnTree.char_string t
+  avn_tree (Value.item i) = AvnTree.enumerated i
+  avn_tree (Value.octets o) = AvnTree.octet_string o
+  avn_tree (Value.members ms) = AvnTree.sequence (avn_fields ms)
+  avn_tree (Value.list vs) = AvnTree.sequence_of (avn_trees vs)
+  avn_tree (Value.choice i v) = AvnTree.choice i (avn_tree v)
+  avn_tree v = AvnTree.null
+
+  -- The values of a list in braces.
+  pub avn_trees : Values → AvnTrees
+  avn_trees Values.no_values = AvnTrees.no_trees
+  avn_trees (Values.value v vs) = AvnTrees.tree (avn_tree v) (avn_trees vs)
+
+  -- The named fields in braces.
+  pub avn_fields : Slots → AvnFields
+  avn_fields Slots.no_slots = AvnFields.no_fields
+  avn_fields (Slots.absent n ms) = AvnFields.absent n (avn_fields ms)
+  avn_fields (Slots.present n v ms) = AvnFields.field n (avn_tree v) (avn_fields ms)
+
+-- The tree that a notation writes for a value.
+abbrev pub canonical_tree : Notation → Value → Tree
+canonical_tree Notation.avn v = Tree.avn (avn_tree v)
+canonical_tree _ v = Tree.json (jer_data v)
+
+-- The text that a notation writes for a value.
+abbrev pub canonical_text : Notation → Value → List ℕ
+canonical_text Notation.avn v = print 0 (avn_tree v)
+canonical_text _ v = compact_text (jer_data v)

@@ -1,0 +1,163 @@
+-- What a tree says by a shape whose values have no parts, and why it says nothing.
+use Rattle.std.specs.Prelude.{◌≡◌, ◌≤◌, ◌^◌, ℕ, ℤ, pos, List, Option, Some, None, Result, Ok, Err, Bool, false, if◌then◌else◌, option_map, codes, string_bytes}
+use Rattle.std.specs.Str.{is_utf8}
+use Rattle.serde_json.specs.Data.{Data, Num}
+use Rattle.serde_json.specs.Written.{compact_text, has_float}
+use Rattle.avn_grammar.specs.Tree.{Tree as AvnTree}
+use Rattle.avn_grammar.specs.Print.{print}
+use Rattle.hex.specs.Hex.{decode_of}
+use Rattle.hex.specs.declared.error.FromHexError.{FromHexError}
+use Rattle.asn_base.specs.Numbers.{signed}
+use Rattle.asn_base.specs.declared.codec.Codec.{Codec}
+use Rattle.asn_base.specs.declared.codec.Codec.TheVariants.{Jer, Avn}
+use Rattle.asn_fault.specs.Stop.{Why}
+use Rattle.asn_model.specs.Digits.{signed_number}
+use Rattle.asn_model.specs.Notation.{Notation}
+use Rattle.asn_model.specs.Range.{is_between}
+use Rattle.asn_model.specs.Shape.{Shape, Alphabet, all_items, is_item}
+use Rattle.asn_model.specs.Tree.{Tree}
+use Rattle.asn_model.specs.Value.{Value}
+use Rattle.asn_model.specs.declared.leaves.LeafKind.{LeafKind}
+use Rattle.asn_model.specs.declared.leaves.LeafKind.TheVariants.{Null, Boolean, Number, Text, Item, Octets}
+use Rattle.asn_model.specs.declared.leaves.Leaf.{Leaf}
+use Rattle.asn_model.specs.declared.leaves.Leaf.TheVariants as put
+use Rattle.asn_model.specs.declared.leaves.OwnedLeaf.{OwnedLeaf}
+use Rattle.asn_model.specs.declared.leaves.OwnedLeaf.TheVariants as got
+
+-- Why a tree says no value: it is of another kind than what is needed, or as told.
+pub data Blame : Type 0 where
+  mismatch : List ℕ → Blame
+  because : Why → Blame
+
+-- The codec whose errors a notation has.
+abbrev pub codec_of : Notation → Codec
+codec_of Notation.avn = Avn
+codec_of _ = Jer
+
+-- The text by which a mismatch names what was found, which nothing fixes for a JSON value that holds a float.
+abbrev pub IsFound : Tree → List ℕ → Type 0
+IsFound (Tree.json d) found = has_float d ≡ false → found ≡ compact_text d
+IsFound (Tree.avn t) found = found ≡ print 0 t
+
+-- The kind of the error that tells this blame of the tree.
+pub data Blamed (n : Notation) (t : Tree) : Blame → Why → Type 0 where
+  blamed_mismatch : (needed found : List ℕ) → IsFound t found → Blamed n t (Blame.mismatch needed) (Why.type_mismatch (codec_of n) needed found)
+  blamed_because : (w : Why) → Blamed n t (Blame.because w) w
+
+-- A mismatch by the words of JER and those of AVN.
+abbrev pub needs : Notation → List ℕ → List ℕ → Blame
+needs Notation.avn j a = Blame.mismatch a
+needs _ j a = Blame.mismatch j
+
+-- The blame of a tree that has no members.
+abbrev pub needs_members : Notation → Blame
+needs_members Notation.avn = Blame.mismatch (codes "sequence")
+needs_members _ = Blame.because (Why.type_mismatch Jer (codes "object") (codes "unknown"))
+
+-- The blame of a tree that is no list.
+abbrev pub needs_list : Notation → Blame
+needs_list n = needs n (codes "array") (codes "sequence of")
+
+-- The blame of a tree that is no choice.
+abbrev pub needs_choice : Notation → Blame
+needs_choice n = needs n (codes "object") (codes "choice (identifier : value)")
+
+-- The words by which a mismatch names the kind that is needed.
+abbrev pub needed : Notation → LeafKind → List ℕ
+needed Notation.avn Null = codes "null"
+needed Notation.avn Boolean = codes "boolean"
+needed Notation.avn Number = codes "integer"
+needed Notation.avn Text = codes "character string"
+needed Notation.avn Item = codes "enumerated identifier"
+needed Notation.avn Octets = codes "octet string ('...'H)"
+needed _ Null = codes "null"
+needed _ Boolean = codes "boolean"
+needed _ Number = codes "number (supported range -2^63..2^64)"
+needed _ Text = codes "string"
+needed _ Item = codes "enumerated item as string"
+needed _ Octets = codes "hex string"
+
+-- The number, or the blame.
+abbrev pub number_or : Blame → Option ℤ → Result Value Blame
+number_or b (Some n) = Ok (Value.int n)
+number_or b None = Err b
+
+-- The octets as text, or the blame where they aren't UTF-8.
+abbrev pub utf8_octets : List ℕ → Result Value Blame
+utf8_octets o = if is_utf8 o then Ok (Value.text o) else Err (Blame.because (Why.custom (codes "Invalid UTF-8 in AVN string")))
+
+-- The octets of a hexadecimal text, or the blame.
+abbrev pub octets_or : Result (List ℕ) FromHexError → Result Value Blame
+octets_or (Ok o) = Ok (Value.octets o)
+octets_or (Err e) = Err (Blame.because Why.invalid_jer_octet_string)
+
+-- The value of this kind that a tree is, or why it is none.
+abbrev pub as_leaf : Notation → LeafKind → Tree → Result Value Blame
+as_leaf Notation.jer Null (Tree.json Data.null) = Ok Value.null
+as_leaf Notation.avn Null (Tree.avn AvnTree.null) = Ok Value.null
+as_leaf Notation.jer Boolean (Tree.json (Data.boolean b)) = Ok (Value.boolean b)
+as_leaf Notation.avn Boolean (Tree.avn (AvnTree.boolean b)) = Ok (Value.boolean b)
+as_leaf Notation.jer Number (Tree.json (Data.number (Num.unsigned n))) = Ok (Value.int (pos n))
+as_leaf Notation.jer Number (Tree.json (Data.number (Num.negative z))) = Ok (Value.int z)
+as_leaf Notation.avn Number (Tree.avn (AvnTree.integer x)) = number_or (Blame.because (Why.integer_parse_error x)) (signed_number x)
+as_leaf Notation.jer Text (Tree.json (Data.string x)) = Ok (Value.text x)
+as_leaf Notation.avn Text (Tree.avn (AvnTree.char_string x)) = Ok (Value.text x)
+as_leaf Notation.avn Text (Tree.avn (AvnTree.octet_string o)) = utf8_octets o
+as_leaf Notation.jer Item (Tree.json (Data.string x)) = Ok (Value.item x)
+as_leaf Notation.avn Item (Tree.avn (AvnTree.enumerated x)) = Ok (Value.item x)
+as_leaf Notation.jer Octets (Tree.json (Data.string x)) = octets_or (decode_of x)
+as_leaf Notation.avn Octets (Tree.avn (AvnTree.octet_string o)) = Ok (Value.octets o)
+as_leaf n k t = Err (Blame.mismatch (needed n k))
+
+-- The kind that the values of a shape without parts have in a notation.
+abbrev pub kind_of : Shape → Option LeafKind
+kind_of Shape.null = Some Null
+kind_of Shape.boolean = Some Boolean
+kind_of (Shape.int least greatest width) = Some Number
+kind_of (Shape.text Alphabet.utf8) = Some Text
+kind_of (Shape.enum items added) = Some Item
+kind_of Shape.octets = Some Octets
+kind_of s = None
+
+-- The value of the shape that a value of its kind is, or why it is none.
+abbrev pub refine : Codec → Shape → Value → Result Value Blame
+refine c (Shape.int least greatest width) (Value.int n) = if is_between least greatest n then Ok (Value.int n) else Err (Blame.because (Why.integer_overflow width))
+refine c (Shape.enum items added) (Value.item i) = if is_item (all_items items added) i then Ok (Value.item i) else Err (Blame.because (Why.invalid_enum_discriminant c i))
+refine c s v = Ok v
+
+-- The same, of an answer.
+abbrev pub refined : Codec → Shape → Result Value Blame → Result Value Blame
+refined c s (Ok v) = refine c s v
+refined c s (Err b) = Err b
+
+-- What a tree says, or why it says nothing, by a shape whose values have no parts.
+abbrev pub leaf : Notation → Shape → Tree → Option (Result Value Blame)
+leaf n s t = option_map (λ k. refined (codec_of n) s (as_leaf n k t)) (kind_of s)
+
+-- The value that is put.
+abbrev pub leaf_value : Leaf → Value
+leaf_value put.Null = Value.null
+leaf_value (put.Boolean b) = Value.boolean b
+leaf_value (put.Number n) = Value.int (signed n.negative n.magnitude)
+leaf_value (put.Text s) = Value.text s.now
+leaf_value (put.Item s) = Value.item s.now
+leaf_value (put.Octets o) = Value.octets o.now
+
+-- The kind of an answer.
+abbrev pub kind_of_owned : OwnedLeaf → LeafKind
+kind_of_owned got.Null = Null
+kind_of_owned (got.Boolean b) = Boolean
+kind_of_owned (got.Number n) = Number
+kind_of_owned (got.Text s) = Text
+kind_of_owned (got.Item s) = Item
+kind_of_owned (got.Octets o) = Octets
+
+-- The answer is this value.
+abbrev pub IsOwned : Value → OwnedLeaf → Type 0
+IsOwned v got.Null = v ≡ Value.null
+IsOwned v (got.Boolean b) = v ≡ Value.boolean b
+IsOwned v (got.Number (Some n)) = v ≡ Value.int (signed n.negative n.magnitude)
+IsOwned v (got.Number None) = (negative : Bool) × (magnitude : ℕ) × (v ≡ Value.int (signed negative magnitude)) × (2 ^ 128 ≤ magnitude)
+IsOwned v (got.Text s) = v ≡ Value.text (string_bytes s)
+IsOwned v (got.Item s) = v ≡ Value.item (string_bytes s)
+IsOwned v (got.Octets o) = v ≡ Value.octets o.items

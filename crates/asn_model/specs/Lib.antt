@@ -1,0 +1,16 @@
+pub mod Fixed
+pub mod Notation
+pub mod Range
+pub mod Shape
+pub mod ShapeView
+pub mod Value
+pub mod Digits
+pub mod Tree
+pub mod Leaf
+pub mod Says
+pub mod Stops
+pub mod Writable
+pub mod Readable
+pub mod Writes
+pub mod Canonical
+pub mod Around

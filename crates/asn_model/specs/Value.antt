@@ -1,0 +1,152 @@
+-- What a Rust value of an ASN.1 type stands for, and what values a shape has.
+use Rattle.std.specs.Prelude.{◌≡◌, ℕ, ℤ, ◌+◌, List, [], ◌∷◌, Bool, true, false, not, if◌then◌else◌, Option}
+use Rattle.std.specs.Str.{bytes_eq, is_utf8}
+use Rattle.std.specs.Ordering.{int_eq}
+use Rattle.avn_grammar.specs.Chars.{every}
+use Rattle.avn_grammar.specs.WellFormed.{is_octet}
+use Rattle.asn_base.specs.declared.tag.Tag.{Tag}
+use Rattle.asn_model.specs.Range.{is_between}
+use Rattle.asn_model.specs.Shape.{Shape, SeqKind, Fields, FieldAdditions, Alternatives, AlternativeAdditions, Alphabet, Plain, Presence, all_fields, all_items, all_alternatives, unfold_loop, is_item}
+
+mutual
+  -- The abstract value of an ASN.1 type.
+  pub data Value : Type 0 where
+    null : Value
+    boolean : Bool → Value
+    int : ℤ → Value
+    -- With the size that the type fixes, or none.
+    bits : List Bool → Option ℕ → Value
+    octets : List ℕ → Value
+    arcs : List ℕ → Value
+    -- The bytes of a character string.
+    text : List ℕ → Value
+    -- The 16-bit units of a BMPString.
+    units : List ℕ → Value
+    -- Seconds since 1970-01-01T00:00:00 in UTC.
+    utc : ℤ → Value
+    -- Nanoseconds since 1970-01-01T00:00:00 in UTC.
+    gen : ℤ → Value
+    -- Days since 1970-01-01.
+    day : ℤ → Value
+    item : List ℕ → Value
+    members : Slots → Value
+    list : Values → Value
+    -- Sorted, repeats kept.
+    bag : Values → Value
+    choice : List ℕ → Value → Value
+
+  -- The elements of a list, in order.
+  pub data Values : Type 0 where
+    no_values : Values
+    value : Value → Values → Values
+
+  -- The members of a sequence, in order, each absent or present.
+  pub data Slots : Type 0 where
+    no_slots : Slots
+    absent : List ℕ → Slots → Slots
+    present : List ℕ → Value → Slots → Slots
+
+-- The number of parts of a value, itself included.
+abbrev mutual
+  pub nodes : Value → ℕ
+  nodes Value.null = 1
+  nodes (Value.boolean b) = 1
+  nodes (Value.int n) = 1
+  nodes (Value.bits bs n) = 1
+  nodes (Value.octets o) = 1
+  nodes (Value.arcs a) = 1
+  nodes (Value.text t) = 1
+  nodes (Value.units u) = 1
+  nodes (Value.utc n) = 1
+  nodes (Value.gen n) = 1
+  nodes (Value.day n) = 1
+  nodes (Value.item i) = 1
+  nodes (Value.members ms) = 1 + nodes_slots ms
+  nodes (Value.list vs) = 1 + nodes_values vs
+  nodes (Value.bag vs) = 1 + nodes_values vs
+  nodes (Value.choice i v) = 1 + nodes v
+
+  -- The nodes of all elements.
+  pub nodes_values : Values → ℕ
+  nodes_values Values.no_values = 0
+  nodes_values (Values.value v vs) = nodes v + nodes_values vs
+
+  -- The nodes of all present members.
+  pub nodes_slots : Slots → ℕ
+  nodes_slots Slots.no_slots = 0
+  nodes_slots (Slots.absent n ms) = nodes_slots ms
+  nodes_slots (Slots.present n v ms) = nodes v + nodes_slots ms
+
+-- The bits with this size as the one that their type fixes.
+abbrev pub marked : Option ℕ → Value → Value
+marked n (Value.bits bs m) = Value.bits bs n
+marked n v = v
+
+-- The value of a type of this shape under constraints that fix this size, or none.
+abbrev pub value_under : Option ℕ → Shape → Value → Value
+value_under n (Shape.bits m) v = marked n v
+value_under n s v = v
+
+-- The values that f gives of the items.
+abbrev pub values : {A : Type 0} → (A → Value) → List A → Values
+values f [] = Values.no_values
+values f (x ∷ xs) = Values.value (f x) (values f xs)
+
+-- The value is the one that a DEFAULT names.
+abbrev pub is_plain : Plain → Value → Bool
+is_plain (Plain.boolean true) (Value.boolean c) = c
+is_plain (Plain.boolean false) (Value.boolean c) = not c
+is_plain (Plain.int m) (Value.int n) = int_eq m n
+is_plain (Plain.text s) (Value.text t) = bytes_eq s t
+is_plain (Plain.item i) (Value.item j) = bytes_eq i j
+is_plain _ _ = false
+
+-- A field with this value is written and not left out.
+abbrev pub is_kept : Presence → Value → Bool
+is_kept (Presence.default d) v = not (is_plain d v)
+is_kept p v = true
+
+-- A field may be absent.
+abbrev pub may_lack : Presence → Bool
+may_lack Presence.required = false
+may_lack _ = true
+
+-- The members with a field's value in front, which is absent where it is the field's default.
+abbrev pub with_field : Presence → List ℕ → Value → Slots → Slots
+with_field p name v vs = if is_kept p v then Slots.present name v vs else Slots.absent name vs
+
+-- The value is one of the shape, whose values have no parts.
+abbrev pub is_leaf_of : Shape → Value → Bool
+is_leaf_of Shape.null Value.null = true
+is_leaf_of Shape.boolean (Value.boolean b) = true
+is_leaf_of (Shape.int least greatest width) (Value.int n) = is_between least greatest n
+is_leaf_of (Shape.text Alphabet.utf8) (Value.text t) = is_utf8 t
+is_leaf_of (Shape.enum items added) (Value.item i) = is_item (all_items items added) i
+is_leaf_of Shape.octets (Value.octets o) = every is_octet o
+is_leaf_of s v = false
+
+mutual
+  -- The value is one of the shape.
+  pub data Fits : Shape → Value → Type 0 where
+    fits_leaf : {s : Shape} {v : Value} → is_leaf_of s v ≡ true → Fits s v
+    fits_members : {kind : SeqKind} {fs : Fields} {added : FieldAdditions} {ms : Slots} → FitsFields (all_fields fs added) ms → Fits (Shape.seq kind fs added) (Value.members ms)
+    fits_list : {s : Shape} {vs : Values} → FitsEach s vs → Fits (Shape.list_of s) (Value.list vs)
+    fits_choice : {alts : Alternatives} {added : AlternativeAdditions} {i : List ℕ} {v : Value} → FitsAlternative (all_alternatives alts added) i v → Fits (Shape.choice alts added) (Value.choice i v)
+    fits_loop : {b : Shape} {v : Value} → Fits (unfold_loop b) v → Fits (Shape.loop b) v
+
+  -- Each element is a value of the shape.
+  pub data FitsEach : Shape → Values → Type 0 where
+    fits_none : {s : Shape} → FitsEach s Values.no_values
+    fits_one : {s : Shape} {v : Value} {vs : Values} → Fits s v → FitsEach s vs → FitsEach s (Values.value v vs)
+
+  -- Each field's slot is absent where it may be, or has a value of the field's shape that isn't its default.
+  pub data FitsFields : Fields → Slots → Type 0 where
+    fits_end : FitsFields Fields.no_fields Slots.no_slots
+    fits_present : {n : List ℕ} {t : Tag} {p : Presence} {s : Shape} {fs : Fields} {v : Value} {ms : Slots} → Fits s v → is_kept p v ≡ true → FitsFields fs ms
+        → FitsFields (Fields.field n t p s fs) (Slots.present n v ms)
+    fits_absent : {n : List ℕ} {t : Tag} {p : Presence} {s : Shape} {fs : Fields} {ms : Slots} → may_lack p ≡ true → FitsFields fs ms → FitsFields (Fields.field n t p s fs) (Slots.absent n ms)
+
+  -- The payload is a value of the alternative of that identifier.
+  pub data FitsAlternative : Alternatives → List ℕ → Value → Type 0 where
+    fits_here : {i : List ℕ} {t : Tag} {s : Shape} {alts : Alternatives} {v : Value} → Fits s v → FitsAlternative (Alternatives.alternative i t s alts) i v
+    fits_later : {i j : List ℕ} {t : Tag} {s : Shape} {alts : Alternatives} {v : Value} → FitsAlternative alts i v → FitsAlternative (Alternatives.alternative j t s alts) i v

@@ -1,0 +1,62 @@
+//! Laws of the definitions, each the contract of a call that does nothing.
+ghost use Rattle.asn_model.specs.Canonical.{jer_data, avn_tree, canonical_text};
+ghost use Rattle.asn_model.specs.Notation.{Notation, IsText};
+ghost use Rattle.asn_model.specs.Readable.{is_readable};
+ghost use Rattle.asn_model.specs.Says.{Says};
+ghost use Rattle.asn_model.specs.Shape.{Shape};
+ghost use Rattle.asn_model.specs.Stops.{Stops, Path};
+ghost use Rattle.asn_model.specs.Tree.{Tree, Slot};
+ghost use Rattle.asn_model.specs.Value.{Value, Fits};
+ghost use Rattle.asn_model.specs.Writable.{Writable};
+ghost use Rattle.asn_fault.specs.Stop.{Why};
+ghost use Rattle.avn_grammar.specs.Depth.{Deep, deepest};
+ghost use Rattle.avn_grammar.specs.Grammar.{Reads};
+ghost use Rattle.avn_grammar.specs.Normal.{normal};
+ghost use Rattle.serde_json.specs.Data.{Data, depth};
+ghost use Rattle.std.specs.Prelude.{◌≡◌, ℕ, ◌≤◌, ◌<◌, Some, true};
+ghost use Rattle.std.specs.Str.{chars};
+
+/// A slot says at most one value by a shape.
+pub fn one_value()
+    ensures { (n : Notation) (s : Shape) (slot : Slot) (v w : Value) → IsText n → Says n s slot v
+        → Says n s slot w → v ≡ w }
+{}
+
+/// A slot that says a value by a shape has no reason to say none.
+pub fn no_reason()
+    ensures { (n : Notation) (s : Shape) (slot : Slot) (v : Value) (p : Path) (w : Why) → IsText n
+        → Says n s slot v → Stops n s slot p w → ⊥ }
+{}
+
+/// What is written for a value of a shape that can be read says that value: in JER the JSON value
+/// that is written, and in AVN the normal form of what is written, which its text is read as.
+pub fn written_is_said()
+    ensures jer { (s : Shape) (v : Value) → is_readable s ≡ true → Fits s v
+        → Says Notation.jer s (Some (Tree.json (jer_data v))) v }
+    ensures avn { (s : Shape) (v : Value) → is_readable s ≡ true → Fits s v
+        → Says Notation.avn s (Some (Tree.avn (normal (avn_tree v)))) v }
+{}
+
+/// The text that AVN writes for a value of a shape that can be read is read as the normal form of
+/// its tree where that is no deeper than the limit, and else a value in it is looked for too deep.
+pub fn written_avn_is_read()
+    ensures reads { (limit : ℕ) (s : Shape) (v : Value) → is_readable s ≡ true → Fits s v
+        → deepest 0 (avn_tree v) ≤ limit
+        → Reads limit (chars (canonical_text Notation.avn v)) (normal (avn_tree v)) }
+    ensures deep { (limit : ℕ) (s : Shape) (v : Value) → is_readable s ≡ true → Fits s v
+        → limit < deepest 0 (avn_tree v) → Deep limit 0 (chars (canonical_text Notation.avn v)) }
+{}
+
+/// The JSON value that is written for a value nests no deeper than one that says the value.
+pub fn written_json_nests_no_deeper()
+    ensures { (s : Shape) (d : Data) (v : Value) → Says Notation.jer s (Some (Tree.json d)) v
+        → depth (jer_data v) ≤ depth d }
+{}
+
+/// Values of a shape that can be read, which the notation can write, are equal where their
+/// canonical texts are.
+pub fn equal_texts_are_of_equal_values()
+    ensures { (n : Notation) (s : Shape) (v w : Value) → IsText n → is_readable s ≡ true
+        → Fits s v → Fits s w → Writable n v → Writable n w
+        → canonical_text n v ≡ canonical_text n w → v ≡ w }
+{}

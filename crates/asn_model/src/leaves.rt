@@ -1,0 +1,77 @@
+// Values without parts, as encoders take them and as decoders answer them.
+ghost use Rattle.asn_model.specs.Leaf.{needed};
+ghost use Rattle.asn_model.specs.Notation.{notation_of};
+ghost use Rattle.avn_grammar.specs.Chars.{every};
+ghost use Rattle.avn_grammar.specs.WellFormed.{is_octet};
+ghost use Rattle.std.specs.Prelude.{true, ◌≡◌};
+
+use asn_base::{Codec, WholeNumber};
+
+/// The kinds of values without parts that the notations tell apart.
+#[derive(Clone, Copy)]
+pub enum LeafKind {
+    Null,
+    Boolean,
+    Number,
+    Text,
+    Item,
+    Octets,
+}
+
+impl LeafKind {
+    /// The words by which a mismatch names the kind.
+    pub fn needed(self, codec: Codec) -> &'static str
+        ensures { result.now ≡ needed (notation_of codec) self }
+    {
+        match codec {
+            Codec::Avn => match self {
+                LeafKind::Null => "null",
+                LeafKind::Boolean => "boolean",
+                LeafKind::Number => "integer",
+                LeafKind::Text => "character string",
+                LeafKind::Item => "enumerated identifier",
+                LeafKind::Octets => "octet string ('...'H)",
+            },
+            _ => match self {
+                LeafKind::Null => "null",
+                LeafKind::Boolean => "boolean",
+                LeafKind::Number => "number (supported range -2^63..2^64)",
+                LeafKind::Text => "string",
+                LeafKind::Item => "enumerated item as string",
+                LeafKind::Octets => "hex string",
+            },
+        }
+    }
+}
+
+/// A value without parts that is written.
+#[derive(Clone, Copy)]
+pub enum Leaf<'a> {
+    Null,
+    Boolean(bool),
+    Number(WholeNumber),
+    Text(&'a str),
+    /// The name of an item of an enumeration.
+    Item(&'a str),
+    Octets(&'a [u8]),
+}
+
+/// A value without parts that was read.
+#[derive(Drop)]
+pub enum OwnedLeaf {
+    Null,
+    Boolean(bool),
+    /// None inside where the number has more than 128 bits.
+    Number(Option<WholeNumber>),
+    Text(String),
+    /// The name of an item of an enumeration, if it has one of that name.
+    Item(String),
+    Octets(Vec<u8>),
+}
+
+/// Law: octets are below 256, as their type says.
+pub fn are_octets(octets: &[u8])
+    ensures { every is_octet octets.now ≡ true }
+{
+    let _octets = octets;
+}

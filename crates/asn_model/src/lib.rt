@@ -1,0 +1,17 @@
+//! What ASN.1 types and their values are, what a tree of either notation says by a type, the tree and
+//! the text that are canonical for a value, and the laws on all of these.
+#![tactic(auto)]
+
+pub mod laws;
+mod leaves;
+mod named;
+mod readable;
+mod shape_type;
+mod tags;
+
+pub use leaves::{Leaf, LeafKind, OwnedLeaf, are_octets};
+pub use readable::is_readable;
+pub use shape_type::{
+    Alphabet, AlternativeShape, FieldShape, Plain, PresenceShape, SeqKind, Shape,
+};
+pub use tags::same_tag;

@@ -1,0 +1,112 @@
+// The names of the parts of shapes.
+ghost use Rattle.avn_grammar.specs.WellFormed.{is_identifier};
+ghost use Rattle.asn_model.specs.Readable.{are_apart, are_identifiers, are_words, has_identifier};
+ghost use Rattle.asn_model.specs.Shape.{are_distinct, is_item};
+ghost use Rattle.std.specs.Prelude.{◌≡◌, ◌++◌, ℕ, List, map};
+
+use crate::{AlternativeShape, FieldShape};
+use avn_grammar::names::{is_identifier, is_keyword};
+
+/// What has a name.
+pub trait Named {
+    ghost name_of: { Self → List ℕ };
+
+    /// The name.
+    fn name(&self) -> &str
+        ensures { result.now ≡ name_of self.now };
+}
+
+/// An item of an ENUMERATED type, by its identifier.
+impl Named for String {
+    ghost use Rattle.std.specs.Prelude.{string_bytes};
+
+    ghost name_of = { string_bytes };
+
+    fn name(&self) -> &str {
+        self.as_str()
+    }
+}
+
+impl Named for FieldShape {
+    ghost use Rattle.std.specs.Prelude.{string_bytes};
+
+    ghost name_of = { λ f. string_bytes f.name };
+
+    fn name(&self) -> &str {
+        self.name.as_str()
+    }
+}
+
+impl Named for AlternativeShape {
+    ghost use Rattle.std.specs.Prelude.{string_bytes};
+
+    ghost name_of = { λ a. string_bytes a.identifier };
+
+    fn name(&self) -> &str {
+        self.identifier.as_str()
+    }
+}
+
+/// Whether the name is one of those of both lists.
+pub fn has_name<T: Named>(list: &[T], more: &[T], name: &str) -> bool
+    ensures { result ≡ is_item (map T.name_of list.now ++ map T.name_of more.now) name.now }
+{
+    match list.split_first() {
+        Some((first, rest)) => name == first.name() || has_name(rest, more, name),
+        None => !more.is_empty() && has_name(more, &[], name),
+    }
+}
+
+/// Whether no name stands twice in both lists.
+pub fn are_distinct<T: Named>(list: &[T], more: &[T]) -> bool
+    ensures { result ≡ are_distinct (map T.name_of list.now ++ map T.name_of more.now) }
+{
+    match list.split_first() {
+        Some((first, rest)) => !has_name(rest, more, first.name()) && are_distinct(rest, more),
+        None => more.is_empty() || are_distinct(more, &[]),
+    }
+}
+
+/// Whether the name is one of those of both lists but for the case of ASCII letters.
+fn has_identifier<T: Named>(list: &[T], more: &[T], name: &str) -> bool
+    ensures { result ≡ has_identifier (map T.name_of list.now ++ map T.name_of more.now) name.now }
+{
+    match list.split_first() {
+        Some((first, rest)) => {
+            first.name().eq_ignore_ascii_case(name) || has_identifier(rest, more, name)
+        }
+        None => !more.is_empty() && has_identifier(more, &[], name),
+    }
+}
+
+/// Whether no two names of both lists are the same but for the case of ASCII letters.
+pub fn are_apart<T: Named>(list: &[T], more: &[T]) -> bool
+    ensures { result ≡ are_apart (map T.name_of list.now ++ map T.name_of more.now) }
+{
+    match list.split_first() {
+        Some((first, rest)) => !has_identifier(rest, more, first.name()) && are_apart(rest, more),
+        None => more.is_empty() || are_apart(more, &[]),
+    }
+}
+
+/// Whether each name of both lists is an identifier of AVN.
+pub fn are_identifiers<T: Named>(list: &[T], more: &[T]) -> bool
+    ensures { result ≡ are_identifiers (map T.name_of list.now ++ map T.name_of more.now) }
+{
+    match list.split_first() {
+        Some((first, rest)) => is_identifier(first.name()) && are_identifiers(rest, more),
+        None => more.is_empty() || are_identifiers(more, &[]),
+    }
+}
+
+/// Whether each name of both lists is an identifier of AVN and none of its keywords.
+pub fn are_words<T: Named>(list: &[T], more: &[T]) -> bool
+    ensures { result ≡ are_words (map T.name_of list.now ++ map T.name_of more.now) }
+{
+    match list.split_first() {
+        Some((first, rest)) => {
+            is_identifier(first.name()) && !is_keyword(first.name()) && are_words(rest, more)
+        }
+        None => more.is_empty() || are_words(more, &[]),
+    }
+}

@@ -1,0 +1,246 @@
+// Whether a shape can be read.
+ghost use Rattle.asn_model.specs.Around.{loops_of, bare_of, entries_of};
+ghost use Rattle.asn_model.specs.Readable.{is_readable, is_readable_in, are_fields_readable, are_alternatives_readable, has_128_bits, is_of_shape, suits, has_alternative, are_told_apart};
+ghost use Rattle.asn_model.specs.Shape.{has_tag, tags_distinct, join_alternatives};
+ghost use Rattle.asn_model.specs.ShapeView.{shape_view, plain_view, presence_view, field_views, alternative_views};
+ghost use Rattle.std.specs.Prelude.{◌≡◌, ◌++◌, ◌&&◌, map, nat_le, nat_lt, pos};
+ghost use Rattle.std.specs.Str.{is_utf8};
+
+use crate::named::{are_apart, are_distinct, are_identifiers, are_words, has_name};
+use crate::tags::same_tag;
+use crate::{Alphabet, AlternativeShape, FieldShape, Plain, PresenceShape, Shape};
+use asn_base::Tag;
+
+/// What stands around a part of a shape, the innermost first, as a chain of references: no number of
+/// loops can overflow, and none takes memory.
+#[derive(Drop)]
+pub enum Around<'a> {
+    Nothing,
+    /// A type that its own parts name.
+    Loop(&'a Around<'a>),
+    /// A list, sequence, set, table or choice.
+    Part(&'a Around<'a>),
+}
+
+/// Whether a shape can be read, by what its names, tags and loops are.
+///
+/// Names are identifiers of AVN and distinct in a SEQUENCE, SET or ENUMERATED. No item is a keyword of
+/// AVN. A CHOICE has an alternative; its identifiers differ in more than case, and its tags are
+/// distinct and none is that of the end of contents. A default is a value of its field's shape.
+/// Each `Back` means a `Loop` around it, with a list, sequence, set, table or choice between.
+pub fn is_readable(shape: &Shape) -> bool
+    ensures { result ≡ is_readable (shape_view shape.now) }
+{
+    is_readable_in(shape, &Around::Nothing)
+}
+
+/// Whether a part of a shape can be read within what stands around it.
+#[cycle(readable)]
+#[tactic(auto, using(crate::proofs::ShapeNames::sequence_readable, crate::proofs::ShapeNames::choice_readable))]
+fn is_readable_in(shape: &Shape, around: &Around<'_>) -> bool
+    ensures { result ≡ is_readable_in (loops_of around.now) (bare_of around.now) (shape_view shape.now) }
+{
+    match shape {
+        Shape::Int {
+            least,
+            greatest,
+            ..
+        } => has_128_bits(*least, *greatest),
+        Shape::Enum { items, added } => {
+            let added = entries(added);
+            are_words(items, added) && are_distinct(items, added)
+        }
+        Shape::Seq {
+            kind: _,
+            fields,
+            added,
+        } => {
+            let added = entries(added);
+            are_identifiers(fields, added)
+                && are_distinct(fields, added)
+                && are_fields_readable(fields, &*around)
+                && are_fields_readable(added, &*around)
+        }
+        Shape::ListOf(element) => is_readable_in(element, &Around::Part(&*around)),
+        Shape::SetOf(element) => is_readable_in(element, &Around::Part(&*around)),
+        Shape::Table(entry) => is_readable_in(entry, &Around::Part(&*around)),
+        Shape::Choice {
+            alternatives,
+            added,
+        } => {
+            let added = entries(added);
+            has_alternative(alternatives)
+                && are_told_apart(alternatives, added)
+                && are_alternatives_readable(alternatives, &*around)
+                && are_alternatives_readable(added, &*around)
+        }
+        Shape::Loop(body) => is_readable_in(body, &Around::Loop(&*around)),
+        Shape::Back(number) => means_loop(around, *number),
+        Shape::Null => true,
+        Shape::Bool => true,
+        Shape::Bits { .. } => true,
+        Shape::Octets => true,
+        Shape::Any => true,
+        Shape::Oid => true,
+        Shape::Str { .. } => true,
+        Shape::Bmp => true,
+        Shape::Utc => true,
+        Shape::Gen => true,
+        Shape::Day => true,
+        Shape::Decimal => true,
+    }
+}
+
+/// Whether the shapes of the fields can be read, and their defaults are values of them.
+#[cycle(readable)]
+fn are_fields_readable(fields: &[FieldShape], around: &Around<'_>) -> bool
+    ensures { result ≡ are_fields_readable (loops_of around.now) (field_views fields.now) }
+{
+    for field in fields {
+        if !suits(&field.presence, &field.shape) {
+            return false;
+        }
+        if !is_readable_in(&field.shape, &Around::Part(&*around)) {
+            return false;
+        }
+    }
+    true
+}
+
+/// Whether the shapes of the alternatives can be read.
+#[cycle(readable)]
+fn are_alternatives_readable(alternatives: &[AlternativeShape], around: &Around<'_>) -> bool
+    ensures { result ≡ are_alternatives_readable (loops_of around.now) (alternative_views alternatives.now) }
+{
+    for alternative in alternatives {
+        if !is_readable_in(&alternative.shape, &Around::Part(&*around)) {
+            return false;
+        }
+    }
+    true
+}
+
+/// That the numbers from the least to the greatest have at most 128 bits, as their types say.
+fn has_128_bits(least: i128, greatest: u128) -> bool
+    ensures { result ≡ has_128_bits least (pos greatest) }
+{
+    true
+}
+
+/// The entries after an extension marker, and none where there is none.
+fn entries<T>(added: &Option<Vec<T>>) -> &[T]
+    ensures { result.now ≡ entries_of added.now }
+{
+    match added {
+        Some(entries) => entries.as_slice(),
+        None => &[],
+    }
+}
+
+/// Whether the number is that of a loop around, with a list, sequence, set, table or choice between.
+fn means_loop(around: &Around<'_>, number: u32) -> bool
+    ensures { result ≡ (nat_le (bare_of around.now) number && nat_lt number (loops_of around.now)) }
+{
+    match around {
+        Around::Nothing => false,
+        Around::Loop(outer) => number > 0 && means_loop(outer, number - 1),
+        Around::Part(outer) => has_loop(outer, number),
+    }
+}
+
+/// Whether the number is that of a loop around.
+fn has_loop(around: &Around<'_>, number: u32) -> bool
+    ensures { result ≡ nat_lt number (loops_of around.now) }
+{
+    match around {
+        Around::Nothing => false,
+        Around::Loop(outer) => number == 0 || has_loop(outer, number - 1),
+        Around::Part(outer) => has_loop(outer, number),
+    }
+}
+
+/// Whether the field's default, if it has one, is a value of its shape.
+fn suits(presence: &PresenceShape, shape: &Shape) -> bool
+    ensures { result ≡ suits (presence_view presence.now) (shape_view shape.now) }
+{
+    match presence {
+        PresenceShape::Default(plain) => is_of_shape(shape, plain),
+        _ => true,
+    }
+}
+
+/// Whether the value of a DEFAULT is one of the shape.
+fn is_of_shape(shape: &Shape, plain: &Plain) -> bool
+    ensures { result ≡ is_of_shape (shape_view shape.now) (plain_view plain.now) }
+{
+    match (shape, plain) {
+        (Shape::Bool, Plain::Bool(_)) => true,
+        (
+            Shape::Int {
+                least,
+                greatest,
+                ..
+            },
+            Plain::Int(number),
+        ) => { *least <= *number && (*number < 0 || *number as u128 <= *greatest) }
+        (
+            Shape::Str {
+                alphabet: Alphabet::Utf8,
+            },
+            Plain::Text(text),
+        ) => is_utf8(text.as_str()),
+        (Shape::Enum { items, added }, Plain::Item(item)) => {
+            has_name(items, entries(added), item.as_str())
+        }
+        _ => false,
+    }
+}
+
+/// That the bytes of the text are UTF-8, as its type says.
+fn is_utf8(text: &str) -> bool
+    ensures { result ≡ is_utf8 text.now }
+{
+    let _text = text;
+    true
+}
+
+/// Whether there is an alternative.
+fn has_alternative(alternatives: &[AlternativeShape]) -> bool
+    ensures { result ≡ has_alternative (alternative_views alternatives.now) }
+{
+    match alternatives.split_first() {
+        Some(_) => true,
+        None => false,
+    }
+}
+
+/// Whether the alternatives of both lists are told apart by identifiers and tags.
+#[tactic(auto, using(crate::proofs::ShapeNames::identifiers_viewed, crate::proofs::ShapeNames::tags_viewed))]
+fn are_told_apart(alternatives: &[AlternativeShape], added: &[AlternativeShape]) -> bool
+    ensures { result ≡ are_told_apart (join_alternatives (alternative_views alternatives.now) (alternative_views added.now)) }
+{
+    are_identifiers(alternatives, added)
+        && are_apart(alternatives, added)
+        && are_tags_distinct(alternatives, added)
+        && !has_tag(alternatives, added, Tag::EOC)
+}
+
+/// Whether the tag is one of those of both lists.
+fn has_tag(list: &[AlternativeShape], more: &[AlternativeShape], tag: Tag) -> bool
+    ensures { result ≡ has_tag (map (λ a. a.tag) list.now ++ map (λ a. a.tag) more.now) tag }
+{
+    match list.split_first() {
+        Some((first, rest)) => same_tag(first.tag, tag) || has_tag(rest, more, tag),
+        None => !more.is_empty() && has_tag(more, &[], tag),
+    }
+}
+
+/// Whether no tag stands twice in both lists.
+fn are_tags_distinct(list: &[AlternativeShape], more: &[AlternativeShape]) -> bool
+    ensures { result ≡ tags_distinct (map (λ a. a.tag) list.now ++ map (λ a. a.tag) more.now) }
+{
+    match list.split_first() {
+        Some((first, rest)) => !has_tag(rest, more, first.tag) && are_tags_distinct(rest, more),
+        None => more.is_empty() || are_tags_distinct(more, &[]),
+    }
+}

@@ -1,5 +1,0 @@
-use Rattle.asn_traits.proofs.laws.no_reason.Goals as goal
-use Rattle.asn_traits.proofs.Meanings.{apart}
-
-pub returns : goal.returns
-returns c = λ n s slot v p w x h k. apart x h k

@@ -1,5 +1,0 @@
-use Rattle.asn_traits.proofs.Nesting.{says-depth}
-use Rattle.asn_traits.proofs.laws.written_json_nests_no_deeper.Goals as goal
-
-pub returns : goal.returns
-returns c = λ s d v h. says-depth h

@@ -1,5 +1,5 @@
-//! What ASN.1 types and their values are, what a tree of either notation says by a type, the tree and
-//! the text that are canonical for a value, and the laws on all of these.
+//! What ASN.1 types and their values are, what a tree of either notation says by a type, the tree
+//! and the text that are canonical for a value, and the laws on all of these.
 #![tactic(auto)]
 
 pub mod laws;

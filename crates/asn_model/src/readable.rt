@@ -11,8 +11,8 @@ use crate::tags::same_tag;
 use crate::{Alphabet, AlternativeShape, FieldShape, Plain, PresenceShape, Shape};
 use asn_base::Tag;
 
-/// What stands around a part of a shape, the innermost first, as a chain of references: no number of
-/// loops can overflow, and none takes memory.
+/// What stands around a part of a shape, the innermost first, as a chain of references: no number
+/// of loops can overflow, and none takes memory.
 #[derive(Drop)]
 pub enum Around<'a> {
     Nothing,
@@ -24,8 +24,8 @@ pub enum Around<'a> {
 
 /// Whether a shape can be read, by what its names, tags and loops are.
 ///
-/// Names are identifiers of AVN and distinct in a SEQUENCE, SET or ENUMERATED. No item is a keyword of
-/// AVN. A CHOICE has an alternative; its identifiers differ in more than case, and its tags are
+/// Names are identifiers of AVN and distinct in a SEQUENCE, SET or ENUMERATED. No item is a keyword
+/// of AVN. A CHOICE has an alternative; its identifiers differ in more than case, and its tags are
 /// distinct and none is that of the end of contents. A default is a value of its field's shape.
 /// Each `Back` means a `Loop` around it, with a list, sequence, set, table or choice between.
 pub fn is_readable(shape: &Shape) -> bool
@@ -38,7 +38,8 @@ pub fn is_readable(shape: &Shape) -> bool
 #[cycle(readable)]
 #[tactic(auto, using(crate::proofs::ShapeNames::sequence_readable, crate::proofs::ShapeNames::choice_readable))]
 fn is_readable_in(shape: &Shape, around: &Around<'_>) -> bool
-    ensures { result ≡ is_readable_in (loops_of around.now) (bare_of around.now) (shape_view shape.now) }
+    ensures { result ≡ is_readable_in (loops_of around.now) (bare_of around.now)
+        (shape_view shape.now) }
 {
     match shape {
         Shape::Int {
@@ -110,7 +111,8 @@ fn are_fields_readable(fields: &[FieldShape], around: &Around<'_>) -> bool
 /// Whether the shapes of the alternatives can be read.
 #[cycle(readable)]
 fn are_alternatives_readable(alternatives: &[AlternativeShape], around: &Around<'_>) -> bool
-    ensures { result ≡ are_alternatives_readable (loops_of around.now) (alternative_views alternatives.now) }
+    ensures { result ≡ are_alternatives_readable (loops_of around.now)
+        (alternative_views alternatives.now) }
 {
     for alternative in alternatives {
         if !is_readable_in(&alternative.shape, &Around::Part(&*around)) {
@@ -137,7 +139,8 @@ fn entries<T>(added: &Option<Vec<T>>) -> &[T]
     }
 }
 
-/// Whether the number is that of a loop around, with a list, sequence, set, table or choice between.
+/// Whether the number is that of a loop around, with a list, sequence, set, table or choice
+/// between.
 fn means_loop(around: &Around<'_>, number: u32) -> bool
     ensures { result ≡ (nat_le (bare_of around.now) number && nat_lt number (loops_of around.now)) }
 {
@@ -217,7 +220,8 @@ fn has_alternative(alternatives: &[AlternativeShape]) -> bool
 /// Whether the alternatives of both lists are told apart by identifiers and tags.
 #[tactic(auto, using(crate::proofs::ShapeNames::identifiers_viewed, crate::proofs::ShapeNames::tags_viewed))]
 fn are_told_apart(alternatives: &[AlternativeShape], added: &[AlternativeShape]) -> bool
-    ensures { result ≡ are_told_apart (join_alternatives (alternative_views alternatives.now) (alternative_views added.now)) }
+    ensures { result ≡ are_told_apart
+        (join_alternatives (alternative_views alternatives.now) (alternative_views added.now)) }
 {
     are_identifiers(alternatives, added)
         && are_apart(alternatives, added)

@@ -62,7 +62,8 @@ pub struct AlternativeShape {
     pub shape: Shape,
 }
 
-/// The kind of a type, with its parts. Each `added` has what stands after the extension marker, and is None where there is no marker.
+/// The kind of a type, with its parts. Each `added` has what stands after the extension marker, and
+/// is None where there is no marker.
 #[cycle(shape)]
 #[derive(Drop)]
 pub enum Shape {

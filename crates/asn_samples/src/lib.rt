@@ -1,4 +1,5 @@
-//! Types that show how an ASN.1 type is described, each with its laws proved, and the names by which the program knows them.
+//! Types that show how an ASN.1 type is described, each with its laws proved, and the names by
+//! which the program knows them.
 #![tactic(auto, using(asn_traits::proofs::Passing::field_steps))]
 
 mod ext_choice;

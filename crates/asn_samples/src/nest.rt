@@ -56,7 +56,8 @@ impl Encode for Nest {
     }
 }
 
-// The reader goes over the primitives, since a call through a bound can't lead back to a type's own reader.
+// The reader goes over the primitives, since a call through a bound can't lead back to a type's own
+// reader.
 impl Decode for Nest {
     #[cycle(nest_decode)]
     fn decode_with_tag_and_constraints<D: Decoder>(

@@ -41,7 +41,8 @@ pub trait ChoicePayload: OfKind<Kind = ChoiceKind> {
 
     /// `NAMES`, which are those of the shape.
     fn listed_names() -> &'static [&'static str]
-        ensures { map (λ s. s.now) result.now ≡ identifiers (all_alternatives alternatives additions) };
+        ensures { map (λ s. s.now) result.now
+            ≡ identifiers (all_alternatives alternatives additions) };
 
     /// The shape of the type. Its one error is want of memory.
     fn choice_shape(alloc: Global) -> Result<Shape, OutOfMemory>
@@ -57,10 +58,12 @@ pub trait ChoicePayload: OfKind<Kind = ChoiceKind> {
             (chosen self.now).payload encoder.old encoder.new) }
         ensures refused { IfErr result (CannotWrite E.notation (chosen self.now).payload) };
 
-    /// Reads the payload of the alternative of this tag from the first pending slot. Of any other tag it takes no slot and refuses with `NoValidChoice`.
+    /// Reads the payload of the alternative of this tag from the first pending slot. Of any other
+    /// tag it takes no slot and refuses with `NoValidChoice`.
     fn read_alternative<D: Decoder>(decoder: &mut D, tag: Tag) -> Result<Self, DecodeError>
         ensures { TagAnswer D.notation (all_alternatives alternatives additions)
-            (λ x. chosen_value (chosen x)) tag (D.pending decoder.old) result (D.pending decoder.new) };
+            (λ x. chosen_value (chosen x)) tag (D.pending decoder.old) result
+            (D.pending decoder.new) };
 
     // The alternative is one of the type's.
     ghost is_chosen: { (x : Self) → IsChosen (all_alternatives alternatives additions) (chosen x) };
@@ -76,7 +79,8 @@ pub fn write_choice<T: ChoicePayload, E: Encoder>(
     constraints: &Constraints,
     identifier: Identifier,
 ) -> Result<(), EncodeError>
-    ensures written { OnOk result (Written E.holds E.notation (AbstractShape.choice T.alternatives T.additions)
+    ensures written { OnOk result
+        (Written E.holds E.notation (AbstractShape.choice T.alternatives T.additions)
         (chosen_value (T.chosen value.now)) encoder.old encoder.new) }
     ensures refused { IfErr result (CannotWrite E.notation (chosen_value (T.chosen value.now))) }
 {
@@ -85,9 +89,11 @@ pub fn write_choice<T: ChoicePayload, E: Encoder>(
         constraints,
         tag,
         move |encoder: &mut E| -> Result<Tag, EncodeError>
-            ensures written { OnOk result (Written E.holds E.notation (T.chosen value.entry.now).shape
+            ensures written { OnOk result
+                (Written E.holds E.notation (T.chosen value.entry.now).shape
                 (T.chosen value.entry.now).payload encoder.entry.now encoder.exit.now) }
-            ensures refused { IfErr result (CannotWrite E.notation (T.chosen value.entry.now).payload) }
+            ensures refused { IfErr result
+                (CannotWrite E.notation (T.chosen value.entry.now).payload) }
         {
             value.write_alternative(encoder)?;
             Ok(tag)

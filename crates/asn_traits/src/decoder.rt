@@ -1,6 +1,7 @@
 // Reading a value of a type from the slots that a decoder has pending.
 //
-// A codec writes the calls without a body. The calls that have a bound of this crate's are final, and are proved here once for every codec.
+// A codec writes the calls without a body. The calls that have a bound of this crate's are final,
+// and are proved here once for every codec.
 ghost use Rattle.asn_fault.specs.Stop.{Why, at_root, error_stop};
 ghost use Rattle.asn_model.specs.Fixed.{fixed_size};
 ghost use Rattle.asn_model.specs.Leaf.{codec_of};
@@ -23,8 +24,9 @@ use std::alloc::Global;
 
 /// A reader of one notation. It is seen as a list of pending slots: a tree or absent.
 ///
-/// Unless said otherwise a call takes the first pending slot and reads it. It refuses with the path and the kind by which the slot says no value of the type,
-/// and else memory alone. What is pending after a refusal isn't told.
+/// Unless said otherwise a call takes the first pending slot and reads it. It refuses with the path
+/// and the kind by which the slot says no value of the type, and else memory alone. What is pending
+/// after a refusal isn't told.
 pub trait Decoder {
     // The notation that is read.
     ghost notation: { Notation };
@@ -46,13 +48,16 @@ pub trait Decoder {
     /// The refusal of a text that names no item of a type.
     fn no_item(&self, text: String) -> DecodeError
         ensures { error_stop result ≡ at_root
-            (Why.invalid_enum_discriminant (codec_of notation) (string_bytes text)) (codec_of notation) };
+            (Why.invalid_enum_discriminant (codec_of notation) (string_bytes text))
+            (codec_of notation) };
 
-    /// Takes the first pending slot if it is absent, and tells whether it was. It refuses where none is pending.
+    /// Takes the first pending slot if it is absent, and tells whether it was. It refuses where
+    /// none is pending.
     fn take_absent(&mut self) -> Result<bool, DecodeError>
         ensures { TakesAbsent notation (pending self.old) result (pending self.new) };
 
-    /// Puts the elements of the first pending slot, a list, in its place, and answers how many they are.
+    /// Puts the elements of the first pending slot, a list, in its place, and answers how many they
+    /// are.
     fn open_list(&mut self) -> Result<usize, DecodeError>
         ensures { OpensList notation (pending self.old) result (pending self.new) };
 
@@ -63,7 +68,8 @@ pub trait Decoder {
         ensures { OpensMembers notation (names_of root.now ++ names_of additions.now)
             (pending self.old) result (pending self.new) };
 
-    /// Puts the payload of the first pending slot, a choice, in its place, and answers the place of its identifier.
+    /// Puts the payload of the first pending slot, a choice, in its place, and answers the place of
+    /// its identifier.
     fn open_choice(&mut self, identifiers: &[&'static str]) -> Result<Option<usize>, DecodeError>
         ensures { OpensChoice notation (map (λ s. s.now) identifiers.now) (pending self.old) result
             (pending self.new) };
@@ -209,7 +215,8 @@ pub trait Decoder {
         }
     }
 
-    /// Puts the payload of the first pending slot, a CHOICE, in its place, and answers the tag of its alternative.
+    /// Puts the payload of the first pending slot, a CHOICE, in its place, and answers the tag of
+    /// its alternative.
     ///
     /// Where it names no alternative, it puts an absent slot there and answers `EOC`.
     final fn open_alternative<C: Choice>(
@@ -258,7 +265,8 @@ pub trait Decoder {
         }
     }
 
-    /// Reads an optional field under an explicit tag, which changes nothing: nothing where the slot is absent.
+    /// Reads an optional field under an explicit tag, which changes nothing: nothing where the slot
+    /// is absent.
     final fn decode_optional_with_explicit_prefix<T: Decode>(
         &mut self,
         tag: Tag,
@@ -269,7 +277,8 @@ pub trait Decoder {
         self.decode_optional()
     }
 
-    /// Reads an optional field under a tag, which changes nothing: nothing where the slot is absent.
+    /// Reads an optional field under a tag, which changes nothing: nothing where the slot is
+    /// absent.
     final fn decode_optional_with_tag<T: Decode>(
         &mut self,
         tag: Tag,
@@ -280,7 +289,8 @@ pub trait Decoder {
         self.decode_optional()
     }
 
-    /// Reads an optional field under constraints, which change nothing: nothing where the slot is absent.
+    /// Reads an optional field under constraints, which change nothing: nothing where the slot is
+    /// absent.
     final fn decode_optional_with_constraints<T: Decode>(
         &mut self,
         constraints: &Constraints,
@@ -291,7 +301,8 @@ pub trait Decoder {
         self.decode_optional()
     }
 
-    /// Reads an optional field under a tag and constraints, which change nothing: nothing where the slot is absent.
+    /// Reads an optional field under a tag and constraints, which change nothing: nothing where the
+    /// slot is absent.
     final fn decode_optional_with_tag_and_constraints<T: Decode>(
         &mut self,
         tag: Tag,
@@ -312,7 +323,8 @@ pub trait Decoder {
     }
 }
 
-/// A type that is read. The last call is each type's own, and the others hand it the type's own tag or constraints.
+/// A type that is read. The last call is each type's own, and the others hand it the type's own tag
+/// or constraints.
 ///
 /// Tags change nothing in text, and constraints decide only whether a BIT STRING has a fixed size.
 pub trait Decode: AsnType + Sized + Drop {
@@ -356,8 +368,10 @@ pub trait Decode: AsnType + Sized + Drop {
 
 /// A choice that is read.
 pub trait DecodeChoice: Choice + Sized + Drop {
-    /// Reads the payload of the alternative of this tag from the first pending slot. Of any other tag it takes no slot and refuses with `NoValidChoice`.
+    /// Reads the payload of the alternative of this tag from the first pending slot. Of any other
+    /// tag it takes no slot and refuses with `NoValidChoice`.
     fn from_tag<D: Decoder>(decoder: &mut D, tag: Tag) -> Result<Self, DecodeError>
-        ensures { TagAnswer D.notation (all_alternatives Self.alternatives Self.added) Self.value_of tag
+        ensures { TagAnswer D.notation
+            (all_alternatives Self.alternatives Self.added) Self.value_of tag
             (D.pending decoder.old) result (D.pending decoder.new) };
 }

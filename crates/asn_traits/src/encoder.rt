@@ -1,6 +1,7 @@
 // Writing a value of a type as one slot more of what an encoder holds.
 //
-// A codec writes the calls without a body. The calls that have a bound of this crate's are final, and are proved here once for every codec.
+// A codec writes the calls without a body. The calls that have a bound of this crate's are final,
+// and are proved here once for every codec.
 ghost use Rattle.asn_model.specs.Fixed.{fixed_size};
 ghost use Rattle.asn_model.specs.Leaf.{leaf_value};
 ghost use Rattle.asn_model.specs.Notation.{Notation, notation_of};
@@ -18,15 +19,18 @@ use asn_fault::{EncodeError, EncodeErrorKind};
 use asn_model::are_octets;
 use std::alloc::Global;
 
-/// A writer of one notation. It is seen as a list of open frames, each a list of slots: a value or absent.
+/// A writer of one notation. It is seen as a list of open frames, each a list of slots: a value or
+/// absent.
 ///
-/// Unless said otherwise the last frame has one more slot after a call, the value. A call refuses a value that the notation cannot write, by the kind of
-/// the first part that it cannot write, and else memory alone. What it holds after a refusal isn't told.
+/// Unless said otherwise the last frame has one more slot after a call, the value. A call refuses a
+/// value that the notation cannot write, by the kind of the first part that it cannot write, and
+/// else memory alone. What it holds after a refusal isn't told.
 pub trait Encoder {
     // The notation that is written.
     ghost notation: { Notation };
 
-    // The encoder may have these open frames, the last one first. A codec's tree need not tell its value, so this is a relation.
+    // The encoder may have these open frames, the last one first. A codec's tree need not tell its
+    // value, so this is a relation.
     ghost holds: { Self → List Frame → Type 0 };
 
     /// The codec of its errors.
@@ -51,7 +55,8 @@ pub trait Encoder {
         ensures opened { OnOk result (Turns holds (λ fs. [] ∷ fs) self.old self.new) }
         ensures refused { IfErr result (λ e. e.kind ≡ EncodeErrorKind.OutOfMemory) };
 
-    /// Puts the last frame into the one before it as a list of its present values. It refuses memory alone.
+    /// Puts the last frame into the one before it as a list of its present values. It refuses
+    /// memory alone.
     fn close_list(&mut self) -> Result<(), EncodeError>
         ensures closed { OnOk result (Turns holds (close as_list) self.old self.new) }
         ensures refused { IfErr result (λ e. e.kind ≡ EncodeErrorKind.OutOfMemory) };
@@ -63,7 +68,8 @@ pub trait Encoder {
             (as_members (names_of root.now ++ names_of additions.now))) self.old self.new) }
         ensures refused { IfErr result (λ e. e.kind ≡ EncodeErrorKind.OutOfMemory) };
 
-    /// Puts the first slot of the last frame into the one before it as the payload of a choice. It refuses memory alone.
+    /// Puts the first slot of the last frame into the one before it as the payload of a choice. It
+    /// refuses memory alone.
     fn close_choice(&mut self, identifier: &'static str) -> Result<(), EncodeError>
         ensures closed { OnOk result (Turns holds (close
             (as_choice identifier.now)) self.old self.new) }
@@ -85,7 +91,8 @@ pub trait Encoder {
 
     /// Writes a NULL.
     final fn encode_null(&mut self, tag: Tag, identifier: Identifier) -> Result<(), EncodeError>
-        ensures written { OnOk result (Written holds notation Shape.null Value.null self.old self.new) }
+        ensures written { OnOk result
+            (Written holds notation Shape.null Value.null self.old self.new) }
         ensures refused { IfErr result (CannotWrite notation Value.null) }
     {
         self.put_leaf(Leaf::Null)
@@ -171,7 +178,8 @@ pub trait Encoder {
         value.encode(self)
     }
 
-    /// Writes the value of an optional field under a tag and constraints, which change nothing: it is written by its type's own.
+    /// Writes the value of an optional field under a tag and constraints, which change nothing: it
+    /// is written by its type's own.
     final fn encode_some_with_tag_and_constraints<T: Encode>(
         &mut self,
         tag: Tag,
@@ -265,7 +273,8 @@ pub trait Encoder {
             self.old (Ok tt) (λ left. Turns holds (close
             (as_members (field_names (all_fields C.fields C.added)))) left self.new)) }
         ensures refused { IfErr result (λ e. (e.kind ≡ EncodeErrorKind.OutOfMemory)
-            ⊎ ScopeRan holds (FnOnceReturnsAtMut F.FnOnce encoder_scope) self.old (Err e) (λ left. ⊤)) }
+            ⊎ ScopeRan holds (FnOnceReturnsAtMut F.FnOnce encoder_scope) self.old (Err e)
+            (λ left. ⊤)) }
     {
         self.open_frame()?;
         encoder_scope(self)?;
@@ -275,9 +284,11 @@ pub trait Encoder {
         )
     }
 
-    /// Writes a CHOICE: the closure starts on a new frame and leaves the payload's slot in it. What it wrote is told by its own clauses.
+    /// Writes a CHOICE: the closure starts on a new frame and leaves the payload's slot in it. What
+    /// it wrote is told by its own clauses.
     ///
-    /// Errors besides: `VariantNotInChoice` where the tag is that of no alternative, before the closure is called.
+    /// Errors besides: `VariantNotInChoice` where the tag is that of no alternative, before the
+    /// closure is called.
     final fn encode_choice<C: Choice, F: FnOnce(&mut Self) -> Result<Tag, EncodeError>>(
         &mut self,
         constraints: &Constraints,
@@ -288,13 +299,17 @@ pub trait Encoder {
     where
         Self: Sized,
         requires { F.IsAlwaysCallable encode_fn }
-        ensures written { OnOk result (IfSome (alternative_tagged (all_alternatives C.alternatives C.added) tag)
+        ensures written { OnOk result
+            (IfSome (alternative_tagged (all_alternatives C.alternatives C.added) tag)
             (λ a. (answer : _) × ScopeRan holds (FnOnceReturnsAtMut F.FnOnce encode_fn) self.old
             (Ok answer) (λ left. Turns holds (close (as_choice a.0)) left self.new))) }
-        ensures listed { IsOk result → IsSome (alternative_tagged (all_alternatives C.alternatives C.added) tag) }
+        ensures listed { IsOk result → IsSome
+            (alternative_tagged (all_alternatives C.alternatives C.added) tag) }
         ensures refused { IfErr result (λ e. (e.kind ≡ EncodeErrorKind.OutOfMemory)
-            ⊎ (((e.kind ≡ EncodeErrorKind.VariantNotInChoice) × (alternative_tagged (all_alternatives C.alternatives C.added) tag ≡ None))
-            ⊎ ScopeRan holds (FnOnceReturnsAtMut F.FnOnce encode_fn) self.old (Err e) (λ left. ⊤))) }
+            ⊎ (((e.kind ≡ EncodeErrorKind.VariantNotInChoice)
+            × (alternative_tagged (all_alternatives C.alternatives C.added) tag ≡ None))
+            ⊎ ScopeRan holds (FnOnceReturnsAtMut F.FnOnce encode_fn) self.old (Err e)
+            (λ left. ⊤))) }
     {
         let added = listed(C::extended_variant_table());
         let Some(name) = identifier_of(C::variant_table(), added, C::identifier_table(), tag) else {
@@ -306,9 +321,11 @@ pub trait Encoder {
     }
 }
 
-/// A type that is written. The last call is each type's own, and the others hand it the type's own tag or constraints.
+/// A type that is written. The last call is each type's own, and the others hand it the type's own
+/// tag or constraints.
 ///
-/// Tag and identifier change nothing in text, and constraints decide only whether a BIT STRING has a fixed size.
+/// Tag and identifier change nothing in text, and constraints decide only whether a BIT STRING has
+/// a fixed size.
 pub trait Encode: AsnType {
     /// Writes the value as one slot more.
     fn encode<E: Encoder>(&self, encoder: &mut E) -> Result<(), EncodeError>
@@ -336,7 +353,8 @@ pub trait Encode: AsnType {
         constraints: &Constraints,
     ) -> Result<(), EncodeError>
         ensures written { OnOk result (WrittenUnder E.holds E.notation
-            (fixed_size constraints.now) Self.shape_of (Self.value_of self.now) encoder.old encoder.new) }
+            (fixed_size constraints.now) Self.shape_of (Self.value_of self.now)
+            encoder.old encoder.new) }
         ensures refused { IfErr result (CannotWriteUnder E.notation
             (fixed_size constraints.now) Self.shape_of (Self.value_of self.now)) }
     {
@@ -352,7 +370,8 @@ pub trait Encode: AsnType {
         identifier: Identifier,
     ) -> Result<(), EncodeError>
         ensures written { OnOk result (WrittenUnder E.holds E.notation
-            (fixed_size constraints.now) Self.shape_of (Self.value_of self.now) encoder.old encoder.new) }
+            (fixed_size constraints.now) Self.shape_of (Self.value_of self.now)
+            encoder.old encoder.new) }
         ensures refused { IfErr result (CannotWriteUnder E.notation
             (fixed_size constraints.now) Self.shape_of (Self.value_of self.now)) };
 }

@@ -13,9 +13,11 @@ use crate::{Decode, Decoder, Encode, Encoder};
 use asn_base::Identifier;
 use asn_fault::{DecodeError, EncodeError};
 
-/// The refusal within `FieldError` with the field's name, and by the decoder's codec. Want of memory stays as it is.
+/// The refusal within `FieldError` with the field's name, and by the decoder's codec. Want of
+/// memory stays as it is.
 fn within_field<D: Decoder>(decoder: &D, name: &'static str, error: DecodeError) -> DecodeError
-    ensures { (codec : Codec) × (notation_of codec ≡ D.notation) × ((error_stop result ≡ wrapped name.now codec (error_stop error))
+    ensures { (codec : Codec) × (notation_of codec ≡ D.notation)
+        × ((error_stop result ≡ wrapped name.now codec (error_stop error))
         ⊎ (error_stop result ≡ at_root Why.out_of_memory codec)) }
 {
     DecodeError::field_error(decoder.allocator(), name, error, decoder.codec())
@@ -23,7 +25,8 @@ fn within_field<D: Decoder>(decoder: &D, name: &'static str, error: DecodeError)
 
 /// Reads the first pending slot as a field that has to be present.
 ///
-/// It refuses as the type does, within `FieldError` with the field's name; want of memory stays as it is.
+/// It refuses as the type does, within `FieldError` with the field's name; want of memory stays as
+/// it is.
 pub fn read_field<T: Decode, D: Decoder>(
     decoder: &mut D,
     name: &'static str,
@@ -41,7 +44,8 @@ pub fn read_field<T: Decode, D: Decoder>(
 
 /// Reads the first pending slot as a field that may be absent: nothing where it is.
 ///
-/// It refuses as the type does, within `FieldError` with the field's name; want of memory stays as it is.
+/// It refuses as the type does, within `FieldError` with the field's name; want of memory stays as
+/// it is.
 pub fn read_optional_field<T: Decode, D: Decoder>(
     decoder: &mut D,
     name: &'static str,
@@ -66,7 +70,8 @@ pub fn write_field<T: Encode, E: Encoder>(encoder: &mut E, value: &T) -> Result<
     encoder.encode_some::<T>(value, Identifier::EMPTY)
 }
 
-/// Writes a field that may be absent: puts its value's slot, or an absent one where there is no value.
+/// Writes a field that may be absent: puts its value's slot, or an absent one where there is no
+/// value.
 pub fn write_optional_field<T: Encode, E: Encoder>(
     encoder: &mut E,
     value: &Option<T>,

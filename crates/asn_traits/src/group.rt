@@ -17,11 +17,13 @@ pub trait FieldGroup: Sized + Drop {
     // The values of the fields, in order: one slot for each, absent where the field is.
     ghost group_slots: { Self → Frame };
 
-    /// Writes the fields, by one call of `write_field` or `write_optional_field` for each, in order.
+    /// Writes the fields, by one call of `write_field` or `write_optional_field` for each, in
+    /// order.
     fn write_group<E: Encoder>(&self, encoder: &mut E) -> Result<(), EncodeError>
         ensures written { OnOk result (AddsFields E.holds E.notation group (group_slots self.now)
             encoder.old encoder.new) }
-        ensures refused { IfErr result (RefusesAdding E.holds E.notation group (group_slots self.now)
+        ensures refused { IfErr result
+            (RefusesAdding E.holds E.notation group (group_slots self.now)
             encoder.old) };
 
     /// Reads the fields, by one call of `read_field` or `read_optional_field` for each, in order.

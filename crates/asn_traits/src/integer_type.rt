@@ -23,7 +23,8 @@ pub trait IntegerType: Copy {
     // The number that a value is.
     ghost number: { Self → ℤ };
 
-    /// The value of the number with this sign and magnitude. None exactly where the number is outside `LEAST` to `GREATEST`.
+    /// The value of the number with this sign and magnitude. None exactly where the number is
+    /// outside `LEAST` to `GREATEST`.
     fn of_parts(negative: bool, magnitude: u128) -> Option<Self>
         ensures { OfParts number LEAST GREATEST (signed negative magnitude) result };
 

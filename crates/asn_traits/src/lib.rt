@@ -17,8 +17,8 @@ mod types;
 pub use alternative::{ChoicePayload, write_choice};
 pub use asn_base::TagTree;
 pub use asn_model::{
-    Alphabet, AlternativeShape, FieldShape, Leaf, LeafKind, OwnedLeaf, Plain, PresenceShape, SeqKind,
-    Shape, is_readable, laws,
+    Alphabet, AlternativeShape, FieldShape, Leaf, LeafKind, OwnedLeaf, Plain, PresenceShape,
+    SeqKind, Shape, is_readable, laws,
 };
 pub use decoder::{Decode, DecodeChoice, Decoder};
 pub use encoder::{Encode, Encoder};

@@ -44,7 +44,8 @@ pub trait SequenceFields: OfKind<Kind = SequenceKind> {
         ensures { IfOk result (λ s. shape_view s
             ≡ AbstractShape.seq SeqKind.sequence fields added) };
 
-    /// Writes the fields, by one call of `write_field` or `write_optional_field` for each, in order.
+    /// Writes the fields, by one call of `write_field` or `write_optional_field` for each, in
+    /// order.
     fn write_fields<E: Encoder>(&self, encoder: &mut E) -> Result<(), EncodeError>
         ensures written { OnOk result (AddsFields E.holds E.notation (all_fields fields added)
             (slots self.now) encoder.old encoder.new) }

@@ -25,18 +25,22 @@ impl FieldShapes {
         }
     }
 
-    /// Puts a field of type `T` behind the others that has to be present. Its one error is want of memory.
+    /// Puts a field of type `T` behind the others that has to be present. Its one error is want of
+    /// memory.
     pub fn required<T: AsnType>(&mut self, name: &str, tag: Tag) -> Result<(), OutOfMemory>
         ensures { OnOk result (field_views self.new.items.items
-            ≡ with_last_field (field_views self.old.items.items) name.now tag AbstractPresence.required T.shape_of) }
+            ≡ with_last_field (field_views self.old.items.items) name.now tag
+            AbstractPresence.required T.shape_of) }
     {
         self.push::<T>(name, tag, PresenceShape::Required)
     }
 
-    /// Puts a field of type `T` behind the others that may be absent. Its one error is want of memory.
+    /// Puts a field of type `T` behind the others that may be absent. Its one error is want of
+    /// memory.
     pub fn optional<T: AsnType>(&mut self, name: &str, tag: Tag) -> Result<(), OutOfMemory>
         ensures { OnOk result (field_views self.new.items.items
-            ≡ with_last_field (field_views self.old.items.items) name.now tag AbstractPresence.optional T.shape_of) }
+            ≡ with_last_field (field_views self.old.items.items) name.now tag
+            AbstractPresence.optional T.shape_of) }
     {
         self.push::<T>(name, tag, PresenceShape::Optional)
     }
@@ -48,7 +52,8 @@ impl FieldShapes {
         presence: PresenceShape,
     ) -> Result<(), OutOfMemory>
         ensures { OnOk result (field_views self.new.items.items
-            ≡ with_last_field (field_views self.old.items.items) name.now tag (presence_view presence) T.shape_of) }
+            ≡ with_last_field (field_views self.old.items.items) name.now tag
+            (presence_view presence) T.shape_of) }
     {
         let name = String::from_str(self.alloc, name)?;
         let shape = T::shape(self.alloc)?;
@@ -113,7 +118,8 @@ impl AlternativeShapes {
     /// Puts an alternative of type `T` behind the others. Its one error is want of memory.
     pub fn alternative<T: AsnType>(&mut self, identifier: &str, tag: Tag) -> Result<(), OutOfMemory>
         ensures { OnOk result (alternative_views self.new.items.items
-            ≡ with_last_alternative (alternative_views self.old.items.items) identifier.now tag T.shape_of) }
+            ≡ with_last_alternative (alternative_views self.old.items.items) identifier.now tag
+            T.shape_of) }
     {
         let identifier = String::from_str(self.alloc, identifier)?;
         let shape = T::shape(self.alloc)?;
@@ -153,7 +159,8 @@ impl AlternativeShapes {
     }
 }
 
-/// The ENUMERATED type of these items, and of `added` after the extension marker, if there is one. Its one error is want of memory.
+/// The ENUMERATED type of these items, and of `added` after the extension marker, if there is one.
+/// Its one error is want of memory.
 pub fn enumerated_shape(
     alloc: Global,
     items: &[&'static str],

@@ -88,7 +88,8 @@ pub fn identifier_of(
     identifiers: &[&'static str],
     tag: Tag,
 ) -> Option<&'static str>
-    ensures { option_map (λ s. s.now) result ≡ name_tagged (smallest_tags variants.now ++ smallest_tags added.now)
+    ensures { option_map (λ s. s.now) result
+        ≡ name_tagged (smallest_tags variants.now ++ smallest_tags added.now)
         (map (λ s. s.now) identifiers.now) tag }
 {
     let Some((first, other_variants)) = variants.split_first() else {
@@ -108,9 +109,11 @@ pub fn identifier_of(
     }
 }
 
-/// The smallest tag of the alternative at the place, where added ones come last. `EOC` where there is none.
+/// The smallest tag of the alternative at the place, where added ones come last. `EOC` where there
+/// is none.
 pub fn tag_at(variants: &[TagTree], added: &[TagTree], place: usize) -> Tag
-    ensures { result ≡ get_or (map or_end (smallest_tags variants.now ++ smallest_tags added.now)) place end_tag }
+    ensures { result ≡ get_or (map or_end (smallest_tags variants.now ++ smallest_tags added.now))
+        place end_tag }
 {
     if place < variants.len() {
         least_at(variants, place)

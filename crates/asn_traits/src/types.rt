@@ -35,7 +35,13 @@ pub struct Field {
 impl Field {
     /// A field that has to be present.
     pub fn new_required(index: usize, tag: Tag, tag_tree: TagTree, name: &'static str) -> Field
-        ensures { result ≡ record { index = index; tag = tag; tag_tree = tag_tree; presence = Presence.Required; name = name.entry } }
+        ensures { result ≡ record {
+          index = index;
+          tag = tag;
+          tag_tree = tag_tree;
+          presence = Presence.Required;
+          name = name.entry;
+        } }
     {
         Field {
             index,
@@ -48,7 +54,13 @@ impl Field {
 
     /// A field that may be absent.
     pub fn new_optional(index: usize, tag: Tag, tag_tree: TagTree, name: &'static str) -> Field
-        ensures { result ≡ record { index = index; tag = tag; tag_tree = tag_tree; presence = Presence.Optional; name = name.entry } }
+        ensures { result ≡ record {
+          index = index;
+          tag = tag;
+          tag_tree = tag_tree;
+          presence = Presence.Optional;
+          name = name.entry;
+        } }
     {
         Field {
             index,
@@ -61,7 +73,13 @@ impl Field {
 
     /// A field that is absent where it has its default.
     pub fn new_default(index: usize, tag: Tag, tag_tree: TagTree, name: &'static str) -> Field
-        ensures { result ≡ record { index = index; tag = tag; tag_tree = tag_tree; presence = Presence.Default; name = name.entry } }
+        ensures { result ≡ record {
+          index = index;
+          tag = tag;
+          tag_tree = tag_tree;
+          presence = Presence.Default;
+          name = name.entry;
+        } }
     {
         Field {
             index,
@@ -246,7 +264,8 @@ pub trait Enumerated: OfKind<Kind = EnumeratedKind> {
     /// The value of that item. None exactly where it is none of them.
     fn from_identifier(identifier: &str) -> Option<Self>
         ensures { MatchOption result (is_item (all_items items added) identifier.now ≡ false)
-            (λ x. (item x ≡ identifier.now) × (is_item (all_items items added) identifier.now ≡ true)) };
+            (λ x. (item x ≡ identifier.now)
+            × (is_item (all_items items added) identifier.now ≡ true)) };
 
     // The shape can be read.
     ghost readable: { is_readable (AbstractShape.enum items added) ≡ true };

@@ -15,7 +15,8 @@ use std::alloc::Global;
 
 /// The value of a whole number. Memory may run out.
 pub fn integer_of(alloc: Global, number: WholeNumber) -> Result<AvnValue, OutOfMemory>
-    ensures { IfOk result (λ v. tree_of v ≡ integer (signed_decimal (signed number.negative number.magnitude))) }
+    ensures { IfOk result (λ v. tree_of v
+        ≡ integer (signed_decimal (signed number.negative number.magnitude))) }
 {
     let text = format!(in alloc; "{number}")?;
     Ok(AvnValue::Integer(text))

@@ -32,9 +32,11 @@ impl Decoder {
 
     /// A reader of a text.
     ///
-    /// Errors: `UnexpectedToken` where the text is no value of the notation; `ExceedsMaxParseDepth` where it is deeper than 64 levels; `OutOfMemory`.
+    /// Errors: `UnexpectedToken` where the text is no value of the notation; `ExceedsMaxParseDepth`
+    /// where it is deeper than 64 levels; `OutOfMemory`.
     pub fn new(alloc: Global, input: &str) -> Result<Decoder, DecodeError>
-        ensures tree { IfOk result (λ d. (t : AvnTree) × IsAvn input.now t × (pending_of d ≡ Some (Tree.avn t) ∷ [])) }
+        ensures tree { IfOk result (λ d. (t : AvnTree) × IsAvn input.now t
+            × (pending_of d ≡ Some (Tree.avn t) ∷ [])) }
         ensures refused { IfErr result (λ e. NoTree input.now (error_stop e)) }
     {
         let value = parse_avn(alloc, input)?;
@@ -57,7 +59,10 @@ impl Decoder {
 
     // Takes the first pending slot, if it is present.
     fn take(&mut self) -> Result<AvnValue, DecodeError>
-        ensures { MatchResult result (λ v. pending_of self.old ≡ Some (tree_of v) ∷ pending_of self.new) (λ e. (s : Shape) → Refuses Notation.avn (Stops Notation.avn s (head_slot (pending_of self.old))) (error_stop e)) }
+        ensures { MatchResult result (λ v. pending_of self.old ≡ Some (tree_of v)
+            ∷ pending_of self.new) (λ e. (s : Shape)
+            → Refuses Notation.avn (Stops Notation.avn s (head_slot (pending_of self.old)))
+            (error_stop e)) }
     {
         match self.pending.take() {
             Some(Some(value)) => Ok(value),
@@ -68,7 +73,8 @@ impl Decoder {
 
     // Puts a slot before the pending ones.
     fn put(&mut self, slot: Option<AvnValue>) -> Result<(), DecodeError>
-        ensures { MatchResult result (λ _. pending_of self.new ≡ option_map tree_of slot ∷ pending_of self.old) (λ e. error_stop e ≡ at_root Why.out_of_memory Avn) }
+        ensures { MatchResult result (λ _. pending_of self.new ≡ option_map tree_of slot
+            ∷ pending_of self.old) (λ e. error_stop e ≡ at_root Why.out_of_memory Avn) }
     {
         match self.pending.put(slot) {
             Ok(()) => Ok(()),

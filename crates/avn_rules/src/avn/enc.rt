@@ -42,10 +42,12 @@ impl Encoder {
     ///
     /// Errors: `AvnNoRootValueFound` where none was.
     pub fn to_avn(self) -> Result<AvnValue, EncodeError>
-        ensures tree { IfOk result (λ t. (f : Frame) → Holds self (f ∷ []) → option_map avn_tree (last_present f) ≡ Some (tree_of t)) }
+        ensures tree { IfOk result (λ t. (f : Frame) → Holds self (f ∷ [])
+            → option_map avn_tree (last_present f) ≡ Some (tree_of t)) }
         ensures kind { IfErr result (λ e. encode_why e.kind ≡ WhyUnwritten.no_root_value Avn) }
         ensures codec { IfErr result (λ e. e.codec ≡ Avn) }
-        ensures none { IfErr result (λ e. (f : Frame) → Holds self (f ∷ []) → last_present f ≡ None) }
+        ensures none { IfErr result (λ e. (f : Frame) → Holds self (f ∷ []) → last_present f
+            ≡ None) }
     {
         let mut frames = self.frames;
         match frames.close_last() {
@@ -58,9 +60,11 @@ impl Encoder {
     ///
     /// Errors: `AvnNoRootValueFound` where there is none; `OutOfMemory`.
     pub fn to_string(self) -> Result<String, EncodeError>
-        ensures text { IfOk result (λ s. (f : Frame) → Holds self (f ∷ []) → option_map (canonical_text Notation.avn) (last_present f) ≡ Some (string_bytes s)) }
+        ensures text { IfOk result (λ s. (f : Frame) → Holds self (f ∷ [])
+            → option_map (canonical_text Notation.avn) (last_present f) ≡ Some (string_bytes s)) }
         ensures refused { IfErr result (λ e. (e.kind ≡ EncodeErrorKind.OutOfMemory)
-            ⊎ ((encode_why e.kind ≡ WhyUnwritten.no_root_value Avn) × ((f : Frame) → Holds self (f ∷ []) → last_present f ≡ None))) }
+            ⊎ ((encode_why e.kind ≡ WhyUnwritten.no_root_value Avn)
+            × ((f : Frame) → Holds self (f ∷ []) → last_present f ≡ None))) }
         ensures codec { IfErr result (λ e. e.codec ≡ Avn) }
     {
         let alloc = self.alloc;

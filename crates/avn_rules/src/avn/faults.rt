@@ -26,7 +26,8 @@ pub fn end_of_input() -> DecodeError
 
 /// The AVN value is of another kind than the one that is needed. Memory may run out.
 pub fn mismatch(alloc: Global, needed: &'static str, value: &AvnValue) -> DecodeError
-    ensures { TellsBlame Notation.avn (tree_of value.now) (Blame.mismatch needed.now) (error_stop result) }
+    ensures { TellsBlame Notation.avn (tree_of value.now) (Blame.mismatch needed.now)
+        (error_stop result) }
 {
     match format!(in alloc; "{value}") {
         Ok(found) => avn_error(AvnDecodeErrorKind::AvnTypeMismatch { needed, found }),
@@ -36,7 +37,8 @@ pub fn mismatch(alloc: Global, needed: &'static str, value: &AvnValue) -> Decode
 
 /// The text names no item of the type.
 pub fn no_item(text: String) -> DecodeError
-    ensures { error_stop result ≡ at_root (Why.invalid_enum_discriminant Avn (string_bytes text)) Avn }
+    ensures { error_stop result ≡ at_root
+        (Why.invalid_enum_discriminant Avn (string_bytes text)) Avn }
 {
     avn_error(AvnDecodeErrorKind::AvnInvalidEnumDiscriminant { discriminant: text })
 }
@@ -50,7 +52,8 @@ pub fn no_number(text: String) -> DecodeError
 
 /// The octets of a character string are no UTF-8. Memory may run out.
 pub fn no_utf8(alloc: Global) -> DecodeError
-    ensures { (error_stop result ≡ at_root (Why.custom (codes "Invalid UTF-8 in AVN string")) Avn) ⊎ (error_stop result ≡ at_root Why.out_of_memory Avn) }
+    ensures { (error_stop result ≡ at_root (Why.custom (codes "Invalid UTF-8 in AVN string")) Avn)
+        ⊎ (error_stop result ≡ at_root Why.out_of_memory Avn) }
 {
     match String::from_str(alloc, "Invalid UTF-8 in AVN string") {
         Ok(msg) => DecodeError::custom(msg, Codec::Avn),

@@ -69,7 +69,8 @@ pub enum NoLeaf {
 #[inline(always)]
 pub fn leaf_of_avn(value: AvnValue, kind: LeafKind) -> Result<OwnedLeaf, NoLeaf>
     ensures { MatchResult result (IsTaken Notation.avn kind (tree_of value))
-        (λ e. IsKept value e × (as_leaf Notation.avn kind (tree_of value) ≡ Err (blame_of kind e))) }
+        (λ e. IsKept value e × (as_leaf Notation.avn kind (tree_of value)
+        ≡ Err (blame_of kind e))) }
 {
     match kind {
         LeafKind::Null => match value {
@@ -108,7 +109,8 @@ pub fn leaf_of_avn(value: AvnValue, kind: LeafKind) -> Result<OwnedLeaf, NoLeaf>
 
 // The octets as text. None exactly where they are no UTF-8.
 fn text_of(octets: Vec<u8>) -> Option<String>
-    ensures { MatchOption result (is_utf8 octets.items ≡ false) (λ s. (string_bytes s ≡ octets.items) × (is_utf8 octets.items ≡ true)) }
+    ensures { MatchOption result (is_utf8 octets.items ≡ false)
+        (λ s. (string_bytes s ≡ octets.items) × (is_utf8 octets.items ≡ true)) }
 {
     match String::from_utf8(octets) {
         Ok(text) => Some(text),

@@ -6,7 +6,8 @@ ghost use Rattle.std.specs.Prelude.{◌≡◌, option_map, ℕ, ◌+◌, ◌*◌
 
 use asn_base::WholeNumber;
 
-/// The whole number of a text: an optional `-` and digits, none inside where it has more than 128 bits. Each character is looked at once.
+/// The whole number of a text: an optional `-` and digits, none inside where it has more than 128
+/// bits. Each character is looked at once.
 pub fn whole_number(text: &str) -> Option<Option<WholeNumber>>
     ensures { ReadsNumber text.now result }
 {
@@ -35,7 +36,8 @@ fn split_sign(text: &[u8]) -> (bool, &[u8])
     }
 }
 
-// The number of one or more digits, none inside where it has more than 128 bits. None exactly where the text is not of digits.
+// The number of one or more digits, none inside where it has more than 128 bits. None exactly where
+// the text is not of digits.
 fn magnitude_of(digits: &[u8]) -> Option<Option<u128>>
     ensures { ReadsDigits digits.now result }
 {

@@ -15,7 +15,8 @@ use std::alloc::Global;
 
 /// The elements, or the value where it is no list. A Sequence without entries is an empty list.
 pub fn into_items(alloc: Global, value: AvnValue) -> Result<Vec<AvnValue>, AvnValue>
-    ensures { MatchResult result (λ items. as_list Notation.avn (tree_of value) ≡ Some (tree_slots (list_trees items.items)))
+    ensures { MatchResult result (λ items. as_list Notation.avn (tree_of value)
+        ≡ Some (tree_slots (list_trees items.items)))
         (λ v. (v ≡ value) × (as_list Notation.avn (tree_of value) ≡ None)) }
 {
     match value {
@@ -36,7 +37,8 @@ pub fn into_fields(
     alloc: Global,
     value: AvnValue,
 ) -> Result<Vec<(String, Option<AvnValue>)>, AvnValue>
-    ensures { MatchResult result (λ fields. as_members Notation.avn (tree_of value) ≡ Some (field_slot (fields_trees fields.items)))
+    ensures { MatchResult result (λ fields. as_members Notation.avn (tree_of value)
+        ≡ Some (field_slot (fields_trees fields.items)))
         (λ v. (v ≡ value) × (as_members Notation.avn (tree_of value) ≡ None)) }
 {
     match value {
@@ -54,7 +56,8 @@ pub fn into_fields(
 
 /// The identifier and the payload, or the value where it is no choice.
 pub fn into_choice(value: AvnValue) -> Result<(String, AvnValue), AvnValue>
-    ensures { MatchResult result (λ c. as_choice Notation.avn (tree_of value) ≡ Some (Some (string_bytes c.0, tree_of c.1)))
+    ensures { MatchResult result (λ c. as_choice Notation.avn (tree_of value)
+        ≡ Some (Some (string_bytes c.0, tree_of c.1)))
         (λ v. (v ≡ value) × (as_choice Notation.avn (tree_of value) ≡ None)) }
 {
     match value {

@@ -35,7 +35,8 @@ impl Decoder {
 
     /// A reader of a text.
     ///
-    /// Errors: `Parser` where the text is no JSON; else `RealNotSupported` where a number in it is neither an `i64` nor a `u64`; `OutOfMemory`.
+    /// Errors: `Parser` where the text is no JSON; else `RealNotSupported` where a number in it is
+    /// neither an `i64` nor a `u64`; `OutOfMemory`.
     pub fn new(alloc: Global, input: &str) -> Result<Decoder, DecodeError>
         ensures tree { IfOk result (λ d. (t : Data) × IsJer input.now t
             × (pending_of d ≡ Some (Tree.json t) ∷ [])) }
@@ -83,7 +84,8 @@ impl Decoder {
 
     // Puts a slot before the pending ones.
     fn put(&mut self, slot: Option<Value>) -> Result<(), DecodeError>
-        ensures { MatchResult result (λ _. pending_of self.new ≡ option_map tree_of slot ∷ pending_of self.old)
+        ensures { MatchResult result (λ _. pending_of self.new ≡ option_map tree_of slot
+            ∷ pending_of self.old)
             (λ e. error_stop e ≡ at_root Why.out_of_memory Jer) }
     {
         match self.pending.put(slot) {

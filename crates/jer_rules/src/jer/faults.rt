@@ -55,7 +55,8 @@ pub fn no_object(alloc: Global, value: &Value) -> DecodeError
 
 /// The text names no item of the type.
 pub fn no_item(text: String) -> DecodeError
-    ensures { error_stop result ≡ at_root (Why.invalid_enum_discriminant Jer (string_bytes text)) Jer }
+    ensures { error_stop result ≡ at_root
+        (Why.invalid_enum_discriminant Jer (string_bytes text)) Jer }
 {
     jer_error(JerDecodeErrorKind::InvalidEnumDiscriminant { discriminant: text })
 }

@@ -32,7 +32,8 @@ pub fn into_members(value: Value) -> Result<Map<String, Value>, Value>
     }
 }
 
-/// The place of the first member's name among the identifiers, and the member's value. None exactly where there is no member, or no such identifier.
+/// The place of the first member's name among the identifiers, and the member's value. None exactly
+/// where there is no member, or no such identifier.
 ///
 /// The case of ASCII letters makes no difference.
 pub fn into_payload(

@@ -45,8 +45,9 @@ pub fn encode<T: Encode>(alloc: Global, value: &T) -> Result<String, EncodeError
 
 /// Reads the value that a JSON text says.
 ///
-/// Errors: `OutOfMemory`; `Parser` where the text is no JSON; `RealNotSupported` where a number in it is neither an `i64` nor a `u64`;
-/// else why the JSON value is no value of the type, within a `FieldError` for each field on the way.
+/// Errors: `OutOfMemory`; `Parser` where the text is no JSON; `RealNotSupported` where a number in
+/// it is neither an `i64` nor a `u64`; else why the JSON value is no value of the type, within a
+/// `FieldError` for each field on the way.
 pub fn decode<T: Decode>(alloc: Global, input: &str) -> Result<T, DecodeError>
     ensures value { IfOk result (λ x. (d : Data) × IsJer input.now d × Says Notation.jer T.shape_of
         (Some (Tree.json d)) (T.value_of x)) }

@@ -15,10 +15,12 @@ use asn_traits::{Field, field_name};
 use serde_json::{Map, Number, Value};
 use std::alloc::Global;
 
-/// Returns the number with this sign and magnitude. None exactly where it is below -2^63 or not below 2^64.
+/// Returns the number with this sign and magnitude. None exactly where it is below -2^63 or not
+/// below 2^64.
 pub fn integer_of(negative: bool, magnitude: u128) -> Option<Number>
     ensures { MatchOption result (IntStands Notation.jer (signed negative magnitude) → ⊥)
-        (λ n. IntStands Notation.jer (signed negative magnitude) × (number_view n ≡ of_integer (signed negative magnitude))) }
+        (λ n. IntStands Notation.jer (signed negative magnitude)
+        × (number_view n ≡ of_integer (signed negative magnitude))) }
 {
     if magnitude > 18_446_744_073_709_551_615 {
         return None;

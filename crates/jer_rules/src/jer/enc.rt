@@ -30,7 +30,7 @@ pub struct Encoder {
 impl Encoder {
     ghost use Rattle.jer_rules.specs.Holding.{Holds};
 
-    /// A writer that holds nothing at its root.
+    /// Makes a writer that holds nothing at its root.
     pub fn new(alloc: Global) -> Encoder
         ensures { Holds result ([] ∷ []) }
     {
@@ -47,7 +47,8 @@ impl Encoder {
         ensures tree { IfOk result (λ t. (f : Frame) → Holds self (f ∷ []) → option_map jer_data
             (last_present f) ≡ Some (view t)) }
         ensures refused { IfErr result (λ e. (e.kind ≡ EncodeErrorKind.OutOfMemory)
-            ⊎ ((encode_why e.kind ≡ WhyUnwritten.no_root_value Jer) × ((f : Frame) → Holds self (f ∷ []) → last_present f ≡ None))) }
+            ⊎ ((encode_why e.kind ≡ WhyUnwritten.no_root_value Jer)
+            × ((f : Frame) → Holds self (f ∷ []) → last_present f ≡ None))) }
         ensures codec { IfErr result (λ e. e.codec ≡ Jer) }
     {
         let mut frames = self.frames;
@@ -57,7 +58,7 @@ impl Encoder {
         }
     }
 
-    /// The compact text of that JSON value.
+    /// Returns the compact text of that JSON value.
     ///
     /// Errors: `NoRootValueFound` where there is none; `OutOfMemory`.
     pub fn to_string(self) -> Result<String, EncodeError>
@@ -66,7 +67,8 @@ impl Encoder {
         ensures reads_back { IfOk result (λ s. (f : Frame) → Holds self (f ∷ [])
             → IfSome (last_present f) (λ v. ReadsBack v (string_bytes s))) }
         ensures refused { IfErr result (λ e. (e.kind ≡ EncodeErrorKind.OutOfMemory)
-            ⊎ ((encode_why e.kind ≡ WhyUnwritten.no_root_value Jer) × ((f : Frame) → Holds self (f ∷ []) → last_present f ≡ None))) }
+            ⊎ ((encode_why e.kind ≡ WhyUnwritten.no_root_value Jer)
+            × ((f : Frame) → Holds self (f ∷ []) → last_present f ≡ None))) }
         ensures codec { IfErr result (λ e. e.codec ≡ Jer) }
     {
         let alloc = self.alloc;

@@ -33,7 +33,7 @@ impl Decoder {
     ghost use Rattle.jer_rules.specs.Pending.{tree_of, pending_of, TakesFields};
     ghost use Rattle.jer_rules.specs.Text.{IsJer, NoTree};
 
-    /// A reader of a text.
+    /// Makes a reader of a text.
     ///
     /// Errors: `Parser` where the text is no JSON; else `RealNotSupported` where a number in it is
     /// neither an `i64` nor a `u64`; `OutOfMemory`.
@@ -55,7 +55,7 @@ impl Decoder {
         Decoder::from_value(alloc, value)
     }
 
-    /// A reader of a JSON value. A float in it is of no kind that a type needs.
+    /// Makes a reader of a JSON value. A float in it is of no kind that a type needs.
     ///
     /// Errors: `OutOfMemory`.
     pub fn from_value(alloc: Global, value: Value) -> Result<Decoder, DecodeError>
@@ -84,8 +84,8 @@ impl Decoder {
 
     // Puts a slot before the pending ones.
     fn put(&mut self, slot: Option<Value>) -> Result<(), DecodeError>
-        ensures { MatchResult result (λ _. pending_of self.new ≡ option_map tree_of slot
-            ∷ pending_of self.old)
+        ensures { MatchResult result
+            (λ _. pending_of self.new ≡ option_map tree_of slot ∷ pending_of self.old)
             (λ e. error_stop e ≡ at_root Why.out_of_memory Jer) }
     {
         match self.pending.put(slot) {

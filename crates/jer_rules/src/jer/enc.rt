@@ -30,7 +30,7 @@ pub struct Encoder {
 impl Encoder {
     ghost use Rattle.jer_rules.specs.Holding.{Holds};
 
-    /// A writer that holds nothing at its root.
+    /// Makes a writer that holds nothing at its root.
     pub fn new(alloc: Global) -> Encoder
         ensures { Holds result ([] ∷ []) }
     {
@@ -58,7 +58,7 @@ impl Encoder {
         }
     }
 
-    /// The compact text of that JSON value.
+    /// Returns the compact text of that JSON value.
     ///
     /// Errors: `NoRootValueFound` where there is none; `OutOfMemory`.
     pub fn to_string(self) -> Result<String, EncodeError>

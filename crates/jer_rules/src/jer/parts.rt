@@ -10,7 +10,7 @@ use asn_base::WholeNumber;
 use asn_traits::place_of;
 use serde_json::{Map, Number, Value};
 
-/// The elements, or the value where it is no array.
+/// Returns the elements, or the value where it is no array.
 pub fn into_items(value: Value) -> Result<Vec<Value>, Value>
     ensures { MatchResult result (λ items. view value ≡ Data.array (items_view items.items))
         (λ v. (v ≡ value) × (as_array (view value) ≡ None)) }
@@ -21,7 +21,7 @@ pub fn into_items(value: Value) -> Result<Vec<Value>, Value>
     }
 }
 
-/// The members, or the value where it is no object.
+/// Returns the members, or the value where it is no object.
 pub fn into_members(value: Value) -> Result<Map<String, Value>, Value>
     ensures { MatchResult result (λ members. view value ≡ Data.object
         (members_view members.entries)) (λ v. (v ≡ value) × (as_object (view value) ≡ None)) }
@@ -32,8 +32,8 @@ pub fn into_members(value: Value) -> Result<Map<String, Value>, Value>
     }
 }
 
-/// The place of the first member's name among the identifiers, and the member's value. None exactly
-/// where there is no member, or no such identifier.
+/// Returns the place of the first member's name among the identifiers, and the member's value. None
+/// exactly where there is no member, or no such identifier.
 ///
 /// The case of ASCII letters makes no difference.
 pub fn into_payload(
@@ -48,7 +48,7 @@ pub fn into_payload(
     Some((place, payload))
 }
 
-/// The whole number that a number is. None exactly where it is none.
+/// Returns the whole number that a number is. None exactly where it is none.
 pub fn whole_number(number: &Number) -> Option<WholeNumber>
     ensures { IsWhole (Data.number (number_view number.now)) result }
 {

@@ -1,7 +1,6 @@
 -- CHOICE { Test1 INTEGER (0..255), Test2 UTF8String, ..., Test3 BOOLEAN }
-use Rattle.std.specs.Prelude.{ℕ, pos, List, string_bytes, codes}
-use Rattle.asn_base.specs.declared.tag.Tag.{Tag}
-use Rattle.asn_traits.specs.Shape.{Shape, Alternatives, AlternativeAdditions, join_alternatives}
+use Rattle.std.specs.Prelude.{pos, string_bytes, codes}
+use Rattle.asn_traits.specs.Shape.{Shape, Alternatives, AlternativeAdditions}
 use Rattle.asn_traits.specs.Value.{Value}
 use Rattle.asn_traits.specs.Chosen.{Chosen, chosen, chosen_value}
 use Rattle.asn_traits.specs.Terms.{context, unsigned, utf8_string}

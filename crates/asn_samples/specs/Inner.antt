@@ -1,5 +1,5 @@
 -- CHOICE { Wine INTEGER (0..3) }
-use Rattle.std.specs.Prelude.{ℕ, pos, codes}
+use Rattle.std.specs.Prelude.{pos, codes}
 use Rattle.asn_traits.specs.Shape.{Shape, Alternatives, closed_choice}
 use Rattle.asn_traits.specs.Value.{Value}
 use Rattle.asn_traits.specs.Chosen.{Chosen, chosen, chosen_value}

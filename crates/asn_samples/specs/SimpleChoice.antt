@@ -1,6 +1,5 @@
 -- CHOICE { Test1 INTEGER (0..255), Test2 UTF8String }
-use Rattle.std.specs.Prelude.{ℕ, pos, List, string_bytes, codes}
-use Rattle.asn_base.specs.declared.tag.Tag.{Tag}
+use Rattle.std.specs.Prelude.{pos, string_bytes, codes}
 use Rattle.asn_traits.specs.Shape.{Shape, Alternatives, closed_choice}
 use Rattle.asn_traits.specs.Value.{Value}
 use Rattle.asn_traits.specs.Chosen.{Chosen, chosen, chosen_value}

@@ -10,7 +10,7 @@ ghost use Rattle.avn_grammar.specs.Unread.{Found, Unread};
 ghost use Rattle.avn_grammar.specs.Print.{print};
 ghost use Rattle.avn_grammar.specs.WellFormed.{is_well_formed};
 ghost use Rattle.avn_grammar.specs.Normal.{normal};
-ghost use Rattle.avn_value.specs.Ahead.{Paid};
+ghost use Rattle.avn_value.specs.Ahead.{Advances, LooksAtMost};
 ghost use Rattle.avn_value.specs.Answer.{Explains, IsMoreOrMemory, IsFoundOrMemory, IsValue, IsRefusal};
 ghost use Rattle.avn_value.specs.Gathering.{item_of};
 ghost use Rattle.avn_value.specs.View.{tree_of};
@@ -41,9 +41,7 @@ fn read_value(
     level: usize,
 ) -> Result<AvnValue, Fault>
     requires { limit < usize.MAX }
-    ensures same { cursor.new.text ≡ cursor.old.text }
-    ensures rises { cursor.old.looks ≤ cursor.new.looks }
-    ensures paid { Paid cursor.old cursor.new }
+    ensures advances { Advances 2 cursor.old cursor.new }
     ensures ok { IfOk result (λ v. Stands limit level cursor.old.rest (tree_of v) cursor.new.rest) }
     ensures deep { result ≡ Err Fault.TooDeep → Deep limit level cursor.old.rest }
     ensures token { result ≡ Err Fault.UnexpectedToken → Deep limit level cursor.old.rest → ⊥ }
@@ -101,9 +99,7 @@ fn read_item(
     level: usize,
 ) -> Result<Entry, Fault>
     requires { limit < usize.MAX }
-    ensures same { cursor.new.text ≡ cursor.old.text }
-    ensures rises { cursor.old.looks ≤ cursor.new.looks }
-    ensures paid { Paid cursor.old cursor.new }
+    ensures advances { Advances 2 cursor.old cursor.new }
     ensures ok { IfOk result (λ x. ItemStands limit level cursor.old.rest (item_of x) cursor.new.rest) }
     ensures deep { result ≡ Err Fault.TooDeep → ItemDeep limit level cursor.old.rest }
     ensures token { result ≡ Err Fault.UnexpectedToken → ItemDeep limit level cursor.old.rest → ⊥ }
@@ -148,9 +144,7 @@ fn read_items(
     level: usize,
 ) -> Result<AvnValue, Fault>
     requires { limit < usize.MAX }
-    ensures same { cursor.new.text ≡ cursor.old.text }
-    ensures rises { cursor.old.looks ≤ cursor.new.looks }
-    ensures paid { Paid cursor.old cursor.new }
+    ensures advances { Advances 2 cursor.old cursor.new }
     ensures ok { IfOk result (λ v. BracesStand limit level cursor.old.rest (tree_of v) cursor.new.rest) }
     ensures deep { result ≡ Err Fault.TooDeep → ItemsDeep limit level [] cursor.old.rest }
     ensures token { result ≡ Err Fault.UnexpectedToken → ItemsDeep limit level [] cursor.old.rest → ⊥ }
@@ -184,9 +178,7 @@ fn read_items(
 /// colon.
 fn found(alloc: Global, cursor: &mut Cursor<'_>) -> Result<String, OutOfMemory>
     requires { cursor.old.ahead ≡ cursor.old.rest }
-    ensures same { cursor.new.text ≡ cursor.old.text }
-    ensures rises { cursor.old.looks ≤ cursor.new.looks }
-    ensures few { cursor.new.looks ≤ cursor.old.looks + 2 * length cursor.old.ahead + 1 }
+    ensures looks { LooksAtMost (2 * length cursor.old.ahead + 1) cursor.old cursor.new }
     ensures found { IfOk result (λ s. (e : List ℕ) × Found cursor.old.rest e × (string_bytes s ≡ spelled e)) }
 {
     loop {
@@ -203,9 +195,7 @@ fn whole_value(
     cursor: &mut Cursor<'_>,
     value: AvnValue,
 ) -> Result<AvnValue, DecodeError>
-    ensures same { cursor.new.text ≡ cursor.old.text }
-    ensures rises { cursor.old.looks ≤ cursor.new.looks }
-    ensures few { cursor.new.looks ≤ cursor.old.looks + 2 * length cursor.old.rest + 2 }
+    ensures looks { LooksAtMost (2 * length cursor.old.rest + 2) cursor.old cursor.new }
     ensures ok { IfOk result (λ v. (tree_of v ≡ tree_of value) × (past is_whitespace cursor.old.rest ≡ [])) }
     ensures err { IfErr result (λ e. IsMoreOrMemory cursor.old.rest (error_stop e)) }
 {
@@ -220,9 +210,7 @@ fn whole_value(
 
 /// The error of a text that is no value: what was found in place of one.
 fn no_value(alloc: Global, cursor: &mut Cursor<'_>) -> DecodeError
-    ensures same { cursor.new.text ≡ cursor.old.text }
-    ensures rises { cursor.old.looks ≤ cursor.new.looks }
-    ensures few { cursor.new.looks ≤ cursor.old.looks + 2 * length (chars cursor.old.text) + 2 }
+    ensures looks { LooksAtMost (2 * length (chars cursor.old.text) + 2) cursor.old cursor.new }
     ensures error { IsFoundOrMemory (chars cursor.old.text) (error_stop result) }
 {
     cursor.restart();
@@ -237,9 +225,7 @@ fn read_whole(alloc: Global, cursor: &mut Cursor<'_>, limit: usize) -> Result<Av
     requires bounded { limit < usize.MAX }
     requires together { cursor.old.ahead ≡ cursor.old.rest }
     requires whole { cursor.old.rest ≡ chars cursor.old.text }
-    ensures same { cursor.new.text ≡ cursor.old.text }
-    ensures rises { cursor.old.looks ≤ cursor.new.looks }
-    ensures few { cursor.new.looks ≤ cursor.old.looks + 4 * length cursor.old.rest + 2 }
+    ensures looks { LooksAtMost (4 * length cursor.old.rest + 2) cursor.old cursor.new }
     ensures ok { IfOk result (λ v. Reads limit cursor.old.rest (tree_of v)) }
     ensures err { IfErr result (λ e. Explains limit cursor.old.rest (error_stop e)) }
 {

@@ -4,7 +4,7 @@ ghost use Rattle.avn_grammar.specs.Tree.{Tree};
 ghost use Rattle.avn_grammar.specs.Chars.{lead, every};
 ghost use Rattle.avn_grammar.specs.Octets.{is_hex, hex_value, are_pairs, octets_of, is_bit, packed};
 ghost use Rattle.avn_grammar.specs.Grammar.{Token};
-ghost use Rattle.avn_value.specs.Ahead.{Paid};
+ghost use Rattle.avn_value.specs.Ahead.{Advances};
 ghost use Rattle.avn_value.specs.Radix.{letter_of};
 ghost use Rattle.avn_value.specs.View.{tree_of};
 
@@ -123,9 +123,7 @@ pub enum Radix {
 /// Past an apostrophe and the letter after it, if these are ahead.
 fn closing(cursor: &mut Cursor<'_>) -> Option<Radix>
     requires together { cursor.old.ahead ≡ cursor.old.rest }
-    ensures same { cursor.new.text ≡ cursor.old.text }
-    ensures rises { cursor.old.looks ≤ cursor.new.looks }
-    ensures paid { Paid cursor.old cursor.new }
+    ensures advances { Advances 2 cursor.old cursor.new }
     ensures together { cursor.new.ahead ≡ cursor.new.rest }
     ensures found { MatchOption result
         (((rest : List ℕ) → cursor.old.rest ≡ 39 ∷ 72 ∷ rest → ⊥) × ((rest : List ℕ) → cursor.old.rest ≡ 39 ∷ 66 ∷ rest → ⊥))
@@ -147,9 +145,7 @@ fn closing(cursor: &mut Cursor<'_>) -> Option<Radix>
 pub fn quoted(alloc: Global, cursor: &mut Cursor<'_>) -> Result<AvnValue, Fault>
     requires together { cursor.old.ahead ≡ cursor.old.rest }
     requires apostrophe { lead cursor.old.rest ≡ Lead.Apostrophe }
-    ensures same { cursor.new.text ≡ cursor.old.text }
-    ensures rises { cursor.old.looks ≤ cursor.new.looks }
-    ensures paid { Paid cursor.old cursor.new }
+    ensures advances { Advances 2 cursor.old cursor.new }
     ensures together { cursor.new.ahead ≡ cursor.new.rest }
     ensures ok { IfOk result (λ v. Token cursor.old.rest (tree_of v) cursor.new.rest) }
     ensures shallow { result ≢ Err Fault.TooDeep }

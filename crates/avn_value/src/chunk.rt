@@ -53,10 +53,15 @@ pub fn take_chunk(cursor: &mut Cursor<'_>, room: &mut [u8; CHUNK]) -> Chunk
     ensures together { cursor.new.ahead ≡ cursor.new.rest }
     ensures within { result.length ≤ CHUNK }
     ensures ascii { IsAscii (take result.length room.new) }
-    ensures closed { result.closed ≡ true → (34 ∷ cursor.old.rest ≡ (34 ∷ doubled (take result.length room.new)) ++ 34 ∷ cursor.new.rest)
+    ensures closed { result.closed ≡ true
+        → (34 ∷ cursor.old.rest
+        ≡ (34 ∷ doubled (take result.length room.new)) ++ 34 ∷ cursor.new.rest)
         × (begins (λ (c : ℕ). c == 34) cursor.new.rest ≡ false) }
-    ensures unclosed { result.closed ≡ false → 34 ∷ cursor.old.rest ≡ (34 ∷ doubled (take result.length room.new)) ++ cursor.new.rest }
-    ensures stops { result.closed ≡ false → result.length < CHUNK → begins is_ascii cursor.new.rest ≡ false }
+    ensures unclosed { result.closed ≡ false
+        → 34 ∷ cursor.old.rest
+        ≡ (34 ∷ doubled (take result.length room.new)) ++ cursor.new.rest }
+    ensures stops { result.closed ≡ false → result.length < CHUNK
+        → begins is_ascii cursor.new.rest ≡ false }
 {
     let (here, chunk) = after_chunk(cursor.lift(), room);
     *cursor = here;
@@ -71,10 +76,15 @@ fn after_chunk<'a>(cursor: Cursor<'a>, room: &mut [u8; CHUNK]) -> (Cursor<'a>, C
     ensures together { result.0.ahead ≡ result.0.rest }
     ensures within { result.1.length ≤ CHUNK }
     ensures ascii { IsAscii (take result.1.length room.new) }
-    ensures closed { result.1.closed ≡ true → (34 ∷ cursor.entry.rest ≡ (34 ∷ doubled (take result.1.length room.new)) ++ 34 ∷ result.0.rest)
+    ensures closed { result.1.closed ≡ true
+        → (34 ∷ cursor.entry.rest
+        ≡ (34 ∷ doubled (take result.1.length room.new)) ++ 34 ∷ result.0.rest)
         × (begins (λ (c : ℕ). c == 34) result.0.rest ≡ false) }
-    ensures unclosed { result.1.closed ≡ false → 34 ∷ cursor.entry.rest ≡ (34 ∷ doubled (take result.1.length room.new)) ++ result.0.rest }
-    ensures stops { result.1.closed ≡ false → result.1.length < CHUNK → begins is_ascii result.0.rest ≡ false }
+    ensures unclosed { result.1.closed ≡ false
+        → 34 ∷ cursor.entry.rest
+        ≡ (34 ∷ doubled (take result.1.length room.new)) ++ result.0.rest }
+    ensures stops { result.1.closed ≡ false → result.1.length < CHUNK
+        → begins is_ascii result.0.rest ≡ false }
 {
     let mut here = cursor;
     let mut length = 0;

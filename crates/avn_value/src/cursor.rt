@@ -68,10 +68,19 @@ impl<'a> Model for Cursor<'a> {
 
     ghost coded = { ahead_code };
 
-    ghost view = { λ s. record { text = s.scan.text; rest = after s.scan.text s.mark; ahead = after s.scan.text s.place; looks = s.scan.looks } };
+    ghost view = { λ s. record {
+      text = s.scan.text;
+      rest = after s.scan.text s.mark;
+      ahead = after s.scan.text s.place;
+      looks = s.scan.looks;
+    } };
 
-    ghost invariant = { λ s. IsCharBoundary s.scan.text s.mark × IsCharBoundary s.scan.text s.place × (length s.scan.text < 2 ^ 64)
-        × MatchOption s.kept (after s.scan.text s.place ≡ []) (λ c. IsCharBoundary s.scan.text (s.place + len_utf8 c) × (after s.scan.text s.place ≡ c ∷ after s.scan.text (s.place + len_utf8 c)))
+    ghost invariant = { λ s. IsCharBoundary s.scan.text s.mark
+        × IsCharBoundary s.scan.text s.place
+        × (length s.scan.text < 2 ^ 64)
+        × MatchOption s.kept (after s.scan.text s.place ≡ [])
+        (λ c. IsCharBoundary s.scan.text (s.place + len_utf8 c)
+        × (after s.scan.text s.place ≡ c ∷ after s.scan.text (s.place + len_utf8 c)))
         × (skip (after s.scan.text s.mark) ≡ skip (after s.scan.text s.place)) };
 }
 
@@ -112,8 +121,8 @@ impl<'a> Cursor<'a> {
         }
     }
 
-    /// The cursor itself, which leaves one of an empty text. A loop over a cursor that it owns keeps
-    /// the cursor's parts in registers.
+    /// The cursor itself, which leaves one of an empty text. A loop over a cursor that it owns
+    /// keeps the cursor's parts in registers.
     #[inline(always)]
     pub fn lift(&mut self) -> Cursor<'a>
         ensures { result ≡ self.old }
@@ -284,7 +293,8 @@ impl<'a> Cursor<'a> {
         ensures advances { Advances 1 self.old self.new }
         ensures together { self.new.ahead ≡ self.new.rest }
         ensures moves { OnOk result (self.new.rest ≡ past inside self.old.rest) }
-        ensures found { OnOk result (out.new.items ≡ out.old.items ++ solid (front inside self.old.rest)) }
+        ensures found { OnOk result (out.new.items
+            ≡ out.old.items ++ solid (front inside self.old.rest)) }
     {
         let (here, taken) = self.lift().after_inside(out);
         *self = here;
@@ -299,7 +309,8 @@ impl<'a> Cursor<'a> {
         ensures advances { Advances 1 self.entry result.0 }
         ensures together { result.0.ahead ≡ result.0.rest }
         ensures moves { OnOk result.1 (result.0.rest ≡ past inside self.entry.rest) }
-        ensures found { OnOk result.1 (out.new.items ≡ out.old.items ++ solid (front inside self.entry.rest)) }
+        ensures found { OnOk result.1 (out.new.items
+            ≡ out.old.items ++ solid (front inside self.entry.rest)) }
     {
         let mut here = self;
         while let Some(c) = here.peek_if(Run::Inside) {
@@ -366,7 +377,8 @@ impl<'a> Cursor<'a> {
     /// The first characters of the rest.
     pub fn excerpt(&mut self, alloc: Global, at_most: usize) -> Result<String, OutOfMemory>
         ensures looks { LooksAtMost (length self.old.rest) self.old self.new }
-        ensures copied { IfOk result (λ s. string_bytes s ≡ encode_utf8_all (take at_most self.old.rest)) }
+        ensures copied { IfOk result (λ s. string_bytes s
+            ≡ encode_utf8_all (take at_most self.old.rest)) }
     {
         self.scan.excerpt(alloc, self.mark, at_most)
     }
@@ -400,7 +412,8 @@ impl<'a> Cursor<'a> {
     pub fn other_than_white(&mut self, alloc: Global) -> Result<Option<String>, OutOfMemory>
         ensures looks { LooksAtMost (2 * length self.old.rest + 2) self.old self.new }
         ensures found { IfOk result (λ o. MatchOption o (past is_whitespace self.old.rest ≡ [])
-            (λ s. (past is_whitespace self.old.rest ≢ []) × (string_bytes s ≡ encode_utf8_all self.old.rest))) }
+            (λ s. (past is_whitespace self.old.rest ≢ [])
+            × (string_bytes s ≡ encode_utf8_all self.old.rest))) }
     {
         let start = self.mark;
         if self.is_white() {
@@ -419,7 +432,8 @@ impl<'a> Cursor<'a> {
         ensures advances { result ≡ true → Advances 1 self.old self.new }
         ensures shorter { result ≡ true → length self.new.rest < length self.old.rest }
         ensures yes { result ≡ true → BeginsChoice self.old.rest }
-        ensures moves { result ≡ true → self.new.rest ≡ tail (skip (past is_name self.old.rest)) }
+        ensures moves { result ≡ true
+            → self.new.rest ≡ tail (skip (past is_name self.old.rest)) }
         ensures no { result ≡ false → BeginsChoice self.old.rest → ⊥ }
         ensures stays { result ≡ false → self.new.rest ≡ self.old.rest }
     {

@@ -21,7 +21,8 @@ pub fn identifier(alloc: Global, cursor: &mut Cursor<'_>) -> Result<String, Allo
     requires letter { lead cursor.old.rest ≡ Lead.Letter }
     ensures advances { Advances 1 cursor.old cursor.new }
     ensures together { cursor.new.ahead ≡ cursor.new.rest }
-    ensures ok { IfOk result (λ s. (id : _) × Ident cursor.old.rest id cursor.new.rest × (string_bytes s ≡ spelled id)) }
+    ensures ok { IfOk result (λ s. (id : _) × Ident cursor.old.rest id cursor.new.rest
+        × (string_bytes s ≡ spelled id)) }
 {
     let mut name = String::new(alloc);
     cursor.take_run(Run::Name, &mut name)?;
@@ -51,7 +52,8 @@ fn unsigned(cursor: &mut Cursor<'_>, sign: String) -> Result<AvnValue, Fault>
     ensures together { cursor.new.ahead ≡ cursor.new.rest }
     ensures digit { OnOk result (lead cursor.old.rest ≡ Lead.Digit) }
     ensures moves { OnOk result (cursor.new.rest ≡ past_number cursor.old.rest) }
-    ensures tree { IfOk result (λ v. tree_of v ≡ number_tree (string_bytes sign) cursor.old.rest) }
+    ensures tree { IfOk result (λ v. tree_of v
+        ≡ number_tree (string_bytes sign) cursor.old.rest) }
     ensures shallow { result ≢ Err Fault.TooDeep }
     ensures none { result ≡ Err Fault.UnexpectedToken → lead cursor.old.rest ≢ Lead.Digit }
 {
@@ -74,12 +76,14 @@ fn unsigned(cursor: &mut Cursor<'_>, sign: String) -> Result<AvnValue, Fault>
 #[inline(always)]
 pub fn number(alloc: Global, cursor: &mut Cursor<'_>) -> Result<AvnValue, Fault>
     requires together { cursor.old.ahead ≡ cursor.old.rest }
-    requires begins { (lead cursor.old.rest ≡ Lead.Digit) ⊎ (lead cursor.old.rest ≡ Lead.Minus) }
+    requires begins { (lead cursor.old.rest ≡ Lead.Digit)
+        ⊎ (lead cursor.old.rest ≡ Lead.Minus) }
     ensures advances { Advances 2 cursor.old cursor.new }
     ensures together { cursor.new.ahead ≡ cursor.new.rest }
     ensures ok { IfOk result (λ v. Token cursor.old.rest (tree_of v) cursor.new.rest) }
     ensures shallow { result ≢ Err Fault.TooDeep }
-    ensures none { result ≡ Err Fault.UnexpectedToken → (t : Tree) (n : List ℕ) → Token cursor.old.rest t n → ⊥ }
+    ensures none { result ≡ Err Fault.UnexpectedToken
+        → (tree : Tree) (rest : List ℕ) → Token cursor.old.rest tree rest → ⊥ }
 {
     match cursor.lead() {
         Lead::Minus => {
@@ -101,7 +105,8 @@ pub fn text(alloc: Global, cursor: &mut Cursor<'_>) -> Result<AvnValue, Fault>
     ensures together { cursor.new.ahead ≡ cursor.new.rest }
     ensures ok { IfOk result (λ v. Token cursor.old.rest (tree_of v) cursor.new.rest) }
     ensures shallow { result ≢ Err Fault.TooDeep }
-    ensures none { result ≡ Err Fault.UnexpectedToken → (t : Tree) (n : List ℕ) → Token cursor.old.rest t n → ⊥ }
+    ensures none { result ≡ Err Fault.UnexpectedToken
+        → (tree : Tree) (rest : List ℕ) → Token cursor.old.rest tree rest → ⊥ }
 {
     let mut content = String::new(alloc);
     let mut room = [0; CHUNK];

@@ -2,6 +2,7 @@
 use Rattle.std.specs.Prelude.{◌≡◌, ◌≢◌, ℕ, List, [], take}
 use Rattle.std.specs.Char.{is_whitespace}
 use Rattle.avn_grammar.specs.declared.chars.Lead.TheVariants as is
+use Rattle.avn_grammar.specs.declared.limits.TheConstants.{EXCERPT_LENGTH}
 use Rattle.avn_grammar.specs.Tree.{Tree}
 use Rattle.avn_grammar.specs.Chars.{lead, tail, past, skip, is_name, spelled}
 use Rattle.avn_grammar.specs.Grammar.{Stands}
@@ -17,9 +18,9 @@ abbrev pub Halts : ℕ → ℕ → List ℕ → Reason → Type 0
 Halts limit level u by_token = ((t : Tree) (rest : List ℕ) → Stands limit level u t rest → ⊥) × (Deep limit level u → ⊥)
 Halts limit level u by_depth = Deep limit level u
 
--- The excerpt of a text: its first 20 characters, past leading white space and past each identifier, white space and colon.
+-- The excerpt of a text: its first characters, at most `EXCERPT_LENGTH` of them, past leading white space and past each identifier, white space and colon.
 pub data Found : List ℕ → List ℕ → Type 0 where
-  found_here : {u : List ℕ} → (lead (skip u) ≡ is.Letter → lead (skip (past is_name (skip u))) ≡ is.Colon → ⊥) → Found u (take 20 (skip u))
+  found_here : {u : List ℕ} → (lead (skip u) ≡ is.Letter → lead (skip (past is_name (skip u))) ≡ is.Colon → ⊥) → Found u (take EXCERPT_LENGTH (skip u))
   found_past : {u excerpt : List ℕ} → lead (skip u) ≡ is.Letter → lead (skip (past is_name (skip u))) ≡ is.Colon
       → Found (tail (skip (past is_name (skip u)))) excerpt → Found u excerpt
 

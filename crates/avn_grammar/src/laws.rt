@@ -35,8 +35,10 @@ pub fn one_tree()
 pub fn one_answer()
     ensures read_or_unread { (limit : ℕ) (text found : List ℕ) (tree : Tree)
         → Reads limit text tree → Unread limit text found → ⊥ }
-    ensures read_or_deep { (limit : ℕ) (text : List ℕ) (tree : Tree) → Reads limit text tree → Deep limit 0 text → ⊥ }
-    ensures unread_or_deep { (limit : ℕ) (text found : List ℕ) → Unread limit text found → Deep limit 0 text → ⊥ }
+    ensures read_or_deep { (limit : ℕ) (text : List ℕ) (tree : Tree)
+        → Reads limit text tree → Deep limit 0 text → ⊥ }
+    ensures unread_or_deep { (limit : ℕ) (text found : List ℕ)
+        → Unread limit text found → Deep limit 0 text → ⊥ }
 {}
 
 /// What is found in a text that is not read is one text.
@@ -57,7 +59,8 @@ pub fn reads_printed_text()
 /// The whole printed text of a well-formed tree that is deep at most the limit is read as its
 /// normal form.
 pub fn reads_whole_printed_text()
-    ensures { (limit : ℕ) (tree : Tree) → is_well_formed tree ≡ true → deepest 0 tree ≤ limit
+    ensures { (limit : ℕ) (tree : Tree)
+        → is_well_formed tree ≡ true → deepest 0 tree ≤ limit
         → Reads limit (chars (print 0 tree)) (normal tree) }
 {}
 
@@ -72,7 +75,8 @@ pub fn depth_of_printed_text()
 /// The whole printed text of a well-formed tree is refused for its depth where the tree is deeper
 /// than the limit.
 pub fn depth_of_whole_printed_text()
-    ensures { (limit : ℕ) (tree : Tree) → is_well_formed tree ≡ true → limit < deepest 0 tree
+    ensures { (limit : ℕ) (tree : Tree)
+        → is_well_formed tree ≡ true → limit < deepest 0 tree
         → Deep limit 0 (chars (print 0 tree)) }
 {}
 

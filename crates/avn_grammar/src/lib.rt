@@ -4,4 +4,5 @@
 
 pub mod chars;
 pub mod laws;
+pub mod limits;
 pub mod names;

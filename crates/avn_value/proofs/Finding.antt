@@ -2,16 +2,17 @@
 use Rattle.std.proofs.Common.{◌≡◌, ℕ, List, take, ap, sym, subst, ◌∙◌, Result, Ok, Err, IfOk}
 use Rattle.std.specs.Str.{encode_utf8_all}
 use Rattle.avn_grammar.specs.Chars.{spelled, lead, tail, past, skip, is_name}
+use Rattle.avn_grammar.specs.declared.limits.TheConstants.{EXCERPT_LENGTH}
 use Rattle.avn_grammar.specs.Unread.{Found, found_here, found_past}
-use Rattle.avn_grammar.specs.declared.chars.Lead.TheVariants as is
+use Rattle.avn_value.specs.Ahead.{BeginsChoice}
 
-pub found_on : (u w n e : List ℕ) → w ≡ skip u → lead w ≡ is.Letter → lead (skip (past is_name w)) ≡ is.Colon → n ≡ tail (skip (past is_name w)) → Found n e → Found u e
-found_on u w n e p l c q f =
-    found_past (ap lead (sym p) ∙ l) (ap (λ x. lead (skip (past is_name x))) (sym p) ∙ c) (subst (λ x. Found x e) (q ∙ ap (λ x. tail (skip (past is_name x))) p) f)
+pub found_on : (u w n e : List ℕ) → w ≡ skip u → BeginsChoice w → n ≡ tail (skip (past is_name w)) → Found n e → Found u e
+found_on u w n e p k q f =
+    found_past (ap lead (sym p) ∙ k.letter) (ap (λ x. lead (skip (past is_name x))) (sym p) ∙ k.colon) (subst (λ x. Found x e) (q ∙ ap (λ x. tail (skip (past is_name x))) p) f)
 
-pub found_end : (u w m : List ℕ) → w ≡ skip u → m ≡ w → (lead w ≡ is.Letter → lead (skip (past is_name w)) ≡ is.Colon → ⊥) → Found u (take 20 m)
-found_end u w m p q n = subst (λ x. Found u (take 20 x)) (sym (q ∙ p)) (found_here (λ a b. n (ap lead p ∙ a) (ap (λ x. lead (skip (past is_name x))) p ∙ b)))
+pub found_end : (u w m : List ℕ) → w ≡ skip u → m ≡ w → (BeginsChoice w → ⊥) → Found u (take EXCERPT_LENGTH m)
+found_end u w m p q n = subst (λ x. Found u (take EXCERPT_LENGTH x)) (sym (q ∙ p)) (found_here (λ a b. n (record { letter = ap lead p ∙ a; colon = ap (λ x. lead (skip (past is_name x))) p ∙ b })))
 
-pub found_ok : {A E : Type 0} (see : A → List ℕ) (r : Result A E) (u m : List ℕ) → Found u (take 20 m) → IfOk r (λ s. see s ≡ encode_utf8_all (take 20 m)) → IfOk r (λ s. (x : List ℕ) × Found u x × (see s ≡ spelled x))
+pub found_ok : {A E : Type 0} (see : A → List ℕ) (r : Result A E) (u m : List ℕ) → Found u (take EXCERPT_LENGTH m) → IfOk r (λ s. see s ≡ encode_utf8_all (take EXCERPT_LENGTH m)) → IfOk r (λ s. (x : List ℕ) × Found u x × (see s ≡ spelled x))
 found_ok see (Err e) u m f k = tt
-found_ok see (Ok v) u m f k = (take 20 m, f, k)
+found_ok see (Ok v) u m f k = (take EXCERPT_LENGTH m, f, k)

@@ -1,11 +1,26 @@
 -- Looks at characters.
-use Rattle.std.proofs.Common.{◌≡◌, ℕ, ◌+◌, ◌≤◌, List, length, arith, ap}
+use Rattle.std.proofs.Common.{◌≡◌, ℕ, List, length, arith, ap, ◌∙◌}
 use Rattle.avn_grammar.specs.Chars.{lead, past, is_digit}
 use Rattle.avn_value.proofs.Steps.{digits-shorter}
-use Rattle.avn_value.specs.Ahead.{Ahead, Paid, Costs}
+use Rattle.avn_value.specs.Ahead.{Ahead, Advances, LooksAtMost}
 use Rattle.avn_grammar.specs.declared.chars.Lead.TheVariants as is
 
+-- One way after another.
+pub advances_on : {each : ℕ} {old now new : Ahead} → Advances each old now → Advances each now new → Advances each old new
+advances_on a b = record {
+  same = b.same ∙ a.same;
+  rises = omega (arith, a.rises, b.rises);
+  cost = omega (arith, a.cost, b.cost);
+  nearer = omega (arith, a.nearer, b.nearer);
+  shorter = omega (arith, a.shorter, b.shorter);
+}
+
 -- A digit was passed, and has paid for one look more.
-pub digit_paid : (old now then : Ahead) → old.ahead ≡ old.rest → lead old.rest ≡ is.Digit → Costs old now → now.ahead ≡ now.rest → now.rest ≡ past is_digit old.rest → then.looks ≤ now.looks + 1 → then.ahead ≡ now.ahead → Paid old then
-digit_paid old now then e l k f m s g =
-    omega (arith, k.0, s, digits-shorter old.rest l, ap (λ (x : List ℕ). length x) e, ap (λ (x : List ℕ). length x) f, ap (λ (x : List ℕ). length x) m, ap (λ (x : List ℕ). length x) g)
+pub digit_paid : {old now then : Ahead} → old.ahead ≡ old.rest → lead old.rest ≡ is.Digit → Advances 1 old now → now.ahead ≡ now.rest → now.rest ≡ past is_digit old.rest → LooksAtMost 1 now then → then.ahead ≡ now.ahead → then.rest ≡ now.rest → Advances 2 old then
+digit_paid {old = old} e l k f m s g r = record {
+  same = s.same ∙ k.same;
+  rises = omega (arith, k.rises, s.rises);
+  cost = omega (arith, k.cost, s.few, digits-shorter old.rest l, ap (λ (x : List ℕ). length x) e, ap (λ (x : List ℕ). length x) f, ap (λ (x : List ℕ). length x) m, ap (λ (x : List ℕ). length x) g);
+  nearer = omega (arith, k.nearer, ap (λ (x : List ℕ). length x) g);
+  shorter = omega (arith, k.shorter, ap (λ (x : List ℕ). length x) r);
+}

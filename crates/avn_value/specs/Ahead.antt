@@ -1,5 +1,7 @@
 -- What contracts see of a cursor.
-use Rattle.std.specs.Prelude.{ℕ, ◌+◌, ◌*◌, ◌≤◌, List, refl, length}
+use Rattle.std.specs.Prelude.{ℕ, ◌+◌, ◌*◌, ◌≡◌, ◌≤◌, List, refl, length}
+use Rattle.avn_grammar.specs.declared.chars.Lead.TheVariants as is
+use Rattle.avn_grammar.specs.Chars.{lead, past, skip, is_name}
 use Rattle.std.specs.Coded.{Coded, code_by, coded×, coded_ℕ, coded_list}
 
 -- The whole text, as bytes, the characters that are read next, those that were not looked past, which are these or what follows their blanks, and how many characters were looked at.
@@ -15,10 +17,22 @@ ahead_code =
     code_by (List ℕ × (List ℕ × (List ℕ × ℕ))) (coded× (coded_list coded_ℕ) (coded× (coded_list coded_ℕ) (coded× (coded_list coded_ℕ) coded_ℕ)))
     (λ e. (e.text, (e.rest, (e.ahead, e.looks)))) (λ p. record { text = p.0; rest = p.1.0; ahead = p.1.1.0; looks = p.1.1.1 }) (λ _. refl)
 
--- At most two looks were taken for each character that was looked past.
-abbrev pub Paid : Ahead → Ahead → Type 0
-Paid old new = new.looks + 2 * length new.ahead ≤ old.looks + 2 * length old.ahead
+-- The same text, further on: at most so many looks were taken for each character that was looked
+-- past.
+pub record Advances (each : ℕ) (old new : Ahead) : Type 0 where
+  pub same : new.text ≡ old.text
+  pub rises : old.looks ≤ new.looks
+  pub cost : new.looks + each * length new.ahead ≤ old.looks + each * length old.ahead
+  pub nearer : length new.ahead ≤ length old.ahead
+  pub shorter : length new.rest ≤ length old.rest
 
--- At most one look was taken for each character that was looked past.
-abbrev pub Costs : Ahead → Ahead → Type 0
-Costs old new = (new.looks + length new.ahead ≤ old.looks + length old.ahead) × (length new.ahead ≤ length old.ahead)
+-- The same text, and at most so many looks more.
+pub record LooksAtMost (most : ℕ) (old new : Ahead) : Type 0 where
+  pub same : new.text ≡ old.text
+  pub rises : old.looks ≤ new.looks
+  pub few : new.looks ≤ old.looks + most
+
+-- The text begins with an identifier, blanks and a colon.
+pub record BeginsChoice (text : List ℕ) : Type 0 where
+  pub letter : lead text ≡ is.Letter
+  pub colon : lead (skip (past is_name text)) ≡ is.Colon

@@ -3,7 +3,7 @@ ghost use Rattle.std.specs.Prelude.{◌≡◌, ◌≤◌, ◌<◌, ◌++◌, ◌
 ghost use Rattle.std.specs.Char.{is_ascii};
 ghost use Rattle.std.specs.Str.{IsAscii};
 ghost use Rattle.avn_grammar.specs.Chars.{begins, doubled};
-ghost use Rattle.avn_value.specs.Ahead.{Costs};
+ghost use Rattle.avn_value.specs.Ahead.{Advances};
 
 use crate::chars::Run;
 use crate::cursor::Cursor;
@@ -49,16 +49,19 @@ impl Chunk {
 /// for or up to one that is not ASCII.
 pub fn take_chunk(cursor: &mut Cursor<'_>, room: &mut [u8; CHUNK]) -> Chunk
     requires { cursor.old.ahead ≡ cursor.old.rest }
-    ensures same { cursor.new.text ≡ cursor.old.text }
-    ensures rises { cursor.old.looks ≤ cursor.new.looks }
-    ensures cost { Costs cursor.old cursor.new }
+    ensures advances { Advances 1 cursor.old cursor.new }
     ensures together { cursor.new.ahead ≡ cursor.new.rest }
     ensures within { result.length ≤ CHUNK }
     ensures ascii { IsAscii (take result.length room.new) }
-    ensures closed { result.closed ≡ true → (34 ∷ cursor.old.rest ≡ (34 ∷ doubled (take result.length room.new)) ++ 34 ∷ cursor.new.rest)
+    ensures closed { result.closed ≡ true
+        → (34 ∷ cursor.old.rest
+        ≡ (34 ∷ doubled (take result.length room.new)) ++ 34 ∷ cursor.new.rest)
         × (begins (λ (c : ℕ). c == 34) cursor.new.rest ≡ false) }
-    ensures unclosed { result.closed ≡ false → 34 ∷ cursor.old.rest ≡ (34 ∷ doubled (take result.length room.new)) ++ cursor.new.rest }
-    ensures stops { result.closed ≡ false → result.length < CHUNK → begins is_ascii cursor.new.rest ≡ false }
+    ensures unclosed { result.closed ≡ false
+        → 34 ∷ cursor.old.rest
+        ≡ (34 ∷ doubled (take result.length room.new)) ++ cursor.new.rest }
+    ensures stops { result.closed ≡ false → result.length < CHUNK
+        → begins is_ascii cursor.new.rest ≡ false }
 {
     let (here, chunk) = after_chunk(cursor.lift(), room);
     *cursor = here;
@@ -69,16 +72,19 @@ pub fn take_chunk(cursor: &mut Cursor<'_>, room: &mut [u8; CHUNK]) -> Chunk
 #[inline(always)]
 fn after_chunk<'a>(cursor: Cursor<'a>, room: &mut [u8; CHUNK]) -> (Cursor<'a>, Chunk)
     requires { cursor.ahead ≡ cursor.rest }
-    ensures same { result.0.text ≡ cursor.entry.text }
-    ensures rises { cursor.entry.looks ≤ result.0.looks }
-    ensures cost { Costs cursor.entry result.0 }
+    ensures advances { Advances 1 cursor.entry result.0 }
     ensures together { result.0.ahead ≡ result.0.rest }
     ensures within { result.1.length ≤ CHUNK }
     ensures ascii { IsAscii (take result.1.length room.new) }
-    ensures closed { result.1.closed ≡ true → (34 ∷ cursor.entry.rest ≡ (34 ∷ doubled (take result.1.length room.new)) ++ 34 ∷ result.0.rest)
+    ensures closed { result.1.closed ≡ true
+        → (34 ∷ cursor.entry.rest
+        ≡ (34 ∷ doubled (take result.1.length room.new)) ++ 34 ∷ result.0.rest)
         × (begins (λ (c : ℕ). c == 34) result.0.rest ≡ false) }
-    ensures unclosed { result.1.closed ≡ false → 34 ∷ cursor.entry.rest ≡ (34 ∷ doubled (take result.1.length room.new)) ++ result.0.rest }
-    ensures stops { result.1.closed ≡ false → result.1.length < CHUNK → begins is_ascii result.0.rest ≡ false }
+    ensures unclosed { result.1.closed ≡ false
+        → 34 ∷ cursor.entry.rest
+        ≡ (34 ∷ doubled (take result.1.length room.new)) ++ result.0.rest }
+    ensures stops { result.1.closed ≡ false → result.1.length < CHUNK
+        → begins is_ascii result.0.rest ≡ false }
 {
     let mut here = cursor;
     let mut length = 0;

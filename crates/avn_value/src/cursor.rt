@@ -4,7 +4,7 @@ ghost use Rattle.std.specs.Str.{encode_utf8_all, chars, IsCharBoundary};
 ghost use Rattle.std.specs.Char.{len_utf8, is_whitespace, is_ascii};
 ghost use Rattle.asn_base.specs.Seen.{after};
 ghost use Rattle.avn_grammar.specs.Chars.{lead, tail, skip, begins, front, past, has_fraction, is_name, inside, solid};
-ghost use Rattle.avn_value.specs.Ahead.{Costs};
+ghost use Rattle.avn_value.specs.Ahead.{Advances, LooksAtMost, BeginsChoice};
 ghost use Rattle.avn_value.specs.Runs.{passes};
 
 use crate::chars::{Run, passes};
@@ -68,10 +68,19 @@ impl<'a> Model for Cursor<'a> {
 
     ghost coded = { ahead_code };
 
-    ghost view = { λ s. record { text = s.scan.text; rest = after s.scan.text s.mark; ahead = after s.scan.text s.place; looks = s.scan.looks } };
+    ghost view = { λ s. record {
+      text = s.scan.text;
+      rest = after s.scan.text s.mark;
+      ahead = after s.scan.text s.place;
+      looks = s.scan.looks;
+    } };
 
-    ghost invariant = { λ s. IsCharBoundary s.scan.text s.mark × IsCharBoundary s.scan.text s.place × (length s.scan.text < 2 ^ 64)
-        × MatchOption s.kept (after s.scan.text s.place ≡ []) (λ c. IsCharBoundary s.scan.text (s.place + len_utf8 c) × (after s.scan.text s.place ≡ c ∷ after s.scan.text (s.place + len_utf8 c)))
+    ghost invariant = { λ s. IsCharBoundary s.scan.text s.mark
+        × IsCharBoundary s.scan.text s.place
+        × (length s.scan.text < 2 ^ 64)
+        × MatchOption s.kept (after s.scan.text s.place ≡ [])
+        (λ c. IsCharBoundary s.scan.text (s.place + len_utf8 c)
+        × (after s.scan.text s.place ≡ c ∷ after s.scan.text (s.place + len_utf8 c)))
         × (skip (after s.scan.text s.mark) ≡ skip (after s.scan.text s.place)) };
 }
 
@@ -112,8 +121,8 @@ impl<'a> Cursor<'a> {
         }
     }
 
-    /// The cursor itself, which leaves one of an empty text. A loop over a cursor that it owns keeps
-    /// the cursor's parts in registers.
+    /// The cursor itself, which leaves one of an empty text. A loop over a cursor that it owns
+    /// keeps the cursor's parts in registers.
     #[inline(always)]
     pub fn lift(&mut self) -> Cursor<'a>
         ensures { result ≡ self.old }
@@ -133,11 +142,8 @@ impl<'a> Cursor<'a> {
     #[inline(always)]
     pub fn take(&mut self) -> Option<char>
         requires { self.old.ahead ≡ self.old.rest }
-        ensures same { self.new.text ≡ self.old.text }
-        ensures rises { self.old.looks ≤ self.new.looks }
-        ensures cost { Costs self.old self.new }
+        ensures advances { Advances 1 self.old self.new }
         ensures together { self.new.ahead ≡ self.new.rest }
-        ensures shorter { length self.new.rest ≤ length self.old.rest }
         ensures moves { self.new.rest ≡ tail self.old.rest }
         ensures found { MatchOption result (self.old.rest ≡ [])
             (λ c. self.old.rest ≡ c ∷ self.new.rest) }
@@ -156,9 +162,7 @@ impl<'a> Cursor<'a> {
     #[inline(always)]
     pub fn take_if(&mut self, run: Run) -> Option<char>
         requires { self.old.ahead ≡ self.old.rest }
-        ensures same { self.new.text ≡ self.old.text }
-        ensures rises { self.old.looks ≤ self.new.looks }
-        ensures cost { Costs self.old self.new }
+        ensures advances { Advances 1 self.old self.new }
         ensures together { self.new.ahead ≡ self.new.rest }
         ensures found { MatchOption result
             ((begins (passes run) self.old.rest ≡ false) × (self.new.rest ≡ self.old.rest))
@@ -187,9 +191,7 @@ impl<'a> Cursor<'a> {
     pub fn next_ascii(&mut self) -> Option<char>
         requires together { self.old.ahead ≡ self.old.rest }
         requires ascii { begins is_ascii self.old.rest ≡ true }
-        ensures same { self.new.text ≡ self.old.text }
-        ensures rises { self.old.looks ≤ self.new.looks }
-        ensures cost { Costs self.old self.new }
+        ensures advances { Advances 1 self.old self.new }
         ensures together { self.new.ahead ≡ self.new.rest }
         ensures moves { self.new.rest ≡ tail self.old.rest }
         ensures found { MatchOption result (begins is_ascii self.new.rest ≡ false)
@@ -224,11 +226,8 @@ impl<'a> Cursor<'a> {
     #[inline(always)]
     #[tactic(auto, using(crate::proofs::Looking::blanks))]
     pub fn skip(&mut self)
-        ensures same { self.new.text ≡ self.old.text }
-        ensures rises { self.old.looks ≤ self.new.looks }
-        ensures cost { Costs self.old self.new }
+        ensures advances { Advances 1 self.old self.new }
         ensures together { self.new.ahead ≡ self.new.rest }
-        ensures shorter { length self.new.rest ≤ length self.old.rest }
         ensures moves { self.new.rest ≡ skip self.old.rest }
     {
         self.mark = self.place;
@@ -239,9 +238,7 @@ impl<'a> Cursor<'a> {
     #[inline(always)]
     #[tactic(auto, using(crate::proofs::Looking::twice))]
     pub fn lead_past_blanks(&mut self) -> Lead
-        ensures same { self.new.text ≡ self.old.text }
-        ensures rises { self.old.looks ≤ self.new.looks }
-        ensures cost { Costs self.old self.new }
+        ensures advances { Advances 1 self.old self.new }
         ensures stays { self.new.rest ≡ self.old.rest }
         ensures past { self.new.ahead ≡ skip self.old.rest }
         ensures found { result ≡ lead (skip self.old.rest) }
@@ -257,11 +254,8 @@ impl<'a> Cursor<'a> {
     #[inline(always)]
     pub fn take_run(&mut self, run: Run, out: &mut String) -> Result<(), AllocError>
         requires { self.old.ahead ≡ self.old.rest }
-        ensures same { self.new.text ≡ self.old.text }
-        ensures rises { self.old.looks ≤ self.new.looks }
-        ensures cost { Costs self.old self.new }
+        ensures advances { Advances 1 self.old self.new }
         ensures together { self.new.ahead ≡ self.new.rest }
-        ensures shorter { length self.new.rest ≤ length self.old.rest }
         ensures moves { OnOk result (self.new.rest ≡ past (passes run) self.old.rest) }
         ensures found { OnOk result (string_bytes out.new
             ≡ string_bytes out.old ++ encode_utf8_all (front (passes run) self.old.rest)) }
@@ -276,11 +270,8 @@ impl<'a> Cursor<'a> {
     #[tactic(auto, using(avn_grammar::proofs::Runs::runs))]
     fn after_run(self, run: Run, out: &mut String) -> (Cursor<'a>, Result<(), AllocError>)
         requires { self.ahead ≡ self.rest }
-        ensures same { result.0.text ≡ self.entry.text }
-        ensures rises { self.entry.looks ≤ result.0.looks }
-        ensures cost { Costs self.entry result.0 }
+        ensures advances { Advances 1 self.entry result.0 }
         ensures together { result.0.ahead ≡ result.0.rest }
-        ensures shorter { length result.0.rest ≤ length self.entry.rest }
         ensures moves { OnOk result.1 (result.0.rest ≡ past (passes run) self.entry.rest) }
         ensures found { OnOk result.1 (string_bytes out.new
             ≡ string_bytes out.old ++ encode_utf8_all (front (passes run) self.entry.rest)) }
@@ -299,12 +290,11 @@ impl<'a> Cursor<'a> {
     /// to the end of `out`.
     pub fn take_inside(&mut self, out: &mut Vec<char>) -> Result<(), AllocError>
         requires { self.old.ahead ≡ self.old.rest }
-        ensures same { self.new.text ≡ self.old.text }
-        ensures rises { self.old.looks ≤ self.new.looks }
-        ensures cost { Costs self.old self.new }
+        ensures advances { Advances 1 self.old self.new }
         ensures together { self.new.ahead ≡ self.new.rest }
         ensures moves { OnOk result (self.new.rest ≡ past inside self.old.rest) }
-        ensures found { OnOk result (out.new.items ≡ out.old.items ++ solid (front inside self.old.rest)) }
+        ensures found { OnOk result (out.new.items
+            ≡ out.old.items ++ solid (front inside self.old.rest)) }
     {
         let (here, taken) = self.lift().after_inside(out);
         *self = here;
@@ -316,12 +306,11 @@ impl<'a> Cursor<'a> {
     #[tactic(auto, using(crate::proofs::Looking::insides))]
     fn after_inside(self, out: &mut Vec<char>) -> (Cursor<'a>, Result<(), AllocError>)
         requires { self.ahead ≡ self.rest }
-        ensures same { result.0.text ≡ self.entry.text }
-        ensures rises { self.entry.looks ≤ result.0.looks }
-        ensures cost { Costs self.entry result.0 }
+        ensures advances { Advances 1 self.entry result.0 }
         ensures together { result.0.ahead ≡ result.0.rest }
         ensures moves { OnOk result.1 (result.0.rest ≡ past inside self.entry.rest) }
-        ensures found { OnOk result.1 (out.new.items ≡ out.old.items ++ solid (front inside self.entry.rest)) }
+        ensures found { OnOk result.1 (out.new.items
+            ≡ out.old.items ++ solid (front inside self.entry.rest)) }
     {
         let mut here = self;
         while let Some(c) = here.peek_if(Run::Inside) {
@@ -340,9 +329,7 @@ impl<'a> Cursor<'a> {
     #[tactic(auto, using(avn_grammar::proofs::Runs::fractions))]
     pub fn has_fraction(&mut self) -> bool
         requires { self.old.ahead ≡ self.old.rest }
-        ensures same { self.new.text ≡ self.old.text }
-        ensures rises { self.old.looks ≤ self.new.looks }
-        ensures few { self.new.looks ≤ self.old.looks + 1 }
+        ensures looks { LooksAtMost 1 self.old self.new }
         ensures ahead { self.new.ahead ≡ self.old.ahead }
         ensures stays { self.new.rest ≡ self.old.rest }
         ensures found { result ≡ has_fraction self.old.rest }
@@ -359,9 +346,7 @@ impl<'a> Cursor<'a> {
     /// At the place.
     fn go_to(&mut self, place: usize)
         requires { IsCharBoundary self.old.text place }
-        ensures same { self.new.text ≡ self.old.text }
-        ensures rises { self.old.looks ≤ self.new.looks }
-        ensures few { self.new.looks ≤ self.old.looks + 1 }
+        ensures looks { LooksAtMost 1 self.old self.new }
         ensures rest { self.new.rest ≡ after self.old.text place }
         ensures together { self.new.ahead ≡ self.new.rest }
     {
@@ -372,9 +357,7 @@ impl<'a> Cursor<'a> {
 
     /// Back at the mark.
     fn rewind(&mut self)
-        ensures same { self.new.text ≡ self.old.text }
-        ensures rises { self.old.looks ≤ self.new.looks }
-        ensures few { self.new.looks ≤ self.old.looks + 1 }
+        ensures looks { LooksAtMost 1 self.old self.new }
         ensures stays { self.new.rest ≡ self.old.rest }
         ensures together { self.new.ahead ≡ self.new.rest }
     {
@@ -383,9 +366,7 @@ impl<'a> Cursor<'a> {
 
     /// Back at the text's beginning.
     pub fn restart(&mut self)
-        ensures same { self.new.text ≡ self.old.text }
-        ensures rises { self.old.looks ≤ self.new.looks }
-        ensures few { self.new.looks ≤ self.old.looks + 1 }
+        ensures looks { LooksAtMost 1 self.old self.new }
         ensures rest { self.new.rest ≡ chars self.old.text }
         ensures together { self.new.ahead ≡ self.new.rest }
     {
@@ -395,19 +376,16 @@ impl<'a> Cursor<'a> {
 
     /// The first characters of the rest.
     pub fn excerpt(&mut self, alloc: Global, at_most: usize) -> Result<String, OutOfMemory>
-        ensures same { self.new.text ≡ self.old.text }
-        ensures rises { self.old.looks ≤ self.new.looks }
-        ensures few { self.new.looks ≤ self.old.looks + length self.old.rest }
-        ensures copied { IfOk result (λ s. string_bytes s ≡ encode_utf8_all (take at_most self.old.rest)) }
+        ensures looks { LooksAtMost (length self.old.rest) self.old self.new }
+        ensures copied { IfOk result (λ s. string_bytes s
+            ≡ encode_utf8_all (take at_most self.old.rest)) }
     {
         self.scan.excerpt(alloc, self.mark, at_most)
     }
 
     /// The rest.
     fn all_of_rest(&mut self, alloc: Global) -> Result<String, OutOfMemory>
-        ensures same { self.new.text ≡ self.old.text }
-        ensures rises { self.old.looks ≤ self.new.looks }
-        ensures few { self.new.looks ≤ self.old.looks + length self.old.rest }
+        ensures looks { LooksAtMost (length self.old.rest) self.old self.new }
         ensures copied { IfOk result (λ s. string_bytes s ≡ encode_utf8_all self.old.rest) }
     {
         self.scan.has_short_rest(self.mark);
@@ -417,9 +395,7 @@ impl<'a> Cursor<'a> {
     /// The rest is white space only.
     #[tactic(auto, using(crate::proofs::Looking::whites))]
     fn is_white(&mut self) -> bool
-        ensures same { self.new.text ≡ self.old.text }
-        ensures rises { self.old.looks ≤ self.new.looks }
-        ensures few { self.new.looks ≤ self.old.looks + length self.old.rest + 1 }
+        ensures looks { LooksAtMost (length self.old.rest + 1) self.old self.new }
         ensures yes { result ≡ true → past is_whitespace self.old.rest ≡ [] }
         ensures no { result ≡ false → past is_whitespace self.old.rest ≢ [] }
     {
@@ -434,11 +410,10 @@ impl<'a> Cursor<'a> {
 
     /// The rest, unless it is white space only.
     pub fn other_than_white(&mut self, alloc: Global) -> Result<Option<String>, OutOfMemory>
-        ensures same { self.new.text ≡ self.old.text }
-        ensures rises { self.old.looks ≤ self.new.looks }
-        ensures few { self.new.looks ≤ self.old.looks + 2 * length self.old.rest + 2 }
+        ensures looks { LooksAtMost (2 * length self.old.rest + 2) self.old self.new }
         ensures found { IfOk result (λ o. MatchOption o (past is_whitespace self.old.rest ≡ [])
-            (λ s. (past is_whitespace self.old.rest ≢ []) × (string_bytes s ≡ encode_utf8_all self.old.rest))) }
+            (λ s. (past is_whitespace self.old.rest ≢ [])
+            × (string_bytes s ≡ encode_utf8_all self.old.rest))) }
     {
         let start = self.mark;
         if self.is_white() {
@@ -452,13 +427,15 @@ impl<'a> Cursor<'a> {
     /// Past an identifier, blanks and a colon, if these are ahead.
     pub fn take_choice(&mut self) -> bool
         requires { self.old.ahead ≡ self.old.rest }
-        ensures same { self.new.text ≡ self.old.text }
-        ensures rises { self.old.looks ≤ self.new.looks }
+        ensures looks { LooksAtMost (length self.old.ahead + 1) self.old self.new }
         ensures together { self.new.ahead ≡ self.new.rest }
-        ensures yes { result ≡ true → (lead self.old.rest ≡ Lead.Letter) × (lead (skip (past is_name self.old.rest)) ≡ Lead.Colon)
-            × (self.new.rest ≡ tail (skip (past is_name self.old.rest))) × Costs self.old self.new × (length self.new.rest < length self.old.rest) }
-        ensures no { result ≡ false → (self.new.rest ≡ self.old.rest) × (self.new.looks ≤ self.old.looks + length self.old.ahead + 1)
-            × (lead self.old.rest ≡ Lead.Letter → lead (skip (past is_name self.old.rest)) ≡ Lead.Colon → ⊥) }
+        ensures advances { result ≡ true → Advances 1 self.old self.new }
+        ensures shorter { result ≡ true → length self.new.rest < length self.old.rest }
+        ensures yes { result ≡ true → BeginsChoice self.old.rest }
+        ensures moves { result ≡ true
+            → self.new.rest ≡ tail (skip (past is_name self.old.rest)) }
+        ensures no { result ≡ false → BeginsChoice self.old.rest → ⊥ }
+        ensures stays { result ≡ false → self.new.rest ≡ self.old.rest }
     {
         match self.lead() {
             Lead::Letter => {}
@@ -483,9 +460,7 @@ impl<'a> Cursor<'a> {
     #[tactic(auto, using(avn_grammar::proofs::Runs::runs))]
     fn pass_run(&mut self, run: Run)
         requires { self.old.ahead ≡ self.old.rest }
-        ensures same { self.new.text ≡ self.old.text }
-        ensures rises { self.old.looks ≤ self.new.looks }
-        ensures cost { Costs self.old self.new }
+        ensures advances { Advances 1 self.old self.new }
         ensures together { self.new.ahead ≡ self.new.rest }
         ensures moves { self.new.rest ≡ past (passes run) self.old.rest }
     {

@@ -75,7 +75,8 @@ fn binary_digits(octet: u8) -> [u8; 8]
 
 /// Writes the first binary digits of an octet, at most so many.
 fn write_bits_of<W: fmt::Write>(octet: u8, at_most: usize, f: &mut fmt::Formatter<W>) -> fmt::Result
-    ensures { WritesOnOk W.write_str_gives f.old result (take at_most (bit_text (octet ∷ []))) f.new }
+    ensures { WritesOnOk W.write_str_gives f.old result
+        (take at_most (bit_text (octet ∷ []))) f.new }
 {
     let digits = binary_digits(octet);
     let kept = if at_most < 8 { at_most } else { 8 };

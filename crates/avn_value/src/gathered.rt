@@ -26,7 +26,8 @@ pub struct Gathered {
     integers: bool,
 }
 
-/// Room for the first item alone, since many braces have no other. Its only error is want of memory.
+/// Room for the first item alone, since many braces have no other. Its only error is want of
+/// memory.
 #[inline(always)]
 fn reserve_first<T>(items: &mut Vec<T>) -> Result<(), AllocError>
     ensures { items.new.items ≡ items.old.items }
@@ -53,7 +54,8 @@ impl Gathered {
     /// One item more. Its only error is want of memory.
     #[inline(always)]
     pub fn push(&mut self, entry: Entry) -> Result<(), Fault>
-        ensures ok { OnOk result ((before : List Item) → Holds self.old before → Holds self.new (before ++ item_of entry ∷ [])) }
+        ensures ok { OnOk result ((before : List Item)
+            → Holds self.old before → Holds self.new (before ++ item_of entry ∷ [])) }
         ensures only_memory { result ≢ Err Fault.UnexpectedToken }
         ensures shallow { result ≢ Err Fault.TooDeep }
     {
@@ -84,8 +86,10 @@ impl Gathered {
     /// The value that the braces are, unless named and bare items are mixed.
     #[inline(always)]
     pub fn finish(self) -> Option<AvnValue>
-        ensures some { IfSome result (λ v. (items : List Item) → Holds self items → IsGathered items (tree_of v)) }
-        ensures none { IfNone result ((items : List Item) (t : _) → Holds self items → IsGathered items t → ⊥) }
+        ensures some { IfSome result (λ v. (items : List Item)
+            → Holds self items → IsGathered items (tree_of v)) }
+        ensures none { IfNone result ((items : List Item) (t : _)
+            → Holds self items → IsGathered items t → ⊥) }
     {
         if self.fields.is_empty() {
             return Some(AvnValue::SequenceOf(self.list));

@@ -44,7 +44,8 @@ fn normal_bit_string(
     octets: &Vec<u8>,
     bit_length: usize,
 ) -> Result<AvnValue, OutOfMemory>
-    ensures { IfOk result (λ form. tree_of form ≡ normal (bit_string octets.now.items bit_length)) }
+    ensures { IfOk result (λ form. tree_of form
+        ≡ normal (bit_string octets.now.items bit_length)) }
 {
     if bit_length == 0 {
         return Ok(AvnValue::OctetString(Vec::new(alloc)));
@@ -111,7 +112,8 @@ fn normal_value(alloc: Global, value: &AvnValue) -> Result<AvnValue, OutOfMemory
 /// The normal forms of the values of a list.
 #[cycle(normal)]
 fn normal_list(alloc: Global, list: &Vec<AvnValue>) -> Result<Vec<AvnValue>, OutOfMemory>
-    ensures { IfOk result (λ forms. list_trees forms.items ≡ normal_trees (list_trees list.now.items)) }
+    ensures { IfOk result (λ forms. list_trees forms.items
+        ≡ normal_trees (list_trees list.now.items)) }
 {
     let mut forms = Vec::with_capacity(alloc, list.len())?;
     for item in list.iter() {
@@ -127,7 +129,8 @@ fn normal_sequence(
     alloc: Global,
     fields: &Vec<(String, Option<AvnValue>)>,
 ) -> Result<AvnValue, OutOfMemory>
-    ensures { IfOk result (λ form. tree_of form ≡ normal (sequence (fields_trees fields.now.items))) }
+    ensures { IfOk result (λ form. tree_of form
+        ≡ normal (sequence (fields_trees fields.now.items))) }
 {
     let present = present_fields(alloc, fields)?;
     if present.is_empty() {
@@ -143,7 +146,8 @@ fn present_fields(
     alloc: Global,
     fields: &Vec<(String, Option<AvnValue>)>,
 ) -> Result<Vec<(String, Option<AvnValue>)>, OutOfMemory>
-    ensures { IfOk result (λ forms. fields_trees forms.items ≡ normal_fields (fields_trees fields.now.items)) }
+    ensures { IfOk result (λ forms. fields_trees forms.items
+        ≡ normal_fields (fields_trees fields.now.items)) }
 {
     let mut forms = Vec::new(alloc);
     for (name, slot) in fields.iter() {

@@ -10,7 +10,7 @@ ghost use Rattle.avn_grammar.specs.Unread.{Found, Unread};
 ghost use Rattle.avn_grammar.specs.Print.{print};
 ghost use Rattle.avn_grammar.specs.WellFormed.{is_well_formed};
 ghost use Rattle.avn_grammar.specs.Normal.{normal};
-ghost use Rattle.avn_value.specs.Ahead.{Paid};
+ghost use Rattle.avn_value.specs.Ahead.{Advances, LooksAtMost};
 ghost use Rattle.avn_value.specs.Answer.{Explains, IsMoreOrMemory, IsFoundOrMemory, IsValue, IsRefusal};
 ghost use Rattle.avn_value.specs.Gathering.{item_of};
 ghost use Rattle.avn_value.specs.View.{tree_of};
@@ -25,11 +25,9 @@ use crate::value::AvnValue;
 use asn_base::{Codec, OutOfMemory, Scan};
 use asn_fault::{AvnDecodeErrorKind, DecodeError, DecodeErrorKind};
 use avn_grammar::chars::Lead;
+use avn_grammar::limits::{EXCERPT_LENGTH, LEVEL_LIMIT, LOOKS_PER_CHARACTER};
 use std::alloc::Global;
 use std::mem;
-
-/// The limit on levels: no value is looked for at a level above it.
-const LEVEL_LIMIT: usize = 64;
 
 /// Reads a value that is looked for at the level. `TooDeep` where a level above the limit is looked
 /// for before any other fault.
@@ -41,13 +39,15 @@ fn read_value(
     level: usize,
 ) -> Result<AvnValue, Fault>
     requires { limit < usize.MAX }
-    ensures same { cursor.new.text ≡ cursor.old.text }
-    ensures rises { cursor.old.looks ≤ cursor.new.looks }
-    ensures paid { Paid cursor.old cursor.new }
-    ensures ok { IfOk result (λ v. Stands limit level cursor.old.rest (tree_of v) cursor.new.rest) }
+    ensures advances { Advances 2 cursor.old cursor.new }
+    ensures ok { IfOk result (λ v.
+        Stands limit level cursor.old.rest (tree_of v) cursor.new.rest) }
     ensures deep { result ≡ Err Fault.TooDeep → Deep limit level cursor.old.rest }
-    ensures token { result ≡ Err Fault.UnexpectedToken → Deep limit level cursor.old.rest → ⊥ }
-    ensures none { result ≡ Err Fault.UnexpectedToken → (t : Tree) (n : List ℕ) → Stands limit level cursor.old.rest t n → ⊥ }
+    ensures token { result ≡ Err Fault.UnexpectedToken
+        → Deep limit level cursor.old.rest → ⊥ }
+    ensures none { result ≡ Err Fault.UnexpectedToken
+        → (tree : Tree) (rest : List ℕ)
+        → Stands limit level cursor.old.rest tree rest → ⊥ }
     ensures shorter { OnOk result (length cursor.new.rest < length cursor.old.rest) }
 {
     if level > limit {
@@ -101,13 +101,15 @@ fn read_item(
     level: usize,
 ) -> Result<Entry, Fault>
     requires { limit < usize.MAX }
-    ensures same { cursor.new.text ≡ cursor.old.text }
-    ensures rises { cursor.old.looks ≤ cursor.new.looks }
-    ensures paid { Paid cursor.old cursor.new }
-    ensures ok { IfOk result (λ x. ItemStands limit level cursor.old.rest (item_of x) cursor.new.rest) }
+    ensures advances { Advances 2 cursor.old cursor.new }
+    ensures ok { IfOk result (λ x.
+        ItemStands limit level cursor.old.rest (item_of x) cursor.new.rest) }
     ensures deep { result ≡ Err Fault.TooDeep → ItemDeep limit level cursor.old.rest }
-    ensures token { result ≡ Err Fault.UnexpectedToken → ItemDeep limit level cursor.old.rest → ⊥ }
-    ensures none { result ≡ Err Fault.UnexpectedToken → (x : Item) (n : List ℕ) → ItemStands limit level cursor.old.rest x n → ⊥ }
+    ensures token { result ≡ Err Fault.UnexpectedToken
+        → ItemDeep limit level cursor.old.rest → ⊥ }
+    ensures none { result ≡ Err Fault.UnexpectedToken
+        → (item : Item) (rest : List ℕ)
+        → ItemStands limit level cursor.old.rest item rest → ⊥ }
     ensures shorter { OnOk result (length cursor.new.rest < length cursor.old.rest) }
 {
     cursor.skip();
@@ -148,13 +150,15 @@ fn read_items(
     level: usize,
 ) -> Result<AvnValue, Fault>
     requires { limit < usize.MAX }
-    ensures same { cursor.new.text ≡ cursor.old.text }
-    ensures rises { cursor.old.looks ≤ cursor.new.looks }
-    ensures paid { Paid cursor.old cursor.new }
-    ensures ok { IfOk result (λ v. BracesStand limit level cursor.old.rest (tree_of v) cursor.new.rest) }
+    ensures advances { Advances 2 cursor.old cursor.new }
+    ensures ok { IfOk result (λ v.
+        BracesStand limit level cursor.old.rest (tree_of v) cursor.new.rest) }
     ensures deep { result ≡ Err Fault.TooDeep → ItemsDeep limit level [] cursor.old.rest }
-    ensures token { result ≡ Err Fault.UnexpectedToken → ItemsDeep limit level [] cursor.old.rest → ⊥ }
-    ensures none { result ≡ Err Fault.UnexpectedToken → (t : Tree) (n : List ℕ) → BracesStand limit level cursor.old.rest t n → ⊥ }
+    ensures token { result ≡ Err Fault.UnexpectedToken
+        → ItemsDeep limit level [] cursor.old.rest → ⊥ }
+    ensures none { result ≡ Err Fault.UnexpectedToken
+        → (tree : Tree) (rest : List ℕ)
+        → BracesStand limit level cursor.old.rest tree rest → ⊥ }
     ensures shorter { OnOk result (length cursor.new.rest < length cursor.old.rest) }
 {
     let mut gathered = Gathered::new(alloc);
@@ -180,19 +184,18 @@ fn read_items(
     }
 }
 
-/// What is not read: the first 20 characters ahead, past white space and each identifier with a
+/// What is not read: the first characters ahead, past white space and each identifier with a
 /// colon.
 fn found(alloc: Global, cursor: &mut Cursor<'_>) -> Result<String, OutOfMemory>
     requires { cursor.old.ahead ≡ cursor.old.rest }
-    ensures same { cursor.new.text ≡ cursor.old.text }
-    ensures rises { cursor.old.looks ≤ cursor.new.looks }
-    ensures few { cursor.new.looks ≤ cursor.old.looks + 2 * length cursor.old.ahead + 1 }
-    ensures found { IfOk result (λ s. (e : List ℕ) × Found cursor.old.rest e × (string_bytes s ≡ spelled e)) }
+    ensures looks { LooksAtMost (2 * length cursor.old.ahead + 1) cursor.old cursor.new }
+    ensures found { IfOk result (λ s. (excerpt : List ℕ)
+        × Found cursor.old.rest excerpt × (string_bytes s ≡ spelled excerpt)) }
 {
     loop {
         cursor.skip();
         if !cursor.take_choice() {
-            return cursor.excerpt(alloc, 20);
+            return cursor.excerpt(alloc, EXCERPT_LENGTH);
         }
     }
 }
@@ -203,10 +206,9 @@ fn whole_value(
     cursor: &mut Cursor<'_>,
     value: AvnValue,
 ) -> Result<AvnValue, DecodeError>
-    ensures same { cursor.new.text ≡ cursor.old.text }
-    ensures rises { cursor.old.looks ≤ cursor.new.looks }
-    ensures few { cursor.new.looks ≤ cursor.old.looks + 2 * length cursor.old.rest + 2 }
-    ensures ok { IfOk result (λ v. (tree_of v ≡ tree_of value) × (past is_whitespace cursor.old.rest ≡ [])) }
+    ensures looks { LooksAtMost (2 * length cursor.old.rest + 2) cursor.old cursor.new }
+    ensures ok { IfOk result (λ v.
+        (tree_of v ≡ tree_of value) × (past is_whitespace cursor.old.rest ≡ [])) }
     ensures err { IfErr result (λ e. IsMoreOrMemory cursor.old.rest (error_stop e)) }
 {
     let Ok(found) = cursor.other_than_white(alloc) else {
@@ -220,9 +222,7 @@ fn whole_value(
 
 /// The error of a text that is no value: what was found in place of one.
 fn no_value(alloc: Global, cursor: &mut Cursor<'_>) -> DecodeError
-    ensures same { cursor.new.text ≡ cursor.old.text }
-    ensures rises { cursor.old.looks ≤ cursor.new.looks }
-    ensures few { cursor.new.looks ≤ cursor.old.looks + 2 * length (chars cursor.old.text) + 2 }
+    ensures looks { LooksAtMost (2 * length (chars cursor.old.text) + 2) cursor.old cursor.new }
     ensures error { IsFoundOrMemory (chars cursor.old.text) (error_stop result) }
 {
     cursor.restart();
@@ -237,9 +237,7 @@ fn read_whole(alloc: Global, cursor: &mut Cursor<'_>, limit: usize) -> Result<Av
     requires bounded { limit < usize.MAX }
     requires together { cursor.old.ahead ≡ cursor.old.rest }
     requires whole { cursor.old.rest ≡ chars cursor.old.text }
-    ensures same { cursor.new.text ≡ cursor.old.text }
-    ensures rises { cursor.old.looks ≤ cursor.new.looks }
-    ensures few { cursor.new.looks ≤ cursor.old.looks + 4 * length cursor.old.rest + 2 }
+    ensures looks { LooksAtMost (4 * length cursor.old.rest + 2) cursor.old cursor.new }
     ensures ok { IfOk result (λ v. Reads limit cursor.old.rest (tree_of v)) }
     ensures err { IfErr result (λ e. Explains limit cursor.old.rest (error_stop e)) }
 {
@@ -264,15 +262,20 @@ fn read_whole(alloc: Global, cursor: &mut Cursor<'_>, limit: usize) -> Result<Av
 pub fn parse_scan(alloc: Global, scan: &mut Scan<'_>) -> Result<AvnValue, DecodeError>
     ensures text { scan.new.text ≡ scan.old.text }
     ensures rises { scan.old.looks ≤ scan.new.looks }
-    ensures looks { scan.new.looks ≤ scan.old.looks + 16 * (length (chars scan.old.text) + 1) }
+    ensures looks { scan.new.looks
+        ≤ scan.old.looks + LOOKS_PER_CHARACTER * (length (chars scan.old.text) + 1) }
 
-    ensures ok { IfOk result (λ value. Reads 64 (chars scan.old.text) (tree_of value)) }
-    ensures err { IfErr result (λ error. Explains 64 (chars scan.old.text) (error_stop error)) }
+    ensures ok { IfOk result (λ value. Reads LEVEL_LIMIT (chars scan.old.text) (tree_of value)) }
+    ensures err { IfErr result (λ error.
+        Explains LEVEL_LIMIT (chars scan.old.text) (error_stop error)) }
 
     // Each of the two errors comes exactly where it says, and a value else, memory aside.
-    ensures reads { (tree : Tree) → Reads 64 (chars scan.old.text) tree → IsValue tree result }
-    ensures unread { (found : List ℕ) → Unread 64 (chars scan.old.text) found → IsRefusal (Why.unexpected_token found) result }
-    ensures deep { Deep 64 0 (chars scan.old.text) → IsRefusal Why.exceeds_max_parse_depth result }
+    ensures reads { (tree : Tree) → Reads LEVEL_LIMIT (chars scan.old.text) tree
+        → IsValue tree result }
+    ensures unread { (found : List ℕ) → Unread LEVEL_LIMIT (chars scan.old.text) found
+        → IsRefusal (Why.unexpected_token found) result }
+    ensures deep { Deep LEVEL_LIMIT 0 (chars scan.old.text)
+        → IsRefusal Why.exceeds_max_parse_depth result }
 {
     let mut cursor = Cursor::new(mem::replace(scan, Scan::new("")));
     let found = read_whole(alloc, &mut cursor, LEVEL_LIMIT);
@@ -283,15 +286,25 @@ pub fn parse_scan(alloc: Global, scan: &mut Scan<'_>) -> Result<AvnValue, Decode
 /// The value that the whole text is, as `parse_scan` reads it, with the same errors. The printed
 /// text of a well-formed value is read as the value's normal form, unless it is too deep.
 pub fn parse_avn(alloc: Global, input: &str) -> Result<AvnValue, DecodeError>
-    ensures ok { IfOk result (λ value. Reads 64 (chars input.now) (tree_of value)) }
-    ensures err { IfErr result (λ error. Explains 64 (chars input.now) (error_stop error)) }
+    ensures ok { IfOk result (λ value. Reads LEVEL_LIMIT (chars input.now) (tree_of value)) }
+    ensures err { IfErr result (λ error.
+        Explains LEVEL_LIMIT (chars input.now) (error_stop error)) }
 
-    ensures reads { (tree : Tree) → Reads 64 (chars input.now) tree → IsValue tree result }
-    ensures unread { (found : List ℕ) → Unread 64 (chars input.now) found → IsRefusal (Why.unexpected_token found) result }
-    ensures deep { Deep 64 0 (chars input.now) → IsRefusal Why.exceeds_max_parse_depth result }
+    ensures reads { (tree : Tree) → Reads LEVEL_LIMIT (chars input.now) tree
+        → IsValue tree result }
+    ensures unread { (found : List ℕ) → Unread LEVEL_LIMIT (chars input.now) found
+        → IsRefusal (Why.unexpected_token found) result }
+    ensures deep { Deep LEVEL_LIMIT 0 (chars input.now)
+        → IsRefusal Why.exceeds_max_parse_depth result }
 
-    ensures printed { (tree : Tree) → input.now ≡ print 0 tree → is_well_formed tree ≡ true → deepest 0 tree ≤ 64 → IsValue (normal tree) result }
-    ensures printed_deep { (tree : Tree) → input.now ≡ print 0 tree → is_well_formed tree ≡ true → 64 < deepest 0 tree → IsRefusal Why.exceeds_max_parse_depth result }
+    ensures printed { (tree : Tree)
+        → input.now ≡ print 0 tree → is_well_formed tree ≡ true
+        → deepest 0 tree ≤ LEVEL_LIMIT
+        → IsValue (normal tree) result }
+    ensures printed_deep { (tree : Tree)
+        → input.now ≡ print 0 tree → is_well_formed tree ≡ true
+        → LEVEL_LIMIT < deepest 0 tree
+        → IsRefusal Why.exceeds_max_parse_depth result }
 {
     let mut scan = Scan::new(input);
     parse_scan(alloc, &mut scan)

@@ -45,7 +45,8 @@ fn write_close<W: fmt::Write>(
     levels: &Levels<'_>,
     f: &mut fmt::Formatter<W>,
 ) -> fmt::Result
-    ensures { WritesOnOk W.write_str_gives f.old result (closing_of (depth_of levels.now) rows) f.new }
+    ensures { WritesOnOk W.write_str_gives f.old result
+        (closing_of (depth_of levels.now) rows) f.new }
 {
     if rows == 0 {
         return f.write_str("}");
@@ -95,7 +96,8 @@ fn write_bit_string<W: fmt::Write>(
     bit_length: usize,
     f: &mut fmt::Formatter<W>,
 ) -> fmt::Result
-    ensures { WritesOnOk W.write_str_gives f.old result (print 0 (bit_string octets.now bit_length)) f.new }
+    ensures { WritesOnOk W.write_str_gives f.old result
+        (print 0 (bit_string octets.now bit_length)) f.new }
 {
     if bit_length == 0 {
         return f.write_str("''H");
@@ -126,7 +128,8 @@ fn print_at<W: fmt::Write>(
     levels: &Levels<'_>,
     f: &mut fmt::Formatter<W>,
 ) -> fmt::Result
-    ensures { WritesOnOk W.write_str_gives f.old result (print (depth_of levels.now) (tree_of value.now)) f.new }
+    ensures { WritesOnOk W.write_str_gives f.old result
+        (print (depth_of levels.now) (tree_of value.now)) f.new }
 {
     match value {
         AvnValue::Boolean(true) => f.write_str("TRUE"),
@@ -156,7 +159,8 @@ fn print_list<W: fmt::Write>(
     levels: &Levels<'_>,
     f: &mut fmt::Formatter<W>,
 ) -> fmt::Result
-    ensures { WritesOnOk W.write_str_gives f.old result (print (depth_of levels.now) (sequence_of (list_trees list.now.items))) f.new }
+    ensures { WritesOnOk W.write_str_gives f.old result
+        (print (depth_of levels.now) (sequence_of (list_trees list.now.items))) f.new }
 {
     let under = Levels::Under(&*levels);
     f.write_str("{")?;
@@ -175,7 +179,8 @@ fn print_fields<W: fmt::Write>(
     levels: &Levels<'_>,
     f: &mut fmt::Formatter<W>,
 ) -> fmt::Result
-    ensures { WritesOnOk W.write_str_gives f.old result (print (depth_of levels.now) (sequence (fields_trees fields.now.items))) f.new }
+    ensures { WritesOnOk W.write_str_gives f.old result
+        (print (depth_of levels.now) (sequence (fields_trees fields.now.items))) f.new }
 {
     let under = Levels::Under(&*levels);
     let mut row: usize = 0;

@@ -4,7 +4,7 @@ ghost use Rattle.avn_grammar.specs.Tree.{Tree};
 ghost use Rattle.avn_grammar.specs.Chars.{lead, every};
 ghost use Rattle.avn_grammar.specs.Octets.{is_hex, hex_value, are_pairs, octets_of, is_bit, packed};
 ghost use Rattle.avn_grammar.specs.Grammar.{Token};
-ghost use Rattle.avn_value.specs.Ahead.{Paid};
+ghost use Rattle.avn_value.specs.Ahead.{Advances};
 ghost use Rattle.avn_value.specs.Radix.{letter_of};
 ghost use Rattle.avn_value.specs.View.{tree_of};
 
@@ -16,7 +16,8 @@ use std::alloc::{AllocError, Global};
 
 /// The number that a hexadecimal digit stands for, of either case.
 fn hex_value(c: char) -> Option<u8>
-    ensures { MatchOption result (is_hex c ≡ false) (λ v. (is_hex c ≡ true) × (v ≡ hex_value c) × (v < 16)) }
+    ensures { MatchOption result (is_hex c ≡ false)
+        (λ v. (is_hex c ≡ true) × (v ≡ hex_value c) × (v < 16)) }
 {
     match c {
         '0'..='9' => Some(c as u8 - b'0'),
@@ -29,8 +30,9 @@ fn hex_value(c: char) -> Option<u8>
 /// The octet of the first two digits, if they are hexadecimal.
 fn first_octet(digits: &[char]) -> Option<u8>
     requires { 2 ≤ length digits.now }
-    ensures { MatchOption result ((are_pairs digits.now ≡ false))
-        (λ o. (are_pairs digits.now ≡ are_pairs (drop 2 digits.now)) × (octets_of digits.now ≡ o ∷ octets_of (drop 2 digits.now))) }
+    ensures { MatchOption result (are_pairs digits.now ≡ false)
+        (λ o. (are_pairs digits.now ≡ are_pairs (drop 2 digits.now))
+        × (octets_of digits.now ≡ o ∷ octets_of (drop 2 digits.now))) }
 {
     let high = hex_value(digits[0])?;
     let low = hex_value(digits[1])?;
@@ -123,12 +125,11 @@ pub enum Radix {
 /// Past an apostrophe and the letter after it, if these are ahead.
 fn closing(cursor: &mut Cursor<'_>) -> Option<Radix>
     requires together { cursor.old.ahead ≡ cursor.old.rest }
-    ensures same { cursor.new.text ≡ cursor.old.text }
-    ensures rises { cursor.old.looks ≤ cursor.new.looks }
-    ensures paid { Paid cursor.old cursor.new }
+    ensures advances { Advances 2 cursor.old cursor.new }
     ensures together { cursor.new.ahead ≡ cursor.new.rest }
     ensures found { MatchOption result
-        (((rest : List ℕ) → cursor.old.rest ≡ 39 ∷ 72 ∷ rest → ⊥) × ((rest : List ℕ) → cursor.old.rest ≡ 39 ∷ 66 ∷ rest → ⊥))
+        (((rest : List ℕ) → cursor.old.rest ≡ 39 ∷ 72 ∷ rest → ⊥)
+        × ((rest : List ℕ) → cursor.old.rest ≡ 39 ∷ 66 ∷ rest → ⊥))
         (λ radix. cursor.old.rest ≡ 39 ∷ letter_of radix ∷ cursor.new.rest) }
 {
     match cursor.take() {
@@ -147,13 +148,12 @@ fn closing(cursor: &mut Cursor<'_>) -> Option<Radix>
 pub fn quoted(alloc: Global, cursor: &mut Cursor<'_>) -> Result<AvnValue, Fault>
     requires together { cursor.old.ahead ≡ cursor.old.rest }
     requires apostrophe { lead cursor.old.rest ≡ Lead.Apostrophe }
-    ensures same { cursor.new.text ≡ cursor.old.text }
-    ensures rises { cursor.old.looks ≤ cursor.new.looks }
-    ensures paid { Paid cursor.old cursor.new }
+    ensures advances { Advances 2 cursor.old cursor.new }
     ensures together { cursor.new.ahead ≡ cursor.new.rest }
     ensures ok { IfOk result (λ v. Token cursor.old.rest (tree_of v) cursor.new.rest) }
     ensures shallow { result ≢ Err Fault.TooDeep }
-    ensures none { result ≡ Err Fault.UnexpectedToken → (t : Tree) (n : List ℕ) → Token cursor.old.rest t n → ⊥ }
+    ensures none { result ≡ Err Fault.UnexpectedToken
+        → (tree : Tree) (rest : List ℕ) → Token cursor.old.rest tree rest → ⊥ }
 {
     let _open = cursor.take();
     let mut digits = Vec::new(alloc);

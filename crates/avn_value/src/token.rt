@@ -3,7 +3,7 @@ ghost use Rattle.std.specs.Prelude.{◌≡◌, ◌≢◌, ◌⊎◌, ◌≤◌, 
 ghost use Rattle.avn_grammar.specs.Tree.{Tree};
 ghost use Rattle.avn_grammar.specs.Chars.{lead, spelled};
 ghost use Rattle.avn_grammar.specs.Grammar.{number_tree, past_number, word_of, Token, Ident};
-ghost use Rattle.avn_value.specs.Ahead.{Costs, Paid};
+ghost use Rattle.avn_value.specs.Ahead.{Advances};
 ghost use Rattle.avn_value.specs.View.{tree_of};
 
 use crate::chars::{Run, ascii};
@@ -19,12 +19,10 @@ use std::alloc::{AllocError, Global};
 pub fn identifier(alloc: Global, cursor: &mut Cursor<'_>) -> Result<String, AllocError>
     requires together { cursor.old.ahead ≡ cursor.old.rest }
     requires letter { lead cursor.old.rest ≡ Lead.Letter }
-    ensures same { cursor.new.text ≡ cursor.old.text }
-    ensures rises { cursor.old.looks ≤ cursor.new.looks }
-    ensures cost { Costs cursor.old cursor.new }
+    ensures advances { Advances 1 cursor.old cursor.new }
     ensures together { cursor.new.ahead ≡ cursor.new.rest }
-    ensures shorter { length cursor.new.rest ≤ length cursor.old.rest }
-    ensures ok { IfOk result (λ s. (id : _) × Ident cursor.old.rest id cursor.new.rest × (string_bytes s ≡ spelled id)) }
+    ensures ok { IfOk result (λ s. (id : _) × Ident cursor.old.rest id cursor.new.rest
+        × (string_bytes s ≡ spelled id)) }
 {
     let mut name = String::new(alloc);
     cursor.take_run(Run::Name, &mut name)?;
@@ -50,13 +48,12 @@ pub fn bare(name: String) -> AvnValue
 #[inline(always)]
 fn unsigned(cursor: &mut Cursor<'_>, sign: String) -> Result<AvnValue, Fault>
     requires together { cursor.old.ahead ≡ cursor.old.rest }
-    ensures same { cursor.new.text ≡ cursor.old.text }
-    ensures rises { cursor.old.looks ≤ cursor.new.looks }
-    ensures paid { Paid cursor.old cursor.new }
+    ensures advances { Advances 2 cursor.old cursor.new }
     ensures together { cursor.new.ahead ≡ cursor.new.rest }
     ensures digit { OnOk result (lead cursor.old.rest ≡ Lead.Digit) }
     ensures moves { OnOk result (cursor.new.rest ≡ past_number cursor.old.rest) }
-    ensures tree { IfOk result (λ v. tree_of v ≡ number_tree (string_bytes sign) cursor.old.rest) }
+    ensures tree { IfOk result (λ v. tree_of v
+        ≡ number_tree (string_bytes sign) cursor.old.rest) }
     ensures shallow { result ≢ Err Fault.TooDeep }
     ensures none { result ≡ Err Fault.UnexpectedToken → lead cursor.old.rest ≢ Lead.Digit }
 {
@@ -79,14 +76,14 @@ fn unsigned(cursor: &mut Cursor<'_>, sign: String) -> Result<AvnValue, Fault>
 #[inline(always)]
 pub fn number(alloc: Global, cursor: &mut Cursor<'_>) -> Result<AvnValue, Fault>
     requires together { cursor.old.ahead ≡ cursor.old.rest }
-    requires begins { (lead cursor.old.rest ≡ Lead.Digit) ⊎ (lead cursor.old.rest ≡ Lead.Minus) }
-    ensures same { cursor.new.text ≡ cursor.old.text }
-    ensures rises { cursor.old.looks ≤ cursor.new.looks }
-    ensures paid { Paid cursor.old cursor.new }
+    requires begins { (lead cursor.old.rest ≡ Lead.Digit)
+        ⊎ (lead cursor.old.rest ≡ Lead.Minus) }
+    ensures advances { Advances 2 cursor.old cursor.new }
     ensures together { cursor.new.ahead ≡ cursor.new.rest }
     ensures ok { IfOk result (λ v. Token cursor.old.rest (tree_of v) cursor.new.rest) }
     ensures shallow { result ≢ Err Fault.TooDeep }
-    ensures none { result ≡ Err Fault.UnexpectedToken → (t : Tree) (n : List ℕ) → Token cursor.old.rest t n → ⊥ }
+    ensures none { result ≡ Err Fault.UnexpectedToken
+        → (tree : Tree) (rest : List ℕ) → Token cursor.old.rest tree rest → ⊥ }
 {
     match cursor.lead() {
         Lead::Minus => {
@@ -104,14 +101,12 @@ pub fn number(alloc: Global, cursor: &mut Cursor<'_>) -> Result<AvnValue, Fault>
 pub fn text(alloc: Global, cursor: &mut Cursor<'_>) -> Result<AvnValue, Fault>
     requires together { cursor.old.ahead ≡ cursor.old.rest }
     requires quote { lead cursor.old.rest ≡ Lead.Quote }
-    ensures same { cursor.new.text ≡ cursor.old.text }
-    ensures rises { cursor.old.looks ≤ cursor.new.looks }
-    ensures paid { Paid cursor.old cursor.new }
+    ensures advances { Advances 2 cursor.old cursor.new }
     ensures together { cursor.new.ahead ≡ cursor.new.rest }
     ensures ok { IfOk result (λ v. Token cursor.old.rest (tree_of v) cursor.new.rest) }
     ensures shallow { result ≢ Err Fault.TooDeep }
-    ensures none { result ≡ Err Fault.UnexpectedToken → (t : Tree) (n : List ℕ) → Token cursor.old.rest t n → ⊥ }
-    ensures shorter { length cursor.new.rest ≤ length cursor.old.rest }
+    ensures none { result ≡ Err Fault.UnexpectedToken
+        → (tree : Tree) (rest : List ℕ) → Token cursor.old.rest tree rest → ⊥ }
 {
     let mut content = String::new(alloc);
     let mut room = [0; CHUNK];

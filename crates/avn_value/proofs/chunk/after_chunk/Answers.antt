@@ -1,4 +1,4 @@
-use Rattle.std.proofs.Common.{◌≡◌, ◌≢◌, ◌<◌, ◌≤◌, ◌+◌, [], ◌∷◌, ◌++◌, arith, ap, sym, subst, ◌∙◌, take, length, set}
+use Rattle.std.proofs.Common.{◌≡◌, ◌≢◌, ◌<◌, ◌+◌, [], ◌∷◌, ◌++◌, arith, ap, sym, subst, ◌∙◌, take, length, set}
 use Rattle.std.proofs.lemmas.Grind.{common_steps}
 use Rattle.std.proofs.lemmas.Bool.{false_from_ne_true, eqb-true, ltb-true}
 use Rattle.std.proofs.lemmas.List.{take_more_set, length-set}
@@ -6,7 +6,8 @@ use Rattle.std.proofs.lemmas.Str.Ascii.{IsAscii-push}
 use Rattle.std.specs.Char.{is_ascii}
 use Rattle.std.specs.Str.{IsAscii}
 use Rattle.avn_grammar.specs.Chars.{begins, doubled, tail}
-use Rattle.avn_value.specs.Ahead.{Costs}
+use Rattle.avn_value.specs.Ahead.{Advances}
+use Rattle.avn_value.proofs.Paying.{advances_on}
 use Rattle.avn_value.proofs.QuotedText.{plain_more, quote_more, taken, written_more}
 use Rattle.avn_value.proofs.chunk.after_chunk.Goals as goal
 use Rattle.avn_value.proofs.chunk.after_chunk.Goals.{then-c-eq34+else-is_none, else-c-eq34}
@@ -89,16 +90,14 @@ taking-preserved c =
           rw w.here-is (plain_more _ _ _ cs x i.taken (false_from_ne_true _ (λ h. ne (eqb-true _ _ h))) found.1)
     ] in
     let within : n < length room = omega (arith, i.room, i.within) in
-    let kept : (at.text ≡ c.args.cursor.text) × (c.args.cursor.looks ≤ at.looks) × Costs c.args.cursor at × (at.ahead ≡ at.rest) =
+    let kept : Advances 1 c.args.cursor at =
     elim c.if-c-eq34.branch [
       | then-c-eq34+else-is_none w ↦ rw w.here-is (grind (arith, common_steps))
       | else-c-eq34 w ↦ rw w.here-is (grind (arith, common_steps))
     ] in
     let grown : take (n + 1) (set room n x) ≡ cs ++ (x ∷ []) = take_more_set room n x within in
     record {
-      same = c.next_ascii.ensures.same ∙ kept.0;
-      rises = omega (arith, kept.1, c.next_ascii.ensures.rises);
-      cost = (omega (arith, kept.2.0, c.next_ascii.ensures.cost.0), omega (arith, kept.2.1, c.next_ascii.ensures.cost.1));
+      advances = advances_on kept c.next_ascii.ensures.advances;
       together = c.next_ascii.ensures.together;
       found = c.in-Some-next_ascii.ensures.found;
       room = length-set room n x ∙ i.room;

@@ -1,16 +1,14 @@
-use Rattle.std.proofs.Common.{◌≡◌, ◌≤◌, ◌<◌, ◌-◌, ◌∷◌, ◌++◌, take, length, true}
+use Rattle.std.proofs.Common.{◌≡◌, ◌<◌, ◌-◌, ◌∷◌, ◌++◌, take, length, true}
 use Rattle.std.specs.Char.{is_ascii}
 use Rattle.std.specs.Str.{IsAscii}
 use Rattle.avn_grammar.specs.Chars.{doubled, tail}
-use Rattle.avn_value.specs.Ahead.{Costs}
+use Rattle.avn_value.specs.Ahead.{Advances}
 use Rattle.avn_value.proofs.chunk.after_chunk.Given as goal
 
 -- The characters that were taken stand before what is ahead, each quote twice.
 abbrev pub invariant-taking : goal.invariant-taking
 invariant-taking l = record {
-  same : l.here.text ≡ l.initial.here.text;
-  rises : l.initial.here.looks ≤ l.here.looks;
-  cost : Costs l.initial.here l.here;
+  advances : Advances 1 l.initial.here l.here;
   together : l.here.ahead ≡ l.here.rest;
   found : (is_ascii l.c ≡ true) × (l.here.rest ≡ l.c ∷ tail l.here.rest);
   room : length l.room ≡ 256;

@@ -80,8 +80,6 @@ read_items-items-preserved-in-Comma t c =
       going_comma c.args.limit c.args.level c.args.cursor.now.rest k.cursor.rest c.read_item.new.cursor.rest k.gathered c.push.new.self _ k.invariant.0 c.in_ok-entry.ensures.ok c.in_ok-push.ensures.ok
           c.take-comma.new.self.rest next (omega (arith, c.in_ok-entry.ensures.shorter, tail-le (skip c.read_item.new.cursor.rest), skip-le c.read_item.new.cursor.rest, ap (λ (x : List ℕ). length x) next)) comma,
       grind (arith, common_steps),
-      grind (arith, common_steps),
-      grind (arith, common_steps),
     )
 
 pub read_items-returns-in-CloseBrace-clause-ok : goal.read_items-returns-in-CloseBrace-clause-ok
@@ -100,8 +98,6 @@ read_items-items-preserved t c =
     let next : c.lead.new.self.rest ≡ skip c.read_item.new.cursor.rest = cc in (
       going_number c.args.limit c.args.level c.args.cursor.now.rest k.cursor.rest c.read_item.new.cursor.rest k.gathered c.push.new.self _ k.invariant.0 c.in_ok-entry.ensures.ok c.in_ok-push.ensures.ok
           c.lead.new.self.rest next (omega (arith, c.in_ok-entry.ensures.shorter, skip-le c.read_item.new.cursor.rest, ap (λ (x : List ℕ). length x) next)) digit (grind (arith, common_steps)),
-      grind (arith, common_steps),
-      grind (arith, common_steps),
       grind (arith, common_steps),
     )
 

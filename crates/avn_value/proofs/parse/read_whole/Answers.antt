@@ -8,7 +8,7 @@ use Rattle.avn_value.proofs.parse.read_whole.Goals as goal
 
 pub returns-in-Err-UnexpectedToken-clause-err : goal.returns-in-Err-UnexpectedToken-clause-err
 returns-in-Err-UnexpectedToken-clause-err c =
-    let same = ap chars c.read_value.ensures.same ∙ sym c.requires.whole in
+    let same = ap chars c.read_value.ensures.advances.same ∙ sym c.requires.whole in
     found_explains (c.in-Err-UnexpectedToken.ensures.none cc) (c.in-Err-UnexpectedToken.ensures.token cc) (subst (λ u. IsFoundOrMemory u (error_stop c.no_value.result)) same c.no_value.ensures.error)
 
 pub returns-in-Err-TooDeep-clause-err : goal.returns-in-Err-TooDeep-clause-err

@@ -3,12 +3,12 @@ use Rattle.std.proofs.lemmas.Grind.{common_steps}
 use Rattle.avn_grammar.specs.Grammar.{Token}
 use Rattle.avn_grammar.specs.Tree.{char_string}
 use Rattle.avn_value.proofs.NoToken.{text_none}
-use Rattle.avn_value.proofs.QuotedText.{open_quote, text_done, plain_more, spelled_more, chunk_more, chunk_shorter, spelled_chunk, wide_other}
+use Rattle.avn_value.proofs.QuotedText.{open_quote, text_done, plain_more, spelled_more, chunk_more, spelled_chunk, wide_other}
 use Rattle.avn_value.proofs.Views.{view-CharString}
 use Rattle.avn_value.proofs.token.text.Goals as goal
 
 pub chunks-init : goal.chunks-init
-chunks-init c = ([], c.new-content.ensures.bytes, open_quote c.args.cursor.now.rest c.requires.quote ∙ ap (λ x. 34 ∷ x) (sym c.take-open.ensures.moves), c.take-open.ensures.shorter, grind (arith, common_steps), grind (arith, common_steps), grind (arith, common_steps), grind (arith, common_steps))
+chunks-init c = ([], c.new-content.ensures.bytes, open_quote c.args.cursor.now.rest c.requires.quote ∙ ap (λ x. 34 ∷ x) (sym c.take-open.ensures.moves), grind (arith, common_steps), grind (arith, common_steps))
 
 pub returns-then-chunk-clause-ok : goal.returns-then-chunk-clause-ok
 returns-then-chunk-clause-ok c =
@@ -40,9 +40,6 @@ chunks-preserved-in-Continue-branch-2 c =
       (i.0 ++ ds) ++ (x ∷ []),
       spelled_more _ _ (i.0 ++ ds) x bytes c.in_ok-push.ensures.bytes,
       plain_more _ _ _ (i.0 ++ ds) x more other c.in-Some.ensures.found,
-      omega (arith, chunk_shorter _ _ ds on, i.3, c.take.ensures.shorter),
-      grind (arith, common_steps),
-      grind (arith, common_steps),
       grind (arith, common_steps),
       grind (arith, common_steps),
     )
@@ -56,9 +53,6 @@ chunks-preserved c =
       i.0 ++ ds,
       spelled_chunk _ _ _ i.0 ds i.1 c.in_ok-push_str.ensures.bytes c.ascii.ensures e.ascii,
       chunk_more _ _ _ i.0 ds i.2 on,
-      omega (arith, chunk_shorter _ _ ds on, i.3),
-      grind (arith, common_steps),
-      grind (arith, common_steps),
       grind (arith, common_steps),
       grind (arith, common_steps),
     )

@@ -1,11 +1,11 @@
-use Rattle.std.proofs.Common.{◌≤◌, ◌≡◌, length, ◌++◌}
+use Rattle.std.proofs.Common.{◌≡◌, length, ◌++◌}
 use Rattle.avn_grammar.specs.Chars.{past, front, inside, solid}
-use Rattle.avn_value.specs.Ahead.{Costs}
+use Rattle.avn_value.specs.Ahead.{Advances}
 use Rattle.avn_value.proofs.cursor.Cursor.after_inside.Given as goal
 
 abbrev pub invariant-loop-c : goal.invariant-loop-c
 invariant-loop-c l =
-    (l.here.text ≡ l.initial.here.text) × Costs l.initial.here l.here × (l.here.ahead ≡ l.here.rest) × (l.initial.here.looks ≤ l.here.looks) × (past inside l.here.rest ≡ past inside l.initial.here.rest)
+    Advances 1 l.initial.here l.here × (l.here.ahead ≡ l.here.rest) × (past inside l.here.rest ≡ past inside l.initial.here.rest)
     × (l.out.items ++ solid (front inside l.here.rest) ≡ l.initial.out.items ++ solid (front inside l.initial.here.rest))
 
 abbrev pub decreases-loop-c : goal.decreases-loop-c

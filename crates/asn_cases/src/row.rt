@@ -7,10 +7,10 @@ use crate::repeat::write_out;
 use asn_convert::{MemorySink, MemorySource, run};
 use std::alloc::{AllocError, Global};
 
-/// The most bytes that the source gives in one read, and that the sink takes in one write: few, so
-/// that each run reads and writes several times.
+/// The most bytes that the source gives in one read: few, so that each run reads several times.
 const READ_PIECE: usize = 7;
 
+/// The most bytes that the sink takes in one write: few, for the same reason.
 const WRITE_PIECE: usize = 5;
 
 /// What the program is given, what fails meanwhile, and what is expected to come out.

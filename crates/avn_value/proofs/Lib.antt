@@ -5,6 +5,7 @@ pub mod Doubling
 pub mod Forms
 pub mod Joins
 pub mod Packed
+pub mod Leads
 pub mod Looking
 pub mod Pairs
 pub mod Items

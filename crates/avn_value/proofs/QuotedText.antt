@@ -1,43 +1,16 @@
 -- Texts in quotes.
 use Rattle.std.specs.Prelude.{not, is_some}
-use Rattle.std.proofs.Common.{Option, Some, None, MatchOption, ◌≡◌, ◌≢◌, inl, inr, ℕ, List, [], ◌∷◌, ◌++◌, Bool, true, false, cond, ◌==◌, refl, sym, ap, subst, ◌∙◌, append_assoc, ◌+◌, ◌≤◌, ◌<◌, take, set, length, length-append, arith}
-use Rattle.std.proofs.lemmas.Bool.{cases_Bool, eqb-true, eq-eqb, false_from_ne_true}
+use Rattle.std.proofs.Common.{Option, Some, None, MatchOption, ◌≡◌, ◌≢◌, ℕ, List, [], ◌∷◌, ◌++◌, Bool, true, false, cond, ◌==◌, refl, sym, ap, subst, ◌∙◌, append_assoc, ◌+◌, ◌≤◌, ◌<◌, take, set, length, length-append, arith}
+use Rattle.std.proofs.lemmas.Bool.{eqb-true, eq-eqb, false_from_ne_true}
 use Rattle.std.proofs.lemmas.List.{append-nil, take_more_set}
 use Rattle.std.proofs.lemmas.Str.{encodes-append, encodes-IsAscii}
 use Rattle.std.specs.Char.{encode_utf8, is_ascii}
 use Rattle.std.specs.Str.{IsAscii}
-use Rattle.avn_grammar.specs.declared.chars.Lead.{Lead}
 use Rattle.avn_grammar.specs.declared.chars.Lead.TheVariants as is
-use Rattle.avn_grammar.specs.Chars.{lead, lead_of, tail, is_space, is_letter, is_digit, begins, doubled, spelled}
+use Rattle.avn_grammar.specs.Chars.{lead, tail, begins, doubled, spelled}
 use Rattle.avn_grammar.specs.Grammar.{Token, text_token}
 use Rattle.avn_grammar.specs.Tree.{char_string}
-
-passed : (b : Bool) (x y q : Lead) → cond b x y ≡ q → (x ≡ q → ⊥) → y ≡ q
-passed true x y q h n = absurd (n h)
-passed false x y q h n = h
-
-failed : (b : Bool) (x y q : Lead) → cond b x y ≡ q → b ≡ false → y ≡ q
-failed true x y q h n = let never : ⊥ = cc in absurd never
-failed false x y q h n = h
-
-pub lead_quote : (c : ℕ) → lead_of c ≡ is.Quote → c ≡ 34
-unfolding lead_of
-lead_quote c h = elim (cases_Bool (c == 34)) [
-  | inl e ↦ eqb-true c 34 e
-  | inr e ↦
-      let a = passed (is_space c) _ _ _ h (λ x. let n : ⊥ = cc in n) in
-      let b = passed (is_letter c) _ _ _ a (λ x. let n : ⊥ = cc in n) in
-      let d = passed (is_digit c) _ _ _ b (λ x. let n : ⊥ = cc in n) in
-      let f = passed (c == 45) _ _ _ d (λ x. let n : ⊥ = cc in n) in
-      let g = failed (c == 34) _ _ _ f e in
-      let g' = passed (c == 39) _ _ _ g (λ x. let n : ⊥ = cc in n) in
-      let i = passed (c == 123) _ _ _ g' (λ x. let n : ⊥ = cc in n) in
-      let j = passed (c == 125) _ _ _ i (λ x. let n : ⊥ = cc in n) in
-      let k = passed (c == 44) _ _ _ j (λ x. let n : ⊥ = cc in n) in
-      let l = passed (c == 58) _ _ _ k (λ x. let n : ⊥ = cc in n) in
-      let m : is.Other ≡ is.Quote = passed (c == 95) _ _ _ l (λ x. let n : ⊥ = cc in n) in
-      let n : ⊥ = cc in absurd n
-]
+use Rattle.avn_value.proofs.Leads.{lead_quote}
 
 pub open_quote : (u : List ℕ) → lead u ≡ is.Quote → u ≡ 34 ∷ tail u
 open_quote [] h = let n : ⊥ = cc in absurd n

@@ -1,66 +1,20 @@
 -- Steps of a reader.
 use Rattle.std.proofs.Common.{◌≡◌, ◌≢◌, inl, inr, ℕ, suc, ◌+◌, ◌<◌, ◌≤◌, List, [], ◌∷◌, ◌++◌, Bool, true, false, cond, ◌==◌, ◌||◌, sym, ap, subst, ◌∙◌, append_assoc, length, arith, add-one, length-append, Result, Ok, Err, IfOk, OnOk, Option, Some, None}
-use Rattle.std.proofs.lemmas.Bool.{cases_Bool}
 use Rattle.avn_grammar.specs.declared.chars.Lead.{Lead}
 use Rattle.avn_grammar.specs.declared.chars.Lead.TheVariants as is
 use Rattle.avn_grammar.proofs.DeepStands.{close_comma, number_comma, number_close}
 use Rattle.avn_grammar.proofs.Refusals.{Follows, follows, ends, after_comma, after_number}
 use Rattle.avn_grammar.proofs.Runs.{past-le, skip-le}
-use Rattle.avn_grammar.specs.Chars.{lead, lead_of, tail, past, skip, is_space, is_letter, is_digit, is_name, doubled, has_fraction, inside, spelled}
+use Rattle.avn_grammar.specs.Chars.{lead, tail, past, skip, is_letter, is_digit, is_name, doubled, has_fraction, inside, spelled}
 use Rattle.avn_grammar.specs.Depth.{Deep, ItemDeep, ItemsDeep, deep_payload, deep_braces, deep_choice, deep_field, deep_value, deep_after_comma, deep_after_number}
 use Rattle.avn_grammar.specs.Grammar.{word_of, Token, number_token, past_number, negative_token, octets_token, bits_token, text_token, Ident, ComesAfterWord, BeginsNumber, Item, named, bare, IsGathered, BracesStand, Stands, token, bare_word, choose, empty_braces, fields_in_braces, list_in_braces, ItemStands, choice_item, word_item, field_item, value_item, ItemsStand, last_item, comma_item, number_item}
 use Rattle.avn_grammar.specs.Tree.{Tree, choice, sequence_of, no_trees}
 use Rattle.avn_value.proofs.Going.{Going}
+use Rattle.avn_value.proofs.Leads.{lead_letter, lead_digit}
 use Rattle.avn_value.proofs.NotDeep.{deep_comma_only, deep_number_only}
 use Rattle.avn_value.specs.Gathering.{Holds}
 use Rattle.std.specs.Prelude.{ok_or, IfSome, IfNone}
 use Rattle.avn_value.specs.declared.gathered.Gathered.{Gathered}
-
-passed : (b : Bool) (x y q : Lead) → cond b x y ≡ q → (x ≡ q → ⊥) → y ≡ q
-passed true x y q h n = absurd (n h)
-passed false x y q h n = h
-
-failed : (b : Bool) (x y q : Lead) → cond b x y ≡ q → b ≡ false → y ≡ q
-failed true x y q h n = let never : ⊥ = cc in absurd never
-failed false x y q h n = h
-
-pub lead_letter : (c : ℕ) → lead_of c ≡ is.Letter → is_letter c ≡ true
-unfolding lead_of
-lead_letter c h = elim (cases_Bool (is_letter c)) [
-  | inl e ↦ e
-  | inr e ↦
-      let a0 = passed (is_space c) _ _ _ h (λ x. let n : ⊥ = cc in n) in
-      let a1 = failed (is_letter c) _ _ _ a0 e in
-      let a2 = passed (is_digit c) _ _ _ a1 (λ x. let n : ⊥ = cc in n) in
-      let a3 = passed (c == 45) _ _ _ a2 (λ x. let n : ⊥ = cc in n) in
-      let a4 = passed (c == 34) _ _ _ a3 (λ x. let n : ⊥ = cc in n) in
-      let a4' = passed (c == 39) _ _ _ a4 (λ x. let n : ⊥ = cc in n) in
-      let a5 = passed (c == 123) _ _ _ a4' (λ x. let n : ⊥ = cc in n) in
-      let a6 = passed (c == 125) _ _ _ a5 (λ x. let n : ⊥ = cc in n) in
-      let a7 = passed (c == 44) _ _ _ a6 (λ x. let n : ⊥ = cc in n) in
-      let a8 = passed (c == 58) _ _ _ a7 (λ x. let n : ⊥ = cc in n) in
-      let a9 : is.Other ≡ is.Letter = passed (c == 95) _ _ _ a8 (λ x. let n : ⊥ = cc in n) in
-      let n : ⊥ = cc in absurd n
-]
-
-pub lead_digit : (c : ℕ) → lead_of c ≡ is.Digit → is_digit c ≡ true
-unfolding lead_of
-lead_digit c h = elim (cases_Bool (is_digit c)) [
-  | inl e ↦ e
-  | inr e ↦
-      let a0 = passed (is_space c) _ _ _ h (λ x. let n : ⊥ = cc in n) in
-      let a1 = passed (is_letter c) _ _ _ a0 (λ x. let n : ⊥ = cc in n) in
-      let a2 = failed (is_digit c) _ _ _ a1 e in
-      let a3 = passed (c == 45) _ _ _ a2 (λ x. let n : ⊥ = cc in n) in
-      let a4 = passed (c == 34) _ _ _ a3 (λ x. let n : ⊥ = cc in n) in
-      let a4' = passed (c == 39) _ _ _ a4 (λ x. let n : ⊥ = cc in n) in
-      let a5 = passed (c == 123) _ _ _ a4' (λ x. let n : ⊥ = cc in n) in
-      let a6 = passed (c == 125) _ _ _ a5 (λ x. let n : ⊥ = cc in n) in
-      let a7 = passed (c == 44) _ _ _ a6 (λ x. let n : ⊥ = cc in n) in
-      let a8 = passed (c == 58) _ _ _ a7 (λ x. let n : ⊥ = cc in n) in
-      let a9 : is.Other ≡ is.Digit = passed (c == 95) _ _ _ a8 (λ x. let n : ⊥ = cc in n) in
-      let n : ⊥ = cc in absurd n
-]
 
 letter-name : (c : ℕ) → is_letter c ≡ true → is_name c ≡ true
 letter-name c h = ap (λ b. b || is_digit c || (c == 45) || (c == 95)) h

@@ -252,13 +252,14 @@ fn read_whole(alloc: Global, cursor: &mut Cursor<'_>, limit: usize) -> Result<Av
 }
 
 /// The value that the whole text of the scan is, in the ASN.1 value notation (X.680), where no
-/// value is looked for at a level above 64. White space may follow it. What the scan counts rises
-/// by at most 16 for each character and 16 more, whatever the answer.
+/// value is looked for at a level above `LEVEL_LIMIT`. White space may follow it. What the scan
+/// counts rises by at most `LOOKS_PER_CHARACTER` for each character, and as many more, whatever the
+/// answer.
 ///
 /// The errors, of the codec AVN: `UnexpectedToken` where no value is read and none is looked for
-/// too deep, with the first 20 characters of what is not read, or where more than white space
-/// follows the value, with all that follows it; `ExceedsMaxParseDepth` where a value is looked for
-/// too deep; and `OutOfMemory`.
+/// too deep, with the first `EXCERPT_LENGTH` characters of what is not read, or where more than
+/// white space follows the value, with all that follows it; `ExceedsMaxParseDepth` where a value is
+/// looked for too deep; and `OutOfMemory`.
 pub fn parse_scan(alloc: Global, scan: &mut Scan<'_>) -> Result<AvnValue, DecodeError>
     ensures text { scan.new.text ≡ scan.old.text }
     ensures rises { scan.old.looks ≤ scan.new.looks }

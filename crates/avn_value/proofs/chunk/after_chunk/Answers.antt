@@ -10,100 +10,63 @@ use Rattle.avn_value.specs.Ahead.{Advances}
 use Rattle.avn_value.proofs.Paying.{advances_on}
 use Rattle.avn_value.proofs.QuotedText.{plain_more, quote_more, taken, written_more}
 use Rattle.avn_value.proofs.chunk.after_chunk.Goals as goal
-use Rattle.avn_value.proofs.chunk.after_chunk.Goals.{then-c-eq34+else-is_none, else-c-eq34}
+use Rattle.avn_value.proofs.chunk.after_chunk.Goals.{After-next_ascii, then-c-eq34+else-is_none, else-c-eq34}
+
+-- There is room for the character.
+within : (c : After-next_ascii) → c.taking.length < length c.taking.room
+within c = omega (arith, c.taking.invariant.room, c.taking.invariant.within)
+
+-- The characters with one more stand before what is ahead.
+written : (c : After-next_ascii) → 34 ∷ c.args.cursor.rest ≡ (34 ∷ doubled (take (c.taking.length + 1) (set c.taking.room c.taking.length c.taking.c))) ++ c.next_ascii.new.self.rest
+written c =
+    let i = c.taking.invariant in
+    let x = c.taking.c in
+    let n = c.taking.length in
+    let cs = take n c.taking.room in
+    let more : 34 ∷ c.args.cursor.rest ≡ (34 ∷ doubled (cs ++ (x ∷ []))) ++ tail c.if-c-eq34.here.rest =
+    elim c.if-c-eq34.branch [
+      | then-c-eq34+else-is_none w ↦
+          let d = taken _ _ _ _ w.is_none.ensures w.if-is_none.false w.peek_if-then-c-eq34.ensures in
+          let next : c.taking.here.rest ≡ x ∷ w.take-quote.new.self.rest = i.found.1 ∙ ap (λ t. x ∷ t) (sym w.take-quote.ensures.moves) in
+          rw w.here-is (quote_more _ _ _ _ cs x d.0 i.taken w.if-c-eq34.true (eqb-true d.0 34 d.1.0) next d.1.1)
+      | else-c-eq34 w ↦
+          let ne : x ≢ 34 = w.if-c-eq34.false in
+          rw w.here-is (plain_more _ _ _ cs x i.taken (false_from_ne_true _ (λ h. ne (eqb-true _ _ h))) i.found.1)
+    ] in
+    written_more _ _ c.taking.room n x (within c) (more ∙ ap (λ t. (34 ∷ doubled (cs ++ (x ∷ []))) ++ t) (sym c.next_ascii.ensures.moves))
+
+-- The characters with one more are ASCII.
+all_ascii : (c : After-next_ascii) → IsAscii (take (c.taking.length + 1) (set c.taking.room c.taking.length c.taking.c))
+all_ascii c =
+    let i = c.taking.invariant in
+    subst IsAscii (sym (take_more_set c.taking.room c.taking.length c.taking.c (within c))) (IsAscii-push (take c.taking.length c.taking.room) c.taking.c i.ascii (ltb-true c.taking.c 128 i.found.0))
 
 pub returns-then-length-eq-CHUNK-clause-unclosed : goal.returns-then-length-eq-CHUNK-clause-unclosed
-returns-then-length-eq-CHUNK-clause-unclosed c = λ e.
-    let i = c.taking.invariant in
-    let x = c.taking.c in
-    let n = c.taking.length in
-    let room = c.taking.room in
-    let cs = take n room in
-    let r = c.taking.here.rest in
-    let found = i.found in
-    let at = c.if-c-eq34.here in
-    let more : 34 ∷ c.args.cursor.rest ≡ (34 ∷ doubled (cs ++ (x ∷ []))) ++ tail at.rest =
-    elim c.if-c-eq34.branch [
-      | then-c-eq34+else-is_none w ↦
-          let d = taken _ _ _ _ w.is_none.ensures w.if-is_none.false w.peek_if-then-c-eq34.ensures in
-          let next : r ≡ x ∷ w.take-quote.new.self.rest = found.1 ∙ ap (λ t. x ∷ t) (sym w.take-quote.ensures.moves) in
-          rw w.here-is (quote_more _ _ _ _ cs x d.0 i.taken w.if-c-eq34.true (eqb-true d.0 34 d.1.0) next d.1.1)
-      | else-c-eq34 w ↦
-          let ne : x ≢ 34 = w.if-c-eq34.false in
-          rw w.here-is (plain_more _ _ _ cs x i.taken (false_from_ne_true _ (λ h. ne (eqb-true _ _ h))) found.1)
-    ] in
-    let within : n < length room = omega (arith, i.room, i.within) in
-    written_more _ _ room n x within (more ∙ ap (λ t. (34 ∷ doubled (cs ++ (x ∷ []))) ++ t) (sym c.next_ascii.ensures.moves))
-    ∙ ap (λ k. (34 ∷ doubled (take k (set room n x))) ++ c.next_ascii.new.self.rest) (sym c.unfinished-then-length-eq-CHUNK.ensures.length)
+returns-then-length-eq-CHUNK-clause-unclosed c = λ e. rw c.unfinished-then-length-eq-CHUNK.ensures.length (written (goal.at.returns-then-length-eq-CHUNK-clause-unclosed c).After-next_ascii)
 
 pub returns-in_default-next_ascii-clause-unclosed : goal.returns-in_default-next_ascii-clause-unclosed
-returns-in_default-next_ascii-clause-unclosed c = λ e.
-    let i = c.taking.invariant in
-    let x = c.taking.c in
-    let n = c.taking.length in
-    let room = c.taking.room in
-    let cs = take n room in
-    let r = c.taking.here.rest in
-    let found = i.found in
-    let at = c.if-c-eq34.here in
-    let more : 34 ∷ c.args.cursor.rest ≡ (34 ∷ doubled (cs ++ (x ∷ []))) ++ tail at.rest =
-    elim c.if-c-eq34.branch [
-      | then-c-eq34+else-is_none w ↦
-          let d = taken _ _ _ _ w.is_none.ensures w.if-is_none.false w.peek_if-then-c-eq34.ensures in
-          let next : r ≡ x ∷ w.take-quote.new.self.rest = found.1 ∙ ap (λ t. x ∷ t) (sym w.take-quote.ensures.moves) in
-          rw w.here-is (quote_more _ _ _ _ cs x d.0 i.taken w.if-c-eq34.true (eqb-true d.0 34 d.1.0) next d.1.1)
-      | else-c-eq34 w ↦
-          let ne : x ≢ 34 = w.if-c-eq34.false in
-          rw w.here-is (plain_more _ _ _ cs x i.taken (false_from_ne_true _ (λ h. ne (eqb-true _ _ h))) found.1)
-    ] in
-    let within : n < length room = omega (arith, i.room, i.within) in
-    written_more _ _ room n x within (more ∙ ap (λ t. (34 ∷ doubled (cs ++ (x ∷ []))) ++ t) (sym c.next_ascii.ensures.moves))
-    ∙ ap (λ k. (34 ∷ doubled (take k (set room n x))) ++ c.next_ascii.new.self.rest) (sym c.unfinished-in_default-next_ascii.ensures.length)
+returns-in_default-next_ascii-clause-unclosed c = λ e. rw c.unfinished-in_default-next_ascii.ensures.length (written (goal.at.returns-in_default-next_ascii-clause-unclosed c).After-next_ascii)
 
 pub returns-then-length-eq-CHUNK-clause-ascii : goal.returns-then-length-eq-CHUNK-clause-ascii
-returns-then-length-eq-CHUNK-clause-ascii c =
-    let i = c.taking.invariant in
-    let n = c.taking.length in
-    let room = c.taking.room in
-    let within : n < length room = omega (arith, i.room, i.within) in
-    let grown : take c.unfinished-then-length-eq-CHUNK.result.length (set room n c.taking.c) ≡ take n room ++ (c.taking.c ∷ []) = ap (λ k. take k (set room n c.taking.c)) c.unfinished-then-length-eq-CHUNK.ensures.length ∙ take_more_set room n c.taking.c within in
-    subst IsAscii (sym grown) (IsAscii-push (take n room) c.taking.c i.ascii (ltb-true c.taking.c 128 i.found.0))
+returns-then-length-eq-CHUNK-clause-ascii c = rw c.unfinished-then-length-eq-CHUNK.ensures.length (all_ascii (goal.at.returns-then-length-eq-CHUNK-clause-ascii c).After-next_ascii)
 
 pub taking-preserved : goal.taking-preserved
 taking-preserved c =
     let i = c.taking.invariant in
-    let x = c.taking.c in
-    let n = c.taking.length in
-    let room = c.taking.room in
-    let cs = take n room in
-    let r = c.taking.here.rest in
-    let found = i.found in
-    let at = c.if-c-eq34.here in
-    let more : 34 ∷ c.args.cursor.rest ≡ (34 ∷ doubled (cs ++ (x ∷ []))) ++ tail at.rest =
-    elim c.if-c-eq34.branch [
-      | then-c-eq34+else-is_none w ↦
-          let d = taken _ _ _ _ w.is_none.ensures w.if-is_none.false w.peek_if-then-c-eq34.ensures in
-          let next : r ≡ x ∷ w.take-quote.new.self.rest = found.1 ∙ ap (λ t. x ∷ t) (sym w.take-quote.ensures.moves) in
-          rw w.here-is (quote_more _ _ _ _ cs x d.0 i.taken w.if-c-eq34.true (eqb-true d.0 34 d.1.0) next d.1.1)
-      | else-c-eq34 w ↦
-          let ne : x ≢ 34 = w.if-c-eq34.false in
-          rw w.here-is (plain_more _ _ _ cs x i.taken (false_from_ne_true _ (λ h. ne (eqb-true _ _ h))) found.1)
-    ] in
-    let within : n < length room = omega (arith, i.room, i.within) in
-    let kept : Advances 1 c.args.cursor at =
+    let s = (goal.at.taking-preserved c).After-next_ascii in
+    let kept : Advances 1 c.args.cursor c.if-c-eq34.here =
     elim c.if-c-eq34.branch [
       | then-c-eq34+else-is_none w ↦ rw w.here-is (grind (arith, common_steps))
       | else-c-eq34 w ↦ rw w.here-is (grind (arith, common_steps))
     ] in
-    let grown : take (n + 1) (set room n x) ≡ cs ++ (x ∷ []) = take_more_set room n x within in
     record {
       advances = advances_on kept c.next_ascii.ensures.advances;
       together = c.next_ascii.ensures.together;
       found = c.in-Some-next_ascii.ensures.found;
-      room = length-set room n x ∙ i.room;
+      room = length-set c.taking.room c.taking.length c.taking.c ∙ i.room;
       within = omega (arith, i.within, c.if-length-eq-CHUNK.false);
-      ascii = subst IsAscii (sym grown) (IsAscii-push cs x i.ascii (ltb-true x 128 found.0));
-      taken = written_more _ _ room n x within (more ∙ ap (λ t. (34 ∷ doubled (cs ++ (x ∷ []))) ++ t) (sym c.next_ascii.ensures.moves));
+      ascii = all_ascii s;
+      taken = written s;
     }
 
 pub next_ascii-requires-clause-ascii : goal.next_ascii-requires-clause-ascii

@@ -22,9 +22,8 @@ word_shorter u w id r n e i f = omega (arith, ident-shorter w id r i, skip-le u,
 
 pub read_item-returns-in_default-clause-ok : goal.read_item-returns-in_default-clause-ok
 read_item-returns-in_default-clause-ok t c =
-    let at : c.lead.new.self.rest ≡ skip c.args.cursor.now.rest = cc in
     let first : lead c.lead.new.self.rest ≢ is.Letter = λ h. c.in_default.not-Letter (c.lead.ensures.found ∙ ap lead (sym c.lead.ensures.stays) ∙ h) in
-    item_value c.args.limit c.args.level _ c.lead.new.self.rest at c.lead.new.self.rest _ _ refl first c.in_ok-bare-in_default.ensures.ok
+    item_value c.args.limit c.args.level c.args.cursor.now.rest c.lead.new.self.rest (cc) c.lead.new.self.rest _ _ refl first c.in_ok-bare-in_default.ensures.ok
 
 pub read_item-returns-in_default-clause-shorter : goal.read_item-returns-in_default-clause-shorter
 read_item-returns-in_default-clause-shorter t c =
@@ -34,19 +33,15 @@ read_item-returns-in_default-clause-shorter t c =
 
 pub read_item-returns-in_ok-payload-in-Colon-2-clause-ok : goal.read_item-returns-in_ok-payload-in-Colon-2-clause-ok
 read_item-returns-in_ok-payload-in-Colon-2-clause-ok t c =
-    let at : c.lead.new.self.rest ≡ skip c.args.cursor.now.rest = cc in
     let i = c.in_ok-name.ensures.ok in
-    let colon : lead (skip c.identifier.new.cursor.rest) ≡ is.Colon = cc in
-    let z : c.take-colon.new.self.rest ≡ tail (skip c.identifier.new.cursor.rest) = cc in
-    item_choice c.args.limit c.args.level _ c.lead.new.self.rest at c.identifier.new.cursor.rest c.take-colon.new.self.rest _ i.0 _ _ _ _ i.1 colon z c.in_ok-payload-in-Colon.ensures.ok
+    item_choice c.args.limit c.args.level c.args.cursor.now.rest c.lead.new.self.rest (cc) c.identifier.new.cursor.rest c.take-colon.new.self.rest _ i.0 _ _ _ _ i.1 (cc) (cc) c.in_ok-payload-in-Colon.ensures.ok
     (view-Choice c.in_ok-name.name c.in_ok-payload-in-Colon-2.payload) i.2 (ap tree_of c.in_ok-payload-in-Colon-2.ensures.ok)
 
 pub read_item-returns-in-Comma-clause-ok : goal.read_item-returns-in-Comma-clause-ok
 read_item-returns-in-Comma-clause-ok t c =
-    let at : c.lead.new.self.rest ≡ skip c.args.cursor.now.rest = cc in
     let i = c.in_ok-name.ensures.ok in
     let follows : ComesAfterWord (lead (skip c.identifier.new.cursor.rest)) = subst ComesAfterWord c.lead_past_blanks.ensures.found c.in-Comma.is in
-    item_word c.args.limit c.args.level _ c.lead.new.self.rest at c.identifier.new.cursor.rest c.lead_past_blanks.new.self.rest i.0 _ _ i.1 follows c.lead_past_blanks.ensures.stays c.bare.ensures i.2
+    item_word c.args.limit c.args.level c.args.cursor.now.rest c.lead.new.self.rest (cc) c.identifier.new.cursor.rest c.lead_past_blanks.new.self.rest i.0 _ _ i.1 follows c.lead_past_blanks.ensures.stays c.bare.ensures i.2
 
 pub read_item-returns-in-Comma-clause-shorter : goal.read_item-returns-in-Comma-clause-shorter
 read_item-returns-in-Comma-clause-shorter t c =
@@ -85,11 +80,9 @@ read_items-items-preserved-in-Comma t c =
 pub read_items-returns-in-CloseBrace-clause-ok : goal.read_items-returns-in-CloseBrace-clause-ok
 read_items-returns-in-CloseBrace-clause-ok t c =
     let k = c.items in
-    let brace : lead (skip c.read_item.new.cursor.rest) ≡ is.CloseBrace = cc in
-    let next : c.take-close.new.self.rest ≡ tail (skip c.read_item.new.cursor.rest) = cc in
     all_closed _ _ tree_of c.args.limit c.args.level c.args.cursor.now.rest c.take-close.new.self.rest c.push.new.self _ c.finish.result c.ok_or.result c.ok_or.ensures.value c.finish.ensures.some
     (λ v f. closed c.args.limit c.args.level c.args.cursor.now.rest k.cursor.rest c.read_item.new.cursor.rest k.gathered c.push.new.self _ k.invariant.0 c.in_ok-entry.ensures.ok c.in_ok-push.ensures.ok
-    c.take-close.new.self.rest v next brace f)
+    c.take-close.new.self.rest v (cc) (cc) f)
 
 pub read_items-items-preserved : goal.read_items-items-preserved
 read_items-items-preserved t c =
@@ -103,19 +96,17 @@ read_items-items-preserved t c =
 
 pub read_value-returns-in_ok-payload-in-Colon-2-clause-ok : goal.read_value-returns-in_ok-payload-in-Colon-2-clause-ok
 read_value-returns-in_ok-payload-in-Colon-2-clause-ok t c =
-    let at : c.lead.new.self.rest ≡ skip c.args.cursor.now.rest = cc in
     let i = c.in_ok-name-in-Letter.ensures.ok in
     let colon : lead (skip c.identifier.new.cursor.rest) ≡ is.Colon = cc in
     let z : c.take-colon.new.self.rest ≡ tail (skip c.identifier.new.cursor.rest) = cc in
-    value_choice c.args.limit c.args.level _ c.lead.new.self.rest at c.identifier.new.cursor.rest c.take-colon.new.self.rest _ i.0 _ _ _ _ (omega arith) i.1 colon z c.in_ok-payload-in-Colon.ensures.ok
+    value_choice c.args.limit c.args.level c.args.cursor.now.rest c.lead.new.self.rest (cc) c.identifier.new.cursor.rest c.take-colon.new.self.rest _ i.0 _ _ _ _ (omega arith) i.1 colon z c.in_ok-payload-in-Colon.ensures.ok
     (view-Choice c.in_ok-name-in-Letter.name c.in_ok-payload-in-Colon-2.payload) i.2 (ap tree_of c.in_ok-payload-in-Colon-2.ensures.ok)
 
 pub read_value-returns-in_default-lead_past_blanks-clause-ok : goal.read_value-returns-in_default-lead_past_blanks-clause-ok
 read_value-returns-in_default-lead_past_blanks-clause-ok t c =
-    let at : c.lead.new.self.rest ≡ skip c.args.cursor.now.rest = cc in
     let i = c.in_ok-name-in-Letter.ensures.ok in
     let f = c.lead_past_blanks.ensures in
-    value_word c.args.limit c.args.level _ c.lead.new.self.rest at c.identifier.new.cursor.rest c.lead_past_blanks.new.self.rest i.0 _ _ (omega arith) i.1 (λ h. c.in_default-lead_past_blanks.not-Colon (f.found ∙ h)) f.stays
+    value_word c.args.limit c.args.level c.args.cursor.now.rest c.lead.new.self.rest (cc) c.identifier.new.cursor.rest c.lead_past_blanks.new.self.rest i.0 _ _ (omega arith) i.1 (λ h. c.in_default-lead_past_blanks.not-Colon (f.found ∙ h)) f.stays
     c.bare.ensures i.2
 
 pub read_value-returns-in_default-lead_past_blanks-clause-shorter : goal.read_value-returns-in_default-lead_past_blanks-clause-shorter
@@ -127,20 +118,18 @@ read_value-returns-in_default-lead_past_blanks-clause-shorter t c =
 
 pub read_value-returns-in-CloseBrace-clause-ok : goal.read_value-returns-in-CloseBrace-clause-ok
 read_value-returns-in-CloseBrace-clause-ok t c =
-    let at : c.lead.new.self.rest ≡ skip c.args.cursor.now.rest = cc in
     let first : lead c.lead.new.self.rest ≡ is.OpenBrace = cc in
     let brace : lead (skip c.take-open.new.self.rest) ≡ is.CloseBrace = cc in
     let next : c.take-close.new.self.rest ≡ tail (skip c.take-open.new.self.rest) = cc in
-    value_empty c.args.limit c.args.level _ c.lead.new.self.rest at c.take-open.new.self.rest _ _ (omega arith) first c.take-open.ensures.moves brace next
+    value_empty c.args.limit c.args.level c.args.cursor.now.rest c.lead.new.self.rest (cc) c.take-open.new.self.rest _ _ (omega arith) first c.take-open.ensures.moves brace next
     (view-SequenceOf c.new-in-CloseBrace.result ∙ ap (λ x. sequence_of (trees_in (map tree_of x))) c.new-in-CloseBrace.ensures.items)
 
 pub read_value-returns-in_ok-list-in_default-lead_past_blanks-2-clause-ok : goal.read_value-returns-in_ok-list-in_default-lead_past_blanks-2-clause-ok
 read_value-returns-in_ok-list-in_default-lead_past_blanks-2-clause-ok t c =
-    let at : c.lead.new.self.rest ≡ skip c.args.cursor.now.rest = cc in
     let first : lead c.lead.new.self.rest ≡ is.OpenBrace = cc in
     let f = c.lead_past_blanks-in-OpenBrace.ensures in
     let k = c.in_ok-list-in_default-lead_past_blanks-2.ensures in
-    value_braces c.args.limit c.args.level _ c.lead.new.self.rest at c.take-open.new.self.rest _ _ (omega arith) first c.take-open.ensures.moves (λ h. c.in_default-lead_past_blanks-2.not-CloseBrace (f.found ∙ h)) (braces_along _ _ _ _ _ _ f.stays k.ok)
+    value_braces c.args.limit c.args.level c.args.cursor.now.rest c.lead.new.self.rest (cc) c.take-open.new.self.rest _ _ (omega arith) first c.take-open.ensures.moves (λ h. c.in_default-lead_past_blanks-2.not-CloseBrace (f.found ∙ h)) (braces_along _ _ _ _ _ _ f.stays k.ok)
 
 pub read_value-returns-in_ok-list-in_default-lead_past_blanks-2-clause-shorter : goal.read_value-returns-in_ok-list-in_default-lead_past_blanks-2-clause-shorter
 read_value-returns-in_ok-list-in_default-lead_past_blanks-2-clause-shorter t c =
@@ -152,8 +141,7 @@ read_value-returns-in_ok-list-in_default-lead_past_blanks-2-clause-shorter t c =
 
 pub read_value-returns-in-Digit-clause-ok : goal.read_value-returns-in-Digit-clause-ok
 read_value-returns-in-Digit-clause-ok t c =
-    let at : c.lead.new.self.rest ≡ skip c.args.cursor.now.rest = cc in
-    value_token c.args.limit c.args.level _ c.lead.new.self.rest at _ _ tree_of _ c.lead.new.self.rest _ (omega arith) refl c.number.ensures.ok
+    value_token c.args.limit c.args.level c.args.cursor.now.rest c.lead.new.self.rest (cc) _ _ tree_of _ c.lead.new.self.rest _ (omega arith) refl c.number.ensures.ok
 
 pub read_value-returns-in-Digit-clause-shorter : goal.read_value-returns-in-Digit-clause-shorter
 read_value-returns-in-Digit-clause-shorter t c =
@@ -162,13 +150,11 @@ read_value-returns-in-Digit-clause-shorter t c =
 
 pub read_value-returns-in-Quote-clause-ok : goal.read_value-returns-in-Quote-clause-ok
 read_value-returns-in-Quote-clause-ok t c =
-    let at : c.lead.new.self.rest ≡ skip c.args.cursor.now.rest = cc in
-    value_token c.args.limit c.args.level _ c.lead.new.self.rest at _ _ tree_of _ c.lead.new.self.rest _ (omega arith) refl c.text.ensures.ok
+    value_token c.args.limit c.args.level c.args.cursor.now.rest c.lead.new.self.rest (cc) _ _ tree_of _ c.lead.new.self.rest _ (omega arith) refl c.text.ensures.ok
 
 pub read_value-returns-in-Apostrophe-clause-ok : goal.read_value-returns-in-Apostrophe-clause-ok
 read_value-returns-in-Apostrophe-clause-ok t c =
-    let at : c.lead.new.self.rest ≡ skip c.args.cursor.now.rest = cc in
-    value_token c.args.limit c.args.level _ c.lead.new.self.rest at _ _ tree_of _ c.lead.new.self.rest _ (omega arith) refl c.quoted.ensures.ok
+    value_token c.args.limit c.args.level c.args.cursor.now.rest c.lead.new.self.rest (cc) _ _ tree_of _ c.lead.new.self.rest _ (omega arith) refl c.quoted.ensures.ok
 
 pub read_value-returns-in-Apostrophe-clause-shorter : goal.read_value-returns-in-Apostrophe-clause-shorter
 read_value-returns-in-Apostrophe-clause-shorter t c =
@@ -178,9 +164,8 @@ read_value-returns-in-Apostrophe-clause-shorter t c =
 pub read_items-returns-in-CloseBrace-clause-none : goal.read_items-returns-in-CloseBrace-clause-none
 read_items-returns-in-CloseBrace-clause-none t c = λ e.
     let k = c.items in
-    let brace : lead (skip c.read_item.new.cursor.rest) ≡ is.CloseBrace = cc in
     unclosed c.args.limit c.args.level c.args.cursor.now.rest k.cursor.rest c.read_item.new.cursor.rest k.gathered c.push.new.self _ k.invariant.0 c.in_ok-entry.ensures.ok c.in_ok-push.ensures.ok
-    brace (refused c.finish.result c.ok_or.result c.ok_or.ensures.value e c.finish.ensures.none)
+    (cc) (refused c.finish.result c.ok_or.result c.ok_or.ensures.value e c.finish.ensures.none)
 
 pub read_items-returns-then-not-are_integers-clause-none : goal.read_items-returns-then-not-are_integers-clause-none
 read_items-returns-then-not-are_integers-clause-none t c = λ e.
@@ -200,26 +185,20 @@ read_items-returns-in_default-clause-none t c = λ e.
 
 pub read_value-returns-in_err-payload-in-Colon-clause-none : goal.read_value-returns-in_err-payload-in-Colon-clause-none
 read_value-returns-in_err-payload-in-Colon-clause-none t c = λ e.
-    let at : c.lead.new.self.rest ≡ skip c.args.cursor.now.rest = cc in
     let i = c.in_ok-name-in-Letter.ensures.ok in
-    let colon : lead (skip c.identifier.new.cursor.rest) ≡ is.Colon = cc in
-    let z : c.take-colon.new.self.rest ≡ tail (skip c.identifier.new.cursor.rest) = cc in
-    choice_none c.args.limit c.args.level _ c.lead.new.self.rest at i.0 c.identifier.new.cursor.rest c.take-colon.new.self.rest i.1 colon z (c.read_value.ensures.none (grind (arith, common_steps)))
+    choice_none c.args.limit c.args.level c.args.cursor.now.rest c.lead.new.self.rest (cc) i.0 c.identifier.new.cursor.rest c.take-colon.new.self.rest i.1 (cc) (cc) (c.read_value.ensures.none (grind (arith, common_steps)))
 
 pub read_value-returns-in_err-list-in_default-lead_past_blanks-2-clause-none : goal.read_value-returns-in_err-list-in_default-lead_past_blanks-2-clause-none
 read_value-returns-in_err-list-in_default-lead_past_blanks-2-clause-none t c = λ e.
-    let at : c.lead.new.self.rest ≡ skip c.args.cursor.now.rest = cc in
-    let first : lead c.lead.new.self.rest ≡ is.OpenBrace = cc in
     let f = c.lead_past_blanks-in-OpenBrace.ensures in
-    braces_none c.args.limit c.args.level _ c.lead.new.self.rest at c.take-open.new.self.rest first c.take-open.ensures.moves (λ h. c.in_default-lead_past_blanks-2.not-CloseBrace (f.found ∙ h))
+    braces_none c.args.limit c.args.level c.args.cursor.now.rest c.lead.new.self.rest (cc) c.take-open.new.self.rest (cc) c.take-open.ensures.moves (λ h. c.in_default-lead_past_blanks-2.not-CloseBrace (f.found ∙ h))
     (λ t n b. c.read_items.ensures.none (grind (arith, common_steps)) t n (braces_along _ _ _ _ _ _ (sym f.stays) b))
 
 pub read_value-returns-in_default-clause-none : goal.read_value-returns-in_default-clause-none
 read_value-returns-in_default-clause-none t c = λ e.
-    let at : c.lead.new.self.rest ≡ skip c.args.cursor.now.rest = cc in
     let f : c.lead.result ≡ lead c.lead.new.self.rest = c.lead.ensures.found ∙ ap lead (sym c.lead.ensures.stays) in
     let d = c.in_default in
-    other_none c.args.limit c.args.level _ c.lead.new.self.rest at (λ h. d.not-Letter (f ∙ h)) (λ h. d.not-OpenBrace (f ∙ h)) (λ t n k. lead_token (λ h. d.not-Digit (f ∙ h)) (λ h. d.not-Minus (f ∙ h)) (λ h. d.not-Quote (f ∙ h)) (λ h. d.not-Apostrophe (f ∙ h)) k)
+    other_none c.args.limit c.args.level c.args.cursor.now.rest c.lead.new.self.rest (cc) (λ h. d.not-Letter (f ∙ h)) (λ h. d.not-OpenBrace (f ∙ h)) (λ t n k. lead_token (λ h. d.not-Digit (f ∙ h)) (λ h. d.not-Minus (f ∙ h)) (λ h. d.not-Quote (f ∙ h)) (λ h. d.not-Apostrophe (f ∙ h)) k)
 
 pub read_value-returns-then-level-limit-clause-deep : goal.read_value-returns-then-level-limit-clause-deep
 read_value-returns-then-level-limit-clause-deep t c = λ e.
@@ -227,41 +206,34 @@ read_value-returns-then-level-limit-clause-deep t c = λ e.
 
 pub read_value-returns-in_err-payload-in-Colon-clause-deep : goal.read_value-returns-in_err-payload-in-Colon-clause-deep
 read_value-returns-in_err-payload-in-Colon-clause-deep t c = λ e.
-    let at : c.lead.new.self.rest ≡ skip c.args.cursor.now.rest = cc in
     let i = c.in_ok-name-in-Letter.ensures.ok in
     let colon : lead (skip c.identifier.new.cursor.rest) ≡ is.Colon = cc in
     let z : c.take-colon.new.self.rest ≡ tail (skip c.identifier.new.cursor.rest) = cc in
-    payload_deep c.args.limit c.args.level _ c.lead.new.self.rest at i.0 c.identifier.new.cursor.rest c.take-colon.new.self.rest (omega arith) i.1 colon z (c.read_value.ensures.deep (grind (arith, common_steps)))
+    payload_deep c.args.limit c.args.level c.args.cursor.now.rest c.lead.new.self.rest (cc) i.0 c.identifier.new.cursor.rest c.take-colon.new.self.rest (omega arith) i.1 colon z (c.read_value.ensures.deep (grind (arith, common_steps)))
 
 pub read_value-returns-in_err-list-in_default-lead_past_blanks-2-clause-deep : goal.read_value-returns-in_err-list-in_default-lead_past_blanks-2-clause-deep
 read_value-returns-in_err-list-in_default-lead_past_blanks-2-clause-deep t c = λ e.
-    let at : c.lead.new.self.rest ≡ skip c.args.cursor.now.rest = cc in
     let first : lead c.lead.new.self.rest ≡ is.OpenBrace = cc in
     let f = c.lead_past_blanks-in-OpenBrace.ensures in
-    braces_deep c.args.limit c.args.level _ c.lead.new.self.rest at c.take-open.new.self.rest (omega arith) first c.take-open.ensures.moves (λ h. c.in_default-lead_past_blanks-2.not-CloseBrace (f.found ∙ h))
+    braces_deep c.args.limit c.args.level c.args.cursor.now.rest c.lead.new.self.rest (cc) c.take-open.new.self.rest (omega arith) first c.take-open.ensures.moves (λ h. c.in_default-lead_past_blanks-2.not-CloseBrace (f.found ∙ h))
     (items_deep_along _ _ _ _ f.stays (c.read_items.ensures.deep (grind (arith, common_steps))))
 
 pub read_item-returns-in_err-payload-in-Colon-clause-deep : goal.read_item-returns-in_err-payload-in-Colon-clause-deep
 read_item-returns-in_err-payload-in-Colon-clause-deep t c = λ e.
-    let at : c.lead.new.self.rest ≡ skip c.args.cursor.now.rest = cc in
     let i = c.in_ok-name.ensures.ok in
-    let colon : lead (skip c.identifier.new.cursor.rest) ≡ is.Colon = cc in
-    let z : c.take-colon.new.self.rest ≡ tail (skip c.identifier.new.cursor.rest) = cc in
-    choice_deep c.args.limit c.args.level _ c.lead.new.self.rest at i.0 c.identifier.new.cursor.rest c.take-colon.new.self.rest i.1 colon z (c.read_value-in-Colon.ensures.deep (grind (arith, common_steps)))
+    choice_deep c.args.limit c.args.level c.args.cursor.now.rest c.lead.new.self.rest (cc) i.0 c.identifier.new.cursor.rest c.take-colon.new.self.rest i.1 (cc) (cc) (c.read_value-in-Colon.ensures.deep (grind (arith, common_steps)))
 
 pub read_item-returns-in_err-field-in_default-lead_past_blanks-clause-deep : goal.read_item-returns-in_err-field-in_default-lead_past_blanks-clause-deep
 read_item-returns-in_err-field-in_default-lead_past_blanks-clause-deep t c = λ e.
-    let at : c.lead.new.self.rest ≡ skip c.args.cursor.now.rest = cc in
     let i = c.in_ok-name.ensures.ok in
     let d = c.in_default-lead_past_blanks in
     let f = c.lead_past_blanks.ensures in
-    field_deep c.args.limit c.args.level _ c.lead.new.self.rest at i.0 c.identifier.new.cursor.rest c.lead_past_blanks.new.self.rest i.1 (λ h. d.not-Colon (f.found ∙ h)) (λ h. d.not-Comma (f.found ∙ h)) (λ h. d.not-CloseBrace (f.found ∙ h)) f.stays (c.read_value-in_default-lead_past_blanks.ensures.deep (grind (arith, common_steps)))
+    field_deep c.args.limit c.args.level c.args.cursor.now.rest c.lead.new.self.rest (cc) i.0 c.identifier.new.cursor.rest c.lead_past_blanks.new.self.rest i.1 (λ h. d.not-Colon (f.found ∙ h)) (λ h. d.not-Comma (f.found ∙ h)) (λ h. d.not-CloseBrace (f.found ∙ h)) f.stays (c.read_value-in_default-lead_past_blanks.ensures.deep (grind (arith, common_steps)))
 
 pub read_item-returns-in_err-bare-in_default-clause-deep : goal.read_item-returns-in_err-bare-in_default-clause-deep
 read_item-returns-in_err-bare-in_default-clause-deep t c = λ e.
-    let at : c.lead.new.self.rest ≡ skip c.args.cursor.now.rest = cc in
     let first : lead c.lead.new.self.rest ≢ is.Letter = λ h. c.in_default.not-Letter (c.lead.ensures.found ∙ ap lead (sym c.lead.ensures.stays) ∙ h) in
-    value_deep c.args.limit c.args.level _ c.lead.new.self.rest at c.lead.new.self.rest refl first (c.read_value.ensures.deep (grind (arith, common_steps)))
+    value_deep c.args.limit c.args.level c.args.cursor.now.rest c.lead.new.self.rest (cc) c.lead.new.self.rest refl first (c.read_value.ensures.deep (grind (arith, common_steps)))
 
 pub read_items-returns-in_err-entry-clause-deep : goal.read_items-returns-in_err-entry-clause-deep
 read_items-returns-in_err-entry-clause-deep t c = λ e.

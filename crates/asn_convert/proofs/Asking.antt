@@ -1,21 +1,26 @@
 -- What an input asks for, from its bytes as they were read.
-use Rattle.std.proofs.Common.{◌≡◌, sym, ap, ◌∙◌, subst, ℕ, List, [], ◌++◌, Option, Some, None, append-nil, length, ◌≤◌, ◌<◌, arith}
+use Rattle.std.proofs.Common.{◌≡◌, sym, ap, ◌∙◌, subst, ℕ, List, [], ◌++◌, Option, Some, None, append-nil, length, ◌<◌, arith}
 use Rattle.std.specs.Io.KnownBytes.{Consumes, IsAtEnd}
 use Rattle.asn_codec.specs.Conversion.{IsConvertible}
+use Rattle.asn_convert.specs.Input.{IsWholeInput, input_limit}
+use Rattle.asn_convert.specs.Transfer.{Transfer}
 use Rattle.asn_convert.specs.Lines.{request_line, text_part, words}
 use Rattle.asn_samples.specs.Samples.{sample_shape}
 use Rattle.asn_convert.specs.Requests.{asked, request_of}
 use Rattle.asn_convert.specs.Run.{AsksValue}
 use Rattle.asn_convert.specs.declared.request.Request.{Request}
 
--- what was taken of a known input to its end is the input
-pub whole_input : (old new : Option (List ℕ)) (input taken : List ℕ) → old ≡ Some input → Consumes old new taken → IsAtEnd new → input ≡ taken
-whole_input None new input taken told h end = let none : ◌≡◌ {A = Option (List ℕ)} None (Some input) = told in cc none
-whole_input (Some xs) None input taken told h end = absurd h
-whole_input (Some xs) (Some ys) input taken told h end =
+known_input : (old new : Option (List ℕ)) (input taken : List ℕ) → old ≡ Some input → Consumes old new taken → IsAtEnd new → input ≡ taken
+known_input None new input taken told h end = let none : ◌≡◌ {A = Option (List ℕ)} None (Some input) = told in cc none
+known_input (Some xs) None input taken told h end = absurd h
+known_input (Some xs) (Some ys) input taken told h end =
     let same : ◌≡◌ {A = Option (List ℕ)} (Some xs) (Some input) = told in
     let is : xs ≡ input = cc same in
     sym is ∙ h ∙ ap (λ zs. taken ++ zs) end ∙ append-nil taken
+
+-- what was read of a known input is the input
+pub whole_input : {t : Transfer} {input taken : List ℕ} → t.bytes_before ≡ Some input → IsWholeInput t taken → input ≡ taken
+whole_input told whole = known_input _ _ _ _ told whole.taken whole.ended
 
 some_same : (a b : Request) {o : Option Request} → o ≡ Some a → o ≡ Some b → a ≡ b
 some_same a b e f = let d : ◌≡◌ {A = Option Request} (Some a) (Some b) = sym e ∙ f in cc d
@@ -29,9 +34,9 @@ pub asks_something : (input text line : List ℕ) (request : Request) → input 
 asks_something input text line request same is_line named none =
     let d : ◌≡◌ {A = Option Request} None (Some request) = sym none ∙ line_asks input text line request same is_line named in cc d
 
--- an input within the limit is not above it
-pub within_limit : (input taken : List ℕ) → input ≡ taken → length taken ≤ 16777216 → 16777216 < length input → ⊥
-within_limit input taken same within above = omega (arith, ap length same, within, above)
+-- a known input that was read whole is not above the limit
+pub within_limit : {t : Transfer} {input taken : List ℕ} → t.bytes_before ≡ Some input → IsWholeInput t taken → input_limit < length input → ⊥
+within_limit told whole above = omega (arith, ap length (whole_input told whole), whole.within, above)
 
 -- the text of an input that asks for a value is converted as its line says
 pub convertible_text : (input text line rest : List ℕ) (request : Request) → AsksValue input → input ≡ text → line ≡ request_line text → rest ≡ text_part text

@@ -1,10 +1,11 @@
 -- What is due for an input, and when it was written.
-use Rattle.std.specs.Prelude.{◌≡◌, ◌≤◌, ◌⊎◌, ℕ, List, [], ◌∷◌, ◌++◌, length, Option, codes}
-use Rattle.std.specs.Io.KnownBytes.{Appends, Consumes, IsAtEnd, Keeps}
+use Rattle.std.specs.Prelude.{◌≡◌, ◌⊎◌, ℕ, List, [], ◌∷◌, ◌++◌, codes}
+use Rattle.std.specs.Io.KnownBytes.{Appends, Keeps}
 use Rattle.asn_base.specs.declared.codec.Codec.{Codec}
 use Rattle.asn_traits.specs.Shape.{Shape}
 use Rattle.asn_codec.specs.Conversion.{Converts, Refuses, refusal_of, error_text}
 use Rattle.asn_convert.specs.Faults.{Rose, AppendsFront}
+use Rattle.asn_convert.specs.Transfer.{Transfer}
 use Rattle.asn_convert.specs.declared.status.Status.{Status}
 use Rattle.asn_convert.specs.declared.status.Status.TheVariants.{Done, Refused, WriteFault, WantOfMemory}
 use Rattle.asn_codec.specs.declared.conversion.TranscodeError.{TranscodeError}
@@ -30,35 +31,27 @@ abbrev pub IsDue : Codec → Codec → Shape → List ℕ → List ℕ → Type 
 IsDue from to s text due = IsAnswer from to s text due ⊎ IsRefusal from to s text due
 
 -- bytes with P were written, where the sink tells its bytes
-pub record Wrote (old new : Option (List ℕ)) (P : List ℕ → Type 0) : Type 0 where
+pub record Wrote (sink : Transfer) (P : List ℕ → Type 0) : Type 0 where
   pub bytes : List ℕ
   pub has : P bytes
-  pub appended : Appends old new bytes
+  pub appended : Appends sink.bytes_before sink.bytes_after bytes
 
 -- a front part of bytes with P was written, where the sink tells its bytes
-pub record WroteFront (old new : Option (List ℕ)) (P : List ℕ → Type 0) : Type 0 where
+pub record WroteFront (sink : Transfer) (P : List ℕ → Type 0) : Type 0 where
   pub bytes : List ℕ
   pub has : P bytes
-  pub appended : AppendsFront old new bytes
-
--- the input was read to its end within the limit, and has P
-pub record ReadWhole (old new : Option (List ℕ)) (P : List ℕ → Type 0) : Type 0 where
-  pub input : List ℕ
-  pub taken : Consumes old new input
-  pub ended : IsAtEnd new
-  pub within : length input ≤ 16777216
-  pub has : P input
+  pub appended : AppendsFront sink.bytes_before sink.bytes_after bytes
 
 -- What a status says of bytes that were due: all of them were written, or a write was cut short, or memory ran out before any was.
-pub data Puts (due : List ℕ) (status : Status) (old new : Option (List ℕ)) (faults_old faults_new : ℕ) : Status → Type 0 where
-  whole : Appends old new due → Puts due status old new faults_old faults_new status
-  cut : Rose faults_old faults_new → AppendsFront old new due → Puts due status old new faults_old faults_new WriteFault
-  unwritten : Keeps old new → Puts due status old new faults_old faults_new WantOfMemory
+pub data Puts (due : List ℕ) (status : Status) (sink : Transfer) : Status → Type 0 where
+  whole : Appends sink.bytes_before sink.bytes_after due → Puts due status sink status
+  cut : Rose sink.faults_before sink.faults_after → AppendsFront sink.bytes_before sink.bytes_after due → Puts due status sink WriteFault
+  unwritten : Keeps sink.bytes_before sink.bytes_after → Puts due status sink WantOfMemory
 
 -- What a status says of the answer to a text: what was written, and why a write was cut short.
-abbrev pub Answers : Codec → Codec → Shape → List ℕ → Option (List ℕ) → Option (List ℕ) → ℕ → ℕ → Status → Type 0
-Answers from to s text old new faults_old faults_new Done = Wrote old new (IsAnswer from to s text)
-Answers from to s text old new faults_old faults_new Refused = Wrote old new (IsRefusal from to s text)
-Answers from to s text old new faults_old faults_new WriteFault = Rose faults_old faults_new × WroteFront old new (IsDue from to s text)
-Answers from to s text old new faults_old faults_new WantOfMemory = Keeps old new
-Answers from to s text old new faults_old faults_new _ = ⊥
+abbrev pub Answers : Codec → Codec → Shape → List ℕ → Transfer → Status → Type 0
+Answers from to s text sink Done = Wrote sink (IsAnswer from to s text)
+Answers from to s text sink Refused = Wrote sink (IsRefusal from to s text)
+Answers from to s text sink WriteFault = Rose sink.faults_before sink.faults_after × WroteFront sink (IsDue from to s text)
+Answers from to s text sink WantOfMemory = Keeps sink.bytes_before sink.bytes_after
+Answers from to s text sink _ = ⊥

@@ -1,8 +1,10 @@
 pub mod Calls
 pub mod Due
 pub mod Faults
+pub mod Input
 pub mod Lines
 pub mod Memory
 pub mod Requests
 pub mod Run
 pub mod Status
+pub mod Transfer

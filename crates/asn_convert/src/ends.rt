@@ -16,8 +16,8 @@ pub trait Source {
     /// How many reads have failed. It never falls, and stands still at 2^64 - 1.
     ghost faults: { Self → ℕ };
 
-    /// Puts bytes into the front of the slice, and answers how many. `Ok(0)` for a slice that is not
-    /// empty is the end. `Failed` comes only where the count of faults rose, and takes nothing.
+    /// Puts bytes into the front of the slice, and answers how many. `Ok(0)` for a slice that is
+    /// not empty is the end. `Failed` comes only where the count of faults rose, and takes nothing.
     fn read(&mut self, into: &mut [u8]) -> Result<usize, Failed>
         ensures bound { ReadsAtMost result into.new }
         ensures bytes { ReadConsumes (left self.old) (left self.new) result into.new }
@@ -33,7 +33,8 @@ pub trait Sink {
     ghost faults: { Self → ℕ };
 
     /// Takes bytes from the front of the slice, and answers how many. `Failed` comes only where the
-    /// count of faults rose, and writes nothing. To take none of a slice that is not empty is a fault too.
+    /// count of faults rose, and writes nothing. To take none of a slice that is not empty is a
+    /// fault too.
     fn write(&mut self, from: &[u8]) -> Result<usize, Failed>
         ensures bound { WritesAtMost result from.now }
         ensures bytes { WriteAppends (written self.old) (written self.new) result from.now }

@@ -1,4 +1,5 @@
-//! The program's work: a request line and a text in, the text's value in canonical form or its refusal out.
+//! The program's work: a request line and a text in, the text's value in canonical form or its
+//! refusal out.
 #![tactic(auto)]
 
 mod ends;

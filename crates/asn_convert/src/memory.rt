@@ -2,7 +2,7 @@
 ghost use Rattle.std.specs.Prelude.{◌≡◌, ◌≤◌, ◌<◌, ◌+◌, ◌-◌, ◌^◌, ◌↔◌, ◌⊎◌, [], length, min, Some, None, vec_len, vec_capacity, IfOk, IsErr, IsTrue, Contains};
 ghost use Rattle.std.specs.Io.{ReadsAtMost, WritesAtMost};
 ghost use Rattle.std.specs.Io.KnownBytes.{ReadConsumes, WriteAppends};
-ghost use Rattle.asn_convert.specs.Faults.{Rose, HasCause};
+ghost use Rattle.asn_convert.specs.Faults.{Rose, HasCause, next_count};
 
 use crate::ends::{Failed, Sink, Source};
 use asn_base::OutOfMemory;
@@ -77,7 +77,7 @@ struct Calls {
 }
 
 impl Calls {
-    ghost use Rattle.asn_convert.specs.Calls.{next_number};
+    ghost use Rattle.asn_convert.specs.Calls.{IsToFail, next_number};
 
     fn new(failing: Vec<u64>) -> Calls
         ensures { result ≡ record { made = 0; faults = 0; failing = failing } }
@@ -92,7 +92,7 @@ impl Calls {
     /// Counts a call, and tells whether it is to fail.
     fn next_fails(&mut self) -> bool
         ensures made { self.new ≡ record self.old { made = next_number self.old } }
-        ensures value { IsTrue result ↔ Contains self.old.failing.items (next_number self.old) }
+        ensures value { IsTrue result ↔ IsToFail self.old }
     {
         self.made = self.made.saturating_add(1);
         self.failing.contains(&self.made)
@@ -100,7 +100,7 @@ impl Calls {
 
     /// Counts a fault.
     fn fail(&mut self) -> Failed
-        ensures counted { self.new ≡ record self.old { faults = min (self.old.faults + 1) (2 ^ 64 - 1) } }
+        ensures counted { self.new ≡ record self.old { faults = next_count self.old.faults } }
         ensures later { self.old.faults ≤ self.new.faults }
     {
         self.faults = self.faults.saturating_add(1);
@@ -108,8 +108,8 @@ impl Calls {
     }
 }
 
-/// Gives its bytes, at most `piece` of them per call. A call fails exactly where its number, counted
-/// from 1, is listed.
+/// Gives its bytes, at most `piece` of them per call. A call fails exactly where its number,
+/// counted from 1, is listed.
 #[derive(Drop)]
 pub struct MemorySource {
     bytes: SteadySource,
@@ -138,7 +138,7 @@ impl MemorySource {
 
 impl Source for MemorySource {
     ghost use Rattle.asn_convert.specs.Memory.{bytes_left};
-    ghost use Rattle.asn_convert.specs.Calls.{next_number};
+    ghost use Rattle.asn_convert.specs.Calls.{IsToFail};
 
     ghost left = { λ s. Some (bytes_left s.bytes) };
 
@@ -146,9 +146,10 @@ impl Source for MemorySource {
 
     fn read(&mut self, into: &mut [u8]) -> Result<usize, Failed>
         ensures bound { ReadsAtMost result into.new }
-        ensures bytes { ReadConsumes (Some (bytes_left self.old.bytes)) (Some (bytes_left self.new.bytes)) result into.new }
+        ensures bytes { ReadConsumes (Some (bytes_left self.old.bytes))
+            (Some (bytes_left self.new.bytes)) result into.new }
         ensures cause { HasCause self.old.calls.faults self.new.calls.faults result }
-        ensures fails { IsErr result ↔ Contains self.old.calls.failing.items (next_number self.old.calls) }
+        ensures fails { IsErr result ↔ IsToFail self.old.calls }
         ensures piece { IfOk result (λ n. n ≤ self.old.piece) }
     {
         if self.calls.next_fails() {
@@ -159,8 +160,9 @@ impl Source for MemorySource {
     }
 }
 
-/// Takes bytes as far as its room goes, at most `piece` of them per call. A call fails exactly where
-/// its number, counted from 1, is listed, or where its slice is not empty and no room is left.
+/// Takes bytes as far as its room goes, at most `piece` of them per call. A call fails exactly
+/// where its number, counted from 1, is listed, or where its slice is not empty and no room is
+/// left.
 #[derive(Drop)]
 pub struct MemorySink {
     bytes: Vec<u8>,
@@ -173,8 +175,8 @@ pub struct MemorySink {
 }
 
 impl MemorySink {
-    /// Nothing is written, and no call was made. Memory for `room` bytes is taken here and none later.
-    /// Its one error is want of memory.
+    /// Nothing is written, and no call was made. Memory for `room` bytes is taken here and none
+    /// later. Its one error is want of memory.
     pub fn new(
         alloc: Global,
         room: usize,
@@ -185,7 +187,8 @@ impl MemorySink {
         ensures empty { IfOk result (λ s. s.bytes.items ≡ []) }
         ensures room { IfOk result (λ s. s.room ≡ room) }
         ensures piece { IfOk result (λ s. s.piece ≡ piece) }
-        ensures failing { IfOk result (λ s. s.calls ≡ record { made = 0; faults = 0; failing = failing }) }
+        ensures failing { IfOk result
+            (λ s. s.calls ≡ record { made = 0; faults = 0; failing = failing }) }
     {
         let bytes = Vec::with_capacity(alloc, room)?;
         Ok(MemorySink {
@@ -205,7 +208,7 @@ impl MemorySink {
 }
 
 impl Sink for MemorySink {
-    ghost use Rattle.asn_convert.specs.Calls.{next_number};
+    ghost use Rattle.asn_convert.specs.Calls.{IsToFail};
 
     ghost written = { λ s. Some s.bytes.items };
 
@@ -213,13 +216,15 @@ impl Sink for MemorySink {
 
     fn write(&mut self, from: &[u8]) -> Result<usize, Failed>
         ensures bound { WritesAtMost result from.now }
-        ensures bytes { WriteAppends (Some self.old.bytes.items) (Some self.new.bytes.items) result from.now }
+        ensures bytes { WriteAppends (Some self.old.bytes.items) (Some self.new.bytes.items)
+            result from.now }
         ensures stuck { IfOk result (λ n. n ≡ 0 → 0 < length from.now
             → Rose self.old.calls.faults self.new.calls.faults) }
         ensures cause { HasCause self.old.calls.faults self.new.calls.faults result }
-        ensures fails { IsErr result ↔ (Contains self.old.calls.failing.items (next_number self.old.calls)
+        ensures fails { IsErr result ↔ (IsToFail self.old.calls
             ⊎ (0 < length from.now × (self.old.room ≡ vec_len self.old.bytes))) }
-        ensures takes { IfOk result (λ n. n ≡ min (min (length from.now) self.old.piece) (self.old.room - vec_len self.old.bytes)) }
+        ensures takes { IfOk result (λ n. n ≡ min (min (length from.now) self.old.piece)
+            (self.old.room - vec_len self.old.bytes)) }
     {
         let room = self.room - self.bytes.len();
         let full = room == 0 && !from.is_empty();

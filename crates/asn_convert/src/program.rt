@@ -1,10 +1,12 @@
 // All that the program does.
 ghost use Rattle.std.specs.Prelude.{◌≡◌, ◌≢◌, ◌<◌, ◌⊎◌, ◌++◌, ◌∷◌, [], ℕ, List, length, IsUtf8, Some, None, true, string_bytes};
-ghost use Rattle.std.specs.Io.KnownBytes.{Consumes, Keeps};
+ghost use Rattle.std.specs.Io.KnownBytes.{Keeps};
 ghost use Rattle.asn_convert.specs.Faults.{Rose};
 ghost use Rattle.asn_convert.specs.Requests.{asked};
 ghost use Rattle.asn_samples.specs.Samples.{sample_shape};
-ghost use Rattle.asn_convert.specs.Due.{Answers, IsAnswer, IsRefusal, Puts, ReadWhole, refusal_line};
+ghost use Rattle.asn_convert.specs.Due.{Answers, IsAnswer, IsRefusal, Puts, refusal_line};
+ghost use Rattle.asn_convert.specs.Input.{ReadPastLimit, ReadWhole, input_limit};
+ghost use Rattle.asn_convert.specs.Transfer.{transfer_of};
 ghost use Rattle.asn_codec.specs.Conversion.{IsConvertible, refusal_of, is_want_of_memory};
 ghost use Rattle.asn_convert.specs.Run.{Answered, CutShort, IsRead, AsksValue};
 ghost use Rattle.asn_convert.specs.declared.status.Status.TheVariants.{Done, Refused, BadRequest, ReadFault, WriteFault, WantOfMemory, TooLong, NotText};
@@ -20,41 +22,50 @@ use asn_samples::SampleVisitor;
 use asn_traits::{Decode, Encode};
 use std::alloc::Global;
 
-/// Reads the whole input, and writes the canonical text of the value that its text says, or the line of
-/// the refusal. Statuses are decided in the order ReadFault, TooLong, NotText, BadRequest, Refused,
-/// WriteFault; WantOfMemory may come anywhere, and then nothing was written.
+/// Reads the whole input, and writes the canonical text of the value that its text says, or the
+/// line of the refusal. Statuses are decided in the order ReadFault, TooLong, NotText, BadRequest,
+/// Refused, WriteFault; WantOfMemory may come anywhere, and then nothing was written.
 pub fn run<S: Source, K: Sink>(alloc: Global, source: &mut S, sink: &mut K) -> Status
-    ensures done { result ≡ Done → ReadWhole (S.left source.old) (S.left source.new)
-        (Answered (K.written sink.old) (K.written sink.new) IsAnswer) }
-    ensures refused { result ≡ Refused → ReadWhole (S.left source.old) (S.left source.new)
-        (Answered (K.written sink.old) (K.written sink.new) IsRefusal) }
-    ensures bad_request { result ≡ BadRequest → ReadWhole (S.left source.old) (S.left source.new)
+    ensures done { result ≡ Done
+        → ReadWhole (transfer_of S.left S.faults source.old source.new)
+        (Answered (transfer_of K.written K.faults sink.old sink.new) IsAnswer) }
+    ensures refused { result ≡ Refused
+        → ReadWhole (transfer_of S.left S.faults source.old source.new)
+        (Answered (transfer_of K.written K.faults sink.old sink.new) IsRefusal) }
+    ensures bad_request { result ≡ BadRequest
+        → ReadWhole (transfer_of S.left S.faults source.old source.new)
         (λ input. IsUtf8 input × (asked input ≡ None)) }
     ensures read_fault { result ≡ ReadFault → Rose (S.faults source.old) (S.faults source.new) }
     ensures write_fault { result ≡ WriteFault → Rose (K.faults sink.old) (K.faults sink.new) }
-    ensures cut { result ≡ WriteFault → ReadWhole (S.left source.old) (S.left source.new)
-        (CutShort (K.written sink.old) (K.written sink.new)) }
-    ensures too_long { result ≡ TooLong → (xs : List ℕ)
-        × Consumes (S.left source.old) (S.left source.new) xs × (length xs ≡ 16777217) }
-    ensures not_text { result ≡ NotText → ReadWhole (S.left source.old) (S.left source.new)
-        (λ input. IsUtf8 input → ⊥) }
-    ensures silent { (result ≡ BadRequest) ⊎ (result ≡ ReadFault) ⊎ (result ≡ WantOfMemory) ⊎ (result ≡ TooLong) ⊎ (result ≡ NotText)
+    ensures cut { result ≡ WriteFault
+        → ReadWhole (transfer_of S.left S.faults source.old source.new)
+        (CutShort (transfer_of K.written K.faults sink.old sink.new)) }
+    ensures too_long { result ≡ TooLong
+        → ReadPastLimit (transfer_of S.left S.faults source.old source.new) }
+    ensures not_text { result ≡ NotText
+        → ReadWhole (transfer_of S.left S.faults source.old source.new) (λ input. ¬ IsUtf8 input) }
+    ensures silent { (result ≡ BadRequest) ⊎ (result ≡ ReadFault) ⊎ (result ≡ WantOfMemory)
+        ⊎ (result ≡ TooLong) ⊎ (result ≡ NotText)
         → Keeps (K.written sink.old) (K.written sink.new) }
 
-    // Where the source tells its bytes and neither count of faults rises, each input has its status, or
-    // memory runs out.
-    ensures answers { (input : List ℕ) → IsRead S.left S.faults source.old source.new input → IsUtf8 input → asked input ≢ None
-        → (Rose (K.faults sink.old) (K.faults sink.new) → ⊥)
+    // Where the source tells its bytes and neither count of faults rises, each input has its
+    // status, or memory runs out.
+    ensures answers { (input : List ℕ)
+        → IsRead (transfer_of S.left S.faults source.old source.new) input
+        → IsUtf8 input → asked input ≢ None → ¬ Rose (K.faults sink.old) (K.faults sink.new)
         → (result ≡ Done) ⊎ (result ≡ Refused) ⊎ (result ≡ WantOfMemory) }
-    ensures answers_values { (input : List ℕ) → IsRead S.left S.faults source.old source.new input → IsUtf8 input → AsksValue input
-        → (Rose (K.faults sink.old) (K.faults sink.new) → ⊥)
+    ensures answers_values { (input : List ℕ)
+        → IsRead (transfer_of S.left S.faults source.old source.new) input
+        → IsUtf8 input → AsksValue input → ¬ Rose (K.faults sink.old) (K.faults sink.new)
         → (result ≡ Done) ⊎ (result ≡ WantOfMemory) }
-    ensures rejects { (input : List ℕ) → IsRead S.left S.faults source.old source.new input → IsUtf8 input → asked input ≡ None
-        → (result ≡ BadRequest) ⊎ (result ≡ WantOfMemory) }
-    ensures rejects_bytes { (input : List ℕ) → IsRead S.left S.faults source.old source.new input → (IsUtf8 input → ⊥)
-        → (result ≡ NotText) ⊎ (result ≡ WantOfMemory) }
-    ensures stops { (input : List ℕ) → S.left source.old ≡ Some input → 16777216 < length input
-        → (Rose (S.faults source.old) (S.faults source.new) → ⊥)
+    ensures rejects { (input : List ℕ)
+        → IsRead (transfer_of S.left S.faults source.old source.new) input
+        → IsUtf8 input → asked input ≡ None → (result ≡ BadRequest) ⊎ (result ≡ WantOfMemory) }
+    ensures rejects_bytes { (input : List ℕ)
+        → IsRead (transfer_of S.left S.faults source.old source.new) input
+        → ¬ IsUtf8 input → (result ≡ NotText) ⊎ (result ≡ WantOfMemory) }
+    ensures stops { (input : List ℕ) → S.left source.old ≡ Some input → input_limit < length input
+        → ¬ Rose (S.faults source.old) (S.faults source.new)
         → (result ≡ TooLong) ⊎ (result ≡ WantOfMemory) }
 {
     let input = match read_to_end(alloc, source) {
@@ -75,8 +86,10 @@ pub fn run<S: Source, K: Sink>(alloc: Global, source: &mut S, sink: &mut K) -> S
 
 /// The answer to a text as a value of the request's sample type.
 fn convert<K: Sink>(alloc: Global, request: Request, text: &str, sink: &mut K) -> Status
-    ensures answer { Answers request.from request.to (sample_shape request.sample) text.now (K.written sink.old) (K.written sink.new) (K.faults sink.old) (K.faults sink.new) result }
-    ensures complete { IsConvertible request.from request.to (sample_shape request.sample) text.now → result ≢ Refused }
+    ensures answer { Answers request.from request.to (sample_shape request.sample) text.now
+        (transfer_of K.written K.faults sink.old sink.new) result }
+    ensures complete { IsConvertible request.from request.to (sample_shape request.sample) text.now
+        → result ≢ Refused }
 {
     let Request { from, to, sample } = request;
     sample.accept(
@@ -102,8 +115,8 @@ struct Conversion<'a> {
 impl<K: Sink> SampleVisitor<K> for Conversion<'_> {
     type Output = Status;
 
-    ghost visits = { λ c shape old new status. Answers c.from c.to shape c.text.now (K.written old)
-        (K.written new) (K.faults old) (K.faults new) status
+    ghost visits = { λ c shape old new status.
+        Answers c.from c.to shape c.text.now (transfer_of K.written K.faults old new) status
         × (IsConvertible c.from c.to shape c.text.now → status ≢ Refused) };
 
     fn visit<T: Encode + Decode>(self, sink: &mut K) -> Status {
@@ -111,8 +124,8 @@ impl<K: Sink> SampleVisitor<K> for Conversion<'_> {
     }
 }
 
-/// Writes the canonical text under `to` of the value that a text says under `from` as a T, or the line
-/// of its refusal: `Done`, `Refused`, `WriteFault` or `WantOfMemory`.
+/// Writes the canonical text under `to` of the value that a text says under `from` as a T, or the
+/// line of its refusal: `Done`, `Refused`, `WriteFault` or `WantOfMemory`.
 pub fn convert_as<T: Encode + Decode, K: Sink>(
     alloc: Global,
     from: Codec,
@@ -120,7 +133,8 @@ pub fn convert_as<T: Encode + Decode, K: Sink>(
     input: &str,
     sink: &mut K,
 ) -> Status
-    ensures answer { Answers from to T.shape_of input.now (K.written sink.old) (K.written sink.new) (K.faults sink.old) (K.faults sink.new) result }
+    ensures answer { Answers from to T.shape_of input.now
+        (transfer_of K.written K.faults sink.old sink.new) result }
     ensures complete { IsConvertible from to T.shape_of input.now → result ≢ Refused }
 {
     match transcode::<T>(alloc, from, to, input) {
@@ -131,7 +145,8 @@ pub fn convert_as<T: Encode + Decode, K: Sink>(
 
 /// Writes the text and a line feed.
 fn answer<K: Sink>(mut text: String, sink: &mut K) -> Status
-    ensures { Puts (string_bytes text ++ 10 ∷ []) Done (K.written sink.old) (K.written sink.new) (K.faults sink.old) (K.faults sink.new) result }
+    ensures { Puts (string_bytes text ++ 10 ∷ []) Done
+        (transfer_of K.written K.faults sink.old sink.new) result }
 {
     match text.push('\n') {
         Ok(()) => written(sink, text.as_bytes(), Status::Done),
@@ -141,7 +156,8 @@ fn answer<K: Sink>(mut text: String, sink: &mut K) -> Status
 
 /// Writes the line of a fault, unless it is want of memory.
 fn refuse<K: Sink>(alloc: Global, fault: &TranscodeError, sink: &mut K) -> Status
-    ensures line { Puts (refusal_line fault.now) Refused (K.written sink.old) (K.written sink.new) (K.faults sink.old) (K.faults sink.new) result }
+    ensures line { Puts (refusal_line fault.now) Refused
+        (transfer_of K.written K.faults sink.old sink.new) result }
     ensures memory { is_want_of_memory (refusal_of fault.now) ≡ true → result ≡ WantOfMemory }
 {
     if fault.is_out_of_memory() {
@@ -155,7 +171,7 @@ fn refuse<K: Sink>(alloc: Global, fault: &TranscodeError, sink: &mut K) -> Statu
 
 /// Writes the bytes. The status where all of them are written, and else a write fault.
 fn written<K: Sink>(sink: &mut K, bytes: &[u8], status: Status) -> Status
-    ensures { Puts bytes.now status (K.written sink.old) (K.written sink.new) (K.faults sink.old) (K.faults sink.new) result }
+    ensures { Puts bytes.now status (transfer_of K.written K.faults sink.old sink.new) result }
 {
     match write_all(sink, bytes) {
         Ok(()) => status,

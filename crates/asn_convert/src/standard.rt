@@ -4,7 +4,8 @@ ghost use Rattle.std.specs.Prelude.{◌≡◌};
 use crate::ends::{Failed, Sink, Source};
 use std::io::{Read, Write};
 
-/// A reader of std. Each read is one call of the reader; each error of it, an interruption too, is a fault.
+/// A reader of std. Each read is one call of the reader; each error of it, an interruption too, is
+/// a fault.
 #[derive(Drop)]
 pub struct StdSource<R: Read> {
     reader: R,
@@ -36,8 +37,8 @@ impl<R: Read> Source for StdSource<R> {
     }
 }
 
-/// A writer of std. Each write is one call of the writer; each error of it, and each write that takes
-/// none of a slice that is not empty, is a fault.
+/// A writer of std. Each write is one call of the writer; each error of it, and each write that
+/// takes none of a slice that is not empty, is a fault.
 #[derive(Drop)]
 pub struct StdSink<W: Write> {
     writer: W,

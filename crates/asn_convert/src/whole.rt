@@ -1,7 +1,9 @@
 // A whole input within the limit, and a whole output.
-ghost use Rattle.std.specs.Prelude.{◌≡◌, ◌≤◌, ◌<◌, ℕ, List, length, IfOk, OnOk, OnErr, IsErrOf};
-ghost use Rattle.std.specs.Io.KnownBytes.{Appends, Consumes, IsAtEnd};
+ghost use Rattle.std.specs.Prelude.{◌≡◌, ◌≤◌, IfOk, OnOk, OnErr, IsErrOf};
+ghost use Rattle.std.specs.Io.KnownBytes.{Appends};
 ghost use Rattle.asn_convert.specs.Faults.{Rose, HasCause, AppendsFront};
+ghost use Rattle.asn_convert.specs.Input.{IsWholeInput, ReadPastLimit};
+ghost use Rattle.asn_convert.specs.Transfer.{transfer_of};
 ghost use Rattle.asn_convert.specs.declared.whole.Stopped.TheVariants.{Fault, TooLong, OutOfMemory};
 
 use crate::ends::{Failed, Sink, Source};
@@ -39,13 +41,12 @@ impl From<AllocError> for Stopped {
 
 /// Reads to the end, or until there is one byte too many.
 pub fn read_to_end<S: Source>(alloc: Global, source: &mut S) -> Result<Vec<u8>, Stopped>
-    ensures read { IfOk result (λ v. Consumes (S.left source.old) (S.left source.new) v.items
-        × IsAtEnd (S.left source.new)
-        × (length v.items ≤ 16777216)) }
+    ensures read { IfOk result
+        (λ v. IsWholeInput (transfer_of S.left S.faults source.old source.new) v.items) }
     ensures later { S.faults source.old ≤ S.faults source.new }
     ensures fault { IsErrOf result Fault → Rose (S.faults source.old) (S.faults source.new) }
-    ensures too_long { IsErrOf result TooLong → (xs : List ℕ)
-        × Consumes (S.left source.old) (S.left source.new) xs × (length xs ≡ 16777217) }
+    ensures too_long { IsErrOf result TooLong
+        → ReadPastLimit (transfer_of S.left S.faults source.old source.new) }
 {
     let mut bytes = Vec::new(alloc);
     let mut piece = [0u8; PIECE];

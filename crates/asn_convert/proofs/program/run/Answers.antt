@@ -6,26 +6,22 @@ use Rattle.asn_convert.proofs.program.run.Goals as goal
 
 pub returns-in-Some-clause-answers_values : goal.returns-in-Some-clause-answers_values
 returns-in-Some-clause-answers_values g c input read utf8 asks steady =
-    let r = c.in-Ok.ensures.read in
-    let same = whole_input _ _ input c.in-Ok.bytes.items read.told r.0 r.1 in
+    let same = whole_input read.told c.in-Ok.ensures.read in
     let text = sym (c.in-Ok-from_utf8.ensures.cases.0 ∙ c.deref.ensures.value) in
-    done_or_hungry _ _ _ _ _ _ _ _ _ c.convert.ensures.answer
+    done_or_hungry _ _ _ _ _ _ c.convert.ensures.answer
     (c.convert.ensures.complete (convertible_text input c.in-Ok-from_utf8.text.now _ _ c.in-Some.request asks (same ∙ text) c.split_request.ensures.line c.split_request.ensures.text (sym c.requested.ensures ∙ c.in-Some.is))) steady
 
 pub returns-in-Some-clause-rejects : goal.returns-in-Some-clause-rejects
 returns-in-Some-clause-rejects g c input read utf8 none =
-    let r = c.in-Ok.ensures.read in
-    let same = whole_input _ _ input c.in-Ok.bytes.items read.told r.0 r.1 in
+    let same = whole_input read.told c.in-Ok.ensures.read in
     let text = sym (c.in-Ok-from_utf8.ensures.cases.0 ∙ c.deref.ensures.value) in
     absurd (asks_something input c.in-Ok-from_utf8.text.now _ c.in-Some.request (same ∙ text) c.split_request.ensures.line (sym c.requested.ensures ∙ c.in-Some.is) none)
 
 pub returns-in-Some-clause-rejects_bytes : goal.returns-in-Some-clause-rejects_bytes
 returns-in-Some-clause-rejects_bytes g c input read no_text =
-    let r = c.in-Ok.ensures.read in
-    let same = whole_input _ _ input c.in-Ok.bytes.items read.told r.0 r.1 in
+    let same = whole_input read.told c.in-Ok.ensures.read in
     absurd (no_text (subst IsUtf8 (c.deref.ensures.value ∙ sym same) c.in-Ok-from_utf8.ensures.cases.1))
 
 pub returns-in-Some-clause-stops : goal.returns-in-Some-clause-stops
 returns-in-Some-clause-stops g c input told above steady =
-    let r = c.in-Ok.ensures.read in
-    absurd (within_limit input c.in-Ok.bytes.items (whole_input _ _ input c.in-Ok.bytes.items told r.0 r.1) r.2 above)
+    absurd (within_limit told c.in-Ok.ensures.read above)

@@ -6,8 +6,8 @@ use std::str::FromStr;
 /// The bytes that a sink has room for where a row says nothing else.
 const ROOM: usize = 1_048_576;
 
-/// The numbers of the reads and of the writes that fail, counted from 1, and the bytes that the sink
-/// has room for.
+/// The numbers of the reads and of the writes that fail, counted from 1, and the bytes that the
+/// sink has room for.
 #[derive(Debug, Drop)]
 pub struct Faults {
     pub failing_reads: Vec<u64>,

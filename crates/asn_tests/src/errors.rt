@@ -10,134 +10,169 @@ fn m(alloc: Global) -> Result<String, AllocError> {
     String::from_str(alloc, "m")
 }
 
-/// Each error prints the text beside it.
-fn assert_texts<E: fmt::Display>(
+/// The error prints the text.
+fn assert_text<E: fmt::Display + Drop>(
     rt: &impl Abort,
     alloc: Global,
-    rows: &[(E, &'static str)],
+    error: E,
+    want: &str,
 ) -> Result<(), Fail> {
-    for (error, want) in rows {
-        assert_eq!(rt; error.to_string(alloc)?.as_str(), *want);
-    }
+    assert_eq!(rt; error.to_string(alloc)?.as_str(), want);
     Ok(())
 }
 
 #[test]
 fn texts_of_jer(rt: HostRuntime) -> Result<(), Fail> {
     let alloc = rt.alloc();
-    let rows: [(DecodeError, &'static str); 5] = [
-        (
-            JerDecodeErrorKind::eoi().into(),
-            "JER decoding error: Unexpected end of input while decoding JER (Codec: JER)",
-        ),
-        (
-            DecodeError::from(JerDecodeErrorKind::TypeMismatch {
-                needed: "null",
-                found: m(alloc)?,
-            }),
-            "JER decoding error: Found mismatching JSON value. Expected type: null. Found value: m (Codec: JER)",
-        ),
-        (
-            DecodeError::from(JerDecodeErrorKind::InvalidJerOctetString {}),
-            "JER decoding error: Found invalid character in octet string (Codec: JER)",
-        ),
-        (
-            DecodeError::from(JerDecodeErrorKind::InvalidOIDString { value: m(alloc)? }),
-            "JER decoding error: Failed to construct OID from value m (Codec: JER)",
-        ),
-        (
-            DecodeError::from(JerDecodeErrorKind::InvalidEnumDiscriminant {
-                discriminant: m(alloc)?,
-            }),
-            "JER decoding error: Found invalid enumerated discriminant m (Codec: JER)",
-        ),
-    ];
-    assert_texts(&rt, alloc, &rows)
+    assert_text::<DecodeError>(
+        &rt,
+        alloc,
+        JerDecodeErrorKind::eoi().into(),
+        "JER decoding error: Unexpected end of input while decoding JER (Codec: JER)",
+    )?;
+    assert_text::<DecodeError>(
+        &rt,
+        alloc,
+        DecodeError::from(JerDecodeErrorKind::TypeMismatch {
+            needed: "null",
+            found: m(alloc)?,
+        }),
+        "JER decoding error: Found mismatching JSON value. Expected type: null. Found value: m (Codec: JER)",
+    )?;
+    assert_text::<DecodeError>(
+        &rt,
+        alloc,
+        DecodeError::from(JerDecodeErrorKind::InvalidJerOctetString {}),
+        "JER decoding error: Found invalid character in octet string (Codec: JER)",
+    )?;
+    assert_text::<DecodeError>(
+        &rt,
+        alloc,
+        DecodeError::from(JerDecodeErrorKind::InvalidOIDString { value: m(alloc)? }),
+        "JER decoding error: Failed to construct OID from value m (Codec: JER)",
+    )?;
+    assert_text::<DecodeError>(
+        &rt,
+        alloc,
+        DecodeError::from(JerDecodeErrorKind::InvalidEnumDiscriminant {
+            discriminant: m(alloc)?,
+        }),
+        "JER decoding error: Found invalid enumerated discriminant m (Codec: JER)",
+    )?;
+    Ok(())
 }
 
 #[test]
 fn texts_of_avn(rt: HostRuntime) -> Result<(), Fail> {
     let alloc = rt.alloc();
-    let rows: [(DecodeError, &'static str); 6] = [
-        (
-            AvnDecodeErrorKind::eoi().into(),
-            "AVN decoding error: Unexpected end of AVN input (Codec: AVN)",
-        ),
-        (
-            DecodeError::from(AvnDecodeErrorKind::AvnTypeMismatch {
-                needed: "null",
-                found: m(alloc)?,
-            }),
-            "AVN decoding error: AVN type mismatch: expected null, found m (Codec: AVN)",
-        ),
-        (
-            DecodeError::from(AvnDecodeErrorKind::InvalidOid { value: m(alloc)? }),
-            "AVN decoding error: Invalid OID in AVN: m (Codec: AVN)",
-        ),
-        (
-            DecodeError::from(AvnDecodeErrorKind::AvnInvalidEnumDiscriminant {
-                discriminant: m(alloc)?,
-            }),
-            "AVN decoding error: Invalid enumerated discriminant in AVN: m (Codec: AVN)",
-        ),
-        (
-            DecodeError::from(AvnDecodeErrorKind::UnexpectedToken { found: m(alloc)? }),
-            "AVN decoding error: Unexpected token in AVN: m (Codec: AVN)",
-        ),
-        (
-            DecodeError::from(AvnDecodeErrorKind::IntegerParseError { msg: m(alloc)? }),
-            "AVN decoding error: Integer parse error in AVN: m (Codec: AVN)",
-        ),
-    ];
-    assert_texts(&rt, alloc, &rows)
+    assert_text::<DecodeError>(
+        &rt,
+        alloc,
+        AvnDecodeErrorKind::eoi().into(),
+        "AVN decoding error: Unexpected end of AVN input (Codec: AVN)",
+    )?;
+    assert_text::<DecodeError>(
+        &rt,
+        alloc,
+        DecodeError::from(AvnDecodeErrorKind::AvnTypeMismatch {
+            needed: "null",
+            found: m(alloc)?,
+        }),
+        "AVN decoding error: AVN type mismatch: expected null, found m (Codec: AVN)",
+    )?;
+    assert_text::<DecodeError>(
+        &rt,
+        alloc,
+        DecodeError::from(AvnDecodeErrorKind::InvalidOid { value: m(alloc)? }),
+        "AVN decoding error: Invalid OID in AVN: m (Codec: AVN)",
+    )?;
+    assert_text::<DecodeError>(
+        &rt,
+        alloc,
+        DecodeError::from(AvnDecodeErrorKind::AvnInvalidEnumDiscriminant {
+            discriminant: m(alloc)?,
+        }),
+        "AVN decoding error: Invalid enumerated discriminant in AVN: m (Codec: AVN)",
+    )?;
+    assert_text::<DecodeError>(
+        &rt,
+        alloc,
+        DecodeError::from(AvnDecodeErrorKind::UnexpectedToken { found: m(alloc)? }),
+        "AVN decoding error: Unexpected token in AVN: m (Codec: AVN)",
+    )?;
+    assert_text::<DecodeError>(
+        &rt,
+        alloc,
+        DecodeError::from(AvnDecodeErrorKind::IntegerParseError { msg: m(alloc)? }),
+        "AVN decoding error: Integer parse error in AVN: m (Codec: AVN)",
+    )?;
+    Ok(())
 }
 
 #[test]
 fn texts_of_reading(rt: HostRuntime) -> Result<(), Fail> {
     let alloc = rt.alloc();
-    let rows: [(DecodeError, &'static str); 10] = [
-        (
-            DecodeError::parser_fail(m(alloc)?, Codec::Jer),
-            "Error in Parser: m (Codec: JER)",
-        ),
-        (
-            DecodeError::real_not_supported(Codec::Avn),
-            "Decoder doesn't support `REAL` type (Codec: AVN)",
-        ),
-        (
-            DecodeError::from_kind(DecodeErrorKind::ExceedsMaxParseDepth, Codec::Avn),
-            "Exceeded maximum parse depth (Codec: AVN)",
-        ),
-        (
-            DecodeError::missing_field("x", Codec::Oer),
-            "Missing field `x` (Codec: OER)",
-        ),
-        (
-            DecodeError::integer_overflow(8, Codec::Uper),
-            "Actual integer larger than expected 8 bits (Codec: UPER)",
-        ),
-        (
-            DecodeError::no_valid_choice("Either", Codec::Jer),
-            "No valid choice for `Either` (Codec: JER)",
-        ),
-        (
-            DecodeError::string_conversion_failed(Tag::IA5_STRING, m(alloc)?, Codec::Jer),
-            "Failed to convert byte array into valid ASN.1 string. String type as tag: UNIVERSAL 22 Error: m (Codec: JER)",
-        ),
-        (
-            DecodeError::custom(m(alloc)?, Codec::Xer),
-            "Custom error: m (Codec: XER)",
-        ),
-        (
-            DecodeError::out_of_memory(Codec::Aper),
-            "Out of memory (Codec: APER)",
-        ),
-        (
-            BerDecodeErrorKind::invalid_date(m(alloc)?).into(),
-            "BER decoding error: Invalid date string: m (Codec: BER)",
-        ),
-    ];
-    assert_texts(&rt, alloc, &rows)
+    assert_text::<DecodeError>(
+        &rt,
+        alloc,
+        DecodeError::parser_fail(m(alloc)?, Codec::Jer),
+        "Error in Parser: m (Codec: JER)",
+    )?;
+    assert_text::<DecodeError>(
+        &rt,
+        alloc,
+        DecodeError::real_not_supported(Codec::Avn),
+        "Decoder doesn't support `REAL` type (Codec: AVN)",
+    )?;
+    assert_text::<DecodeError>(
+        &rt,
+        alloc,
+        DecodeError::from_kind(DecodeErrorKind::ExceedsMaxParseDepth, Codec::Avn),
+        "Exceeded maximum parse depth (Codec: AVN)",
+    )?;
+    assert_text::<DecodeError>(
+        &rt,
+        alloc,
+        DecodeError::missing_field("x", Codec::Oer),
+        "Missing field `x` (Codec: OER)",
+    )?;
+    assert_text::<DecodeError>(
+        &rt,
+        alloc,
+        DecodeError::integer_overflow(8, Codec::Uper),
+        "Actual integer larger than expected 8 bits (Codec: UPER)",
+    )?;
+    assert_text::<DecodeError>(
+        &rt,
+        alloc,
+        DecodeError::no_valid_choice("Either", Codec::Jer),
+        "No valid choice for `Either` (Codec: JER)",
+    )?;
+    assert_text::<DecodeError>(
+        &rt,
+        alloc,
+        DecodeError::string_conversion_failed(Tag::IA5_STRING, m(alloc)?, Codec::Jer),
+        "Failed to convert byte array into valid ASN.1 string. String type as tag: UNIVERSAL 22 Error: m (Codec: JER)",
+    )?;
+    assert_text::<DecodeError>(
+        &rt,
+        alloc,
+        DecodeError::custom(m(alloc)?, Codec::Xer),
+        "Custom error: m (Codec: XER)",
+    )?;
+    assert_text::<DecodeError>(
+        &rt,
+        alloc,
+        DecodeError::out_of_memory(Codec::Aper),
+        "Out of memory (Codec: APER)",
+    )?;
+    assert_text::<DecodeError>(
+        &rt,
+        alloc,
+        BerDecodeErrorKind::invalid_date(m(alloc)?).into(),
+        "BER decoding error: Invalid date string: m (Codec: BER)",
+    )?;
+    Ok(())
 }
 
 #[test]
@@ -153,51 +188,69 @@ fn texts_of_writing(rt: HostRuntime) -> Result<(), Fail> {
         negative: true,
         magnitude: 9223372036854775809,
     };
-    let rows: [(EncodeError, &'static str); 10] = [
-        (
-            EncodeError::from(JerEncodeErrorKind::NoRootValueFound),
-            "JER encoding error: No encoded JSON root value found (Codec: JER)",
-        ),
-        (
-            EncodeError::from(JerEncodeErrorKind::ExceedsSupportedIntSize { value }),
-            "JER encoding error: Exceeds supported integer range -2^63..2^64 (-9223372036854775809) (Codec: JER)",
-        ),
-        (
-            EncodeError::from(JerEncodeErrorKind::InvalidCharacter {
-                error: Utf8Fault { valid_up_to: 3 },
-            }),
-            "JER encoding error: Invalid character: after 3 (Codec: JER)",
-        ),
-        (
-            EncodeError::from(AvnEncodeErrorKind::AvnNoRootValueFound),
-            "AVN encoding error: No encoded AVN root value found (Codec: AVN)",
-        ),
-        (
-            EncodeError::from(AvnEncodeErrorKind::AvnEncoder { msg: m(alloc)? }),
-            "AVN encoding error: Error in AVN encoder: m (Codec: AVN)",
-        ),
-        (
-            EncodeError::size_constraint_not_satisfied(1, &size, Codec::Jer),
-            "Size constraint not satisfied: expected: 2..MAX; actual: 1 (Codec: JER)",
-        ),
-        (
-            EncodeError::variant_not_in_choice(Codec::Avn),
-            "Selected Variant not found in Choice (Codec: AVN)",
-        ),
-        (
-            EncodeError::real_not_supported(Codec::Jer),
-            "Encoder doesn't support `REAL` type (Codec: JER)",
-        ),
-        (
-            EncodeError::custom(m(alloc)?, Codec::Coer),
-            "Custom error: m (Codec: COER)",
-        ),
-        (
-            EncodeError::out_of_memory(Codec::Der),
-            "Out of memory (Codec: DER)",
-        ),
-    ];
-    assert_texts(&rt, alloc, &rows)
+    assert_text::<EncodeError>(
+        &rt,
+        alloc,
+        EncodeError::from(JerEncodeErrorKind::NoRootValueFound),
+        "JER encoding error: No encoded JSON root value found (Codec: JER)",
+    )?;
+    assert_text::<EncodeError>(
+        &rt,
+        alloc,
+        EncodeError::from(JerEncodeErrorKind::ExceedsSupportedIntSize { value }),
+        "JER encoding error: Exceeds supported integer range -2^63..2^64 (-9223372036854775809) (Codec: JER)",
+    )?;
+    assert_text::<EncodeError>(
+        &rt,
+        alloc,
+        EncodeError::from(JerEncodeErrorKind::InvalidCharacter {
+            error: Utf8Fault { valid_up_to: 3 },
+        }),
+        "JER encoding error: Invalid character: after 3 (Codec: JER)",
+    )?;
+    assert_text::<EncodeError>(
+        &rt,
+        alloc,
+        EncodeError::from(AvnEncodeErrorKind::AvnNoRootValueFound),
+        "AVN encoding error: No encoded AVN root value found (Codec: AVN)",
+    )?;
+    assert_text::<EncodeError>(
+        &rt,
+        alloc,
+        EncodeError::from(AvnEncodeErrorKind::AvnEncoder { msg: m(alloc)? }),
+        "AVN encoding error: Error in AVN encoder: m (Codec: AVN)",
+    )?;
+    assert_text::<EncodeError>(
+        &rt,
+        alloc,
+        EncodeError::size_constraint_not_satisfied(1, &size, Codec::Jer),
+        "Size constraint not satisfied: expected: 2..MAX; actual: 1 (Codec: JER)",
+    )?;
+    assert_text::<EncodeError>(
+        &rt,
+        alloc,
+        EncodeError::variant_not_in_choice(Codec::Avn),
+        "Selected Variant not found in Choice (Codec: AVN)",
+    )?;
+    assert_text::<EncodeError>(
+        &rt,
+        alloc,
+        EncodeError::real_not_supported(Codec::Jer),
+        "Encoder doesn't support `REAL` type (Codec: JER)",
+    )?;
+    assert_text::<EncodeError>(
+        &rt,
+        alloc,
+        EncodeError::custom(m(alloc)?, Codec::Coer),
+        "Custom error: m (Codec: COER)",
+    )?;
+    assert_text::<EncodeError>(
+        &rt,
+        alloc,
+        EncodeError::out_of_memory(Codec::Der),
+        "Out of memory (Codec: DER)",
+    )?;
+    Ok(())
 }
 
 #[test]

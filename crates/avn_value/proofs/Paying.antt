@@ -1,5 +1,5 @@
 -- Looks at characters.
-use Rattle.std.proofs.Common.{◌≡◌, ℕ, List, length, arith, ap, ◌∙◌}
+use Rattle.std.proofs.Common.{◌≡◌, ℕ, length, arith, ap, ◌∙◌}
 use Rattle.avn_grammar.specs.Chars.{lead, past, is_digit}
 use Rattle.avn_value.proofs.Steps.{digits-shorter}
 use Rattle.avn_value.specs.Ahead.{Ahead, Advances, LooksAtMost}
@@ -20,7 +20,7 @@ pub digit_paid : {old now then : Ahead} → old.ahead ≡ old.rest → lead old.
 digit_paid {old = old} e l k f m s g r = record {
   same = s.same ∙ k.same;
   rises = omega (arith, k.rises, s.rises);
-  cost = omega (arith, k.cost, s.few, digits-shorter old.rest l, ap (λ (x : List ℕ). length x) e, ap (λ (x : List ℕ). length x) f, ap (λ (x : List ℕ). length x) m, ap (λ (x : List ℕ). length x) g);
-  nearer = omega (arith, k.nearer, ap (λ (x : List ℕ). length x) g);
-  shorter = omega (arith, k.shorter, ap (λ (x : List ℕ). length x) r);
+  cost = omega (arith, k.cost, s.few, digits-shorter old.rest l, ap length e, ap length f, ap length m, ap length g);
+  nearer = omega (arith, k.nearer, ap length g);
+  shorter = omega (arith, k.shorter, ap length r);
 }

@@ -79,7 +79,7 @@ chunk_more u r n cs ds e f =
 
 -- A chunk takes as many characters of the text at least as it has.
 pub chunk_shorter : (r n ds : List ℕ) → 34 ∷ r ≡ (34 ∷ doubled ds) ++ n → length ds + length n ≤ length r
-chunk_shorter r n ds f = omega (arith, doubled-longer ds, ap (λ (x : List ℕ). length x) f, length-append (34 ∷ doubled ds) n)
+chunk_shorter r n ds f = omega (arith, doubled-longer ds, ap length f, length-append (34 ∷ doubled ds) n)
 
 -- The characters of a chunk are spelled as they are.
 pub spelled_chunk : (a b text cs ds : List ℕ) → a ≡ spelled cs → b ≡ a ++ text → text ≡ ds → IsAscii ds → b ≡ spelled (cs ++ ds)

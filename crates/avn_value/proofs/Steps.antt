@@ -20,11 +20,11 @@ letter-name : (c : ℕ) → is_letter c ≡ true → is_name c ≡ true
 letter-name c h = ap (λ b. b || is_digit c || (c == 45) || (c == 95)) h
 
 past_one : (p : ℕ → Bool) (c : ℕ) (u : List ℕ) → p c ≡ true → length (past p (c ∷ u)) < length (c ∷ u)
-past_one p c u h = let e : past p (c ∷ u) ≡ past p u = ap (λ b. cond b (past p u) (c ∷ u)) h in omega (arith, past-le p u, ap (λ (x : List ℕ). length x) e)
+past_one p c u h = let e : past p (c ∷ u) ≡ past p u = ap (λ b. cond b (past p u) (c ∷ u)) h in omega (arith, past-le p u, ap length e)
 
 pub ident-shorter : (w id r : List ℕ) → Ident w id r → length r < length w
 ident-shorter [] id r i = let e = i.starts in let n : ⊥ = cc in absurd n
-ident-shorter (c ∷ u) id r i = omega (arith, past_one is_name c u (letter-name c (lead_letter c i.starts)), ap (λ (x : List ℕ). length x) i.left)
+ident-shorter (c ∷ u) id r i = omega (arith, past_one is_name c u (letter-name c (lead_letter c i.starts)), ap length i.left)
 
 pub digits-shorter : (w : List ℕ) → lead w ≡ is.Digit → length (past is_digit w) < length w
 digits-shorter [] e = let n : ⊥ = cc in absurd n
@@ -41,14 +41,14 @@ number-shorter w e = elim (has_fraction (past is_digit w)) as (λ b. length (con
 ]
 
 quoted-shorter : (w r : List ℕ) (c : ℕ) → past inside (tail w) ≡ 39 ∷ c ∷ r → length r < length w
-quoted-shorter w r c e = omega (arith, ap (λ (x : List ℕ). length x) e, past-le inside (tail w), tail-le w)
+quoted-shorter w r c e = omega (arith, ap length e, past-le inside (tail w), tail-le w)
 
 pub token-shorter : {w r : List ℕ} {t : Tree} → Token w t r → length r < length w
 token-shorter (number_token {w = w} a) = number-shorter w a
 token-shorter (negative_token {w = w} a b) = omega (arith, number-shorter (tail w) b, tail-le w)
 token-shorter (octets_token {w = w} {rest = r} a b c) = quoted-shorter w r 72 b
 token-shorter (bits_token {w = w} {rest = r} a b c) = quoted-shorter w r 66 b
-token-shorter (text_token {w = w} {rest = r} cs e n) = omega (arith, ap (λ (x : List ℕ). length x) e, length-append (34 ∷ doubled cs) (34 ∷ r))
+token-shorter (text_token {w = w} {rest = r} cs e n) = omega (arith, ap length e, length-append (34 ∷ doubled cs) (34 ∷ r))
 
 -- What the cursor shows, u on.
 module _ (limit level : ℕ) (u w : List ℕ) (at : w ≡ skip u) where
@@ -188,7 +188,7 @@ module _ (limit m : ℕ) (start now r : List ℕ) (g h : Gathered) (x : Item) (g
 
 pub shorter_token : (A E : Type 0) (see : A → Tree) (n u v : List ℕ) (r : Result A E) → v ≡ skip u → IfOk r (λ x. Token v (see x) n) → OnOk r (length n < length u)
 shorter_token A E see n u v (Err e) f k = tt
-shorter_token A E see n u v (Ok x) f k = omega (arith, token-shorter k, skip-le u, ap (λ (x : List ℕ). length x) f)
+shorter_token A E see n u v (Ok x) f k = omega (arith, token-shorter k, skip-le u, ap length f)
 
 pub all_closed : (A E : Type 0) (see : A → Tree) (limit m : ℕ) (start n : List ℕ) (h : Gathered) (e : E) (o : Option A) (r : Result A E) → r ≡ ok_or o e → IfSome o (λ v. (xs : List Item) → Holds h xs → IsGathered xs (see v))
     → ((t : Tree) → ((xs : List Item) → Holds h xs → IsGathered xs t) → BracesStand limit m start t n) → IfOk r (λ v. BracesStand limit m start (see v) n)

@@ -18,7 +18,7 @@ use Rattle.avn_value.proofs.parse.+read.Goals as goal
 
 -- An identifier was passed.
 word_shorter : (u w id r n : List ℕ) → w ≡ skip u → Ident w id r → n ≡ r → length n < length u
-word_shorter u w id r n e i f = omega (arith, ident-shorter w id r i, skip-le u, ap (λ (x : List ℕ). length x) e, ap (λ (x : List ℕ). length x) f)
+word_shorter u w id r n e i f = omega (arith, ident-shorter w id r i, skip-le u, ap length e, ap length f)
 
 pub read_item-returns-in_default-clause-ok : goal.read_item-returns-in_default-clause-ok
 read_item-returns-in_default-clause-ok t c =
@@ -29,7 +29,7 @@ pub read_item-returns-in_default-clause-shorter : goal.read_item-returns-in_defa
 read_item-returns-in_default-clause-shorter t c =
     let at : c.lead.new.self.rest ≡ skip c.args.cursor.now.rest = cc in
     let first : lead c.lead.new.self.rest ≢ is.Letter = λ h. c.in_default.not-Letter (c.lead.ensures.found ∙ ap lead (sym c.lead.ensures.stays) ∙ h) in
-    omega (arith, c.in_ok-bare-in_default.ensures.shorter, skip-le c.args.cursor.now.rest, ap (λ (x : List ℕ). length x) at)
+    omega (arith, c.in_ok-bare-in_default.ensures.shorter, skip-le c.args.cursor.now.rest, ap length at)
 
 pub read_item-returns-in_ok-payload-in-Colon-2-clause-ok : goal.read_item-returns-in_ok-payload-in-Colon-2-clause-ok
 read_item-returns-in_ok-payload-in-Colon-2-clause-ok t c =
@@ -73,7 +73,7 @@ read_items-items-preserved-in-Comma t c =
     let comma : lead (skip c.read_item.new.cursor.rest) ≡ is.Comma = cc in
     let next : c.take-comma.new.self.rest ≡ tail (skip c.read_item.new.cursor.rest) = cc in (
       going_comma c.args.limit c.args.level c.args.cursor.now.rest k.cursor.rest c.read_item.new.cursor.rest k.gathered c.push.new.self _ k.invariant.0 c.in_ok-entry.ensures.ok c.in_ok-push.ensures.ok
-          c.take-comma.new.self.rest next (omega (arith, c.in_ok-entry.ensures.shorter, tail-le (skip c.read_item.new.cursor.rest), skip-le c.read_item.new.cursor.rest, ap (λ (x : List ℕ). length x) next)) comma,
+          c.take-comma.new.self.rest next (omega (arith, c.in_ok-entry.ensures.shorter, tail-le (skip c.read_item.new.cursor.rest), skip-le c.read_item.new.cursor.rest, ap length next)) comma,
       grind (arith, common_steps),
     )
 
@@ -90,7 +90,7 @@ read_items-items-preserved t c =
     let digit : BeginsNumber (lead (skip c.read_item.new.cursor.rest)) = subst BeginsNumber (c.lead.ensures.found ∙ ap lead c.skip.ensures.moves) c.in-Digit.is in
     let next : c.lead.new.self.rest ≡ skip c.read_item.new.cursor.rest = cc in (
       going_number c.args.limit c.args.level c.args.cursor.now.rest k.cursor.rest c.read_item.new.cursor.rest k.gathered c.push.new.self _ k.invariant.0 c.in_ok-entry.ensures.ok c.in_ok-push.ensures.ok
-          c.lead.new.self.rest next (omega (arith, c.in_ok-entry.ensures.shorter, skip-le c.read_item.new.cursor.rest, ap (λ (x : List ℕ). length x) next)) digit (grind (arith, common_steps)),
+          c.lead.new.self.rest next (omega (arith, c.in_ok-entry.ensures.shorter, skip-le c.read_item.new.cursor.rest, ap length next)) digit (grind (arith, common_steps)),
       grind (arith, common_steps),
     )
 
@@ -137,7 +137,7 @@ read_value-returns-in_ok-list-in_default-lead_past_blanks-2-clause-shorter t c =
     let first : lead c.lead.new.self.rest ≡ is.OpenBrace = cc in
     let f = c.lead_past_blanks-in-OpenBrace.ensures in
     let k = c.in_ok-list-in_default-lead_past_blanks-2.ensures in
-    omega (arith, k.shorter, tail-le c.lead.new.self.rest, skip-le c.args.cursor.now.rest, ap (λ (x : List ℕ). length x) at, ap (λ (x : List ℕ). length x) f.stays, ap (λ (x : List ℕ). length x) c.take-open.ensures.moves)
+    omega (arith, k.shorter, tail-le c.lead.new.self.rest, skip-le c.args.cursor.now.rest, ap length at, ap length f.stays, ap length c.take-open.ensures.moves)
 
 pub read_value-returns-in-Digit-clause-ok : goal.read_value-returns-in-Digit-clause-ok
 read_value-returns-in-Digit-clause-ok t c =

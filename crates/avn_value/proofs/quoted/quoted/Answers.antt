@@ -1,4 +1,4 @@
-use Rattle.std.proofs.Common.{◌≡◌, List, ℕ, length, true, false, MatchOption, sym, ap, subst, ◌∙◌, arith}
+use Rattle.std.proofs.Common.{◌≡◌, length, true, false, MatchOption, sym, ap, subst, ◌∙◌, arith}
 use Rattle.avn_grammar.specs.Chars.{tail, front, past, inside, solid, every}
 use Rattle.avn_grammar.specs.Octets.{are_pairs, octets_of, is_bit, packed}
 use Rattle.avn_value.proofs.Tokens.{octets_read, bits_read, inside_read, inside_closed}
@@ -13,7 +13,7 @@ returns-clause-ok c =
     let digits = inside_read w _ _ _ c.take-open.ensures.moves c.new-digits.ensures.items c.in_ok-take_inside.ensures.found in
     let closed = inside_closed w _ _ r _ _ c.take-open.ensures.moves c.in_ok-take_inside.ensures.moves c.in-Some.ensures.found c.in-Binary.is in
     let bits : every is_bit (solid (front inside (tail w))) ≡ true = ap (every is_bit) (sym (c.deref-in-Binary.ensures.value ∙ digits)) ∙ sym c.are_bits.ensures ∙ c.if-not-are_bits.false in
-    let n : c.len.result ≡ length (solid (front inside (tail w))) = omega (arith, c.len.ensures, c.deref-in-Binary.ensures.len, ap (λ (x : List ℕ). length x) (c.deref-in-Binary.ensures.value ∙ digits)) in
+    let n : c.len.result ≡ length (solid (front inside (tail w))) = omega (arith, c.len.ensures, c.deref-in-Binary.ensures.len, ap length (c.deref-in-Binary.ensures.value ∙ digits)) in
     bits_read w r c.in_ok-bytes-in-Binary.bytes.items c.len.result _ c.requires.apostrophe closed bits (c.in_ok-bytes-in-Binary.ensures ∙ ap packed (c.deref-in-Binary-2.ensures.value ∙ digits)) n (view-BitString c.in_ok-bytes-in-Binary.bytes c.len.result)
 
 pub returns-in-Hexadecimal-clause-none : goal.returns-in-Hexadecimal-clause-none

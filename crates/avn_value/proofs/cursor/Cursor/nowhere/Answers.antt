@@ -10,7 +10,7 @@ nothing_after text e = ap (λ t. after t 0) e ∙ chars-IsAscii [] IsAscii-nil
 
 pub invariant_of-result : goal.invariant_of-result
 invariant_of-result c =
-    (c.has_edge_at_start.ensures, c.has_edge_at_start.ensures, omega (arith, ap (λ (t : List ℕ). length t) c.new-scan.ensures.text), nothing_after _ c.new-scan.ensures.text, refl)
+    (c.has_edge_at_start.ensures, c.has_edge_at_start.ensures, omega (arith, ap length c.new-scan.ensures.text), nothing_after _ c.new-scan.ensures.text, refl)
 
 pub returns-clause-rest : goal.returns-clause-rest
 returns-clause-rest c = nothing_after _ c.new-scan.ensures.text

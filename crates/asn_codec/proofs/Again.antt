@@ -7,6 +7,7 @@ use Rattle.std.proofs.Math.Nat.{le_trans}
 use Rattle.serde_json.proofs.Nesting.{depth-read}
 use Rattle.avn_grammar.specs.Depth.{Deep, deepest}
 use Rattle.avn_grammar.proofs.OneTree.{same_stands}
+use Rattle.avn_grammar.specs.declared.limits.TheConstants.{LEVEL_LIMIT}
 use Rattle.asn_base.specs.declared.codec.Codec.{Codec}
 use Rattle.asn_base.specs.declared.codec.Codec.TheVariants.{Avn}
 use Rattle.asn_traits.specs.Canonical.{jer_data, avn_tree, canonical_text}
@@ -61,7 +62,7 @@ again from Notation.avn s v input text read fit back says shallow =
 again from Notation.other s v input text read fit back says shallow = absurd shallow
 
 -- The text of a value that is too deep in AVN is refused for it.
-pub deep_again : (to : Codec) (v : Value) (text : List ℕ) → to ≡ Avn → ReadsBack (notation_of to) v text → 64 < deepest 0 (avn_tree v) → Deep 64 0 (chars text)
+pub deep_again : (to : Codec) (v : Value) (text : List ℕ) → to ≡ Avn → ReadsBack (notation_of to) v text → LEVEL_LIMIT < deepest 0 (avn_tree v) → Deep LEVEL_LIMIT 0 (chars text)
 deep_again to v text is back deep = (subst (λ c. ReadsBack (notation_of c) v text) is back).deep deep
 
 -- A value has the text of another exactly if it is equal to it.

@@ -4,6 +4,7 @@ use Rattle.std.specs.Prelude.{IfOk, IfErr, codes}
 use Rattle.std.specs.Str.{chars}
 use Rattle.serde_json.specs.Data.{Data}
 use Rattle.avn_grammar.specs.Tree.{Tree as AvnTree}
+use Rattle.avn_grammar.specs.declared.limits.TheConstants.{LEVEL_LIMIT}
 use Rattle.avn_value.specs.Answer.{Explains}
 use Rattle.asn_base.specs.declared.codec.Codec.{Codec}
 use Rattle.asn_base.specs.declared.codec.Codec.TheVariants.{Jer, Avn}
@@ -44,7 +45,7 @@ jer_unread s text stop (jer.RefusesText.no_value d h (answer.Refuses.no_memory m
 jer_unread s text stop (jer.RefusesText.no_value d h (answer.Refuses.stopped p levels place)) = inr (IsUnread.no_value (Tree.json d) stop (HasTree.json_tree h) p levels place)
 jer_unread s text stop (jer.RefusesText.no_value d h (answer.Refuses.refuses_free o)) = cc o
 
-avn_no_tree : (s : Shape) (text : List ℕ) (stop : Stop) → Explains 64 (chars text) stop → (is_memory stop ≡ true) ⊎ IsUnread Avn s text stop
+avn_no_tree : (s : Shape) (text : List ℕ) (stop : Stop) → Explains LEVEL_LIMIT (chars text) stop → (is_memory stop ≡ true) ⊎ IsUnread Avn s text stop
 avn_no_tree s text stop (Explains.unexpected_token found h) = inr (IsUnread.no_avn found refl h)
 avn_no_tree s text stop (Explains.exceeds_depth h) = inr (IsUnread.too_deep refl h)
 avn_no_tree s text stop Explains.out_of_memory = inl refl

@@ -7,6 +7,7 @@ use Rattle.serde_json.specs.Written.{has_float}
 use Rattle.avn_grammar.specs.Depth.{Deep, deepest}
 use Rattle.avn_grammar.specs.Tree.{Tree as AvnTree}
 use Rattle.avn_grammar.specs.Unread as grammar
+use Rattle.avn_grammar.specs.declared.limits.TheConstants.{LEVEL_LIMIT}
 use Rattle.asn_base.specs.Texts.{codec_name}
 use Rattle.asn_base.specs.declared.codec.Codec.{Codec}
 use Rattle.asn_base.specs.declared.codec.Codec.TheVariants.{Jer, Avn, Xer}
@@ -50,7 +51,7 @@ pub record SaysAlone (n : Notation) (s : Shape) (text : List ℕ) (v : Value) : 
 
 -- The canonical text of a value that was read nests no deeper than texts are read: in AVN 64 levels, in JSON 127, and always where JSON was read.
 abbrev pub IsShallow : Notation → Notation → Value → Type 0
-IsShallow from Notation.avn v = deepest 0 (canonical.avn_tree v) ≤ 64
+IsShallow from Notation.avn v = deepest 0 (canonical.avn_tree v) ≤ LEVEL_LIMIT
 IsShallow Notation.jer Notation.jer v = Unit {0}
 IsShallow from Notation.jer v = depth (canonical.jer_data v) ≤ max_depth
 IsShallow from Notation.other v = ⊥
@@ -64,8 +65,8 @@ no_text codec call = codec_name codec ++ (codes " is a binary-based encoding. Ca
 pub data IsUnread (codec : Codec) (s : Shape) (text : List ℕ) : Stop → Type 0 where
   no_json : codec ≡ Jer → read text ≡ None → IsUnread codec s text (at_root (Why.parser (codes "Error parsing JER JSON")) Jer)
   has_real : (d : Data) → codec ≡ Jer → read text ≡ Some d → has_float d ≡ true → IsUnread codec s text (at_root Why.real_not_supported Jer)
-  no_avn : (found : List ℕ) → codec ≡ Avn → grammar.Unread 64 (chars text) found → IsUnread codec s text (at_root (Why.unexpected_token found) Avn)
-  too_deep : codec ≡ Avn → Deep 64 0 (chars text) → IsUnread codec s text (at_root Why.exceeds_max_parse_depth Avn)
+  no_avn : (found : List ℕ) → codec ≡ Avn → grammar.Unread LEVEL_LIMIT (chars text) found → IsUnread codec s text (at_root (Why.unexpected_token found) Avn)
+  too_deep : codec ≡ Avn → Deep LEVEL_LIMIT 0 (chars text) → IsUnread codec s text (at_root Why.exceeds_max_parse_depth Avn)
   no_value : (t : Tree) (stop : Stop) → HasTree (notation_of codec) text t → Stops (notation_of codec) s (Some t) (map (λ l. l.name) stop.path) stop.why
       → OfLevels (notation_of codec) stop.path → OfPlace (notation_of codec) stop.why stop.codec → IsUnread codec s text stop
   not_text : notation_of codec ≡ Notation.other → IsUnread codec s text (at_root (Why.custom (no_text codec (codes "decode_from_binary"))) codec)

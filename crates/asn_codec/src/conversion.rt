@@ -7,6 +7,7 @@ ghost use Rattle.asn_traits.specs.Notation.{notation_of};
 ghost use Rattle.asn_traits.specs.Value.{Value, Fits};
 ghost use Rattle.asn_traits.specs.Writable.{Writable};
 ghost use Rattle.avn_grammar.specs.Depth.{Deep, deepest};
+ghost use Rattle.avn_grammar.specs.declared.limits.TheConstants.{LEVEL_LIMIT};
 ghost use Rattle.std.specs.Str.{chars};
 ghost use Rattle.std.specs.Prelude.{◌≡◌, ◌⊎◌, ◌↔◌, ◌<◌, true, Some, IfOk, IfErr, string_bytes};
 
@@ -64,7 +65,7 @@ pub fn transcode<T: Encode + Decode>(
         → IsShallow (notation_of from) (notation_of to) v
         → SaysAlone (notation_of to) T.shape_of (string_bytes s) v) }
     ensures too_deep { IfOk result (λ s. (v : Value) → SaysValue (notation_of from) T.shape_of input.now v
-        → to ≡ Avn → 64 < deepest 0 (avn_tree v) → Deep 64 0 (chars (string_bytes s))) }
+        → to ≡ Avn → LEVEL_LIMIT < deepest 0 (avn_tree v) → Deep LEVEL_LIMIT 0 (chars (string_bytes s))) }
     // Two values have the same canonical text exactly if they are equal.
     ensures equal { IfOk result (λ s. (v w : Value) → SaysValue (notation_of from) T.shape_of input.now v
         → Fits T.shape_of w → Writable (notation_of to) w

@@ -5,6 +5,7 @@ use Rattle.avn_grammar.specs.Depth.{Deep}
 use Rattle.avn_grammar.specs.Grammar.{Reads}
 use Rattle.avn_grammar.specs.Normal.{normal}
 use Rattle.avn_grammar.proofs.WholePrinted.{reads_whole, sinks_whole}
+use Rattle.avn_grammar.specs.declared.limits.TheConstants.{LEVEL_LIMIT}
 use Rattle.asn_fault.specs.declared.encode.EncodeError.{EncodeError}
 use Rattle.asn_traits.specs.Canonical.{avn_tree, canonical_text}
 use Rattle.asn_traits.specs.Notation.{Notation}
@@ -17,7 +18,7 @@ use Rattle.avn_rules.specs.Text.{ReadsBack}
 -- The canonical text of a value of a shape that can be read is read back.
 pub read_back : (s : Shape) (v : Value) (r : Result (String Global) EncodeError) → is_readable s ≡ true → Fits s v → IfOk r (λ t. string_bytes t ≡ canonical_text Notation.avn v) → IfOk r (λ t. ReadsBack v (string_bytes t))
 read_back s v (Ok t) a fit text = record {
-  again = λ within. subst (λ x. Reads 64 (chars x) (normal (avn_tree v))) (sym text) (reads_whole 64 0 (avn_tree v) (well-formed a fit) within);
-  deep = λ above. subst (λ x. Deep 64 0 (chars x)) (sym text) (sinks_whole 64 0 (avn_tree v) (well-formed a fit) above);
+  again = λ within. subst (λ x. Reads LEVEL_LIMIT (chars x) (normal (avn_tree v))) (sym text) (reads_whole LEVEL_LIMIT 0 (avn_tree v) (well-formed a fit) within);
+  deep = λ above. subst (λ x. Deep LEVEL_LIMIT 0 (chars x)) (sym text) (sinks_whole LEVEL_LIMIT 0 (avn_tree v) (well-formed a fit) above);
 }
 read_back s v (Err e) a fit text = tt

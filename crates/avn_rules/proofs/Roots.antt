@@ -17,13 +17,14 @@ use Rattle.avn_grammar.specs.Print.{print}
 use Rattle.avn_grammar.specs.Tree.{Tree as AvnTree}
 use Rattle.avn_grammar.proofs.OneAnswer.{reads-unread, reads-deep}
 use Rattle.avn_grammar.proofs.OneTree.{same_stands}
+use Rattle.avn_grammar.specs.declared.limits.TheConstants.{LEVEL_LIMIT}
 use Rattle.avn_value.specs.Answer.{Explains}
 use Rattle.avn_rules.specs.Text.{IsAvn, NoTree, RefusesText}
 
 -- Want of memory explains that a text is not read.
 pub memory_explained : {A : Type 0} (text : List ℕ) (r : Result A DecodeError) → IfErr r (λ e. error_stop e ≡ at_root Why.out_of_memory Avn) → IfErr r (λ e. NoTree text (error_stop e))
 memory_explained text (Ok x) h = tt
-memory_explained text (Err e) h = subst (Explains 64 (chars text)) (sym h) Explains.out_of_memory
+memory_explained text (Err e) h = subst (Explains LEVEL_LIMIT (chars text)) (sym h) Explains.out_of_memory
 
 -- A refusal of the tree is one of its text.
 pub text_refused : {A : Type 0} (s : Shape) (value : A → Value) (text : List ℕ) (t : AvnTree) (r : Result A DecodeError) → IsAvn text t → RootAnswer Notation.avn s value (Tree.avn t) r → IfErr r (λ e. RefusesText s text (error_stop e))

@@ -6,6 +6,7 @@ use Rattle.avn_grammar.specs.Depth.{Deep, deepest}
 use Rattle.avn_grammar.specs.Grammar.{Reads}
 use Rattle.avn_grammar.specs.Normal.{normal}
 use Rattle.avn_grammar.specs.Tree.{Tree as AvnTree}
+use Rattle.avn_grammar.specs.declared.limits.TheConstants.{LEVEL_LIMIT}
 use Rattle.avn_value.specs.Answer.{Explains}
 use Rattle.asn_traits.specs.Answer.{Refuses}
 use Rattle.asn_traits.specs.Canonical.{avn_tree}
@@ -17,16 +18,16 @@ use Rattle.asn_traits.specs.Value.{Value}
 
 -- The text is this value of the notation, at most 64 levels deep.
 abbrev pub IsAvn : List ℕ → AvnTree → Type 0
-IsAvn text t = Reads 64 (chars text) t
+IsAvn text t = Reads LEVEL_LIMIT (chars text) t
 
 -- The text is read as the normal form of the tree that is written for the value, unless that is deeper than 64 levels, where a value in it is looked for too deep.
 pub record ReadsBack (v : Value) (text : List ℕ) : Type 0 where
-  pub again : deepest 0 (avn_tree v) ≤ 64 → IsAvn text (normal (avn_tree v))
-  pub deep : 64 < deepest 0 (avn_tree v) → Deep 64 0 (chars text)
+  pub again : deepest 0 (avn_tree v) ≤ LEVEL_LIMIT → IsAvn text (normal (avn_tree v))
+  pub deep : LEVEL_LIMIT < deepest 0 (avn_tree v) → Deep LEVEL_LIMIT 0 (chars text)
 
 -- The text is no value of the notation, or too deep, and the error says so, or memory ran out.
 abbrev pub NoTree : List ℕ → Stop → Type 0
-NoTree text stop = Explains 64 (chars text) stop
+NoTree text stop = Explains LEVEL_LIMIT (chars text) stop
 
 -- The text is no value of the notation, or it is one that says no value of the shape, and the error says why.
 pub data RefusesText (s : Shape) (text : List ℕ) (stop : Stop) : Type 0 where

@@ -23,7 +23,7 @@ use Rattle.asn_traits.proofs.SameText.{same_text}
 use Rattle.asn_traits.proofs.Written.{says_written, jer_tree, jer_writes}
 use Rattle.asn_traits.proofs.WrittenAvn.{read_tree, avn_writes}
 use Rattle.jer_rules.specs.Text as jer
-use Rattle.asn_codec.specs.Texts.{HasTree, SaysValue, SaysAlone, ReadsBack, IsShallow}
+use Rattle.asn_codec.specs.Texts.{HasTree, SaysValue, SaysAlone, ReadsBack, IsShallow, avn_depth_limit}
 
 same_data : (text : List ℕ) (d e : Data) → jer.IsJer text d → jer.IsJer text e → d ≡ e
 same_data text d e h k = let x : ◌≡◌ {A = Option Data} (Some d) (Some e) = sym h.0 ∙ k.0 in cc x
@@ -61,7 +61,7 @@ again from Notation.avn s v input text read fit back says shallow =
 again from Notation.other s v input text read fit back says shallow = absurd shallow
 
 -- The text of a value that is too deep in AVN is refused for it.
-pub deep_again : (to : Codec) (v : Value) (text : List ℕ) → to ≡ Avn → ReadsBack (notation_of to) v text → 64 < deepest 0 (avn_tree v) → Deep 64 0 (chars text)
+pub deep_again : (to : Codec) (v : Value) (text : List ℕ) → to ≡ Avn → ReadsBack (notation_of to) v text → avn_depth_limit < deepest 0 (avn_tree v) → Deep avn_depth_limit 0 (chars text)
 deep_again to v text is back deep = (subst (λ c. ReadsBack (notation_of c) v text) is back).deep deep
 
 -- A value has the text of another exactly if it is equal to it.

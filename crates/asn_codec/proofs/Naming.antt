@@ -21,7 +21,7 @@ use Rattle.asn_traits.specs.Value.{Value}
 use Rattle.asn_traits.specs.Writing.{CannotWrite}
 use Rattle.jer_rules.specs.Text as jer
 use Rattle.avn_rules.specs.Text as avn
-use Rattle.asn_codec.specs.Texts.{HasTree, SaysValue, IsUnread, IsUnwritten, no_text}
+use Rattle.asn_codec.specs.Texts.{HasTree, SaysValue, IsUnread, IsUnwritten, avn_depth_limit, no_text}
 
 -- the codec of JER is Jer
 jer_codec : (c : Codec) → notation_of c ≡ Notation.jer → c ≡ Jer
@@ -44,7 +44,7 @@ jer_unread s text stop (jer.RefusesText.no_value d h (answer.Refuses.no_memory m
 jer_unread s text stop (jer.RefusesText.no_value d h (answer.Refuses.stopped p levels place)) = inr (IsUnread.no_value (Tree.json d) stop (HasTree.json_tree h) p levels place)
 jer_unread s text stop (jer.RefusesText.no_value d h (answer.Refuses.refuses_free o)) = cc o
 
-avn_no_tree : (s : Shape) (text : List ℕ) (stop : Stop) → Explains 64 (chars text) stop → (is_memory stop ≡ true) ⊎ IsUnread Avn s text stop
+avn_no_tree : (s : Shape) (text : List ℕ) (stop : Stop) → Explains avn_depth_limit (chars text) stop → (is_memory stop ≡ true) ⊎ IsUnread Avn s text stop
 avn_no_tree s text stop (Explains.unexpected_token found h) = inr (IsUnread.no_avn found refl h)
 avn_no_tree s text stop (Explains.exceeds_depth h) = inr (IsUnread.too_deep refl h)
 avn_no_tree s text stop Explains.out_of_memory = inl refl

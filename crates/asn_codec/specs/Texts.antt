@@ -26,6 +26,10 @@ use Rattle.jer_rules.specs.Text.{IsJer}
 use Rattle.avn_rules.specs.Text as avn
 use Rattle.avn_rules.specs.Text.{IsAvn}
 
+-- the most levels that an AVN text may nest
+abbrev pub avn_depth_limit : ℕ
+avn_depth_limit = 64
+
 -- the text has this tree in the notation
 pub data HasTree : Notation → List ℕ → Tree → Type 0 where
   json_tree : {text : List ℕ} {d : Data} → IsJer text d → HasTree Notation.jer text (Tree.json d)
@@ -48,9 +52,9 @@ pub record SaysAlone (n : Notation) (s : Shape) (text : List ℕ) (v : Value) : 
   pub says : SaysValue n s text v
   pub alone : (w : Value) → SaysValue n s text w → w ≡ v
 
--- The canonical text of a value that was read nests no deeper than texts are read: in AVN 64 levels, in JSON 127, and always where JSON was read.
+-- The canonical text of a value that was read nests no deeper than texts are read: in AVN at most the limit, in JSON 127 levels, and always where JSON was read.
 abbrev pub IsShallow : Notation → Notation → Value → Type 0
-IsShallow from Notation.avn v = deepest 0 (canonical.avn_tree v) ≤ 64
+IsShallow from Notation.avn v = deepest 0 (canonical.avn_tree v) ≤ avn_depth_limit
 IsShallow Notation.jer Notation.jer v = Unit {0}
 IsShallow from Notation.jer v = depth (canonical.jer_data v) ≤ max_depth
 IsShallow from Notation.other v = ⊥
@@ -64,8 +68,8 @@ no_text codec call = codec_name codec ++ (codes " is a binary-based encoding. Ca
 pub data IsUnread (codec : Codec) (s : Shape) (text : List ℕ) : Stop → Type 0 where
   no_json : codec ≡ Jer → read text ≡ None → IsUnread codec s text (at_root (Why.parser (codes "Error parsing JER JSON")) Jer)
   has_real : (d : Data) → codec ≡ Jer → read text ≡ Some d → has_float d ≡ true → IsUnread codec s text (at_root Why.real_not_supported Jer)
-  no_avn : (found : List ℕ) → codec ≡ Avn → grammar.Unread 64 (chars text) found → IsUnread codec s text (at_root (Why.unexpected_token found) Avn)
-  too_deep : codec ≡ Avn → Deep 64 0 (chars text) → IsUnread codec s text (at_root Why.exceeds_max_parse_depth Avn)
+  no_avn : (found : List ℕ) → codec ≡ Avn → grammar.Unread avn_depth_limit (chars text) found → IsUnread codec s text (at_root (Why.unexpected_token found) Avn)
+  too_deep : codec ≡ Avn → Deep avn_depth_limit 0 (chars text) → IsUnread codec s text (at_root Why.exceeds_max_parse_depth Avn)
   no_value : (t : Tree) (stop : Stop) → HasTree (notation_of codec) text t → Stops (notation_of codec) s (Some t) (map (λ l. l.name) stop.path) stop.why
       → OfLevels (notation_of codec) stop.path → OfPlace (notation_of codec) stop.why stop.codec → IsUnread codec s text stop
   not_text : notation_of codec ≡ Notation.other → IsUnread codec s text (at_root (Why.custom (no_text codec (codes "decode_from_binary"))) codec)

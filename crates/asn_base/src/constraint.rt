@@ -37,7 +37,8 @@ pub enum Bounded<T> {
     Range { start: Option<T>, end: Option<T> },
 }
 
-/// `5` for a single number, `1..10` for a range, with `MIN` and `MAX` for ends that are absent, and `MIN..MAX` for every number.
+/// `5` for a single number, `1..10` for a range, with `MIN` and `MAX` for ends that are absent, and
+/// `MIN..MAX` for every number.
 impl<T: Bound> fmt::Display for Bounded<T> {
     ghost output = { λ bounds. Some (bounded_text T.text bounds) };
 

@@ -72,10 +72,13 @@ impl<'a> Scan<'a> {
     ) -> Result<String, OutOfMemory>
         requires { IsCharBoundary self.old.text place }
         ensures same { self.new.text ≡ self.old.text }
-        ensures counted { OnOk result (self.new.looks ≡ min (self.old.looks + length (take at_most (after self.old.text place))) (2 ^ 128 - 1)) }
+        ensures counted { OnOk result (self.new.looks
+            ≡ min (self.old.looks + length (take at_most (after self.old.text place)))
+            (2 ^ 128 - 1)) }
         ensures rises { self.old.looks ≤ self.new.looks }
         ensures unchanged { OnErr result (self.new ≡ self.old) }
-        ensures copied { IfOk result (λ s. string_bytes s ≡ encode_utf8_all (take at_most (after self.old.text place))) }
+        ensures copied { IfOk result (λ s. string_bytes s
+            ≡ encode_utf8_all (take at_most (after self.old.text place))) }
     {
         let mut out = String::new(alloc);
         let mut at = place;

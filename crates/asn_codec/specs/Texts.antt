@@ -26,7 +26,6 @@ use Rattle.jer_rules.specs.Text as jer
 use Rattle.jer_rules.specs.Text.{IsJer}
 use Rattle.avn_rules.specs.Text as avn
 use Rattle.avn_rules.specs.Text.{IsAvn}
-
 -- the text has this tree in the notation
 pub data HasTree : Notation → List ℕ → Tree → Type 0 where
   json_tree : {text : List ℕ} {d : Data} → IsJer text d → HasTree Notation.jer text (Tree.json d)
@@ -49,7 +48,7 @@ pub record SaysAlone (n : Notation) (s : Shape) (text : List ℕ) (v : Value) : 
   pub says : SaysValue n s text v
   pub alone : (w : Value) → SaysValue n s text w → w ≡ v
 
--- The canonical text of a value that was read nests no deeper than texts are read: in AVN 64 levels, in JSON 127, and always where JSON was read.
+-- The canonical text of a value that was read nests no deeper than texts are read: in AVN at most the limit, in JSON 127 levels, and always where JSON was read.
 abbrev pub IsShallow : Notation → Notation → Value → Type 0
 IsShallow from Notation.avn v = deepest 0 (canonical.avn_tree v) ≤ LEVEL_LIMIT
 IsShallow Notation.jer Notation.jer v = Unit {0}

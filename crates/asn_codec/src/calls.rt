@@ -23,31 +23,39 @@ pub trait CodecCalls: Copy {
 
     /// Writes a value as its canonical text.
     ///
-    /// Errors: `OutOfMemory`; `Custom` where the codec is no text notation; else the kind of the first
-    /// part of the value that the notation cannot write.
+    /// Errors: `OutOfMemory`; `Custom` where the codec is no text notation; else the kind of the
+    /// first part of the value that the notation cannot write.
     fn encode_to_string<T: Encode>(self, alloc: Global, value: &T) -> Result<String, EncodeError>
-        ensures text { IfOk result (λ s. string_bytes s ≡ canonical_text (notation_of (codec_of self)) (T.value_of value.now)) }
+        ensures text { IfOk result (λ s. string_bytes s
+            ≡ canonical_text (notation_of (codec_of self)) (T.value_of value.now)) }
         // The text says the value again, unless it nests deeper than texts are read.
-        ensures reads_back { IfOk result (λ s. ReadsBack (notation_of (codec_of self)) (T.value_of value.now) (string_bytes s)) }
+        ensures reads_back { IfOk result (λ s. ReadsBack (notation_of (codec_of self))
+            (T.value_of value.now) (string_bytes s)) }
         ensures notation { OnOk result (IsText (notation_of (codec_of self))) }
         ensures fits { OnOk result (Fits T.shape_of (T.value_of value.now)) }
-        ensures writable { OnOk result (Writable (notation_of (codec_of self)) (T.value_of value.now)) }
+        ensures writable { OnOk result
+            (Writable (notation_of (codec_of self)) (T.value_of value.now)) }
         ensures refused { IfErr result (λ e. (is_unwritten_memory (encode_why e.kind) ≡ true)
-            ⊎ (IsUnwritten (codec_of self) (T.value_of value.now) (encode_why e.kind) × (e.codec ≡ codec_of self))) }
+            ⊎ (IsUnwritten (codec_of self) (T.value_of value.now) (encode_why e.kind)
+            × (e.codec ≡ codec_of self))) }
         // What can be written is written, unless memory runs out.
-        ensures complete { IsText (notation_of (codec_of self)) → Writable (notation_of (codec_of self)) (T.value_of value.now)
+        ensures complete { IsText (notation_of (codec_of self))
+            → Writable (notation_of (codec_of self)) (T.value_of value.now)
             → IfErr result (λ e. is_unwritten_memory (encode_why e.kind) ≡ true) };
 
     /// Reads the value that a text says as a T.
     ///
-    /// Errors: `OutOfMemory`; `Custom` where the codec is no text notation; else why the text has no
-    /// tree in the notation, or why its tree says no value.
+    /// Errors: `OutOfMemory`; `Custom` where the codec is no text notation; else why the text has
+    /// no tree in the notation, or why its tree says no value.
     fn decode_from_str<T: Decode>(&self, alloc: Global, input: &str) -> Result<T, DecodeError>
-        ensures value { IfOk result (λ x. SaysValue (notation_of (codec_of self.now)) T.shape_of input.now (T.value_of x)) }
+        ensures value { IfOk result (λ x. SaysValue (notation_of (codec_of self.now))
+            T.shape_of input.now (T.value_of x)) }
         ensures refused { IfErr result (λ e. (is_memory (error_stop e) ≡ true)
             ⊎ IsUnread (codec_of self.now) T.shape_of input.now (error_stop e)) }
         // A text that says a value is read as that value, unless memory runs out.
-        ensures complete { (v : Value) → SaysValue (notation_of (codec_of self.now)) T.shape_of input.now v → Reads T.value_of v result };
+        ensures complete { (v : Value)
+            → SaysValue (notation_of (codec_of self.now)) T.shape_of input.now v
+            → Reads T.value_of v result };
 }
 
 impl CodecCalls for Codec {
@@ -73,7 +81,8 @@ impl CodecCalls for Codec {
 /// That no text is written by the codec.
 fn not_written(alloc: Global, codec: Codec) -> EncodeError
     ensures why { (is_unwritten_memory (encode_why result.kind) ≡ true)
-        ⊎ (encode_why result.kind ≡ WhyUnwritten.custom (no_text codec (codes "encode_to_binary"))) }
+        ⊎ (encode_why result.kind
+        ≡ WhyUnwritten.custom (no_text codec (codes "encode_to_binary"))) }
     ensures codec { result.codec ≡ codec }
 {
     match other_call(alloc, codec, "encode_to_binary") {
@@ -85,7 +94,8 @@ fn not_written(alloc: Global, codec: Codec) -> EncodeError
 /// That no text is read by the codec.
 fn not_read(alloc: Global, codec: Codec) -> DecodeError
     ensures { (is_memory (error_stop result) ≡ true)
-        ⊎ (error_stop result ≡ at_root (Why.custom (no_text codec (codes "decode_from_binary"))) codec) }
+        ⊎ (error_stop result
+        ≡ at_root (Why.custom (no_text codec (codes "decode_from_binary"))) codec) }
 {
     match other_call(alloc, codec, "decode_from_binary") {
         Ok(msg) => DecodeError::custom(msg, codec),

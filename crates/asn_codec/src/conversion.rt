@@ -59,20 +59,26 @@ pub fn transcode<T: Encode + Decode>(
     input: &str,
 ) -> Result<String, TranscodeError>
     ensures converted { IfOk result (λ s. Converts from to T.shape_of input.now (string_bytes s)) }
-    // Read again, the answer gives the value and no other, unless it nests deeper than texts are read;
-    // in AVN it is refused for depth exactly there, and what was read from JSON never is in JSON.
-    ensures read_again { IfOk result (λ s. (v : Value) → SaysValue (notation_of from) T.shape_of input.now v
+    // Read again, the answer gives the value and no other, unless it nests deeper than texts are
+    // read; in AVN it is refused for depth exactly there, and what was read from JSON never is in
+    // JSON.
+    ensures read_again { IfOk result (λ s. (v : Value)
+        → SaysValue (notation_of from) T.shape_of input.now v
         → IsShallow (notation_of from) (notation_of to) v
         → SaysAlone (notation_of to) T.shape_of (string_bytes s) v) }
-    ensures too_deep { IfOk result (λ s. (v : Value) → SaysValue (notation_of from) T.shape_of input.now v
-        → to ≡ Avn → LEVEL_LIMIT < deepest 0 (avn_tree v) → Deep LEVEL_LIMIT 0 (chars (string_bytes s))) }
+    ensures too_deep { IfOk result (λ s. (v : Value)
+        → SaysValue (notation_of from) T.shape_of input.now v
+        → to ≡ Avn → LEVEL_LIMIT < deepest 0 (avn_tree v)
+        → Deep LEVEL_LIMIT 0 (chars (string_bytes s))) }
     // Two values have the same canonical text exactly if they are equal.
-    ensures equal { IfOk result (λ s. (v w : Value) → SaysValue (notation_of from) T.shape_of input.now v
+    ensures equal { IfOk result (λ s. (v w : Value)
+        → SaysValue (notation_of from) T.shape_of input.now v
         → Fits T.shape_of w → Writable (notation_of to) w
         → (canonical_text (notation_of to) w ≡ string_bytes s) ↔ (w ≡ v)) }
     ensures refused { IfErr result (λ e. (is_want_of_memory (refusal_of e) ≡ true)
         ⊎ Refuses from to T.shape_of input.now (refusal_of e)) }
-    ensures complete { IsConvertible from to T.shape_of input.now → IfErr result (λ e. is_want_of_memory (refusal_of e) ≡ true) }
+    ensures complete { IsConvertible from to T.shape_of input.now
+        → IfErr result (λ e. is_want_of_memory (refusal_of e) ≡ true) }
 {
     match from.decode_from_str::<T>(alloc, input) {
         Ok(value) => match to.encode_to_string(alloc, &value) {

@@ -1,5 +1,5 @@
 -- What an input asks for, from its bytes as they were read.
-use Rattle.std.proofs.Common.{◌≡◌, sym, ap, ◌∙◌, subst, ℕ, List, [], ◌++◌, Option, Some, None, append-nil, length, ◌<◌, arith}
+use Rattle.std.proofs.Common.{◌≡◌, sym, ap, ◌∙◌, subst, ℕ, List, ◌++◌, Option, Some, None, append-nil, length, ◌<◌, arith}
 use Rattle.std.specs.Io.KnownBytes.{Consumes, IsAtEnd}
 use Rattle.asn_codec.specs.Conversion.{IsConvertible}
 use Rattle.asn_convert.specs.Input.{IsWholeInput, input_limit}

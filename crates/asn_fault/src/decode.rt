@@ -151,7 +151,8 @@ impl DecodeError {
     }
 
     /// The predicate's answer on the kind at the end of the chain of `FieldError`s.
-    /// `K` stands for `DecodeErrorKind`, as `Cause` says: a caller writes `|kind: &DecodeErrorKind| ..`.
+    /// `K` stands for `DecodeErrorKind`, as `Cause` says: a caller writes
+    /// `|kind: &DecodeErrorKind| ..`.
     pub fn matches_root_cause<K: Cause, F: Fn(&K) -> bool + Drop>(&self, predicate: F) -> bool
         requires { F.IsAlwaysCallable predicate }
         ensures { (cause : K) × (K.kind cause ≡ root_kind self.now.kind)
@@ -181,7 +182,8 @@ impl DecodeError {
     }
 
     /// The refusal `nested` of the value of the field `name`.
-    /// Where `nested` is `OutOfMemory`, or there is no memory to box it, the answer is `OutOfMemory` at no field.
+    /// Where `nested` is `OutOfMemory`, or there is no memory to box it, the answer is
+    /// `OutOfMemory` at no field.
     pub fn field_error(
         alloc: Global,
         name: &'static str,
@@ -263,7 +265,8 @@ impl fmt::Display for DecodeErrorKind {
             DecodeErrorKind::Parser { msg } => write!(f, "Error in Parser: {msg}"),
             DecodeErrorKind::StringConversionFailed { tag, msg } => write!(
                 f,
-                "Failed to convert byte array into valid ASN.1 string. String type as tag: {tag} Error: {msg}"
+                "Failed to convert byte array into valid ASN.1 string. \
+                 String type as tag: {tag} Error: {msg}"
             ),
             DecodeErrorKind::NoValidChoice { name } => write!(f, "No valid choice for `{name}`"),
             DecodeErrorKind::ExceedsMaxParseDepth => write!(f, "Exceeded maximum parse depth"),

@@ -68,8 +68,10 @@ impl EncodeError {
 
     /// The size of a value is not one of `expected`.
     pub fn size_constraint_not_satisfied(size: usize, expected: &Size, codec: Codec) -> EncodeError
-        ensures { result ≡ record
-            { kind = EncodeErrorKind.SizeConstraintNotSatisfied size expected.now.bounds; codec = codec } }
+        ensures { result ≡ record {
+          kind = EncodeErrorKind.SizeConstraintNotSatisfied size expected.now.bounds;
+          codec = codec;
+        } }
     {
         EncodeError::from_kind(
             EncodeErrorKind::SizeConstraintNotSatisfied {

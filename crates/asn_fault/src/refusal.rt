@@ -1,7 +1,7 @@
 // What closures are handed and answer in place of an error of reading.
 //
-// The checker does not cover a closure whose bound names a type that holds a `&'static str`, as `DecodeError` does.
-// So the bound names a type parameter, and these traits tie it to the type.
+// The checker does not cover a closure whose bound names a type that holds a `&'static str`, as
+// `DecodeError` does. So the bound names a type parameter, and these traits tie it to the type.
 ghost use Rattle.asn_fault.specs.declared.decode.DecodeErrorKind.{DecodeErrorKind};
 ghost use Rattle.std.specs.Prelude.{◌≡◌};
 ghost use Rattle.asn_fault.specs.Stop.{Stop, error_stop};
@@ -27,7 +27,8 @@ impl Refusal for DecodeError {
     }
 }
 
-/// What a predicate on root causes is asked of. It is `DecodeErrorKind`, which is inferred from the predicate.
+/// What a predicate on root causes is asked of. It is `DecodeErrorKind`, which is inferred from the
+/// predicate.
 pub trait Cause: Sized {
     // The kind that it is.
     ghost kind: { Self → DecodeErrorKind };

@@ -100,7 +100,8 @@ impl<V: Drop> Frames<V> {
     ///
     /// Errors: `OutOfMemory`, and then the frame stays.
     pub fn close_list(&mut self) -> Result<Vec<V>, OutOfMemory>
-        ensures closed { IfOk result (λ values. (slots : List (Option V)) × Closes self.old slots self.new × (values.items ≡ present_of slots)) }
+        ensures closed { IfOk result (λ values. (slots : List (Option V))
+            × Closes self.old slots self.new × (values.items ≡ present_of slots)) }
         ensures kept { OnErr result (self.new ≡ self.old) }
     {
         let start = last_start(&self.starts);
@@ -112,7 +113,8 @@ impl<V: Drop> Frames<V> {
     /// Closes the last frame as `close` does, and answers its first slot, absent where there is
     /// none. It takes no memory.
     pub fn close_first(&mut self) -> Option<V>
-        ensures { (slots : List (Option V)) × Closes self.old slots self.new × (result ≡ first_of slots) }
+        ensures { (slots : List (Option V))
+            × Closes self.old slots self.new × (result ≡ first_of slots) }
     {
         let first = take_first(&mut self.slots, last_start(&self.starts));
         forget_last(&mut self.starts);
@@ -122,7 +124,8 @@ impl<V: Drop> Frames<V> {
     /// Closes the last frame as `close` does, and answers the value of its last slot that is
     /// present. None exactly where none is. It takes no memory.
     pub fn close_last(&mut self) -> Option<V>
-        ensures { (slots : List (Option V)) × Closes self.old slots self.new × (result ≡ last_present slots) }
+        ensures { (slots : List (Option V))
+            × Closes self.old slots self.new × (result ≡ last_present slots) }
     {
         let last = take_last_present(&mut self.slots, last_start(&self.starts));
         forget_last(&mut self.starts);

@@ -94,7 +94,8 @@ impl<V: Drop> Pending<V> {
 
     /// Takes the next slot. None exactly where no slot is left.
     pub fn take(&mut self) -> Option<Option<V>>
-        ensures { MatchOption result ((self.old ≡ []) × (self.new ≡ self.old)) (λ slot. self.old ≡ slot ∷ self.new) }
+        ensures { MatchOption result ((self.old ≡ []) × (self.new ≡ self.old))
+            (λ slot. self.old ≡ slot ∷ self.new) }
     {
         let Run { first, mut later } = self.runs.pop()?;
         if let Some(value) = later.next() {
@@ -106,7 +107,8 @@ impl<V: Drop> Pending<V> {
         Some(first)
     }
 
-    /// Takes the next slot if it is absent, and answers whether it was. None exactly where no slot is left.
+    /// Takes the next slot if it is absent, and answers whether it was. None exactly where no slot
+    /// is left.
     pub fn take_absent(&mut self) -> Option<bool>
         ensures { TakesAbsent self.old result self.new }
     {

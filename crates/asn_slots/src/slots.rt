@@ -14,7 +14,8 @@ pub fn take_present<V: Drop>(
     start: usize,
 ) -> Result<Vec<V>, OutOfMemory>
     requires { start ≤ vec_len slots.old }
-    ensures present { IfOk result (λ values. values.items ≡ present_of (drop start slots.old.items)) }
+    ensures present { IfOk result
+        (λ values. values.items ≡ present_of (drop start slots.old.items)) }
     ensures taken { OnOk result (slots.new.items ≡ take start slots.old.items) }
     ensures kept { OnErr result (slots.new.items ≡ slots.old.items) }
 {

@@ -1,4 +1,4 @@
-use Rattle.std.proofs.Common.{◌≡◌, ◌<◌, ◌∷◌, ◌∙◌, take, drop, sym, ap, ap₂, subst}
+use Rattle.std.proofs.Common.{◌<◌, ◌∷◌, ◌∙◌, take, drop, sym, ap, ap₂, subst}
 use Rattle.asn_convert.specs.Lines.{words}
 use Rattle.asn_convert.proofs.Words.{words-word}
 use Rattle.asn_convert.proofs.lines.next_word.Goals as goal

@@ -1,4 +1,4 @@
-use Rattle.std.proofs.Common.{◌≡◌, ℕ, length}
+use Rattle.std.proofs.Common.{◌≡◌, length}
 use Rattle.asn_convert.specs.Lines.{words}
 use denote.Shadow.{shadow}
 use denote.Text.{Utf8}

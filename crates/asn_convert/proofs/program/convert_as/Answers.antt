@@ -1,4 +1,4 @@
-use Rattle.asn_convert.proofs.Answering.{text_answers, line_answers, no_refusal}
+use Rattle.asn_convert.proofs.Answering.{text_answers, line_answers}
 use Rattle.asn_convert.proofs.program.convert_as.Goals as goal
 
 pub returns-in-Ok-clause-answer : goal.returns-in-Ok-clause-answer

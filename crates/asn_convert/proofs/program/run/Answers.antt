@@ -1,4 +1,4 @@
-use Rattle.std.proofs.Common.{◌≡◌, sym, ◌∙◌, subst}
+use Rattle.std.proofs.Common.{sym, ◌∙◌, subst}
 use Rattle.std.specs.Prelude.{IsUtf8}
 use Rattle.asn_convert.proofs.Answering.{done_or_hungry}
 use Rattle.asn_convert.proofs.Asking.{whole_input, convertible_text, asks_something, within_limit}

@@ -1,4 +1,4 @@
-use Rattle.std.proofs.Common.{◌≡◌, rules, arith, take, subst, sym}
+use Rattle.std.proofs.Common.{arith, subst, sym}
 use Rattle.std.specs.Io.KnownBytes.{Appends}
 use Rattle.asn_convert.proofs.Known.{Appends-more, next_front}
 use Rattle.asn_convert.proofs.whole.write_all.Goals as goal

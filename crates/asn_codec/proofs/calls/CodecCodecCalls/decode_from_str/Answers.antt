@@ -1,6 +1,5 @@
-use Rattle.std.proofs.Common.{◌≡◌, sym, subst}
+use Rattle.std.proofs.Common.{subst}
 use Rattle.asn_traits.specs.Notation.{notation_of}
-use Rattle.asn_traits.specs.Value.{Value}
 use Rattle.asn_codec.specs.Texts.{SaysValue}
 use Rattle.asn_codec.proofs.Naming.{jer_value, jer_refused, jer_complete, avn_value_of, avn_refused, avn_complete, other_codec, other_unread, no_tree}
 use Rattle.asn_codec.proofs.calls.CodecCodecCalls.decode_from_str.Goals as goal

@@ -1,4 +1,4 @@
-use Rattle.std.proofs.Common.{◌≡◌, sym, subst}
+use Rattle.std.proofs.Common.{subst}
 use Rattle.asn_traits.specs.Notation.{IsText}
 use Rattle.asn_codec.proofs.Naming.{jer_not_written, avn_not_written, other_codec, other_unwritten}
 use Rattle.asn_codec.proofs.calls.CodecCodecCalls.encode_to_string.Goals as goal

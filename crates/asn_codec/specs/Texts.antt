@@ -26,6 +26,7 @@ use Rattle.jer_rules.specs.Text as jer
 use Rattle.jer_rules.specs.Text.{IsJer}
 use Rattle.avn_rules.specs.Text as avn
 use Rattle.avn_rules.specs.Text.{IsAvn}
+
 -- the text has this tree in the notation
 pub data HasTree : Notation → List ℕ → Tree → Type 0 where
   json_tree : {text : List ℕ} {d : Data} → IsJer text d → HasTree Notation.jer text (Tree.json d)

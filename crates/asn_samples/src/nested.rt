@@ -6,8 +6,8 @@ use crate::Struct;
 use asn_base::{OutOfMemory, Tag};
 use asn_fault::{DecodeError, EncodeError};
 use asn_traits::{
-    Decoder, Encoder, Field, FieldShapes, OfKind, SequenceFields, SequenceKind, Shape, optional,
-    read_optional_field, write_optional_field,
+    Decoder, Encoder, Field, FieldNames, FieldShapes, OfKind, SequenceFields, SequenceKind, Shape,
+    optional, read_optional_field, write_optional_field,
 };
 use std::alloc::Global;
 
@@ -55,10 +55,13 @@ impl SequenceFields for Nested {
         Ok(())
     }
 
-    fn read_fields<D: Decoder>(decoder: &mut D) -> Result<Nested, DecodeError> {
+    fn read_fields<D: Decoder>(
+        decoder: &mut D,
+        names: &mut FieldNames,
+    ) -> Result<Nested, DecodeError> {
         Ok(Nested {
-            very: read_optional_field(decoder, "very")?,
-            nested: read_optional_field(decoder, "nested")?,
+            very: read_optional_field(decoder, names)?,
+            nested: read_optional_field(decoder, names)?,
         })
     }
 

@@ -5,8 +5,8 @@ ghost use Rattle.std.specs.Prelude.{refl};
 use asn_base::{Integer, OutOfMemory, Tag};
 use asn_fault::{DecodeError, EncodeError};
 use asn_traits::{
-    Decoder, Encoder, Field, FieldShapes, OfKind, SequenceFields, SequenceKind, Shape, optional,
-    read_field, read_optional_field, required, write_field, write_optional_field,
+    Decoder, Encoder, Field, FieldNames, FieldShapes, OfKind, SequenceFields, SequenceKind, Shape,
+    optional, read_field, read_optional_field, required, write_field, write_optional_field,
 };
 use std::alloc::Global;
 
@@ -54,10 +54,13 @@ impl SequenceFields for Renamed {
         Ok(())
     }
 
-    fn read_fields<D: Decoder>(decoder: &mut D) -> Result<Renamed, DecodeError> {
+    fn read_fields<D: Decoder>(
+        decoder: &mut D,
+        names: &mut FieldNames,
+    ) -> Result<Renamed, DecodeError> {
         Ok(Renamed {
-            so_very: read_field(decoder, "so-very")?,
-            re_named: read_optional_field(decoder, "re_named")?,
+            so_very: read_field(decoder, names)?,
+            re_named: read_optional_field(decoder, names)?,
         })
     }
 

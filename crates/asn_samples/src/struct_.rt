@@ -5,8 +5,8 @@ ghost use Rattle.std.specs.Prelude.{refl};
 use asn_base::{OutOfMemory, Tag};
 use asn_fault::{DecodeError, EncodeError};
 use asn_traits::{
-    Decoder, Encoder, Field, FieldShapes, OfKind, SequenceFields, SequenceKind, Shape, optional,
-    read_optional_field, write_optional_field,
+    Decoder, Encoder, Field, FieldNames, FieldShapes, OfKind, SequenceFields, SequenceKind, Shape,
+    optional, read_optional_field, write_optional_field,
 };
 use std::alloc::Global;
 
@@ -48,9 +48,12 @@ impl SequenceFields for Struct {
         Ok(())
     }
 
-    fn read_fields<D: Decoder>(decoder: &mut D) -> Result<Struct, DecodeError> {
+    fn read_fields<D: Decoder>(
+        decoder: &mut D,
+        names: &mut FieldNames,
+    ) -> Result<Struct, DecodeError> {
         Ok(Struct {
-            strct: read_optional_field(decoder, "strct")?,
+            strct: read_optional_field(decoder, names)?,
         })
     }
 

@@ -5,8 +5,8 @@ ghost use Rattle.std.specs.Prelude.{refl};
 use asn_base::{OutOfMemory, Tag};
 use asn_fault::{DecodeError, EncodeError};
 use asn_traits::{
-    Decoder, Encoder, Field, FieldShapes, OfKind, SequenceFields, SequenceKind, Shape, optional,
-    read_field, read_optional_field, required, write_field, write_optional_field,
+    Decoder, Encoder, Field, FieldNames, FieldShapes, OfKind, SequenceFields, SequenceKind, Shape,
+    optional, read_field, read_optional_field, required, write_field, write_optional_field,
 };
 use std::alloc::Global;
 
@@ -54,10 +54,13 @@ impl SequenceFields for WithNullOpt {
         Ok(())
     }
 
-    fn read_fields<D: Decoder>(decoder: &mut D) -> Result<WithNullOpt, DecodeError> {
+    fn read_fields<D: Decoder>(
+        decoder: &mut D,
+        names: &mut FieldNames,
+    ) -> Result<WithNullOpt, DecodeError> {
         Ok(WithNullOpt {
-            name: read_field(decoder, "name")?,
-            flag: read_optional_field(decoder, "flag")?,
+            name: read_field(decoder, names)?,
+            flag: read_optional_field(decoder, names)?,
         })
     }
 

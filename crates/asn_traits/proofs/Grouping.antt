@@ -3,9 +3,9 @@ use Rattle.std.proofs.Common.{List, ◌++◌}
 use Rattle.asn_fault.specs.Stop.{Stop}
 use Rattle.asn_fault.specs.declared.encode.EncodeError.{EncodeError}
 use Rattle.asn_model.specs.Notation.{Notation}
+use Rattle.asn_traits.specs.FieldAnswer.{Ahead}
 use Rattle.asn_traits.specs.Passing.{AddsFields, RefusesAdding, TakesFields, RefusesFields}
 use Rattle.asn_model.specs.Shape.{Fields, join_fields}
-use Rattle.asn_model.specs.Tree.{Slot}
 use Rattle.asn_traits.specs.Writing.{Frame}
 
 pub adds_both : {S : Type 0} {holds : S → List Frame → Type 0} {n : Notation} {fs gs : Fields} {ss ts : Frame} {old mid new : S}
@@ -24,17 +24,17 @@ pub refuses_second : {S : Type 0} {holds : S → List Frame → Type 0} {n : Not
 refuses_second AddsFields.adds_none r = r
 refuses_second (AddsFields.adds_next slot rest allowed) r = RefusesAdding.refuses_later_slot slot (refuses_second rest r)
 
-pub takes_both : {n : Notation} {fs gs : Fields} {ss ts : Frame} {before mid after : List Slot}
+pub takes_both : {n : Notation} {fs gs : Fields} {ss ts : Frame} {before mid after : Ahead}
     → TakesFields n fs ss before mid → TakesFields n gs ts mid after → TakesFields n (join_fields fs gs) (ss ++ ts) before after
 takes_both TakesFields.takes_none b = b
 takes_both (TakesFields.takes_next slot rest allowed) b = TakesFields.takes_next slot (takes_both rest b) allowed
 
-pub refuses_first_fields : {n : Notation} {fs : Fields} {before : List Slot} {e : Stop} (gs : Fields)
+pub refuses_first_fields : {n : Notation} {fs : Fields} {before : Ahead} {e : Stop} (gs : Fields)
     → RefusesFields n fs before e → RefusesFields n (join_fields fs gs) before e
 refuses_first_fields gs (RefusesFields.refuses_field r) = RefusesFields.refuses_field r
 refuses_first_fields gs (RefusesFields.refuses_later_field slot r allowed) = RefusesFields.refuses_later_field slot (refuses_first_fields gs r) allowed
 
-pub refuses_second_fields : {n : Notation} {fs gs : Fields} {ss : Frame} {before mid : List Slot} {e : Stop}
+pub refuses_second_fields : {n : Notation} {fs gs : Fields} {ss : Frame} {before mid : Ahead} {e : Stop}
     → TakesFields n fs ss before mid → RefusesFields n gs mid e → RefusesFields n (join_fields fs gs) before e
 refuses_second_fields TakesFields.takes_none r = r
 refuses_second_fields (TakesFields.takes_next slot rest allowed) r = RefusesFields.refuses_later_field slot (refuses_second_fields rest r) allowed

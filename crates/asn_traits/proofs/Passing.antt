@@ -1,11 +1,11 @@
 -- What is written and read field by field is what the SEQUENCE writes and reads.
-use Rattle.std.proofs.Common.{◌≡◌, refl, subst, ℕ, List, ◌∷◌, ◌++◌, length, Option, Some, None, Bool, true, false, if◌then◌else◌}
+use Rattle.std.proofs.Common.{◌≡◌, refl, subst, ap, ◌∙◌, ℕ, List, ◌∷◌, ◌++◌, length, Option, Some, None, Bool, true, false, if◌then◌else◌}
 use Rattle.std.proofs.lemmas.Int.{to_z-of_z}
 use Rattle.asn_base.specs.declared.tag.Tag.{Tag}
 use Rattle.asn_fault.specs.Stop.{Stop}
 use Rattle.asn_fault.specs.declared.encode.EncodeError.{EncodeError}
 use Rattle.asn_traits.specs.Answer.{OptionalStops, Refuses}
-use Rattle.asn_traits.specs.FieldAnswer.{AddsSlot, TakesSlot, WithinField}
+use Rattle.asn_traits.specs.FieldAnswer.{AddsSlot, Ahead, TakesField, TakesSlot, WithinField}
 use Rattle.asn_model.specs.Notation.{Notation}
 use Rattle.asn_traits.specs.Passing.{allows, AddsFields, RefusesAdding, TakesFields, RefusesFields, FieldStops}
 use Rattle.asn_traits.specs.Passing.AddsFields.{adds_none, adds_next}
@@ -17,7 +17,7 @@ use Rattle.asn_model.specs.Shape.{Shape, Fields, Presence, field_names}
 use Rattle.asn_model.specs.Stops.{StopsFields}
 use Rattle.asn_model.specs.Tree.{Slot}
 use Rattle.asn_model.specs.Value.{Value, Slots, is_kept, may_lack, with_field}
-use Rattle.asn_traits.specs.Writing.{Frame, named, Filled, CannotFill}
+use Rattle.asn_traits.specs.Writing.{Frame, head_name, named, tail_names, Filled, CannotFill}
 use Rattle.asn_traits.proofs.FieldSteps.{FieldsRead, reads_start, refused_at, refused_after, refuses_required, member, at_field}
 use Rattle.asn_traits.proofs.Filling.{fill_end, fill_present, fill_absent}
 use Rattle.asn_traits.proofs.Steps.{refuses_by}
@@ -60,6 +60,12 @@ recast n all slots rest after todo front p name v kept t = record {
   stopped = t.stopped;
 }
 
+abbrev names_ahead : Ahead → List (List ℕ)
+names_ahead (Ahead.ahead names slots) = names
+
+abbrev slots_ahead : Ahead → List Slot
+slots_ahead (Ahead.ahead names slots) = slots
+
 module _ {n : Notation} {all : Fields} {start : List Slot} where
   -- A field is read.
   reads_next : {name : List ℕ} {g : Tag} {p : Presence} {s : Shape} {todo : Fields} {front : Slots → Slots} {now after : List Slot} {o : Option Value} → FieldsRead n all start (Fields.field name g p s todo) front now
@@ -69,10 +75,10 @@ module _ {n : Notation} {all : Fields} {start : List Slot} where
   reads_next {name} {g} {p} {s} {todo} {front} {now} {after} r (TakesSlot.takes_nothing shown) a =
       record { taking = λ slots rest count e. takes_optional n all slots rest name g p s todo front (allowed-lacks p a) (λ (v : Value). v) now after None (r.taking slots rest count e) shown }
 
-  reads_rest : {fs : Fields} {ss : Frame} {now after : List Slot} {front : Slots → Slots} → FieldsRead n all start fs front now → TakesFields n fs ss now after
-      → (slots rest : List Slot) → length slots ≡ length (field_names all) → start ≡ slots ++ rest → (after ≡ rest) × SaysFields n all slots (front (named ss (field_names fs)))
-  reads_rest {now = now} {front = front} r TakesFields.takes_none slots rest count is = taking_ends n all slots rest front now (r.taking slots rest count is)
-  reads_rest {front = front} r (TakesFields.takes_next {name = name} {rest = todo} {o = o} {ss = ss} t more a) slots rest count is =
+  reads_rest : {fs : Fields} {ss : Frame} {now after : Ahead} {front : Slots → Slots} → FieldsRead n all start fs front (slots_ahead now) → TakesFields n fs ss now after
+      → (slots rest : List Slot) → length slots ≡ length (field_names all) → start ≡ slots ++ rest → (slots_ahead after ≡ rest) × SaysFields n all slots (front (named ss (field_names fs)))
+  reads_rest {now = now} {front = front} r TakesFields.takes_none slots rest count is = taking_ends n all slots rest front (slots_ahead now) (r.taking slots rest count is)
+  reads_rest {front = front} r (TakesFields.takes_next {name = name} {rest = todo} {o = o} {ss = ss} (TakesField.takes_field t others) more a) slots rest count is =
       let d = reads_rest (reads_next r t a) more slots rest count is in
       (d.0, subst (λ m. SaysFields n all slots (front m)) (named_member o ss name (field_names todo)) d.1)
 
@@ -89,19 +95,21 @@ module _ {n : Notation} {all : Fields} {start : List Slot} where
   field_refused Presence.optional r h = optional_refused refl r h
   field_refused (Presence.default d) r h = optional_refused refl r h
 
-  refuses_rest : {fs : Fields} {now : List Slot} {front : Slots → Slots} {e : Stop} → FieldsRead n all start fs front now → RefusesFields n fs now e
+  -- The names ahead are those of the fields.
+  refuses_rest : {fs : Fields} {now : Ahead} {front : Slots → Slots} {e : Stop} → FieldsRead n all start fs front (slots_ahead now) → names_ahead now ≡ field_names fs → RefusesFields n fs now e
       → (slots rest : List Slot) → length slots ≡ length (field_names all) → start ≡ slots ++ rest → Refuses n (StopsFields n all slots) e
-  refuses_rest r (RefusesFields.refuses_field {p = p} h) = field_refused p r h
-  refuses_rest r (RefusesFields.refuses_later_field t more a) = refuses_rest (reads_next r t a) more
+  refuses_rest {e = e} r named (RefusesFields.refuses_field {p = p} {s = s} {before = now} h) =
+      field_refused p r (subst (λ ns. Refuses n (WithinField (head_name ns) (FieldStops n p s now)) e) named h)
+  refuses_rest r named (RefusesFields.refuses_later_field (TakesField.takes_field t others) more a) = refuses_rest (reads_next r t a) (others ∙ ap tail_names named) more
 
 -- The slots that are taken say the members that they are.
-pub takes_fields : {n : Notation} {fs : Fields} {ss : Frame} {before after : List Slot} (v : Value) → v ≡ Value.members (named ss (field_names fs)) → TakesFields n fs ss before after
+pub takes_fields : {n : Notation} {fs : Fields} {ss : Frame} {names others : List (List ℕ)} {before after : List Slot} (v : Value) → v ≡ Value.members (named ss (field_names fs)) → TakesFields n fs ss (Ahead.ahead names before) (Ahead.ahead others after)
     → (slots rest : List Slot) → length slots ≡ length (field_names fs) → before ≡ slots ++ rest → (after ≡ rest) × (vs : Slots) × SaysFields n fs slots vs × (v ≡ Value.members vs)
 takes_fields {fs = fs} {ss = ss} v e t slots rest count is = let d = reads_rest reads_start t slots rest count is in (d.0, named ss (field_names fs), d.1, e)
 
-pub refuses_fields : {n : Notation} {fs : Fields} {before : List Slot} {e : Stop} → RefusesFields n fs before e
+pub refuses_fields : {n : Notation} {fs : Fields} {names : List (List ℕ)} {before : List Slot} {e : Stop} → names ≡ field_names fs → RefusesFields n fs (Ahead.ahead names before) e
     → (slots rest : List Slot) → length slots ≡ length (field_names fs) → before ≡ slots ++ rest → Refuses n (StopsFields n fs slots) e
-refuses_fields r = refuses_rest reads_start r
+refuses_fields named r = refuses_rest reads_start named r
 
 -- The steps of a writer of fields.
 pub ruleset write_steps = (adds_none, adds_next, refuses_slot, refuses_later_slot)

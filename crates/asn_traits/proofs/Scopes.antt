@@ -12,7 +12,6 @@ use Rattle.asn_traits.specs.Opening.{HasMembers}
 use Rattle.asn_traits.specs.Scopes.{ScopeAnswer}
 use Rattle.asn_traits.specs.Tables.{Row, names_of, rows_of, field_rows, added_rows}
 use Rattle.asn_traits.specs.declared.types.Field.{Field}
-use Rattle.asn_traits.specs.declared.types.Fields.{Fields as FieldTable}
 use Rattle.asn_model.proofs.Readables.{names-all}
 use Rattle.asn_traits.proofs.Steps.{refuses_by, members_say, members_stop}
 
@@ -28,16 +27,16 @@ table_names : (k : ℕ) (fields : List Field) (fs : Fields) → rows_of fields �
 table_names k fields fs e = sym (names_of-rows fields) ∙ ap (map (λ (r : Row). r.name)) e ∙ field_names-rows k fs
 
 -- The names in the tables of a type's fields are those of the fields of its shape.
-pub all_table_names : (root additions : List Field) (table : Option FieldTable) (fs : Fields) (added : FieldAdditions) → rows_of root ≡ field_rows 0 fs → option_map (λ t. rows_of t.items.now) table ≡ added_rows fs added
-    → additions ≡ unwrap_or (option_map (λ t. t.items.now) table) [] → names_of root ++ names_of additions ≡ field_names (all_fields fs added)
-all_table_names root additions None fs FieldAdditions.closed_fields e f is =
+pub all_table_names : {T : Type 0} (items : T → List Field) (root additions : List Field) (table : Option T) (fs : Fields) (added : FieldAdditions) → rows_of root ≡ field_rows 0 fs → option_map (λ t. rows_of (items t)) table ≡ added_rows fs added
+    → additions ≡ unwrap_or (option_map items table) [] → names_of root ++ names_of additions ≡ field_names (all_fields fs added)
+all_table_names items root additions None fs FieldAdditions.closed_fields e f is =
     ap (λ l. names_of root ++ names_of l) is ∙ append-nil (names_of root) ∙ table_names 0 root fs e
-all_table_names root additions (Some t) fs (FieldAdditions.extended_fields more) e f is =
-    let rows : Some (rows_of t.items.now) ≡ Some (field_rows (length (field_names fs)) more) = f in
-    ap (λ l. names_of root ++ names_of l) is ∙ ap (λ l. l ++ names_of t.items.now) (table_names 0 root fs e)
-    ∙ ap (λ l. field_names fs ++ l) (table_names (length (field_names fs)) t.items.now more (cc rows)) ∙ sym (names-all fs (FieldAdditions.extended_fields more))
-all_table_names root additions (Some t) fs FieldAdditions.closed_fields e f is = let d : Some (rows_of t.items.now) ≡ None = f in cc d
-all_table_names root additions None fs (FieldAdditions.extended_fields more) e f is = let d : None ≡ Some (field_rows (length (field_names fs)) more) = f in cc d
+all_table_names items root additions (Some t) fs (FieldAdditions.extended_fields more) e f is =
+    let rows : Some (rows_of (items t)) ≡ Some (field_rows (length (field_names fs)) more) = f in
+    ap (λ l. names_of root ++ names_of l) is ∙ ap (λ l. l ++ names_of (items t)) (table_names 0 root fs e)
+    ∙ ap (λ l. field_names fs ++ l) (table_names (length (field_names fs)) (items t) more (cc rows)) ∙ sym (names-all fs (FieldAdditions.extended_fields more))
+all_table_names items root additions (Some t) fs FieldAdditions.closed_fields e f is = let d : Some (rows_of (items t)) ≡ None = f in cc d
+all_table_names items root additions None fs (FieldAdditions.extended_fields more) e f is = let d : None ≡ Some (field_rows (length (field_names fs)) more) = f in cc d
 
 pub sequence_answer : {A E : Type 0} (stop : E → Stop) (n : Notation) (kind : SeqKind) (fs : Fields) (added : FieldAdditions) (value : A → Value) (before after rest slots : List Slot) (slot : Slot) (names : List (List ℕ)) (r : Result A E)
     → names ≡ field_names (all_fields fs added) → before ≡ slot ∷ rest → HasMembers n names slot slots → ScopeAnswer stop n (all_fields fs added) value slots rest r after → AnswerBy stop n (Shape.seq kind fs added) value before r after

@@ -7,12 +7,20 @@ use Rattle.asn_model.specs.Tree.{Slot}
 use Rattle.asn_model.specs.Value.{Value}
 use Rattle.asn_model.specs.Says.{Says}
 use Rattle.asn_model.specs.Stops.{Path}
-use Rattle.asn_traits.specs.Writing.{Frame, push, Turns, Written}
+use Rattle.asn_traits.specs.Writing.{Frame, push, tail_names, Turns, Written}
 
 -- The first pending slot is gone: it says the value, or it was absent.
 pub data TakesSlot (n : Notation) (s : Shape) (before after : List Slot) : Option Value → Type 0 where
   takes_value : (slot : Slot) (v : Value) → before ≡ slot ∷ after → Says n s slot v → TakesSlot n s before after (Some v)
   takes_nothing : before ≡ None ∷ after → TakesSlot n s before after None
+
+-- What is ahead of a reader of fields: their names, and the slots that are pending.
+pub data Ahead : Type 0 where
+  ahead : List (List ℕ) → List Slot → Ahead
+
+-- The first field ahead is taken: its slot and its name.
+pub data TakesField (n : Notation) (s : Shape) : Ahead → Ahead → Option Value → Type 0 where
+  takes_field : {names others : List (List ℕ)} {before after : List Slot} {o : Option Value} → TakesSlot n s before after o → others ≡ tail_names names → TakesField n s (Ahead.ahead names before) (Ahead.ahead others after) o
 
 -- At a place within the field of this name, for a reason that has P.
 pub data WithinField (name : List ℕ) (P : Path → Why → Type 0) : Path → Why → Type 0 where

@@ -4,13 +4,13 @@ use Rattle.asn_base.specs.declared.tag.Tag.{Tag}
 use Rattle.asn_fault.specs.Stop.{Stop, Why}
 use Rattle.asn_fault.specs.declared.encode.EncodeError.{EncodeError}
 use Rattle.asn_traits.specs.Answer.{OptionalStops, Refuses}
-use Rattle.asn_traits.specs.FieldAnswer.{AddsSlot, TakesSlot, WithinField}
+use Rattle.asn_traits.specs.FieldAnswer.{AddsSlot, Ahead, TakesField, WithinField}
 use Rattle.asn_model.specs.Notation.{Notation}
 use Rattle.asn_model.specs.Shape.{Shape, Fields, Presence}
 use Rattle.asn_model.specs.Stops.{Stops, Path}
 use Rattle.asn_model.specs.Tree.{Slot, head_slot}
 use Rattle.asn_model.specs.Value.{Value, is_kept}
-use Rattle.asn_traits.specs.Writing.{Frame, CannotFill}
+use Rattle.asn_traits.specs.Writing.{Frame, CannotFill, head_name}
 
 -- The presence allows the slot.
 abbrev pub allows : Presence → Option Value → Bool
@@ -29,17 +29,17 @@ pub data RefusesAdding {S : Type 0} (holds : S → List Frame → Type 0) (n : N
   refuses_slot : {name : List ℕ} {g : Tag} {p : Presence} {s : Shape} {rest : Fields} {o : Option Value} {ss : Frame} {old : S} {e : EncodeError} → CannotFill n (o ∷ []) e → RefusesAdding holds n (Fields.field name g p s rest) (o ∷ ss) old e
   refuses_later_slot : {name : List ℕ} {g : Tag} {p : Presence} {s : Shape} {rest : Fields} {o : Option Value} {ss : Frame} {old mid : S} {e : EncodeError} → AddsSlot holds n s old mid o → RefusesAdding holds n rest ss mid e → RefusesAdding holds n (Fields.field name g p s rest) (o ∷ ss) old e
 
--- The slots of the fields are taken, one after another.
-pub data TakesFields (n : Notation) : Fields → Frame → List Slot → List Slot → Type 0 where
-  takes_none : {now : List Slot} → TakesFields n Fields.no_fields [] now now
-  takes_next : {name : List ℕ} {g : Tag} {p : Presence} {s : Shape} {rest : Fields} {o : Option Value} {ss : Frame} {before mid after : List Slot} → TakesSlot n s before mid o → TakesFields n rest ss mid after → allows p o ≡ true → TakesFields n (Fields.field name g p s rest) (o ∷ ss) before after
+-- The fields are taken, one after another.
+pub data TakesFields (n : Notation) : Fields → Frame → Ahead → Ahead → Type 0 where
+  takes_none : {now : Ahead} → TakesFields n Fields.no_fields [] now now
+  takes_next : {name : List ℕ} {g : Tag} {p : Presence} {s : Shape} {rest : Fields} {o : Option Value} {ss : Frame} {before mid after : Ahead} → TakesField n s before mid o → TakesFields n rest ss mid after → allows p o ≡ true → TakesFields n (Fields.field name g p s rest) (o ∷ ss) before after
 
 -- Why a field is refused.
 abbrev pub FieldStops : Notation → Presence → Shape → List Slot → Path → Why → Type 0
 FieldStops n Presence.required s before = Stops n s (head_slot before)
 FieldStops n p s before = OptionalStops n s before
 
--- One of the fields is refused, after those before it are taken.
-pub data RefusesFields (n : Notation) : Fields → List Slot → Stop → Type 0 where
-  refuses_field : {name : List ℕ} {g : Tag} {p : Presence} {s : Shape} {rest : Fields} {before : List Slot} {e : Stop} → Refuses n (WithinField name (FieldStops n p s before)) e → RefusesFields n (Fields.field name g p s rest) before e
-  refuses_later_field : {name : List ℕ} {g : Tag} {p : Presence} {s : Shape} {rest : Fields} {o : Option Value} {before mid : List Slot} {e : Stop} → TakesSlot n s before mid o → RefusesFields n rest mid e → allows p o ≡ true → RefusesFields n (Fields.field name g p s rest) before e
+-- One of the fields is refused, under the first name ahead, after those before it are taken.
+pub data RefusesFields (n : Notation) : Fields → Ahead → Stop → Type 0 where
+  refuses_field : {name : List ℕ} {g : Tag} {p : Presence} {s : Shape} {rest : Fields} {names : List (List ℕ)} {before : List Slot} {e : Stop} → Refuses n (WithinField (head_name names) (FieldStops n p s before)) e → RefusesFields n (Fields.field name g p s rest) (Ahead.ahead names before) e
+  refuses_later_field : {name : List ℕ} {g : Tag} {p : Presence} {s : Shape} {rest : Fields} {o : Option Value} {before mid : Ahead} {e : Stop} → TakesField n s before mid o → RefusesFields n rest mid e → allows p o ≡ true → RefusesFields n (Fields.field name g p s rest) before e

@@ -2,14 +2,15 @@
 ghost use Rattle.asn_base.specs.declared.codec.Codec.{Codec};
 ghost use Rattle.asn_fault.specs.Stop.{Why, at_root, error_stop, wrapped};
 ghost use Rattle.asn_traits.specs.Answer.{OptionalStops, Refuses};
-ghost use Rattle.asn_traits.specs.FieldAnswer.{AddsSlot, TakesSlot, WithinField};
+ghost use Rattle.asn_traits.specs.FieldAnswer.{AddsSlot, TakesField, WithinField};
+ghost use Rattle.asn_traits.specs.FieldAnswer.Ahead.{ahead};
 ghost use Rattle.asn_model.specs.Notation.{notation_of};
 ghost use Rattle.asn_model.specs.Stops.{Stops};
 ghost use Rattle.asn_model.specs.Tree.{head_slot};
-ghost use Rattle.asn_traits.specs.Writing.{CannotFill};
+ghost use Rattle.asn_traits.specs.Writing.{CannotFill, head_name};
 ghost use Rattle.std.specs.Prelude.{◌≡◌, ◌⊎◌, Some, [], ◌∷◌, option_map, IfOk, OnOk, IfErr};
 
-use crate::{Decode, Decoder, Encode, Encoder};
+use crate::{Decode, Decoder, Encode, Encoder, FieldNames};
 use asn_base::Identifier;
 use asn_fault::{DecodeError, EncodeError};
 
@@ -23,38 +24,41 @@ fn within_field<D: Decoder>(decoder: &D, name: &'static str, error: DecodeError)
     DecodeError::field_error(decoder.allocator(), name, error, decoder.codec())
 }
 
-/// Reads the first pending slot as a field that has to be present.
+/// Reads the first pending slot as a field that has to be present, and takes its name from `names`.
 ///
-/// It refuses as the type does, within `FieldError` with the field's name; want of memory stays as
-/// it is.
+/// It refuses as the type does, within `FieldError` with that name; want of memory stays as it is.
 pub fn read_field<T: Decode, D: Decoder>(
     decoder: &mut D,
-    name: &'static str,
+    names: &mut FieldNames,
 ) -> Result<T, DecodeError>
-    ensures read { IfOk result (λ x. TakesSlot D.notation T.shape_of (D.pending decoder.old)
-        (D.pending decoder.new) (Some (T.value_of x))) }
-    ensures refused { IfErr result (λ e. Refuses D.notation (WithinField name.now
+    ensures read { IfOk result (λ x. TakesField D.notation T.shape_of
+        (ahead names.old (D.pending decoder.old)) (ahead names.new (D.pending decoder.new))
+        (Some (T.value_of x))) }
+    ensures refused { IfErr result (λ e. Refuses D.notation (WithinField (head_name names.old)
         (Stops D.notation T.shape_of (head_slot (D.pending decoder.old)))) (error_stop e)) }
 {
+    let name = names.take_first();
     match T::decode(decoder) {
         Ok(value) => Ok(value),
         Err(error) => Err(within_field(decoder, name, error)),
     }
 }
 
-/// Reads the first pending slot as a field that may be absent: nothing where it is.
+/// Reads the first pending slot as a field that may be absent, nothing where it is, and takes its
+/// name from `names`.
 ///
-/// It refuses as the type does, within `FieldError` with the field's name; want of memory stays as
-/// it is.
+/// It refuses as the type does, within `FieldError` with that name; want of memory stays as it is.
 pub fn read_optional_field<T: Decode, D: Decoder>(
     decoder: &mut D,
-    name: &'static str,
+    names: &mut FieldNames,
 ) -> Result<Option<T>, DecodeError>
-    ensures read { IfOk result (λ x. TakesSlot D.notation T.shape_of (D.pending decoder.old)
-        (D.pending decoder.new) (option_map T.value_of x)) }
-    ensures refused { IfErr result (λ e. Refuses D.notation (WithinField name.now
+    ensures read { IfOk result (λ x. TakesField D.notation T.shape_of
+        (ahead names.old (D.pending decoder.old)) (ahead names.new (D.pending decoder.new))
+        (option_map T.value_of x)) }
+    ensures refused { IfErr result (λ e. Refuses D.notation (WithinField (head_name names.old)
         (OptionalStops D.notation T.shape_of (D.pending decoder.old))) (error_stop e)) }
 {
+    let name = names.take_first();
     match decoder.decode_optional::<T>() {
         Ok(value) => Ok(value),
         Err(error) => Err(within_field(decoder, name, error)),

@@ -1,11 +1,12 @@
 // Groups of fields, for a SEQUENCE of more fields than one function is proved with.
 ghost use Rattle.asn_fault.specs.Stop.{error_stop};
+ghost use Rattle.asn_traits.specs.FieldAnswer.Ahead.{ahead};
 ghost use Rattle.asn_traits.specs.Passing.{AddsFields, RefusesAdding, RefusesFields, TakesFields};
 ghost use Rattle.asn_model.specs.Shape.{Fields as AbstractFields, join_fields};
 ghost use Rattle.asn_traits.specs.Writing.{Frame};
 ghost use Rattle.std.specs.Prelude.{◌++◌, IfErr, IfOk, OnOk};
 
-use crate::{Decoder, Encoder};
+use crate::{Decoder, Encoder, FieldNames};
 use asn_fault::{DecodeError, EncodeError};
 
 /// Fields that stand one after another in a SEQUENCE, as ASN.1's COMPONENTS OF puts them there.
@@ -27,11 +28,13 @@ pub trait FieldGroup: Sized + Drop {
             encoder.old) };
 
     /// Reads the fields, by one call of `read_field` or `read_optional_field` for each, in order.
-    fn read_group<D: Decoder>(decoder: &mut D) -> Result<Self, DecodeError>
+    /// Each call takes the field's name from `names`.
+    fn read_group<D: Decoder>(decoder: &mut D, names: &mut FieldNames) -> Result<Self, DecodeError>
         ensures read { IfOk result (λ x. TakesFields D.notation group (group_slots x)
-            (D.pending decoder.old) (D.pending decoder.new)) }
+            (ahead names.old (D.pending decoder.old))
+            (ahead names.new (D.pending decoder.new))) }
         ensures refused { IfErr result (λ e. RefusesFields D.notation group
-            (D.pending decoder.old) (error_stop e)) };
+            (ahead names.old (D.pending decoder.old)) (error_stop e)) };
 }
 
 /// Writes the fields of two groups, one group after the other.
@@ -55,13 +58,15 @@ pub fn write_groups<A: FieldGroup, B: FieldGroup, E: Encoder>(
 #[tactic(auto, using(crate::proofs::Grouping::group_steps))]
 pub fn read_groups<A: FieldGroup, B: FieldGroup, D: Decoder>(
     decoder: &mut D,
+    names: &mut FieldNames,
 ) -> Result<(A, B), DecodeError>
     ensures read { IfOk result (λ x. TakesFields D.notation (join_fields A.group B.group)
-        (A.group_slots x.0 ++ B.group_slots x.1) (D.pending decoder.old) (D.pending decoder.new)) }
+        (A.group_slots x.0 ++ B.group_slots x.1) (ahead names.old (D.pending decoder.old))
+        (ahead names.new (D.pending decoder.new))) }
     ensures refused { IfErr result (λ e. RefusesFields D.notation (join_fields A.group B.group)
-        (D.pending decoder.old) (error_stop e)) }
+        (ahead names.old (D.pending decoder.old)) (error_stop e)) }
 {
-    let first = A::read_group(decoder)?;
-    let second = B::read_group(decoder)?;
+    let first = A::read_group(decoder, names)?;
+    let second = B::read_group(decoder, names)?;
     Ok((first, second))
 }

@@ -4,6 +4,7 @@
 mod alternative;
 mod decoder;
 mod encoder;
+mod field_names;
 mod fields;
 mod group;
 mod integer_type;
@@ -22,6 +23,7 @@ pub use asn_model::{
 };
 pub use decoder::{Decode, DecodeChoice, Decoder};
 pub use encoder::{Encode, Encoder};
+pub use field_names::FieldNames;
 pub use fields::{read_field, read_optional_field, write_field, write_optional_field};
 pub use group::{FieldGroup, read_groups, write_groups};
 pub use integer_type::IntegerType;

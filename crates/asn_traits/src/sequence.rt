@@ -1,6 +1,7 @@
 // A SEQUENCE by its fields: what a type writes is one call a field.
 ghost use Rattle.asn_fault.specs.Stop.{error_stop};
 ghost use Rattle.asn_traits.specs.Answer.{Answer};
+ghost use Rattle.asn_traits.specs.FieldAnswer.Ahead.{ahead};
 ghost use Rattle.asn_traits.specs.Passing.{AddsFields, RefusesAdding, RefusesFields, TakesFields};
 ghost use Rattle.asn_model.specs.Readable.{is_readable};
 ghost use Rattle.asn_traits.specs.Scopes.{ScopeAnswers};
@@ -10,7 +11,10 @@ ghost use Rattle.asn_traits.specs.Tables.{added_rows, field_rows, rows_of};
 ghost use Rattle.asn_traits.specs.Writing.{CannotFill, CannotWrite, Filled, Frame, Written, members_value};
 ghost use Rattle.std.specs.Prelude.{◌≡◌, IfErr, IfOk, OnOk, option_map, refl, true};
 
-use crate::{Constructed, Decoder, Encoder, Field, Fields, OfKind, SequenceKind, Shape};
+use crate::tables::listed;
+use crate::{
+    Constructed, Decoder, Encoder, Field, FieldNames, Fields, OfKind, SequenceKind, Shape,
+};
 use asn_base::{Identifier, OutOfMemory, Tag};
 use asn_fault::{DecodeError, EncodeError};
 use std::alloc::Global;
@@ -53,11 +57,13 @@ pub trait SequenceFields: OfKind<Kind = SequenceKind> {
             (slots self.now) encoder.old) };
 
     /// Reads the fields, by one call of `read_field` or `read_optional_field` for each, in order.
-    fn read_fields<D: Decoder>(decoder: &mut D) -> Result<Self, DecodeError>
+    /// Each call takes the field's name from `names`.
+    fn read_fields<D: Decoder>(decoder: &mut D, names: &mut FieldNames) -> Result<Self, DecodeError>
         ensures read { IfOk result (λ x. TakesFields D.notation (all_fields fields added) (slots x)
-            (D.pending decoder.old) (D.pending decoder.new)) }
+            (ahead names.old (D.pending decoder.old))
+            (ahead names.new (D.pending decoder.new))) }
         ensures refused { IfErr result (λ e. RefusesFields D.notation (all_fields fields added)
-            (D.pending decoder.old) (error_stop e)) };
+            (ahead names.old (D.pending decoder.old)) (error_stop e)) };
 
     // The shape can be read.
     ghost readable: { is_readable (AbstractShape.seq SeqKind.sequence fields added) ≡ true };
@@ -109,7 +115,9 @@ pub fn read_sequence<T: SequenceFields, D: Decoder>(
                 (λ x. members_value (all_fields T.fields T.added) (T.slots x))
                 (D.pending decoder.old) result (D.pending decoder.new) }
         {
-            match T::read_fields(decoder) {
+            let additions = listed(T::listed_added());
+            let mut names = FieldNames::new(T::listed(), additions);
+            match T::read_fields(decoder, &mut names) {
                 Ok(value) => Ok(value),
                 Err(error) => Err(error),
             }

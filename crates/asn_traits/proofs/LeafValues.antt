@@ -1,9 +1,6 @@
 -- Values without parts, as they are written and read.
-use Rattle.std.proofs.Common.{◌≡◌, refl, ap, ◌∙◌, subst, arith, ℕ, ℤ, pos, negsuc, ◌≤ℤ◌, ◌<ℤ◌, int_lt, List, [], ◌∷◌, Bool, true, false, not, ◌&&◌, if◌then◌else◌, Option, Some, Result, Ok, Err, ◌⊎◌, inl, inr}
+use Rattle.std.proofs.Common.{◌≡◌, refl, ap, ◌∙◌, subst, ℕ, ℤ, pos, negsuc, ◌≤ℤ◌, ◌<ℤ◌, List, [], ◌∷◌, true, false, if◌then◌else◌, Option, Some, Result, Ok, Err, ◌⊎◌, inl, inr}
 use Rattle.std.specs.Prelude.{option_map}
-use Rattle.std.specs.Int.Signed.{lt_z_no}
-use Rattle.std.proofs.lemmas.Float.{T_from_true}
-use Rattle.std.proofs.lemmas.Int.{ints}
 use Rattle.asn_base.specs.Numbers.{signed, is_negative, magnitude}
 use Rattle.asn_base.specs.declared.codec.Codec.{Codec}
 use Rattle.asn_fault.specs.Stop.{Stop, Why, at_root}
@@ -11,7 +8,6 @@ use Rattle.asn_traits.specs.Answer.{Refuses, OfPlace}
 use Rattle.asn_model.specs.Leaf.{Blame, Blamed, codec_of, as_leaf, kind_of, refine, refined, leaf, IsOwned}
 use Rattle.asn_model.specs.Notation.{Notation, notation_of}
 use Rattle.asn_traits.specs.Opening.{IsLeaf, IsTaken, TakesLeaf}
-use Rattle.asn_model.specs.Range.{at_most, is_between}
 use Rattle.asn_model.specs.Says.{Says}
 use Rattle.asn_model.specs.Shape.{Shape, all_items, is_item}
 use Rattle.asn_model.specs.Stops.{Stops}

@@ -1,0 +1,42 @@
+-- The first character outside an alphabet.
+use Rattle.std.proofs.Common.{◌≡◌, ℕ, ◌<◌, Bool, true, false, cond, not, List, [], ◌∷◌, Some, None, Option, IfNone, IsTrue, length, get_or, ◌^◌, arith, refl, sym}
+use Rattle.std.proofs.lemmas.Bool.Decides.{nat_tests}
+use Rattle.std.proofs.lemmas.List.Sums.{AllPass-from_list_all}
+use Rattle.std.proofs.lemmas.Option.{none-some}
+use Rattle.std.specs.List.{prefix_len, list_all, position_or_len}
+use Rattle.asn_strings.specs.Alphabets.{all_within, is_bmp, place_outside}
+
+-- All of these pass, unless one stands after the longest front that passes.
+AllPassUnlessStopped : (ℕ → Bool) → List ℕ → Type 0
+AllPassUnlessStopped p cs = (prefix_len (λ c. not (not (p c))) cs < length cs → ⊥) → list_all p cs ≡ true
+
+one_more : (p : ℕ → Bool) (c : ℕ) (cs : List ℕ) (b : Bool) → p c ≡ b → AllPassUnlessStopped p cs → AllPassUnlessStopped p (c ∷ cs)
+unfolding AllPassUnlessStopped
+one_more p c cs true e others h = rw e (others (λ k. h (rw e (omega arith))))
+one_more p c cs false e others h = absurd (h (rw e (omega arith)))
+
+all_pass : (p : ℕ → Bool) (cs : List ℕ) → AllPassUnlessStopped p cs
+unfolding AllPassUnlessStopped
+all_pass p [] = λ h. refl
+all_pass p (c ∷ cs) = one_more p c cs (p c) refl (all_pass p cs)
+
+false_at_none : (b : Bool) (n : ℕ) → cond b (Some n) None ≡ None → b ≡ false
+false_at_none true n h = absurd (none-some n (sym h))
+false_at_none false n h = refl
+
+-- Where no character is outside the alphabet, all are in it.
+pub within_from_none : (p : ℕ → Bool) (cs : List ℕ) → place_outside p cs ≡ None → IsTrue (all_within p cs)
+unfolding AllPassUnlessStopped
+within_from_none p cs h =
+    let e = false_at_none _ (position_or_len (λ c. not (p c)) cs) h in
+    all_pass p cs (λ k. grind (arith, nat_tests))
+
+pub within_at_none : (p : ℕ → Bool) (cs : List ℕ) (place : Option ℕ) → place ≡ place_outside p cs → IfNone place (IsTrue (all_within p cs))
+within_at_none p cs None e = within_from_none p cs (sym e)
+within_at_none p cs (Some place) e = tt
+
+-- What stands at a place among characters of the Basic Multilingual Plane.
+pub below_at : (cs : List ℕ) (i c : ℕ) → IsTrue (all_within is_bmp cs) → (i < length cs) × (c ≡ get_or cs i c) → c < 2 ^ 16
+below_at cs i c h at =
+    let passes : is_bmp c ≡ true = rw at.1 (AllPass-from_list_all is_bmp cs h i c at.0) in
+    grind (arith, nat_tests)

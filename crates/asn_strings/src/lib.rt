@@ -1,0 +1,19 @@
+//! The restricted character string types of ASN.1 (X.680, section 41): text within an alphabet,
+//! octets within an alphabet, and 16-bit units. Contracts see each as the list of its bytes or of
+//! its units.
+#![tactic(auto)]
+
+pub mod bmp;
+pub mod character_sets;
+pub mod fault;
+pub mod octets;
+pub mod text;
+
+pub use bmp::BmpString;
+pub use character_sets::CharacterSet;
+pub use fault::StringFault;
+pub use octets::{GeneralString, GraphicString, RestrictedOctets, TeletexString};
+pub use text::{
+    Ia5String, NumericString, PrintableString, RestrictedString, UniversalString, Utf8String,
+    VisibleString,
+};

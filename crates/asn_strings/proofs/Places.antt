@@ -1,7 +1,8 @@
 -- The first character outside an alphabet.
-use Rattle.std.proofs.Common.{◌≡◌, ℕ, ◌<◌, Bool, true, false, cond, not, List, [], ◌∷◌, Some, None, Option, IfNone, IsTrue, length, get_or, ◌^◌, arith, refl, sym}
+use Rattle.std.proofs.Common.{◌≡◌, ℕ, ◌<◌, Bool, true, false, cond, not, List, [], ◌∷◌, Some, None, Option, IfNone, IsTrue, length, get_or, ◌^◌, ◌↔◌, ◌∙◌, ap, arith, refl, sym, true≢false}
 use Rattle.std.proofs.lemmas.Bool.Decides.{nat_tests}
 use Rattle.std.proofs.lemmas.List.Sums.{AllPass-from_list_all}
+use Rattle.std.proofs.lemmas.List.Quantifiers.{position-Some}
 use Rattle.std.proofs.lemmas.Option.{none-some}
 use Rattle.std.specs.List.{prefix_len, list_all, position_or_len}
 use Rattle.asn_strings.specs.Alphabets.{all_within, is_bmp, place_outside}
@@ -40,3 +41,26 @@ pub below_at : (cs : List ℕ) (i c : ℕ) → IsTrue (all_within is_bmp cs) →
 below_at cs i c h at =
     let passes : is_bmp c ≡ true = rw at.1 (AllPass-from_list_all is_bmp cs h i c at.0) in
     grind (arith, nat_tests)
+
+none_from_all : (p : ℕ → Bool) (cs : List ℕ) → IsTrue (all_within p cs) → (o : Option ℕ) → place_outside p cs ≡ o → o ≡ None
+none_from_all p cs h None e = refl
+none_from_all p cs h (Some place) e =
+    let found = position-Some (λ c. not (p c)) cs place 0 e in
+    absurd (true≢false (sym found.1 ∙ ap not (AllPass-from_list_all p cs h place 0 found.0)))
+
+pub none_is_within : (p : ℕ → Bool) (cs : List ℕ) → (place_outside p cs ≡ None) ↔ IsTrue (all_within p cs)
+none_is_within p cs = (within_from_none p cs, λ h. none_from_all p cs h (place_outside p cs) refl)
+
+in_where_not_out : (b : Bool) → not b ≡ false → b ≡ true
+in_where_not_out true e = refl
+in_where_not_out false e = absurd (true≢false e)
+
+out_where_not_in : (b : Bool) → not b ≡ true → b ≡ false
+out_where_not_in true e = absurd (true≢false (sym e))
+out_where_not_in false e = refl
+
+pub first_outside : (p : ℕ → Bool) (cs : List ℕ) (place : ℕ) → place_outside p cs ≡ Some place
+    → (place < length cs) × (p (get_or cs place 0) ≡ false) × ((k : ℕ) → k < place → p (get_or cs k 0) ≡ true)
+first_outside p cs place e =
+    let found = position-Some (λ c. not (p c)) cs place 0 e in
+    (found.0, out_where_not_in _ found.1, λ k h. in_where_not_out _ (found.2 k h))

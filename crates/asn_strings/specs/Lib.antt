@@ -1,2 +1,3 @@
 pub mod Alphabets
 pub mod Refusals
+pub mod Units

@@ -6,6 +6,7 @@
 pub mod bmp;
 pub mod character_sets;
 pub mod fault;
+pub mod laws;
 pub mod octets;
 pub mod text;
 
@@ -17,3 +18,6 @@ pub use text::{
     Ia5String, NumericString, PrintableString, RestrictedString, UniversalString, Utf8String,
     VisibleString,
 };
+
+#[cfg(test)]
+mod tests;

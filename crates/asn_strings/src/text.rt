@@ -76,8 +76,10 @@ impl<C: CharacterSet> RestrictedString<C> {
     pub fn from_string(text: String) -> Result<Self, StringFault>
         ensures text { IfOk result (λ s. s ≡ string_bytes text) }
         ensures within { OnOk result (IsTrue (all_within C.alphabet (chars (string_bytes text)))) }
-        ensures outside { refused_place result ≡ place_outside C.alphabet (chars (string_bytes text)) }
-        ensures refused { OnErr result (IsSome (place_outside C.alphabet (chars (string_bytes text)))) }
+        ensures outside { refused_place result
+            ≡ place_outside C.alphabet (chars (string_bytes text)) }
+        ensures refused { OnErr result
+            (IsSome (place_outside C.alphabet (chars (string_bytes text)))) }
     {
         if let Some(place) = first_outside::<C>(text.as_str()) {
             return Err(StringFault::Alphabet { place });

@@ -1,5 +1,5 @@
 -- Each character is the next of the text's, all of which are units.
-use Rattle.std.proofs.Common.{◌≡◌, map-id, map, ◌∙◌, sym, arith, rules}
+use Rattle.std.proofs.Common.{map-id, ◌∙◌, sym, rules}
 use Rattle.std.proofs.lemmas.Iterator.{YieldsList-from_chars}
 use Rattle.std.proofs.lemmas.Iterator.Consumers.{YieldsList-turn, YieldsList-end}
 use Rattle.asn_strings.proofs.Places.{below_at}

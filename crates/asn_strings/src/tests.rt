@@ -1,0 +1,93 @@
+use crate::{
+    BmpString, GeneralString, GraphicString, Ia5String, NumericString, PrintableString,
+    StringFault, TeletexString, UniversalString, VisibleString,
+};
+use std::alloc::{AllocError, Global};
+use std::test::Fail;
+
+/// A type, a text, and the place of the first character outside the alphabet.
+const CASES: [(&str, &str, Option<usize>); 17] = [
+    ("NumericString", "1 2", None),
+    ("PrintableString", "1 2", None),
+    ("VisibleString", "1 2", None),
+    ("IA5String", "1 2", None),
+    ("GeneralString", "1 2", None),
+    ("GraphicString", "1 2", None),
+    ("BMPString", "1 2", None),
+    ("UniversalString", "1 2", None),
+    ("NumericString", "12a", Some(2)),
+    ("PrintableString", "Az09 '()+,-./:=?*", Some(16)),
+    ("VisibleString", "~\u{7F}", Some(1)),
+    ("IA5String", "\u{7F}\u{80}", Some(1)),
+    ("GeneralString", "\0\u{1F600}", None),
+    ("GraphicString", "é\u{7F}", Some(1)),
+    ("BMPString", "\u{FFFF}", None),
+    ("BMPString", "\u{1F600}", Some(0)),
+    ("UniversalString", "\u{1F600}", None),
+];
+
+/// Returns the place that an answer names.
+fn place_of<T: Drop>(answer: Result<T, StringFault>) -> Result<Option<usize>, AllocError> {
+    match answer {
+        Ok(_) => Ok(None),
+        Err(StringFault::Alphabet { place }) => Ok(Some(place)),
+        Err(StringFault::OutOfMemory) => Err(AllocError),
+    }
+}
+
+/// Returns the place outside the alphabet of the type of that name.
+fn place_outside(alloc: Global, name: &str, text: &str) -> Result<Option<usize>, AllocError> {
+    match name {
+        "NumericString" => place_of(NumericString::try_from_text(alloc, text)),
+        "PrintableString" => place_of(PrintableString::try_from_text(alloc, text)),
+        "VisibleString" => place_of(VisibleString::try_from_text(alloc, text)),
+        "IA5String" => place_of(Ia5String::try_from_text(alloc, text)),
+        "GeneralString" => place_of(GeneralString::try_from_text(alloc, text)),
+        "GraphicString" => place_of(GraphicString::try_from_text(alloc, text)),
+        "BMPString" => place_of(BmpString::try_from_text(alloc, text)),
+        _ => place_of(UniversalString::try_from_text(alloc, text)),
+    }
+}
+
+#[test]
+fn alphabets(rt: HostRuntime) -> Result<(), Fail> {
+    for (name, text, place) in CASES {
+        assert_eq!(rt;
+            place_outside(rt.alloc(), name, text)?,
+            place,
+            "{name} {text}"
+        );
+    }
+    Ok(())
+}
+
+#[test]
+fn contents(rt: HostRuntime) -> Result<(), Fail> {
+    let alloc = rt.alloc();
+    let numeric = NumericString::try_from_text(alloc, "1 2")?;
+    assert_eq!(rt; numeric.as_str(), "1 2");
+    assert!(rt; numeric == NumericString::from_string("1 2".to_string(alloc)?)?);
+    assert!(rt; numeric != NumericString::try_from_text(alloc, "1 3")?);
+    let bmp = BmpString::try_from_text(alloc, "é")?;
+    assert_eq!(rt; bmp.units(), [0xE9].as_slice());
+    assert!(rt; bmp == BmpString::from_units(vec![in alloc; 0xE9]?));
+    let graphic = GraphicString::from_string("é".to_string(alloc)?)?;
+    assert_eq!(rt; graphic.octets(), b"\xC3\xA9".as_slice());
+    assert!(rt; GraphicString::from_octets(vec![in alloc; 0xFF]?).is_some());
+    assert!(rt; GraphicString::from_octets(vec![in alloc; 0x20, 0x1F]?).is_none());
+    let general = GeneralString::from_octets(vec![in alloc; 0, 0xFF]?);
+    assert_eq!(rt; general.octets(), b"\0\xFF".as_slice());
+    let teletex = TeletexString::from_octets(vec![in alloc; 0, 0xFF]?);
+    assert_eq!(rt; teletex.octets(), b"\0\xFF".as_slice());
+    Ok(())
+}
+
+#[test]
+fn fault_texts(rt: HostRuntime) -> Result<(), Fail> {
+    let fault = StringFault::Alphabet { place: 16 };
+    let text = format!(in rt.alloc(); "{fault}")?;
+    assert_eq!(rt; text.as_str(), "character outside the alphabet at place 16");
+    let text = format!(in rt.alloc(); "{}", StringFault::OutOfMemory)?;
+    assert_eq!(rt; text.as_str(), "Out of memory");
+    Ok(())
+}

@@ -9,9 +9,11 @@ use Rattle.asn_strings.specs.Alphabets.{all_within, is_bmp, place_outside}
 
 -- All of these pass, unless one stands after the longest front that passes.
 AllPassUnlessStopped : (ℕ → Bool) → List ℕ → Type 0
-AllPassUnlessStopped p cs = (prefix_len (λ c. not (not (p c))) cs < length cs → ⊥) → list_all p cs ≡ true
+AllPassUnlessStopped p cs =
+    (prefix_len (λ c. not (not (p c))) cs < length cs → ⊥) → list_all p cs ≡ true
 
-one_more : (p : ℕ → Bool) (c : ℕ) (cs : List ℕ) (b : Bool) → p c ≡ b → AllPassUnlessStopped p cs → AllPassUnlessStopped p (c ∷ cs)
+one_more : (p : ℕ → Bool) (c : ℕ) (cs : List ℕ) (b : Bool) → p c ≡ b
+    → AllPassUnlessStopped p cs → AllPassUnlessStopped p (c ∷ cs)
 unfolding AllPassUnlessStopped
 one_more p c cs true e others h = rw e (others (λ k. h (rw e (omega arith))))
 one_more p c cs false e others h = absurd (h (rw e (omega arith)))
@@ -26,41 +28,49 @@ false_at_none true n h = absurd (none-some n (sym h))
 false_at_none false n h = refl
 
 -- Where no character is outside the alphabet, all are in it.
-pub within_from_none : (p : ℕ → Bool) (cs : List ℕ) → place_outside p cs ≡ None → IsTrue (all_within p cs)
+within_from_none : (p : ℕ → Bool) (cs : List ℕ) → place_outside p cs ≡ None
+    → IsTrue (all_within p cs)
 unfolding AllPassUnlessStopped
 within_from_none p cs h =
     let e = false_at_none _ (position_or_len (λ c. not (p c)) cs) h in
     all_pass p cs (λ k. grind (arith, nat_tests))
 
-pub within_at_none : (p : ℕ → Bool) (cs : List ℕ) (place : Option ℕ) → place ≡ place_outside p cs → IfNone place (IsTrue (all_within p cs))
+pub within_at_none : (p : ℕ → Bool) (cs : List ℕ) (place : Option ℕ) → place ≡ place_outside p cs
+    → IfNone place (IsTrue (all_within p cs))
 within_at_none p cs None e = within_from_none p cs (sym e)
 within_at_none p cs (Some place) e = tt
 
 -- What stands at a place among characters of the Basic Multilingual Plane.
-pub below_at : (cs : List ℕ) (i c : ℕ) → IsTrue (all_within is_bmp cs) → (i < length cs) × (c ≡ get_or cs i c) → c < 2 ^ 16
+pub below_at : (cs : List ℕ) (i c : ℕ) → IsTrue (all_within is_bmp cs)
+    → (i < length cs) × (c ≡ get_or cs i c) → c < 2 ^ 16
 below_at cs i c h at =
     let passes : is_bmp c ≡ true = rw at.1 (AllPass-from_list_all is_bmp cs h i c at.0) in
     grind (arith, nat_tests)
 
-none_from_all : (p : ℕ → Bool) (cs : List ℕ) → IsTrue (all_within p cs) → (o : Option ℕ) → place_outside p cs ≡ o → o ≡ None
+none_from_all : (p : ℕ → Bool) (cs : List ℕ) → IsTrue (all_within p cs)
+    → (place : Option ℕ) → place_outside p cs ≡ place → place ≡ None
 none_from_all p cs h None e = refl
 none_from_all p cs h (Some place) e =
     let found = position-Some (λ c. not (p c)) cs place 0 e in
     absurd (true≢false (sym found.1 ∙ ap not (AllPass-from_list_all p cs h place 0 found.0)))
 
-pub none_is_within : (p : ℕ → Bool) (cs : List ℕ) → (place_outside p cs ≡ None) ↔ IsTrue (all_within p cs)
-none_is_within p cs = (within_from_none p cs, λ h. none_from_all p cs h (place_outside p cs) refl)
+pub none_is_within : (p : ℕ → Bool) (cs : List ℕ)
+    → (place_outside p cs ≡ None) ↔ IsTrue (all_within p cs)
+none_is_within p cs =
+    (within_from_none p cs, λ h. none_from_all p cs h (place_outside p cs) refl)
 
-in_where_not_out : (b : Bool) → not b ≡ false → b ≡ true
-in_where_not_out true e = refl
-in_where_not_out false e = absurd (true≢false e)
+pub true_from_not : (b : Bool) → not b ≡ false → b ≡ true
+true_from_not true e = refl
+true_from_not false e = absurd (true≢false e)
 
-out_where_not_in : (b : Bool) → not b ≡ true → b ≡ false
-out_where_not_in true e = absurd (true≢false (sym e))
-out_where_not_in false e = refl
+false_from_not : (b : Bool) → not b ≡ true → b ≡ false
+false_from_not true e = absurd (true≢false (sym e))
+false_from_not false e = refl
 
+-- The first character outside, and those before it.
 pub first_outside : (p : ℕ → Bool) (cs : List ℕ) (place : ℕ) → place_outside p cs ≡ Some place
-    → (place < length cs) × (p (get_or cs place 0) ≡ false) × ((k : ℕ) → k < place → p (get_or cs k 0) ≡ true)
+    → (place < length cs) × (p (get_or cs place 0) ≡ false)
+    × ((k : ℕ) → k < place → p (get_or cs k 0) ≡ true)
 first_outside p cs place e =
     let found = position-Some (λ c. not (p c)) cs place 0 e in
-    (found.0, out_where_not_in _ found.1, λ k h. in_where_not_out _ (found.2 k h))
+    (found.0, false_from_not _ found.1, λ k h. true_from_not _ (found.2 k h))

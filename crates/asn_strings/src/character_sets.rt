@@ -7,7 +7,7 @@ ghost use Rattle.std.specs.Prelude.{◌≡◌, ℕ, Bool, IfNone, IsTrue, chars}
 pub trait CharacterSet: Drop {
     ghost alphabet: { ℕ → Bool };
 
-    /// Whether the character is in the alphabet.
+    /// Returns whether the character is in the alphabet.
     fn contains(character: char) -> bool
         ensures { result ≡ alphabet character };
 }
@@ -21,7 +21,7 @@ pub fn first_outside<C: CharacterSet>(text: &str) -> Option<usize>
 }
 
 /// NumericString: the digits and space.
-#[derive(Clone, Copy, Debug)]
+#[derive(Clone, Copy)]
 pub struct Numeric;
 
 impl CharacterSet for Numeric {
@@ -33,7 +33,7 @@ impl CharacterSet for Numeric {
 }
 
 /// PrintableString: the Latin letters, the digits, space and the signs `'()+,-./:=?`.
-#[derive(Clone, Copy, Debug)]
+#[derive(Clone, Copy)]
 pub struct Printable;
 
 impl CharacterSet for Printable {
@@ -49,7 +49,7 @@ impl CharacterSet for Printable {
 }
 
 /// VisibleString: the printing characters of ASCII, and space.
-#[derive(Clone, Copy, Debug)]
+#[derive(Clone, Copy)]
 pub struct Visible;
 
 impl CharacterSet for Visible {
@@ -61,7 +61,7 @@ impl CharacterSet for Visible {
 }
 
 /// IA5String: the characters of ASCII.
-#[derive(Clone, Copy, Debug)]
+#[derive(Clone, Copy)]
 pub struct Ia5;
 
 impl CharacterSet for Ia5 {
@@ -73,7 +73,7 @@ impl CharacterSet for Ia5 {
 }
 
 /// GraphicString: all but the control characters of ASCII.
-#[derive(Clone, Copy, Debug)]
+#[derive(Clone, Copy)]
 pub struct Graphic;
 
 impl CharacterSet for Graphic {
@@ -85,7 +85,7 @@ impl CharacterSet for Graphic {
 }
 
 /// BMPString: the characters of the Basic Multilingual Plane.
-#[derive(Clone, Copy, Debug)]
+#[derive(Clone, Copy)]
 pub struct Bmp;
 
 impl CharacterSet for Bmp {
@@ -97,7 +97,7 @@ impl CharacterSet for Bmp {
 }
 
 /// UniversalString: every character.
-#[derive(Clone, Copy, Debug)]
+#[derive(Clone, Copy)]
 pub struct Universal;
 
 impl CharacterSet for Universal {
@@ -109,7 +109,7 @@ impl CharacterSet for Universal {
 }
 
 /// GeneralString: every character or octet.
-#[derive(Clone, Copy, Debug)]
+#[derive(Clone, Copy)]
 pub struct General;
 
 impl CharacterSet for General {
@@ -121,7 +121,7 @@ impl CharacterSet for General {
 }
 
 /// TeletexString: every octet.
-#[derive(Clone, Copy, Debug)]
+#[derive(Clone, Copy)]
 pub struct Teletex;
 
 impl CharacterSet for Teletex {

@@ -67,7 +67,7 @@ impl<C: OctetSet> Model for RestrictedOctets<C> {
     ghost invariant = { λ s. IsTrue (all_within C.alphabet s.octets.items) };
 }
 
-/// Whether each octet is in the alphabet of `C`.
+/// Returns whether each octet is in the alphabet of `C`.
 fn are_within<C: OctetSet>(octets: &[u8]) -> bool
     ensures { result ≡ all_within C.alphabet octets.now }
 {
@@ -84,7 +84,7 @@ pub type GraphicString = RestrictedOctets<Graphic>;
 pub type TeletexString = RestrictedOctets<Teletex>;
 
 impl<C: OctetSet> RestrictedOctets<C> {
-    /// The octets.
+    /// Returns the octets.
     pub fn octets(&self) -> &[u8]
         ensures octets { result.now ≡ self.now }
         ensures within { IsTrue (all_within C.alphabet self.now) }

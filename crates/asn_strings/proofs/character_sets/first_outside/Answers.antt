@@ -8,7 +8,10 @@ use Rattle.asn_strings.proofs.character_sets.first_outside.Goals as goal
 
 pub returns-clause-within : goal.returns-clause-within
 returns-clause-within g c =
-    let outside = λ (n : ℕ). not (g.C.CharacterSet.alphabet n) in
-    let found : c.position.result ≡ place_outside g.C.CharacterSet.alphabet (chars c.args.text.now) =
-    position_from_yields_List outside _ _ c.position.result c.position.ensures.ran (YieldsList-from_chars c.args.text.now c.utf8.text c.chars.ensures.rest) (λ x b q k. search (rules, tests)) in
-    within_at_none g.C.CharacterSet.alphabet (chars c.args.text.now) c.position.result found
+    let alphabet = g.C.CharacterSet.alphabet in
+    let characters = chars c.args.text.now in
+    let yields = YieldsList-from_chars c.args.text.now c.utf8.text c.chars.ensures.rest in
+    let found : c.position.result ≡ place_outside alphabet characters =
+    position_from_yields_List (λ (n : ℕ). not (alphabet n)) _ _ c.position.result
+    c.position.ensures.ran yields (λ x b q k. search (rules, tests)) in
+    within_at_none alphabet characters c.position.result found

@@ -7,6 +7,10 @@ use Rattle.asn_strings.proofs.octets.RestrictedOctets.from_string.Goals as goal
 
 pub invariant_of-result : goal.invariant_of-result
 invariant_of-result g c =
-    let characters : IsTrue (all_within g.C.CharacterSet.alphabet (chars (string_bytes c.args.text))) = rw c.as_str.ensures.value at c.in_default.ensures.within in
-    let octets = octets_within g.C.CharacterSet.alphabet g.met.C.OctetSet.past_ascii (string_bytes c.args.text) (IsUtf8-string_bytes c.args.text) characters in
+    let alphabet = g.C.CharacterSet.alphabet in
+    let bytes = string_bytes c.args.text in
+    let characters : IsTrue (all_within alphabet (chars bytes)) =
+    rw c.as_str.ensures.value at c.in_default.ensures.within in
+    let utf8 = IsUtf8-string_bytes c.args.text in
+    let octets = octets_within alphabet g.met.C.OctetSet.past_ascii bytes utf8 characters in
     rw c.into_bytes.ensures.value octets

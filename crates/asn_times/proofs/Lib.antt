@@ -1,0 +1,2 @@
+pub mod ReadDigits
+pub mod ReadDays

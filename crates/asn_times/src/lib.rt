@@ -1,0 +1,11 @@
+//! The time types of ASN.1, which hold civil values in UTC, and the texts that state them:
+//! UTCTime, GeneralizedTime and DATE.
+#![tactic(auto)]
+
+pub mod dates;
+mod digits;
+pub mod faults;
+pub mod laws;
+
+pub use dates::{Date, read_date, write_date};
+pub use faults::TimeFault;

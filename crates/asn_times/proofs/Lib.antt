@@ -1,2 +1,5 @@
 pub mod ReadDigits
 pub mod ReadDays
+pub mod MomentFacts
+pub mod ReadMoments
+pub mod ReadUtc

@@ -11,7 +11,7 @@ use Rattle.jiff_core.proofs.DateLemmas.{civil}
 use Rattle.asn_times.specs.declared.dates.DayFields.{DayFields}
 use Rattle.asn_times.specs.Digits.{two_digits, four_digits}
 use Rattle.asn_times.specs.Reading.{bind, two, four, dash, at_end, day_fields}
-use Rattle.asn_times.specs.Days.{day_digits, DayReads, StatesNoDay, IsInDayYears, IsSmallDay, IsRealDay, HasDay}
+use Rattle.asn_times.specs.Days.{day_digits, DayReads, StatesNoDay, IsInDayYears, IsSmallDay, IsRealDay, HasDay, fields_of_date}
 use Rattle.asn_times.proofs.ReadDigits.{given, none_some, same_some, bind-some, same_number, two-two_digits, two-is, four-four_digits, four-is}
 
 dash-is : (text rest : List ℕ) → dash text ≡ Some rest → text ≡ 45 ∷ rest
@@ -57,12 +57,8 @@ day-is text f e =
     let years = (four-is text y.0.0 y.0.1 y.1).1 ∙ ap (λ l. four_digits y.0.0 ++ l) (dash-is y.0.1 s.0 s.1 ∙ ap (λ l. 45 ∷ l) months) in
     years ∙ ap (λ g. day_digits g.year g.month g.day) end.1
 
-natural : (y : ℤ) → pos 0 ≤ℤ y → pos (unsigned_abs y) ≡ y
+pub natural : (y : ℤ) → pos 0 ≤ℤ y → pos (unsigned_abs y) ≡ y
 natural y h = grind (arith, signed_arith)
-
--- The numbers of a date of the years 0000 to 9999.
-abbrev pub fields_of_date : Date → DayFields
-fields_of_date d = fields (unsigned_abs d.year) d.month d.day
 
 pub has_own_day : (d : Date) → pos 0 ≤ℤ d.year → HasDay (fields_of_date d) d
 has_own_day d h = record { year = sym (natural d.year h); month = refl; day = refl }
@@ -75,7 +71,7 @@ date-read d y =
     day-digits (unsigned_abs d.year) d.month d.day (omega (arith, signed_arith, a, y)) (omega (arith, d.month_in)) (omega (arith, d.day_in, b))
 
 -- The calendar has the day of a date.
-real-date : (d : Date) → pos 0 ≤ℤ d.year → IsRealDay (fields_of_date d)
+pub real-date : (d : Date) → pos 0 ≤ℤ d.year → IsRealDay (fields_of_date d)
 real-date d h =
     let c = civil d in
     let P : ℤ → Type 0 = λ y. IsDate y (pos d.month) (pos d.day) in

@@ -48,3 +48,7 @@ abbrev pub IsUnwrittenDay : ℤ → TimeFault → Type 0
 IsUnwrittenDay n InvalidDate = ⊥
 IsUnwrittenDay n OutOfYears = IsInDayYears n → ⊥
 IsUnwrittenDay n OutOfMemory = Unit {0}
+
+-- The numbers of a date of the years from 0000 on.
+abbrev pub fields_of_date : Date → DayFields
+fields_of_date d = record { year = unsigned_abs d.year; month = d.month; day = d.day }

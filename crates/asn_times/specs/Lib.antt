@@ -1,3 +1,5 @@
 pub mod Digits
 pub mod Reading
 pub mod Days
+pub mod Moments
+pub mod Utc

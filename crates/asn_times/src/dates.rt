@@ -47,9 +47,9 @@ impl Date {
 /// What a text of DATE states.
 #[derive(Clone, Copy)]
 pub struct DayFields {
-    year: u16,
-    month: u8,
-    day: u8,
+    pub(crate) year: u16,
+    pub(crate) month: u8,
+    pub(crate) day: u8,
 }
 
 /// Returns what follows a dash.

@@ -1,13 +1,30 @@
 //! The laws of the texts of times, each the contract of a function that does nothing.
 ghost use Rattle.std.specs.Prelude.{◌≡◌, ℕ, List, ℤ};
 ghost use Rattle.asn_times.specs.Days.{DayReads};
+ghost use Rattle.asn_times.specs.Utc.{UtcReads, UtcWritten};
 
-/// A text states at most one day.
+/// A text of DATE means at most one day.
 pub fn one_day()
     ensures { (text : List ℕ) (n other : ℤ) → DayReads text n → DayReads text other → n ≡ other }
 {}
 
-/// A day has one text.
+/// A day has one text, which is both read and written.
 pub fn one_day_text()
     ensures { (n : ℤ) (text other : List ℕ) → DayReads text n → DayReads other n → text ≡ other }
+{}
+
+/// The written text of a moment of UTCTime means that moment.
+pub fn written_utc_reads()
+    ensures { (n : ℤ) (text : List ℕ) → UtcWritten n text → UtcReads text n }
+{}
+
+/// A text of UTCTime means at most one moment.
+pub fn one_utc_moment()
+    ensures { (text : List ℕ) (n other : ℤ) → UtcReads text n → UtcReads text other → n ≡ other }
+{}
+
+/// A moment of UTCTime has one written text.
+pub fn one_utc_text()
+    ensures { (n : ℤ) (text other : List ℕ)
+        → UtcWritten n text → UtcWritten n other → text ≡ other }
 {}

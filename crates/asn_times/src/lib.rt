@@ -6,6 +6,9 @@ pub mod dates;
 mod digits;
 pub mod faults;
 pub mod laws;
+pub mod moments;
+pub mod utc_times;
 
 pub use dates::{Date, read_date, write_date};
 pub use faults::TimeFault;
+pub use utc_times::{UtcTime, read_utc, write_utc};

@@ -3,3 +3,5 @@ pub mod ReadDays
 pub mod MomentFacts
 pub mod ReadMoments
 pub mod ReadUtc
+pub mod ReadFractions
+pub mod ReadGeneralized

@@ -2,10 +2,12 @@
 use Rattle.std.proofs.Common.{◌≡◌, ℕ, ◌+◌, ◌-◌, ◌*◌, ◌<◌, ◌≤◌, ◌⊎◌, inl, inr, Bool, true, false, cond, ◌&&◌, ◌==◌, nat_lt, List, [], ◌∷◌, ◌++◌, Option, None, Some, refl, sym, ap, subst, ◌∙◌, arith, ℤ, pos, neg_ℤ}
 use Rattle.std.specs.Cmp.{first_so, second_so}
 use Rattle.std.specs.Option.{option_map}
+use Rattle.jiff.specs.Types.{DateTime}
+use Rattle.jiff_core.proofs.CalendarLemmas.{days_in_month_bounds}
 use Rattle.asn_times.specs.declared.moments.MomentFields.{MomentFields}
 use Rattle.asn_times.specs.Digits.{two_digits}
 use Rattle.asn_times.specs.Reading.{bind, two, offset_end, length_of_offset, zulu_end, zone, minute_fields}
-use Rattle.asn_times.specs.Moments.{IsSmallMinute, IsZone, minute_digits, offset_seconds}
+use Rattle.asn_times.specs.Moments.{IsSmallMinute, IsZone, fields_of_moment, minute_digits, offset_seconds}
 use Rattle.asn_times.proofs.ReadDigits.{given, none_some, same_some, bind-some, map-some, below, is_below, same_number, two-two_digits, two-is}
 
 -- `hhmm`.
@@ -139,3 +141,9 @@ minute-is y text f rest e =
       small = (months.0, days.0, hours.0, minutes.0);
       is = all ∙ ap (λ l. minute_digits (minute_of y o.0.0 d.0.0 h.0.0 m.0.0) ++ l) last;
     }
+
+-- The numbers of a moment fit their digits.
+pub small_minute : (utc : DateTime) → IsSmallMinute (fields_of_moment utc)
+small_minute utc =
+    let b = days_in_month_bounds utc.date.year utc.date.month in
+    (omega (arith, utc.date.month_in), omega (arith, utc.date.day_in, b), omega (arith, utc.time.hour_in), omega (arith, utc.time.minute_in))

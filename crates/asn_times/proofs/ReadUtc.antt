@@ -15,7 +15,7 @@ use Rattle.asn_times.specs.Moments.{IsSmallMinute, IsZone, MomentReads, IsMoment
 use Rattle.asn_times.specs.Utc.{IsSeconds, UtcReads, UtcStates, UtcWritten, full_year, utc_digits}
 use Rattle.asn_times.proofs.ReadDigits.{given, bind-some, map-some, two-two_digits, two-is}
 use Rattle.asn_times.proofs.ReadDays.{natural}
-use Rattle.asn_times.proofs.ReadMoments.{minute_of, minute_given, minute-of, minute-is, zone-is, zone-of}
+use Rattle.asn_times.proofs.ReadMoments.{minute_of, minute_given, minute-of, minute-is, zone-is, zone-of, small_minute}
 use Rattle.asn_times.proofs.MomentFacts.{own_moment, one_reading, one_text}
 
 abbrev read : ℕ → List ℕ → ℕ × List ℕ
@@ -104,12 +104,6 @@ short_full y p q = by (nat_lt (y % 100) 50) refl
     by : (s : Bool) → nat_lt (y % 100) 50 ≡ s → full_year (y % 100) ≡ y
     by true t = let v = value true t in let l : y % 100 < 50 = grind (arith, nat_tests) in omega arith
     by false t = let v = value false t in let l : 50 ≤ y % 100 = grind (arith, nat_tests) in omega arith
-
--- The numbers of a moment fit their digits.
-pub small_minute : (utc : DateTime) → IsSmallMinute (fields_of_moment utc)
-small_minute utc =
-    let b = days_in_month_bounds utc.date.year utc.date.month in
-    (omega (arith, utc.date.month_in), omega (arith, utc.date.day_in, b), omega (arith, utc.time.hour_in), omega (arith, utc.time.minute_in))
 
 -- The laws.
 pub utc-written-reads : (n : ℤ) (text : List ℕ) → UtcWritten n text → UtcReads text n

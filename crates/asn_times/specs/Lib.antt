@@ -3,3 +3,4 @@ pub mod Reading
 pub mod Days
 pub mod Moments
 pub mod Utc
+pub mod Generalized

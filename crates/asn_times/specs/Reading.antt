@@ -1,6 +1,6 @@
 -- How the readers go through a text from the left. Contracts of readers of a whole text speak of
 -- the grammar instead, and proofs show that the two agree.
-use Rattle.std.specs.Prelude.{ℕ, zero, suc, ◌+◌, ◌-◌, ◌*◌, ◌/◌, Bool, ◌&&◌, ◌||◌, ◌==◌, nat_lt, List, [], ◌∷◌, Option, None, Some, if◌then◌else◌, ℤ, pos, neg_ℤ}
+use Rattle.std.specs.Prelude.{ℕ, zero, suc, ◌+◌, ◌-◌, ◌*◌, ◌/◌, Bool, true, false, ◌&&◌, ◌||◌, ◌==◌, nat_lt, List, [], ◌∷◌, Option, None, Some, if◌then◌else◌, ℤ, pos, neg_ℤ}
 use Rattle.std.specs.Option.{option_map}
 use Rattle.asn_times.specs.declared.dates.DayFields.{DayFields}
 use Rattle.asn_times.specs.declared.moments.MomentFields.{MomentFields}
@@ -87,3 +87,33 @@ abbrev pub utc_fields : List ℕ → Option MomentFields
 utc_fields text =
     bind (two text) (λ y. bind (minute_fields (full_year y.0) y.1) (λ m.
     let s = seconds_and_rest m.1 in option_map (with_end m.0 s.0 0) (zone s.1)))
+
+-- The nanoseconds of digits, so many at most, and what follows them.
+abbrev pub digits : ℕ → List ℕ → ℕ × List ℕ
+digits zero text = (0, text)
+digits (suc places) [] = (0, [])
+digits (suc places) (b ∷ rest) = elim (is_digit b) [
+  | true ↦ ((b - 48) * 100_000_000 + (digits places rest).0 / 10, (digits places rest).1)
+  | false ↦ (0, b ∷ rest)
+]
+
+-- The nanoseconds of one to nine digits, and what follows them.
+abbrev pub some_digits : List ℕ → Option (ℕ × List ℕ)
+some_digits [] = None
+some_digits (b ∷ rest) = if is_digit b then Some (digits 9 (b ∷ rest)) else None
+
+-- The nanoseconds of a fraction, if it is there, and what follows it.
+abbrev pub fraction : List ℕ → Option (ℕ × List ℕ)
+fraction [] = Some (0, [])
+fraction (b ∷ rest) = if (b == 46) || (b == 44) then some_digits rest else Some (0, b ∷ rest)
+
+-- The seconds of a zone at the end of a text, or 0 where no character is left.
+abbrev pub zone_or_utc : List ℕ → Option ℤ
+zone_or_utc [] = Some (pos 0)
+zone_or_utc (b ∷ rest) = zone (b ∷ rest)
+
+-- The fields of a text of GeneralizedTime.
+abbrev pub generalized_fields : List ℕ → Option MomentFields
+generalized_fields text =
+    bind (four text) (λ y. bind (minute_fields y.0 y.1) (λ m. bind (two m.1) (λ s. bind (fraction s.1) (λ f.
+    option_map (with_end m.0 s.0 f.0) (zone_or_utc f.1)))))

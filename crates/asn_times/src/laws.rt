@@ -1,6 +1,7 @@
 //! The laws of the texts of times, each the contract of a function that does nothing.
 ghost use Rattle.std.specs.Prelude.{◌≡◌, ℕ, List, ℤ};
 ghost use Rattle.asn_times.specs.Days.{DayReads};
+ghost use Rattle.asn_times.specs.Generalized.{GeneralizedReads, GeneralizedWritten};
 ghost use Rattle.asn_times.specs.Utc.{UtcReads, UtcWritten};
 
 /// A text of DATE means at most one day.
@@ -27,4 +28,21 @@ pub fn one_utc_moment()
 pub fn one_utc_text()
     ensures { (n : ℤ) (text other : List ℕ)
         → UtcWritten n text → UtcWritten n other → text ≡ other }
+{}
+
+/// The written text of a moment of GeneralizedTime means that moment.
+pub fn written_generalized_reads()
+    ensures { (n : ℤ) (text : List ℕ) → GeneralizedWritten n text → GeneralizedReads text n }
+{}
+
+/// A text of GeneralizedTime means at most one moment.
+pub fn one_generalized_moment()
+    ensures { (text : List ℕ) (n other : ℤ)
+        → GeneralizedReads text n → GeneralizedReads text other → n ≡ other }
+{}
+
+/// A moment of GeneralizedTime has one written text.
+pub fn one_generalized_text()
+    ensures { (n : ℤ) (text other : List ℕ)
+        → GeneralizedWritten n text → GeneralizedWritten n other → text ≡ other }
 {}

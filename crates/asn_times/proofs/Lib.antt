@@ -5,3 +5,4 @@ pub mod ReadMoments
 pub mod ReadUtc
 pub mod ReadFractions
 pub mod ReadGeneralized
+pub mod Walks

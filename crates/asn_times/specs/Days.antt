@@ -43,11 +43,11 @@ pub record HasDay (f : DayFields) (date : Date) : Type 0 where
   pub month : date.month ≡ f.month
   pub day : date.day ≡ f.day
 
--- Why a day has no text.
+-- Why a day has no text: its year is outside, or there was no memory for the text.
 abbrev pub IsUnwrittenDay : ℤ → TimeFault → Type 0
 IsUnwrittenDay n InvalidDate = ⊥
 IsUnwrittenDay n OutOfYears = IsInDayYears n → ⊥
-IsUnwrittenDay n OutOfMemory = Unit {0}
+IsUnwrittenDay n OutOfMemory = IsInDayYears n
 
 -- The numbers of a date of the years from 0000 on.
 abbrev pub fields_of_date : Date → DayFields

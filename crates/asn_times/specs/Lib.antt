@@ -4,3 +4,4 @@ pub mod Days
 pub mod Moments
 pub mod Utc
 pub mod Generalized
+pub mod Written

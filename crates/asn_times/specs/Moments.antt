@@ -96,8 +96,8 @@ HasNoMoment first last f = (utc : DateTime) → IsMomentOf f utc → IsBetween f
 abbrev pub HasMoment : ℤ → ℤ → MomentFields → DateTime → Type 0
 HasMoment first last f utc = IsMomentOf f utc × IsBetween first last utc.date.year
 
--- Why a moment has no text: only a moment outside the years, or want of memory.
+-- Why a moment has no text: its year is outside, or there was no memory for the text.
 abbrev pub IsUnwritten : ℤ → ℤ → ℤ → TimeFault → Type 0
 IsUnwritten first last n InvalidDate = ⊥
 IsUnwritten first last n OutOfYears = IsInYears first last n → ⊥
-IsUnwritten first last n OutOfMemory = Unit {0}
+IsUnwritten first last n OutOfMemory = IsInYears first last n

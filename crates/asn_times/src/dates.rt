@@ -44,6 +44,29 @@ impl Date {
     }
 }
 
+impl PartialEq for Date {
+    ghost use Rattle.std.specs.Ordering.{int_eq};
+    ghost use Rattle.std.specs.Cmp.Rules.{comparing};
+    ghost use Rattle.std.proofs.Common.{rules};
+
+    ghost eq = { int_eq };
+
+    ghost laws = { Prim.search (comparing, rules) };
+
+    fn eq(&self, other: &Date) -> bool
+        ensures { IsTrue result ↔ (self.now ≡ other.now) }
+    {
+        self.day == other.day
+    }
+}
+
+impl Eq for Date {
+    ghost use Rattle.std.specs.Cmp.Rules.{comparing};
+    ghost use Rattle.std.proofs.Common.{rules};
+
+    ghost laws = { Prim.search (comparing, rules) };
+}
+
 /// What a text of DATE states.
 #[derive(Clone, Copy)]
 pub struct DayFields {

@@ -1,6 +1,6 @@
 //! GeneralizedTime: a moment, read as `YYYYMMDDhhmmss`, a fraction and a zone that may be left out,
 //! and written in UTC with `Z` and without trailing zeros of the fraction.
-ghost use Rattle.std.specs.Prelude.{◌≡◌, ◌<◌, ◌≤◌, ◌++◌, IfSome, IfOk, IfErr, OnOk, pos, neg_ℤ};
+ghost use Rattle.std.specs.Prelude.{◌≡◌, ◌<◌, ◌≤◌, ◌++◌, IfSome, IfOk, IfErr, OnOk, pos, neg_ℤ, IsTrue, ◌↔◌};
 ghost use Rattle.std.specs.Option.{option_map};
 ghost use Rattle.std.specs.String.{string_bytes};
 ghost use Rattle.jiff.specs.Words.{civil_nanos, IsBetween};
@@ -48,6 +48,29 @@ impl GeneralizedTime {
     {
         self.moment
     }
+}
+
+impl PartialEq for GeneralizedTime {
+    ghost use Rattle.std.specs.Ordering.{int_eq};
+    ghost use Rattle.std.specs.Cmp.Rules.{comparing};
+    ghost use Rattle.std.proofs.Common.{rules};
+
+    ghost eq = { int_eq };
+
+    ghost laws = { Prim.search (comparing, rules) };
+
+    fn eq(&self, other: &GeneralizedTime) -> bool
+        ensures { IsTrue result ↔ (self.now ≡ other.now) }
+    {
+        self.moment == other.moment
+    }
+}
+
+impl Eq for GeneralizedTime {
+    ghost use Rattle.std.specs.Cmp.Rules.{comparing};
+    ghost use Rattle.std.proofs.Common.{rules};
+
+    ghost laws = { Prim.search (comparing, rules) };
 }
 
 // The first and the last year of a text.

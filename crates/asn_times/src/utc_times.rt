@@ -1,6 +1,6 @@
 //! UTCTime: a moment of whole seconds, read as `YYMMDDhhmm`, seconds that may be left out and a
 //! zone, and written as `YYMMDDhhmmssZ`.
-ghost use Rattle.std.specs.Prelude.{◌≡◌, ◌≢◌, ◌↔◌, ◌<◌, pos, ◌≤ℤ◌, IfSome, IsNone, IfOk, IfErr};
+ghost use Rattle.std.specs.Prelude.{◌≡◌, ◌≢◌, ◌↔◌, ◌<◌, pos, ◌≤ℤ◌, IfSome, IsNone, IfOk, IfErr, IsTrue};
 ghost use Rattle.std.specs.String.{string_bytes};
 ghost use Rattle.jiff.specs.Words.{civil_seconds, IsBetween};
 ghost use Rattle.asn_times.specs.declared.faults.TimeFault.TheVariants.{InvalidDate, OutOfMemory};
@@ -55,6 +55,29 @@ impl UtcTime {
     {
         self.moment
     }
+}
+
+impl PartialEq for UtcTime {
+    ghost use Rattle.std.specs.Ordering.{int_eq};
+    ghost use Rattle.std.specs.Cmp.Rules.{comparing};
+    ghost use Rattle.std.proofs.Common.{rules};
+
+    ghost eq = { int_eq };
+
+    ghost laws = { Prim.search (comparing, rules) };
+
+    fn eq(&self, other: &UtcTime) -> bool
+        ensures { IsTrue result ↔ (self.now ≡ other.now) }
+    {
+        self.moment == other.moment
+    }
+}
+
+impl Eq for UtcTime {
+    ghost use Rattle.std.specs.Cmp.Rules.{comparing};
+    ghost use Rattle.std.proofs.Common.{rules};
+
+    ghost laws = { Prim.search (comparing, rules) };
 }
 
 // The first and the last year of a text.

@@ -19,3 +19,12 @@ returns-in-Ok-clause-writes c =
       states = c.in-Ok.ensures.text ∙ has-digits c.fields_of.result day c.fields_of.ensures.has;
       number = c.day.view_is;
     }
+
+pub returns-in-Err-clause-refuses : goal.returns-in-Err-clause-refuses
+returns-in-Err-clause-refuses c =
+    let day = c.day.inside.day in
+    record {
+      date = day;
+      years = (omega (arith, signed_arith, c.if-year-lt0.false, c.year.ensures), omega (arith, signed_arith, day.year_in));
+      number = c.day.view_is;
+    }

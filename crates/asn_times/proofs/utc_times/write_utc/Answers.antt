@@ -20,3 +20,10 @@ returns-in-Ok-clause-writes c =
       number = whole_nanos moment c.args.time.now c.time.invariant c.time.view_is;
       is = c.in-Ok.ensures.text ∙ ap utc_digits (moment_fields c.fields_of_moment.result moment made.day made.clock made.offset);
     }
+
+pub returns-in-Err-clause-refuses : goal.returns-in-Err-clause-refuses
+returns-in-Err-clause-refuses c = record {
+  utc = c.time.inside.moment;
+  years = c.if-not-is_within.ensures.0 refl;
+  number = whole_nanos c.time.inside.moment c.args.time.now c.time.invariant c.time.view_is;
+}

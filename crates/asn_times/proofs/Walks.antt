@@ -9,14 +9,16 @@ use Rattle.jiff.proofs.Family.{civil_nanos-parts, epoch_day_injective, time_nano
 use Rattle.jiff_core.specs.Calendar.{days_from_civil, day_count, days_in_year, days_in_month, days_of_months, day_of_year}
 use Rattle.jiff_core.proofs.CalendarLemmas.{day_count-next_year, day_count-day_of_year, day_count-lt_year, days_of_months_more, days_of_months_all, days_of_months-zero, days_in_year_bounds, days_in_month_bounds, days_from_civil-day_count}
 use Rattle.jiff_core.proofs.DateLemmas.{civil}
-use Rattle.asn_times.specs.Days.{DayReads, day_digits, fields_of_date}
-use Rattle.asn_times.specs.Moments.{IsMomentText, fields_of_moment}
-use Rattle.asn_times.specs.Utc.{UtcWritten, utc_digits}
-use Rattle.asn_times.specs.Generalized.{GeneralizedWritten, generalized_digits}
+use Rattle.asn_times.specs.Days.{DayReads, IsInDayYears, day_digits, fields_of_date}
+use Rattle.asn_times.specs.Moments.{IsInYears, IsMomentText, fields_of_moment}
+use Rattle.asn_times.specs.Utc.{IsInUtcYears, UtcReads, UtcWritten, utc_digits}
+use Rattle.asn_times.specs.Generalized.{GeneralizedReads, GeneralizedWritten, IsInGeneralizedYears, generalized_digits}
 use Rattle.asn_times.specs.Written.{first_day, year_of_days, month_of_days, day_after, moment_after, moment_at, day_text, utc_text, generalized_text}
 use Rattle.asn_times.specs.declared.moments.MomentFields.{MomentFields}
 use Rattle.asn_times.proofs.ReadDigits.{below}
 use Rattle.asn_times.proofs.ReadDays.{natural}
+use Rattle.asn_times.proofs.ReadUtc.{utc-written-reads}
+use Rattle.asn_times.proofs.ReadGeneralized.{generalized-written-reads}
 
 above : (a b : ℕ) → nat_lt a b ≡ false → b ≤ a
 above a b t = grind (arith, nat_tests)
@@ -194,3 +196,30 @@ is_utc_text n text w = moment_text utc_digits (pos 1950) (pos 2049) (n *ℤ pos 
 pub is_generalized_text : (n : ℤ) (text : List ℕ) → GeneralizedWritten n text → text ≡ generalized_text n
 unfolding generalized_text
 is_generalized_text n text w = moment_text generalized_digits (pos 0) (pos 9999) n text (omega (arith, signed_arith)) w
+
+years_text : (digits : MomentFields → List ℕ) (first last n : ℤ) → pos 0 ≤ℤ first → IsInYears first last n → IsMomentText digits first last n (digits (moment_at n))
+years_text digits first last n h r =
+    let w : IsMomentText digits first last n (digits (fields_of_moment r.utc)) = record { utc = r.utc; years = r.years; number = r.number; is = refl } in
+    record { utc = r.utc; years = r.years; number = r.number; is = sym (moment_text digits first last n (digits (fields_of_moment r.utc)) h w) }
+
+-- The values of the functions are the texts within their years, and are read as what they were
+-- written for.
+pub day_text-reads : (n : ℤ) → IsInDayYears n → DayReads (day_text n) n
+day_text-reads n r =
+    let text = day_digits (unsigned_abs r.date.year) r.date.month r.date.day in
+    let w : DayReads text n = record { date = r.date; years = r.years; states = refl; number = r.number } in
+    record { date = r.date; years = r.years; states = sym (is_day_text n text w); number = r.number }
+
+pub utc_text-written : (n : ℤ) → IsInUtcYears n → UtcWritten n (utc_text n)
+unfolding utc_text
+utc_text-written n r = years_text utc_digits (pos 1950) (pos 2049) (n *ℤ pos 1_000_000_000) (omega (arith, signed_arith)) r
+
+pub utc_text-reads : (n : ℤ) → IsInUtcYears n → UtcReads (utc_text n) n
+utc_text-reads n r = utc-written-reads n (utc_text n) (utc_text-written n r)
+
+pub generalized_text-written : (n : ℤ) → IsInGeneralizedYears n → GeneralizedWritten n (generalized_text n)
+unfolding generalized_text
+generalized_text-written n r = years_text generalized_digits (pos 0) (pos 9999) n (omega (arith, signed_arith)) r
+
+pub generalized_text-reads : (n : ℤ) → IsInGeneralizedYears n → GeneralizedReads (generalized_text n) n
+generalized_text-reads n r = generalized-written-reads n (generalized_text n) (generalized_text-written n r)

@@ -6,6 +6,7 @@ ghost use Rattle.jiff.specs.Words.{epoch_day};
 ghost use Rattle.asn_times.specs.declared.faults.TimeFault.TheVariants.{InvalidDate, OutOfMemory};
 ghost use Rattle.asn_times.specs.Days.{day_digits, DayReads, StatesNoDay, IsSmallDay, IsRealDay, HasDay, IsUnwrittenDay};
 ghost use Rattle.asn_times.specs.Reading.{dash, day_fields};
+ghost use Rattle.asn_times.specs.Written.{day_text};
 
 use crate::digits::{push_char, push_four, push_two, read_four, read_two};
 use crate::faults::TimeFault;
@@ -158,6 +159,7 @@ pub(crate) fn fields_of(day: civil::Date) -> DayFields
 /// Writes the day as `YYYY-MM-DD`.
 pub fn write_date(alloc: Global, day: &Date) -> Result<String, TimeFault>
     ensures writes { IfOk result (λ text. DayReads (string_bytes text) day.now) }
+    ensures text { IfOk result (λ text. string_bytes text ≡ day_text day.now) }
     ensures refuses { IfErr result (IsUnwrittenDay day.now) }
 {
     if day.day.year() < 0 {

@@ -8,6 +8,7 @@ ghost use Rattle.asn_times.specs.declared.faults.TimeFault.TheVariants.{InvalidD
 ghost use Rattle.asn_times.specs.Generalized.{fraction_digits, fraction_text, generalized_digits, GeneralizedReads, GeneralizedWritten, IsUnwrittenGeneralized, StatesNoGeneralized};
 ghost use Rattle.asn_times.specs.Moments.{IsSmallMoment};
 ghost use Rattle.asn_times.specs.Reading.{digits, fraction, generalized_fields, some_digits, zone_or_utc};
+ghost use Rattle.asn_times.specs.Written.{generalized_text};
 
 use crate::digits::{push_char, push_four, push_two, read_four, read_two};
 use crate::faults::TimeFault;
@@ -216,6 +217,7 @@ fn text_of(alloc: Global, fields: MomentFields) -> Result<String, TimeFault>
 /// Writes the moment in UTC with `Z`, without trailing zeros of the fraction.
 pub fn write_generalized(alloc: Global, time: &GeneralizedTime) -> Result<String, TimeFault>
     ensures writes { IfOk result (λ text. GeneralizedWritten time.now (string_bytes text)) }
+    ensures text { IfOk result (λ text. string_bytes text ≡ generalized_text time.now) }
     ensures refuses { IfErr result (IsUnwrittenGeneralized time.now) }
 {
     if !is_within(time.moment, FIRST, LAST) {

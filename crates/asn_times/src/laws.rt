@@ -1,8 +1,14 @@
 //! The laws of the texts of times, each the contract of a function that does nothing.
 ghost use Rattle.std.specs.Prelude.{◌≡◌, ℕ, List, ℤ};
-ghost use Rattle.asn_times.specs.Days.{DayReads};
-ghost use Rattle.asn_times.specs.Generalized.{GeneralizedReads, GeneralizedWritten};
-ghost use Rattle.asn_times.specs.Utc.{UtcReads, UtcWritten};
+ghost use Rattle.asn_times.specs.Days.{DayReads, IsInDayYears};
+ghost use Rattle.asn_times.specs.Generalized.{GeneralizedReads, GeneralizedWritten, IsInGeneralizedYears};
+ghost use Rattle.asn_times.specs.Utc.{IsInUtcYears, UtcReads, UtcWritten};
+ghost use Rattle.asn_times.specs.Written.{day_text, generalized_text, utc_text};
+
+/// The written text of a day within its years means that day.
+pub fn written_day_reads()
+    ensures { (n : ℤ) → IsInDayYears n → DayReads (day_text n) n }
+{}
 
 /// A text of DATE means at most one day.
 pub fn one_day()
@@ -14,9 +20,10 @@ pub fn one_day_text()
     ensures { (n : ℤ) (text other : List ℕ) → DayReads text n → DayReads other n → text ≡ other }
 {}
 
-/// The written text of a moment of UTCTime means that moment.
+/// A moment of UTCTime within its years has a written text, which means that moment.
 pub fn written_utc_reads()
-    ensures { (n : ℤ) (text : List ℕ) → UtcWritten n text → UtcReads text n }
+    ensures written { (n : ℤ) → IsInUtcYears n → UtcWritten n (utc_text n) }
+    ensures reads { (n : ℤ) → IsInUtcYears n → UtcReads (utc_text n) n }
 {}
 
 /// A text of UTCTime means at most one moment.
@@ -30,9 +37,10 @@ pub fn one_utc_text()
         → UtcWritten n text → UtcWritten n other → text ≡ other }
 {}
 
-/// The written text of a moment of GeneralizedTime means that moment.
+/// A moment of GeneralizedTime within its years has a written text, which means that moment.
 pub fn written_generalized_reads()
-    ensures { (n : ℤ) (text : List ℕ) → GeneralizedWritten n text → GeneralizedReads text n }
+    ensures written { (n : ℤ) → IsInGeneralizedYears n → GeneralizedWritten n (generalized_text n) }
+    ensures reads { (n : ℤ) → IsInGeneralizedYears n → GeneralizedReads (generalized_text n) n }
 {}
 
 /// A text of GeneralizedTime means at most one moment.

@@ -7,6 +7,7 @@ ghost use Rattle.asn_times.specs.declared.faults.TimeFault.TheVariants.{InvalidD
 ghost use Rattle.asn_times.specs.Moments.{IsSmallMoment};
 ghost use Rattle.asn_times.specs.Reading.{seconds_and_rest, utc_fields};
 ghost use Rattle.asn_times.specs.Utc.{full_year, utc_digits, StatesNoUtc, UtcReads, UtcWritten, IsUnwrittenUtc};
+ghost use Rattle.asn_times.specs.Written.{utc_text};
 
 use crate::digits::{push_char, push_two, read_two};
 use crate::faults::TimeFault;
@@ -162,6 +163,7 @@ fn text_of(alloc: Global, fields: MomentFields) -> Result<String, TimeFault>
 /// Writes the moment as `YYMMDDhhmmssZ`.
 pub fn write_utc(alloc: Global, time: &UtcTime) -> Result<String, TimeFault>
     ensures writes { IfOk result (λ text. UtcWritten time.now (string_bytes text)) }
+    ensures text { IfOk result (λ text. string_bytes text ≡ utc_text time.now) }
     ensures refuses { IfErr result (IsUnwrittenUtc time.now) }
 {
     if !is_within(time.moment, FIRST, LAST) {

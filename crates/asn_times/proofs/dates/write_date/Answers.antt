@@ -3,6 +3,7 @@ use Rattle.jiff.specs.Words.{epoch_day}
 use Rattle.jiff.proofs.SpanFacts.{signed_arith}
 use Rattle.asn_times.specs.Days.{IsInDayYears}
 use Rattle.asn_times.proofs.ReadDays.{year_in, has-digits}
+use Rattle.asn_times.proofs.Walks.{is_day_text}
 use Rattle.asn_times.proofs.dates.write_date.Goals as goal
 
 pub returns-then-year-lt0-clause-refuses : goal.returns-then-year-lt0-clause-refuses
@@ -28,3 +29,6 @@ returns-in-Err-clause-refuses c =
       years = (omega (arith, signed_arith, c.if-year-lt0.false, c.year.ensures), omega (arith, signed_arith, day.year_in));
       number = c.day.view_is;
     }
+
+pub returns-in-Ok-clause-text : goal.returns-in-Ok-clause-text
+returns-in-Ok-clause-text c = is_day_text c.args.day.now _ (returns-in-Ok-clause-writes c)

@@ -1,6 +1,7 @@
 use Rattle.std.proofs.Common.{refl, sym, ap, true≢false, ◌∙◌, pos}
 use Rattle.asn_times.specs.Generalized.{generalized_digits}
 use Rattle.asn_times.proofs.MomentFacts.{moment_fields, same_years}
+use Rattle.asn_times.proofs.Walks.{is_generalized_text}
 use Rattle.asn_times.proofs.generalized_times.write_generalized.Goals as goal
 
 pub returns-then-not-is_within-clause-refuses : goal.returns-then-not-is_within-clause-refuses
@@ -20,3 +21,6 @@ returns-in-Ok-clause-writes c =
 
 pub returns-in-Err-clause-refuses : goal.returns-in-Err-clause-refuses
 returns-in-Err-clause-refuses c = record { utc = c.time.inside.moment; years = c.if-not-is_within.ensures.0 refl; number = c.time.view_is }
+
+pub returns-in-Ok-clause-text : goal.returns-in-Ok-clause-text
+returns-in-Ok-clause-text c = is_generalized_text c.args.time.now _ (returns-in-Ok-clause-writes c)

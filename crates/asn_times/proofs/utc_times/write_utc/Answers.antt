@@ -2,6 +2,7 @@ use Rattle.std.proofs.Common.{refl, sym, ap, subst, true≢false, ◌∙◌, pos
 use Rattle.jiff.specs.Words.{civil_nanos}
 use Rattle.asn_times.specs.Utc.{utc_digits}
 use Rattle.asn_times.proofs.MomentFacts.{moment_fields, same_years, whole_nanos}
+use Rattle.asn_times.proofs.Walks.{is_utc_text}
 use Rattle.asn_times.proofs.utc_times.write_utc.Goals as goal
 
 pub returns-then-not-is_within-clause-refuses : goal.returns-then-not-is_within-clause-refuses
@@ -27,3 +28,6 @@ returns-in-Err-clause-refuses c = record {
   years = c.if-not-is_within.ensures.0 refl;
   number = whole_nanos c.time.inside.moment c.args.time.now c.time.invariant c.time.view_is;
 }
+
+pub returns-in-Ok-clause-text : goal.returns-in-Ok-clause-text
+returns-in-Ok-clause-text c = is_utc_text c.args.time.now _ (returns-in-Ok-clause-writes c)

@@ -1,17 +1,15 @@
 -- What holds of moments by any grammar of their texts.
-use Rattle.std.proofs.Common.{◌≡◌, ℕ, ◌+◌, ◌*◌, ◌<◌, ◌≤◌, List, Option, None, Some, refl, sym, ap, subst, ◌∙◌, arith, ℤ, pos, neg_ℤ, ◌+ℤ◌, ◌-ℤ◌, ◌*ℤ◌, ◌≤ℤ◌, ◌<ℤ◌}
+use Rattle.std.proofs.Common.{◌≡◌, ℕ, ◌<◌, List, Option, None, Some, refl, sym, ap, subst, ◌∙◌, arith, ℤ, pos, neg_ℤ, ◌+ℤ◌, ◌-ℤ◌, ◌*ℤ◌, ◌≤ℤ◌}
 use Rattle.std.specs.Prelude.{unsigned_abs}
 use Rattle.jiff.specs.Types.{DateTime, Date, Time}
-use Rattle.jiff.specs.Words.{IsBetween, IsCivilNanos, civil_nanos, civil_seconds, epoch_day, time_nanos}
+use Rattle.jiff.specs.Words.{IsBetween, IsCivilNanos, civil_nanos, civil_seconds, time_nanos}
 use Rattle.jiff.proofs.SpanFacts.{signed_arith}
 use Rattle.jiff.proofs.Family.{civil_nanos-parts, civil_nanos-civil_seconds, civil_nanos_injective, civil_nanos_range, epoch_day_injective, epoch_day_same, time_nanos_injective}
-use Rattle.asn_times.specs.declared.moments.ClockFields.{ClockFields}
 use Rattle.asn_times.specs.declared.moments.MomentFields.{MomentFields}
-use Rattle.asn_times.specs.declared.dates.DayFields.{DayFields}
 use Rattle.asn_times.specs.Days.{HasDay}
-use Rattle.asn_times.specs.Moments.{HasClock, HasNoMoment, HasMoment, IsMomentOf, IsMomentText, IsInYears, MomentReads, fields_of_moment}
+use Rattle.asn_times.specs.Moments.{HasClock, HasNoMoment, IsMomentOf, IsMomentText, MomentReads, fields_of_moment}
 use Rattle.asn_times.proofs.ReadDigits.{none_some, same_some}
-use Rattle.asn_times.proofs.ReadDays.{has_own_day, natural}
+use Rattle.asn_times.proofs.ReadDays.{has_own_day}
 
 -- Two local times with the numbers of the same fields are one.
 same_local : (f : MomentFields) (a b : DateTime) → HasDay f.day a.date → HasClock f.clock a.time → HasDay f.day b.date → HasClock f.clock b.time → civil_nanos a ≡ civil_nanos b

@@ -1,18 +1,17 @@
 -- Reading `YYYY-MM-DD` gives exactly what the grammar says.
-use Rattle.std.proofs.Common.{◌≡◌, ℕ, ◌+◌, ◌-◌, ◌*◌, ◌/◌, ◌%◌, ◌<◌, ◌≤◌, Bool, true, false, cond, ◌==◌, List, [], ◌∷◌, ◌++◌, Option, None, Some, refl, sym, ap, subst, ◌∙◌, arith, ℤ, pos, ◌≤ℤ◌}
+use Rattle.std.proofs.Common.{◌≡◌, ℕ, ◌<◌, true, false, cond, ◌==◌, List, [], ◌∷◌, ◌++◌, Option, None, Some, refl, sym, ap, subst, ◌∙◌, arith, ℤ, pos, ◌≤ℤ◌}
 use Rattle.std.specs.Prelude.{unsigned_abs}
 use Rattle.jiff.specs.Types.{Date}
 use Rattle.jiff.specs.Words.{IsDate, IsBetween, epoch_day}
 use Rattle.jiff.proofs.SpanFacts.{signed_arith}
 use Rattle.jiff.proofs.Family.{epoch_day_injective, epoch_day_same}
-use Rattle.jiff_core.specs.Calendar.{IsCivilDate}
 use Rattle.jiff_core.proofs.CalendarLemmas.{days_in_month_bounds}
 use Rattle.jiff_core.proofs.DateLemmas.{civil}
 use Rattle.asn_times.specs.declared.dates.DayFields.{DayFields}
 use Rattle.asn_times.specs.Digits.{two_digits, four_digits}
 use Rattle.asn_times.specs.Reading.{bind, two, four, dash, at_end, day_fields}
 use Rattle.asn_times.specs.Days.{day_digits, DayReads, StatesNoDay, IsInDayYears, IsSmallDay, IsRealDay, HasDay, fields_of_date}
-use Rattle.asn_times.proofs.ReadDigits.{given, none_some, same_some, bind-some, same_number, two-two_digits, two-is, four-four_digits, four-is}
+use Rattle.asn_times.proofs.ReadDigits.{none_some, same_some, bind-some, same_number, two-two_digits, two-is, four-four_digits, four-is}
 
 dash-is : (text rest : List ℕ) → dash text ≡ Some rest → text ≡ 45 ∷ rest
 dash-is [] rest e = absurd (none_some rest e)

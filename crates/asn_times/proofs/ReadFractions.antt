@@ -1,9 +1,8 @@
 -- Reading a fraction gives exactly what the grammar says, and a written one is read back.
-use Rattle.std.proofs.Common.{◌≡◌, ℕ, zero, suc, ◌+◌, ◌-◌, ◌*◌, ◌/◌, ◌%◌, ◌<◌, ◌≤◌, ◌⊎◌, inl, inr, Bool, true, false, cond, ◌&&◌, ◌||◌, ◌==◌, nat_lt, List, [], ◌∷◌, ◌++◌, length, Option, None, Some, refl, sym, ap, subst, ◌∙◌, true≢false, arith, ℤ, pos}
+use Rattle.std.proofs.Common.{◌≡◌, ℕ, zero, suc, ◌+◌, ◌-◌, ◌*◌, ◌/◌, ◌%◌, ◌<◌, ◌≤◌, ◌⊎◌, inl, inr, Bool, true, false, cond, ◌||◌, ◌==◌, List, [], ◌∷◌, ◌++◌, length, None, Some, refl, sym, ap, subst, ◌∙◌, arith, ℤ}
 use Rattle.std.proofs.lemmas.Bool.Decides.{nat_tests}
-use Rattle.asn_times.specs.Reading.{is_digit, digits, some_digits, fraction, zone_or_utc}
-use Rattle.asn_times.specs.Moments.{IsZone}
-use Rattle.asn_times.specs.Generalized.{AreDigits, IsDecimal, IsFraction, IsZoneOrUtc, fraction_digits, fraction_text, fraction_value}
+use Rattle.asn_times.specs.Reading.{is_digit, digits, some_digits, fraction}
+use Rattle.asn_times.specs.Generalized.{AreDigits, IsFraction, IsZoneOrUtc, fraction_digits, fraction_text, fraction_value}
 use Rattle.asn_times.proofs.ReadDigits.{given, none_some, some_pair, digit_range, same_number}
 
 abbrev pub read : ℕ → List ℕ → ℕ × List ℕ

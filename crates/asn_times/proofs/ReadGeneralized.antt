@@ -1,13 +1,12 @@
 -- Reading a text of GeneralizedTime gives exactly what its grammar says.
-use Rattle.std.proofs.Common.{◌≡◌, ℕ, ◌+◌, ◌*◌, ◌<◌, ◌≤◌, ◌⊎◌, inl, inr, List, [], ◌∷◌, ◌++◌, Option, None, Some, refl, sym, ap, subst, ◌∙◌, arith, ℤ, pos, ◌≤ℤ◌}
-use Rattle.std.specs.Prelude.{unsigned_abs}
+use Rattle.std.proofs.Common.{◌≡◌, ℕ, inl, inr, List, [], ◌∷◌, ◌++◌, Option, Some, refl, sym, ap, subst, ◌∙◌, arith, ℤ, pos}
 use Rattle.std.specs.Option.{option_map}
 use Rattle.jiff.proofs.SpanFacts.{signed_arith}
 use Rattle.asn_times.specs.declared.moments.MomentFields.{MomentFields}
 use Rattle.asn_times.specs.Digits.{two_digits, four_digits}
-use Rattle.asn_times.specs.Reading.{bind, two, four, zone, zone_or_utc, minute_fields, fraction, generalized_fields, with_end}
-use Rattle.asn_times.specs.Moments.{IsZone, MomentReads, IsMomentText, fields_of_moment, minute_digits}
-use Rattle.asn_times.specs.Generalized.{IsFraction, IsZoneOrUtc, GeneralizedReads, GeneralizedStates, GeneralizedWritten, fraction_text, generalized_digits}
+use Rattle.asn_times.specs.Reading.{bind, two, four, zone_or_utc, minute_fields, fraction, generalized_fields, with_end}
+use Rattle.asn_times.specs.Moments.{fields_of_moment, minute_digits}
+use Rattle.asn_times.specs.Generalized.{IsZoneOrUtc, GeneralizedReads, GeneralizedStates, GeneralizedWritten, fraction_text, generalized_digits}
 use Rattle.asn_times.proofs.ReadDigits.{none_some, same_some, bind-some, map-some, two-two_digits, two-is, four-four_digits, four-is}
 use Rattle.asn_times.proofs.ReadDays.{natural}
 use Rattle.asn_times.proofs.ReadMoments.{minute_of, minute-of, minute-is, zone-is, zone-of, small_minute}

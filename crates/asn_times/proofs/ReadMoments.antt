@@ -1,5 +1,5 @@
 -- Reading `MMDDhhmm` and the zone gives exactly what the grammar says.
-use Rattle.std.proofs.Common.{◌≡◌, ℕ, ◌+◌, ◌-◌, ◌*◌, ◌<◌, ◌≤◌, ◌⊎◌, inl, inr, Bool, true, false, cond, ◌&&◌, ◌==◌, nat_lt, List, [], ◌∷◌, ◌++◌, Option, None, Some, refl, sym, ap, subst, ◌∙◌, arith, ℤ, pos, neg_ℤ}
+use Rattle.std.proofs.Common.{◌≡◌, ℕ, ◌+◌, ◌*◌, ◌<◌, inl, inr, true, false, cond, ◌&&◌, ◌==◌, nat_lt, List, [], ◌∷◌, ◌++◌, Option, None, Some, refl, sym, ap, ◌∙◌, arith, ℤ, pos, neg_ℤ}
 use Rattle.std.specs.Cmp.{first_so, second_so}
 use Rattle.std.specs.Option.{option_map}
 use Rattle.jiff.specs.Types.{DateTime}
@@ -7,8 +7,8 @@ use Rattle.jiff_core.proofs.CalendarLemmas.{days_in_month_bounds}
 use Rattle.asn_times.specs.declared.moments.MomentFields.{MomentFields}
 use Rattle.asn_times.specs.Digits.{two_digits}
 use Rattle.asn_times.specs.Reading.{bind, two, offset_end, length_of_offset, zulu_end, zone, minute_fields}
-use Rattle.asn_times.specs.Moments.{IsSmallMinute, IsZone, fields_of_moment, minute_digits, offset_seconds}
-use Rattle.asn_times.proofs.ReadDigits.{given, none_some, same_some, bind-some, map-some, below, is_below, same_number, two-two_digits, two-is}
+use Rattle.asn_times.specs.Moments.{IsSmallMinute, IsZone, fields_of_moment, minute_digits}
+use Rattle.asn_times.proofs.ReadDigits.{none_some, same_some, bind-some, map-some, below, is_below, same_number, two-two_digits, two-is}
 
 -- `hhmm`.
 abbrev IsOffset : List ℕ → ℕ → Type 0

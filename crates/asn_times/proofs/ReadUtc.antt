@@ -1,21 +1,18 @@
 -- Reading a text of UTCTime gives exactly what its grammar says.
-use Rattle.std.proofs.Common.{◌≡◌, ℕ, ◌+◌, ◌-◌, ◌*◌, ◌/◌, ◌%◌, ◌<◌, ◌≤◌, ◌⊎◌, inl, inr, Bool, true, false, cond, nat_lt, List, [], ◌∷◌, ◌++◌, Option, None, Some, refl, sym, ap, subst, ◌∙◌, arith, ℤ, pos, neg_ℤ, ◌≤ℤ◌, ◌*ℤ◌}
+use Rattle.std.proofs.Common.{◌≡◌, ℕ, ◌+◌, ◌%◌, ◌<◌, ◌≤◌, inl, inr, Bool, true, false, cond, nat_lt, List, [], ◌∷◌, ◌++◌, Option, None, Some, refl, sym, ap, subst, ◌∙◌, arith, ℤ, pos, ◌*ℤ◌}
 use Rattle.std.specs.Prelude.{unsigned_abs}
 use Rattle.std.specs.Option.{option_map}
 use Rattle.std.proofs.lemmas.Bool.Decides.{nat_tests}
-use Rattle.jiff.specs.Types.{DateTime}
-use Rattle.jiff.specs.Words.{IsBetween}
 use Rattle.jiff.proofs.SpanFacts.{signed_arith}
 use Rattle.jiff.proofs.Family.{civil_nanos-civil_seconds}
-use Rattle.jiff_core.proofs.CalendarLemmas.{days_in_month_bounds}
 use Rattle.asn_times.specs.declared.moments.MomentFields.{MomentFields}
 use Rattle.asn_times.specs.Digits.{two_digits}
 use Rattle.asn_times.specs.Reading.{bind, two, zone, minute_fields, seconds_and_rest, utc_fields, with_end}
-use Rattle.asn_times.specs.Moments.{IsSmallMinute, IsZone, MomentReads, IsMomentText, fields_of_moment, minute_digits}
+use Rattle.asn_times.specs.Moments.{IsZone, fields_of_moment, minute_digits}
 use Rattle.asn_times.specs.Utc.{IsSeconds, UtcReads, UtcStates, UtcWritten, full_year, utc_digits}
-use Rattle.asn_times.proofs.ReadDigits.{given, bind-some, map-some, two-two_digits, two-is}
+use Rattle.asn_times.proofs.ReadDigits.{bind-some, map-some, two-two_digits, two-is}
 use Rattle.asn_times.proofs.ReadDays.{natural}
-use Rattle.asn_times.proofs.ReadMoments.{minute_of, minute_given, minute-of, minute-is, zone-is, zone-of, small_minute}
+use Rattle.asn_times.proofs.ReadMoments.{minute_of, minute-of, minute-is, zone-is, zone-of, small_minute}
 use Rattle.asn_times.proofs.MomentFacts.{own_moment, one_reading, one_text}
 
 abbrev read : ℕ → List ℕ → ℕ × List ℕ

@@ -1,9 +1,9 @@
 -- The walk over the calendar comes to the day.
-use Rattle.std.proofs.Common.{◌≡◌, ℕ, zero, suc, ◌+◌, ◌-◌, ◌*◌, ◌/◌, ◌%◌, ◌<◌, ◌≤◌, ◌⊎◌, inl, inr, Bool, true, false, nat_lt, List, refl, sym, ap, subst, ◌∙◌, arith, ℤ, pos, neg_ℤ, ◌+ℤ◌, ◌-ℤ◌, ◌*ℤ◌, ◌≤ℤ◌, ◌<ℤ◌}
+use Rattle.std.proofs.Common.{◌≡◌, ℕ, zero, suc, ◌+◌, ◌-◌, ◌*◌, ◌/◌, ◌%◌, ◌<◌, ◌≤◌, ◌⊎◌, inl, inr, Bool, true, false, nat_lt, List, refl, sym, ap, ◌∙◌, arith, ℤ, pos, ◌-ℤ◌, ◌*ℤ◌, ◌≤ℤ◌, ◌<ℤ◌}
 use Rattle.std.specs.Prelude.{unsigned_abs}
 use Rattle.std.proofs.lemmas.Bool.Decides.{nat_tests}
 use Rattle.jiff.specs.Types.{Date, DateTime}
-use Rattle.jiff.specs.Words.{IsBetween, civil_nanos, epoch_day, time_nanos}
+use Rattle.jiff.specs.Words.{civil_nanos, epoch_day, time_nanos}
 use Rattle.jiff.proofs.SpanFacts.{signed_arith}
 use Rattle.jiff.proofs.Family.{civil_nanos-parts, epoch_day_injective, time_nanos_bound}
 use Rattle.jiff_core.specs.Calendar.{days_from_civil, day_count, days_in_year, days_in_month, days_of_months, day_of_year}
@@ -13,7 +13,7 @@ use Rattle.asn_times.specs.Days.{DayReads, IsInDayYears, day_digits, fields_of_d
 use Rattle.asn_times.specs.Moments.{IsInYears, IsMomentText, fields_of_moment}
 use Rattle.asn_times.specs.Utc.{IsInUtcYears, UtcReads, UtcWritten, utc_digits}
 use Rattle.asn_times.specs.Generalized.{GeneralizedReads, GeneralizedWritten, IsInGeneralizedYears, generalized_digits}
-use Rattle.asn_times.specs.Written.{first_day, year_of_days, month_of_days, day_after, moment_after, moment_at, day_text, utc_text, generalized_text}
+use Rattle.asn_times.specs.Written.{first_day, year_of_days, month_of_days, day_after, moment_at, day_text, utc_text, generalized_text}
 use Rattle.asn_times.specs.declared.moments.MomentFields.{MomentFields}
 use Rattle.asn_times.proofs.ReadDigits.{below}
 use Rattle.asn_times.proofs.ReadDays.{natural}

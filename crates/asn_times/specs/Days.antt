@@ -1,5 +1,5 @@
 -- DATE: `YYYY-MM-DD` in the years 0000 to 9999.
-use Rattle.std.specs.Prelude.{◌≡◌, ℕ, ◌<◌, List, ◌∷◌, ◌++◌, ℤ, pos, ◌≤ℤ◌, unsigned_abs}
+use Rattle.std.specs.Prelude.{◌≡◌, ℕ, ◌<◌, List, ◌∷◌, ◌++◌, ℤ, pos, unsigned_abs}
 use Rattle.jiff.specs.Types.{Date}
 use Rattle.jiff.specs.Words.{IsBetween, IsDate, epoch_day}
 use Rattle.asn_times.specs.Digits.{two_digits, four_digits}

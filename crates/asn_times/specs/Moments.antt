@@ -1,5 +1,5 @@
 -- What the texts of moments share: their numbers, the zone, and the moment in UTC that they mean.
-use Rattle.std.specs.Prelude.{◌≡◌, ℕ, ◌+◌, ◌*◌, ◌<◌, ◌⊎◌, List, [], ◌∷◌, ◌++◌, ℤ, pos, neg_ℤ, ◌-ℤ◌, ◌*ℤ◌, ◌≤ℤ◌}
+use Rattle.std.specs.Prelude.{◌≡◌, ℕ, ◌+◌, ◌*◌, ◌<◌, ◌⊎◌, List, [], ◌∷◌, ◌++◌, ℤ, pos, neg_ℤ, ◌-ℤ◌, ◌*ℤ◌}
 use Rattle.jiff.specs.Types.{DateTime, Time}
 use Rattle.jiff.specs.Words.{IsBetween, civil_nanos}
 use Rattle.asn_times.specs.Days.{HasDay, IsSmallDay, fields_of_date}

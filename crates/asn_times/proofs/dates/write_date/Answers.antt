@@ -1,5 +1,4 @@
-use Rattle.std.proofs.Common.{◌≡◌, ◌∙◌, sym, subst, arith, pos, ◌≤ℤ◌, string_bytes}
-use Rattle.jiff.specs.Words.{epoch_day}
+use Rattle.std.proofs.Common.{◌∙◌, sym, subst, arith}
 use Rattle.jiff.proofs.SpanFacts.{signed_arith}
 use Rattle.asn_times.specs.Days.{IsInDayYears}
 use Rattle.asn_times.proofs.ReadDays.{year_in, has-digits}

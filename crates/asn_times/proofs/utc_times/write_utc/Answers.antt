@@ -1,5 +1,4 @@
-use Rattle.std.proofs.Common.{refl, sym, ap, subst, true≢false, ◌∙◌, pos, ◌*ℤ◌, ◌≡◌, ℤ}
-use Rattle.jiff.specs.Words.{civil_nanos}
+use Rattle.std.proofs.Common.{refl, sym, ap, true≢false, ◌∙◌, pos}
 use Rattle.asn_times.specs.Utc.{utc_digits}
 use Rattle.asn_times.proofs.MomentFacts.{moment_fields, same_years, whole_nanos}
 use Rattle.asn_times.proofs.Walks.{is_utc_text}

@@ -1,0 +1,5 @@
+use Rattle.asn_times.proofs.ReadGeneralized.{generalized_one_reading}
+use Rattle.asn_times.proofs.laws.one_generalized_moment.Goals as goal
+
+pub returns : goal.returns
+returns c = generalized_one_reading

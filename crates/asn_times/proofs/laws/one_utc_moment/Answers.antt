@@ -1,0 +1,5 @@
+use Rattle.asn_times.proofs.ReadUtc.{utc_one_reading}
+use Rattle.asn_times.proofs.laws.one_utc_moment.Goals as goal
+
+pub returns : goal.returns
+returns c = utc_one_reading

@@ -1,0 +1,56 @@
+//! The laws of the texts of times, each the contract of a function that does nothing.
+ghost use Rattle.std.specs.Prelude.{◌≡◌, ℕ, List, ℤ};
+ghost use Rattle.asn_times.specs.Days.{DayReads, IsInDayYears};
+ghost use Rattle.asn_times.specs.Generalized.{GeneralizedReads, GeneralizedWritten, IsInGeneralizedYears};
+ghost use Rattle.asn_times.specs.Utc.{IsInUtcYears, UtcReads, UtcWritten};
+ghost use Rattle.asn_times.specs.Written.{day_text, generalized_text, utc_text};
+
+/// The written text of a day within its years means that day.
+pub fn written_day_reads()
+    ensures { (n : ℤ) → IsInDayYears n → DayReads (day_text n) n }
+{}
+
+/// A text of DATE means at most one day.
+pub fn one_day()
+    ensures { (text : List ℕ) (n other : ℤ) → DayReads text n → DayReads text other → n ≡ other }
+{}
+
+/// A day has one text, which is both read and written.
+pub fn one_day_text()
+    ensures { (n : ℤ) (text other : List ℕ) → DayReads text n → DayReads other n → text ≡ other }
+{}
+
+/// A moment of UTCTime within its years has a written text, which means that moment.
+pub fn written_utc_reads()
+    ensures written { (n : ℤ) → IsInUtcYears n → UtcWritten n (utc_text n) }
+    ensures reads { (n : ℤ) → IsInUtcYears n → UtcReads (utc_text n) n }
+{}
+
+/// A text of UTCTime means at most one moment.
+pub fn one_utc_moment()
+    ensures { (text : List ℕ) (n other : ℤ) → UtcReads text n → UtcReads text other → n ≡ other }
+{}
+
+/// A moment of UTCTime has one written text.
+pub fn one_utc_text()
+    ensures { (n : ℤ) (text other : List ℕ)
+        → UtcWritten n text → UtcWritten n other → text ≡ other }
+{}
+
+/// A moment of GeneralizedTime within its years has a written text, which means that moment.
+pub fn written_generalized_reads()
+    ensures written { (n : ℤ) → IsInGeneralizedYears n → GeneralizedWritten n (generalized_text n) }
+    ensures reads { (n : ℤ) → IsInGeneralizedYears n → GeneralizedReads (generalized_text n) n }
+{}
+
+/// A text of GeneralizedTime means at most one moment.
+pub fn one_generalized_moment()
+    ensures { (text : List ℕ) (n other : ℤ)
+        → GeneralizedReads text n → GeneralizedReads text other → n ≡ other }
+{}
+
+/// A moment of GeneralizedTime has one written text.
+pub fn one_generalized_text()
+    ensures { (n : ℤ) (text other : List ℕ)
+        → GeneralizedWritten n text → GeneralizedWritten n other → text ≡ other }
+{}

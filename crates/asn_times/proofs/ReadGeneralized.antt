@@ -4,12 +4,12 @@ use Rattle.std.specs.Option.{option_map}
 use Rattle.jiff.proofs.SpanFacts.{signed_arith}
 use Rattle.asn_times.specs.declared.moments.MomentFields.{MomentFields}
 use Rattle.asn_times.specs.Digits.{two_digits, four_digits}
-use Rattle.asn_times.specs.Reading.{bind, two, four, zone_or_utc, minute_fields, fraction, generalized_fields, with_end}
+use Rattle.asn_times.specs.Reading.{bind, two, four, zone_or_utc, minute_fields, minute_of, fraction, generalized_fields, with_end}
 use Rattle.asn_times.specs.Moments.{fields_of_moment, minute_digits}
 use Rattle.asn_times.specs.Generalized.{IsZoneOrUtc, GeneralizedReads, GeneralizedStates, GeneralizedWritten, fraction_text, generalized_digits}
 use Rattle.asn_times.proofs.ReadDigits.{none_some, same_some, bind-some, map-some, two-two_digits, two-is, four-four_digits, four-is}
 use Rattle.asn_times.proofs.ReadDays.{natural}
-use Rattle.asn_times.proofs.ReadMoments.{minute_of, minute-of, minute-is, zone-is, zone-of, small_minute}
+use Rattle.asn_times.proofs.ReadMoments.{minute-of, minute-is, zone-is, zone-of, small_minute}
 use Rattle.asn_times.proofs.ReadFractions.{fraction-of, fraction-is, written_fraction}
 use Rattle.asn_times.proofs.MomentFacts.{own_moment, one_reading, one_text}
 

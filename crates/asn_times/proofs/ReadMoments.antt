@@ -6,7 +6,7 @@ use Rattle.jiff.specs.Types.{DateTime}
 use Rattle.jiff_core.proofs.CalendarLemmas.{days_in_month_bounds}
 use Rattle.asn_times.specs.declared.moments.MomentFields.{MomentFields}
 use Rattle.asn_times.specs.Digits.{two_digits}
-use Rattle.asn_times.specs.Reading.{bind, two, offset_end, length_of_offset, zulu_end, zone, minute_fields}
+use Rattle.asn_times.specs.Reading.{bind, two, offset_end, length_of_offset, zulu_end, zone, minute_fields, minute_of}
 use Rattle.asn_times.specs.Moments.{IsSmallMinute, IsZone, fields_of_moment, minute_digits}
 use Rattle.asn_times.proofs.ReadDigits.{none_some, same_some, bind-some, map-some, below, is_below, same_number, two-two_digits, two-is}
 
@@ -75,14 +75,6 @@ pub zone-of : (text : List ℕ) (z : ℤ) → IsZone text z → zone text ≡ So
 zone-of text z (inl p) = ap zone p.0 ∙ ap (λ n. Some n) (sym p.1)
 zone-of text z (inr (h, m, p, q, inl w)) = ap zone w.0 ∙ ap (option_map pos) (length-of h m p q) ∙ ap (λ n. Some n) (sym w.1)
 zone-of text z (inr (h, m, p, q, inr w)) = ap zone w.0 ∙ ap (option_map (λ n. neg_ℤ (pos n))) (length-of h m p q) ∙ ap (λ n. Some n) (sym w.1)
-
--- The fields of a year and of `MMDDhhmm`.
-abbrev pub minute_of : ℕ → ℕ → ℕ → ℕ → ℕ → MomentFields
-minute_of y o d h m = record {
-  day = record { year = y; month = o; day = d };
-  clock = record { hour = h; minute = m; second = 0; nanosecond = 0 };
-  offset = pos 0;
-}
 
 abbrev pub minute_given : MomentFields → List ℕ → Option (MomentFields × List ℕ)
 minute_given f rest = Some (f, rest)

@@ -7,12 +7,12 @@ use Rattle.jiff.proofs.SpanFacts.{signed_arith}
 use Rattle.jiff.proofs.Family.{civil_nanos-civil_seconds}
 use Rattle.asn_times.specs.declared.moments.MomentFields.{MomentFields}
 use Rattle.asn_times.specs.Digits.{two_digits}
-use Rattle.asn_times.specs.Reading.{bind, two, zone, minute_fields, seconds_and_rest, utc_fields, with_end}
+use Rattle.asn_times.specs.Reading.{bind, two, zone, minute_fields, minute_of, seconds_and_rest, utc_fields, with_end}
 use Rattle.asn_times.specs.Moments.{IsZone, fields_of_moment, minute_digits}
 use Rattle.asn_times.specs.Utc.{IsSeconds, UtcReads, UtcStates, UtcWritten, full_year, utc_digits}
 use Rattle.asn_times.proofs.ReadDigits.{bind-some, map-some, two-two_digits, two-is}
 use Rattle.asn_times.proofs.ReadDays.{natural}
-use Rattle.asn_times.proofs.ReadMoments.{minute_of, minute-of, minute-is, zone-is, zone-of, small_minute}
+use Rattle.asn_times.proofs.ReadMoments.{minute-of, minute-is, zone-is, zone-of, small_minute}
 use Rattle.asn_times.proofs.MomentFacts.{own_moment, one_reading, one_text}
 
 abbrev read : ℕ → List ℕ → ℕ × List ℕ

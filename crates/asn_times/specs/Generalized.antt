@@ -1,5 +1,4 @@
--- GeneralizedTime: `YYYYMMDDhhmmss`, a fraction that may be left out, and a zone that may be left
--- out, in the years 0000 to 9999.
+-- GeneralizedTime: `YYYYMMDDhhmmss` with a fraction and a zone, either of which may be left out.
 use Rattle.std.specs.Prelude.{◌≡◌, ℕ, zero, suc, ◌+◌, ◌-◌, ◌*◌, ◌/◌, ◌%◌, ◌<◌, ◌≤◌, ◌==◌, ◌⊎◌, List, [], ◌∷◌, ◌++◌, length, true, false, ℤ, pos}
 use Rattle.asn_times.specs.Digits.{two_digits, four_digits}
 use Rattle.asn_times.specs.Moments.{minute_digits, IsSmallMinute, IsZone, MomentReads, IsMomentText, IsInYears, IsUnwritten}
@@ -36,11 +35,15 @@ IsFraction text nanosecond = ((text ≡ []) × (nanosecond ≡ 0)) ⊎ IsDecimal
 abbrev pub IsZoneOrUtc : List ℕ → ℤ → Type 0
 IsZoneOrUtc text z = ((text ≡ []) × (z ≡ pos 0)) ⊎ IsZone text z
 
+-- `YYYYMMDDhhmmss`.
+abbrev pub second_digits : MomentFields → List ℕ
+second_digits f = four_digits f.day.year ++ minute_digits f ++ two_digits f.clock.second
+
 -- The text has the form of GeneralizedTime, with these numbers.
 pub record GeneralizedStates (text : List ℕ) (f : MomentFields) : Type 0 where
   pub fraction : List ℕ
   pub zone : List ℕ
-  pub is : text ≡ four_digits f.day.year ++ minute_digits f ++ two_digits f.clock.second ++ (fraction ++ zone)
+  pub is : text ≡ second_digits f ++ (fraction ++ zone)
   pub is_year : f.day.year < 10_000
   pub small : IsSmallMinute f
   pub is_second : f.clock.second < 100
@@ -63,7 +66,10 @@ IsInGeneralizedYears n = IsInYears (pos 0) (pos 9999) n
 abbrev pub fraction_digits : ℕ → ℕ → List ℕ
 fraction_digits zero n = []
 fraction_digits (suc places) n =
-    elim (n == 0) [ true ↦ [] | false ↦ (48 + n / 100_000_000) ∷ fraction_digits places (n % 100_000_000 * 10) ]
+    elim (n == 0) [
+      | true ↦ []
+      | false ↦ (48 + n / 100_000_000) ∷ fraction_digits places (n % 100_000_000 * 10)
+    ]
 
 -- The fraction with its mark, or nothing where it is 0.
 abbrev pub fraction_text : ℕ → List ℕ
@@ -72,7 +78,7 @@ fraction_text n = elim (n == 0) [ true ↦ [] | false ↦ 46 ∷ fraction_digits
 -- `YYYYMMDDhhmmss`, the fraction without trailing zeros, if there is one, and `Z`.
 abbrev pub generalized_digits : MomentFields → List ℕ
 generalized_digits f =
-    four_digits f.day.year ++ minute_digits f ++ two_digits f.clock.second ++ (fraction_text f.clock.nanosecond ++ 90 ∷ [])
+    second_digits f ++ (fraction_text f.clock.nanosecond ++ 90 ∷ [])
 
 -- The text is the written form of the moment n.
 abbrev pub GeneralizedWritten : ℤ → List ℕ → Type 0

@@ -12,11 +12,14 @@ use Rattle.asn_times.specs.declared.moments.MomentFields.{MomentFields}
 -- `MMDDhhmm`.
 abbrev pub minute_digits : MomentFields → List ℕ
 minute_digits f =
-    two_digits f.day.month ++ two_digits f.day.day ++ two_digits f.clock.hour ++ two_digits f.clock.minute
+    two_digits f.day.month ++ two_digits f.day.day
+    ++ two_digits f.clock.hour ++ two_digits f.clock.minute
 
 -- The numbers of `MMDDhhmm` fit their digits.
 abbrev pub IsSmallMinute : MomentFields → Type 0
-IsSmallMinute f = (f.day.month < 100) × (f.day.day < 100) × (f.clock.hour < 100) × (f.clock.minute < 100)
+IsSmallMinute f =
+    (f.day.month < 100) × (f.day.day < 100)
+    × (f.clock.hour < 100) × (f.clock.minute < 100)
 
 -- The seconds of h hours and m minutes.
 abbrev pub offset_seconds : ℕ → ℕ → ℤ
@@ -47,7 +50,8 @@ pub record IsMomentOf (f : MomentFields) (utc : DateTime) : Type 0 where
 
 -- The text states the moment n, in nanoseconds since 1970-01-01T00:00:00 in UTC, by a grammar that
 -- tells which fields a text has, and the moment's year in UTC lies from first to last.
-pub record MomentReads (States : List ℕ → MomentFields → Type 0) (first last : ℤ) (text : List ℕ) (n : ℤ) : Type 0 where
+pub record MomentReads (States : List ℕ → MomentFields → Type 0) (first last : ℤ)
+    (text : List ℕ) (n : ℤ) : Type 0 where
   pub fields : MomentFields
   pub states : States text fields
   pub utc : DateTime
@@ -65,24 +69,34 @@ pub record IsInYears (first last : ℤ) (n : ℤ) : Type 0 where
 abbrev pub fields_of_moment : DateTime → MomentFields
 fields_of_moment utc = record {
   day = fields_of_date utc.date;
-  clock = record { hour = utc.time.hour; minute = utc.time.minute; second = utc.time.second; nanosecond = utc.time.subsec_nanosecond };
+  clock = record {
+    hour = utc.time.hour;
+    minute = utc.time.minute;
+    second = utc.time.second;
+    nanosecond = utc.time.subsec_nanosecond;
+  };
   offset = pos 0;
 }
 
 -- The text is the written form of the moment n, by a function from the numbers of the moment in
 -- UTC, and its year lies from first to last.
-pub record IsMomentText (digits : MomentFields → List ℕ) (first last : ℤ) (n : ℤ) (text : List ℕ) : Type 0 where
+pub record IsMomentText (digits : MomentFields → List ℕ) (first last : ℤ)
+    (n : ℤ) (text : List ℕ) : Type 0 where
   pub utc : DateTime
   pub years : IsBetween first last utc.date.year
   pub number : civil_nanos utc ≡ n
   pub is : text ≡ digits (fields_of_moment utc)
 
--- The numbers fit their types.
+-- The numbers of a time of day fit their digits.
 abbrev pub IsSmallClock : ClockFields → Type 0
-IsSmallClock f = (f.hour < 100) × (f.minute < 100) × (f.second < 100) × (f.nanosecond < 1_000_000_000)
+IsSmallClock f =
+    (f.hour < 100) × (f.minute < 100) × (f.second < 100) × (f.nanosecond < 1_000_000_000)
 
+-- The numbers of a moment fit their digits, and the offset is a day at most.
 abbrev pub IsSmallMoment : MomentFields → Type 0
-IsSmallMoment f = IsSmallDay f.day × IsSmallClock f.clock × IsBetween (neg_ℤ (pos 86400)) (pos 86400) f.offset
+IsSmallMoment f =
+    IsSmallDay f.day × IsSmallClock f.clock
+    × IsBetween (neg_ℤ (pos 86400)) (pos 86400) f.offset
 
 -- The clock has the time that the fields state.
 abbrev pub IsRealClock : ClockFields → Type 0
@@ -90,7 +104,8 @@ IsRealClock f = (f.hour < 24) × (f.minute < 60) × (f.second < 60) × (f.nanose
 
 -- The fields state no moment with a year from first to last.
 abbrev pub HasNoMoment : ℤ → ℤ → MomentFields → Type 0
-HasNoMoment first last f = (utc : DateTime) → IsMomentOf f utc → IsBetween first last utc.date.year → ⊥
+HasNoMoment first last f =
+    (utc : DateTime) → IsMomentOf f utc → IsBetween first last utc.date.year → ⊥
 
 -- The fields state that moment, and its year lies from first to last.
 abbrev pub HasMoment : ℤ → ℤ → MomentFields → DateTime → Type 0

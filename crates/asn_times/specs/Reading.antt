@@ -1,5 +1,4 @@
--- How the readers go through a text from the left. Contracts of readers of a whole text speak of
--- the grammar instead, and proofs show that the two agree.
+-- How the readers go through a text from the left, which proofs show to agree with the grammar.
 use Rattle.std.specs.Prelude.{ℕ, zero, suc, ◌+◌, ◌-◌, ◌*◌, ◌/◌, Bool, true, false, ◌&&◌, ◌||◌, ◌==◌, nat_lt, List, [], ◌∷◌, Option, None, Some, if◌then◌else◌, ℤ, pos, neg_ℤ}
 use Rattle.std.specs.Option.{option_map}
 use Rattle.asn_times.specs.declared.dates.DayFields.{DayFields}
@@ -25,7 +24,8 @@ two (a ∷ b ∷ rest) =
 -- The number that four digits state, and what follows them.
 abbrev pub four : List ℕ → Option (ℕ × List ℕ)
 four text =
-    bind (two text) (λ hundreds. bind (two hundreds.1) (λ ones. Some (hundreds.0 * 100 + ones.0, ones.1)))
+    bind (two text) (λ hundreds. bind (two hundreds.1) (λ ones.
+    Some (hundreds.0 * 100 + ones.0, ones.1)))
 
 -- What follows a dash.
 abbrev pub dash : List ℕ → Option (List ℕ)
@@ -52,6 +52,7 @@ offset_end h m (b ∷ rest) = None
 abbrev pub length_of_offset : List ℕ → Option ℕ
 length_of_offset text = bind (two text) (λ h. bind (two h.1) (λ m. offset_end h.0 m.0 m.1))
 
+-- The offset 0, if no character is left.
 abbrev pub zulu_end : List ℕ → Option ℤ
 zulu_end [] = Some (pos 0)
 zulu_end (b ∷ rest) = None
@@ -64,11 +65,19 @@ zone (b ∷ rest) =
     else (if b == 45 then option_map (λ n. neg_ℤ (pos n)) (length_of_offset rest)
     else (if b == 90 then zulu_end rest else None))
 
+-- The fields of a minute in UTC.
+abbrev pub minute_of : ℕ → ℕ → ℕ → ℕ → ℕ → MomentFields
+minute_of year month day hour minute = record {
+  day = record { year = year; month = month; day = day };
+  clock = record { hour = hour; minute = minute; second = 0; nanosecond = 0 };
+  offset = pos 0;
+}
+
 -- The fields of a year and `MMDDhhmm`, and what follows that.
 abbrev pub minute_fields : ℕ → List ℕ → Option (MomentFields × List ℕ)
 minute_fields year text =
     bind (two text) (λ o. bind (two o.1) (λ d. bind (two d.1) (λ h. bind (two h.1) (λ m.
-    Some (record { day = record { year = year; month = o.0; day = d.0 }; clock = record { hour = h.0; minute = m.0; second = 0; nanosecond = 0 }; offset = pos 0 }, m.1)))))
+    Some (minute_of year o.0 d.0 h.0 m.0, m.1)))))
 
 -- The number of `ss`, if it is there, and what follows it.
 abbrev pub seconds_and_rest : List ℕ → ℕ × List ℕ
@@ -78,7 +87,12 @@ seconds_and_rest text = elim (two text) [ None ↦ (0, text) | Some p ↦ p ]
 abbrev pub with_end : MomentFields → ℕ → ℕ → ℤ → MomentFields
 with_end f second nanosecond offset = record {
   day = f.day;
-  clock = record { hour = f.clock.hour; minute = f.clock.minute; second = second; nanosecond = nanosecond };
+  clock = record {
+    hour = f.clock.hour;
+    minute = f.clock.minute;
+    second = second;
+    nanosecond = nanosecond;
+  };
   offset = offset;
 }
 
@@ -115,5 +129,6 @@ zone_or_utc (b ∷ rest) = zone (b ∷ rest)
 -- The fields of a text of GeneralizedTime.
 abbrev pub generalized_fields : List ℕ → Option MomentFields
 generalized_fields text =
-    bind (four text) (λ y. bind (minute_fields y.0 y.1) (λ m. bind (two m.1) (λ s. bind (fraction s.1) (λ f.
+    bind (four text) (λ y. bind (minute_fields y.0 y.1) (λ m.
+    bind (two m.1) (λ s. bind (fraction s.1) (λ f.
     option_map (with_end m.0 s.0 f.0) (zone_or_utc f.1)))))

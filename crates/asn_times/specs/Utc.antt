@@ -40,7 +40,8 @@ IsInUtcYears n = IsInYears (pos 1950) (pos 2049) (n *ℤ pos 1_000_000_000)
 
 -- `YYMMDDhhmmssZ`.
 abbrev pub utc_digits : MomentFields → List ℕ
-utc_digits f = two_digits (f.day.year % 100) ++ minute_digits f ++ two_digits f.clock.second ++ 90 ∷ []
+utc_digits f =
+    two_digits (f.day.year % 100) ++ minute_digits f ++ two_digits f.clock.second ++ 90 ∷ []
 
 -- The text is the written form of the moment n.
 abbrev pub UtcWritten : ℤ → List ℕ → Type 0

@@ -1,5 +1,4 @@
--- The written texts as functions of the numbers that contracts see, by a walk over the calendar
--- from 0000-01-01 on. They are the texts within their years.
+-- The written texts as functions of what contracts see, by a walk over the calendar from year 0.
 use Rattle.std.specs.Prelude.{ℕ, zero, suc, ◌+◌, ◌-◌, ◌/◌, ◌%◌, true, false, nat_lt, List, ℤ, pos, ◌-ℤ◌, ◌*ℤ◌, unsigned_abs}
 use Rattle.jiff_core.specs.Calendar.{days_from_civil, days_in_month, days_in_year}
 use Rattle.asn_times.specs.Days.{day_digits}

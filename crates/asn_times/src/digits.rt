@@ -35,7 +35,8 @@ pub(crate) fn read_four(bytes: &[u8]) -> Option<(u16, &[u8])>
 /// Adds the character to the text.
 pub(crate) fn push_char(text: &mut String, character: char) -> Result<(), TimeFault>
     requires { character < 128 }
-    ensures written { OnOk result (string_bytes text.new ≡ string_bytes text.old ++ character ∷ []) }
+    ensures written { OnOk result
+        (string_bytes text.new ≡ string_bytes text.old ++ character ∷ []) }
     ensures refused { IfErr result (λ e. e ≡ OutOfMemory) }
 {
     match text.push(character) {

@@ -29,11 +29,10 @@ pub record IsInDayYears (n : ℤ) : Type 0 where
 abbrev pub StatesNoDay : List ℕ → Type 0
 StatesNoDay text = (n : ℤ) → DayReads text n → ⊥
 
--- The numbers fit their digits.
+-- The numbers fit their digits, or the calendar has the day that they state.
 abbrev pub IsSmallDay : DayFields → Type 0
 IsSmallDay f = (f.year < 10_000) × (f.month < 100) × (f.day < 100)
 
--- The calendar has the day that the fields state.
 abbrev pub IsRealDay : DayFields → Type 0
 IsRealDay f = IsDate (pos f.year) (pos f.month) (pos f.day)
 

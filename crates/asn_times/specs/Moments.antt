@@ -87,12 +87,11 @@ pub record IsMomentText (digits : MomentFields → List ℕ) (first last : ℤ)
   pub number : civil_nanos utc ≡ n
   pub is : text ≡ digits (fields_of_moment utc)
 
--- The numbers of a time of day fit their digits.
+-- The numbers of a time of day, or of a moment, fit their digits, and an offset is a day at most.
 abbrev pub IsSmallClock : ClockFields → Type 0
 IsSmallClock f =
     (f.hour < 100) × (f.minute < 100) × (f.second < 100) × (f.nanosecond < 1_000_000_000)
 
--- The numbers of a moment fit their digits, and the offset is a day at most.
 abbrev pub IsSmallMoment : MomentFields → Type 0
 IsSmallMoment f =
     IsSmallDay f.day × IsSmallClock f.clock
@@ -102,12 +101,11 @@ IsSmallMoment f =
 abbrev pub IsRealClock : ClockFields → Type 0
 IsRealClock f = (f.hour < 24) × (f.minute < 60) × (f.second < 60) × (f.nanosecond < 1_000_000_000)
 
--- The fields state no moment with a year from first to last.
+-- The fields state no moment with a year from first to last, or they state that one.
 abbrev pub HasNoMoment : ℤ → ℤ → MomentFields → Type 0
 HasNoMoment first last f =
     (utc : DateTime) → IsMomentOf f utc → IsBetween first last utc.date.year → ⊥
 
--- The fields state that moment, and its year lies from first to last.
 abbrev pub HasMoment : ℤ → ℤ → MomentFields → DateTime → Type 0
 HasMoment first last f utc = IsMomentOf f utc × IsBetween first last utc.date.year
 

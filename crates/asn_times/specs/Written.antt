@@ -11,8 +11,8 @@ use Rattle.asn_times.specs.declared.moments.MomentFields.{MomentFields}
 abbrev pub first_day : ℤ
 first_day = days_from_civil (pos 0) 1 1
 
--- The year of the day that many days after the first of a year, and the days before it in that
--- year. So many years at most are passed.
+-- The year, or the month, of the day that many days after the first of a year or of a month, and the
+-- days before it there. So many years, or months, at most are passed.
 abbrev pub year_of_days : ℕ → ℕ → ℕ → ℕ × ℕ
 year_of_days zero year days = (year, days)
 year_of_days (suc steps) year days = elim (nat_lt days (days_in_year (pos year))) [
@@ -20,8 +20,6 @@ year_of_days (suc steps) year days = elim (nat_lt days (days_in_year (pos year))
   | false ↦ year_of_days steps (year + 1) (days - days_in_year (pos year))
 ]
 
--- The month of the day that many days after the first of a month of a year, and the days before it
--- in that month. So many months at most are passed.
 abbrev pub month_of_days : ℕ → ℤ → ℕ → ℕ → ℕ × ℕ
 month_of_days zero year month days = (month, days)
 month_of_days (suc steps) year month days = elim (nat_lt days (days_in_month year month)) [
@@ -53,14 +51,12 @@ moment_after nanoseconds = record {
 abbrev pub moment_at : ℤ → MomentFields
 moment_at n = moment_after (unsigned_abs (n -ℤ first_day *ℤ pos 86_400_000_000_000))
 
--- The text of the day n.
+-- The text of the day n, or of the moment n in seconds or in nanoseconds.
 unfoldable pub day_text : ℤ → List ℕ
 day_text n = let f = day_after (unsigned_abs (n -ℤ first_day)) in day_digits f.year f.month f.day
 
--- The text of the moment n, in seconds.
 unfoldable pub utc_text : ℤ → List ℕ
 utc_text n = utc_digits (moment_at (n *ℤ pos 1_000_000_000))
 
--- The text of the moment n, in nanoseconds.
 unfoldable pub generalized_text : ℤ → List ℕ
 generalized_text n = generalized_digits (moment_at n)

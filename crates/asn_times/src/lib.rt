@@ -7,7 +7,7 @@ mod digits;
 pub mod faults;
 pub mod generalized_times;
 pub mod laws;
-pub mod moments;
+mod moments;
 pub mod utc_times;
 
 pub use dates::{Date, read_date, write_date};

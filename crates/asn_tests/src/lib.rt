@@ -12,6 +12,8 @@ mod json;
 #[cfg(test)]
 mod notation;
 #[cfg(test)]
+mod octets;
+#[cfg(test)]
 mod plain_types;
 #[cfg(test)]
 mod program;

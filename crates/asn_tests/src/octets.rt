@@ -1,0 +1,78 @@
+// Octet strings in both notations, and a SEQUENCE that has an extension addition.
+use asn_base::Tag;
+use asn_fault::DecodeError;
+use asn_traits::{FieldShapes, OctetString, Shape, is_readable};
+use avn_rules::avn;
+use jer_rules::jer;
+use std::process::Abort;
+use std::test::Fail;
+
+/// Checks that the text was read as the octets 01 and FF.
+fn assert_read(rt: &impl Abort, read: Result<OctetString, DecodeError>) {
+    let is_read = match read {
+        Ok(value) => value.octets.as_slice() == [0x01, 0xFF].as_slice(),
+        Err(_) => false,
+    };
+    assert!(rt; is_read);
+}
+
+#[test]
+fn octets_are_written_in_capitals_and_read_in_either_case(rt: HostRuntime) -> Result<(), Fail> {
+    let alloc = rt.alloc();
+    let octets = Vec::from_slice(alloc, [0x01, 0xFF].as_slice())?;
+    let value = OctetString { octets };
+    assert_eq!(rt; jer::encode(alloc, &value)?.as_str(), "\"01FF\"");
+    assert_eq!(rt; avn::encode(alloc, &value)?.as_str(), "'01FF'H");
+    assert_read(&rt, jer::decode(alloc, "\"01fF\""));
+    assert_read(&rt, avn::decode(alloc, "' 01 fF 'H"));
+    Ok(())
+}
+
+#[test]
+fn what_is_no_octets_is_refused(rt: HostRuntime) -> Result<(), Fail> {
+    let alloc = rt.alloc();
+    match jer::decode::<OctetString>(alloc, "true") {
+        Ok(_) => assert!(rt; false),
+        Err(error) => assert_eq!(rt;
+            error.to_string(alloc)?.as_str(),
+            "JER decoding error: Found mismatching JSON value. Expected type: \
+             hex string. Found value: true (Codec: JER)"
+        ),
+    }
+    match jer::decode::<OctetString>(alloc, "\"0g\"") {
+        Ok(_) => assert!(rt; false),
+        Err(error) => assert_eq!(rt;
+            error.to_string(alloc)?.as_str(),
+            "JER decoding error: Found invalid character in octet string (Codec: JER)"
+        ),
+    }
+    match avn::decode::<OctetString>(alloc, "TRUE") {
+        Ok(_) => assert!(rt; false),
+        Err(error) => assert_eq!(rt;
+            error.to_string(alloc)?.as_str(),
+            "AVN decoding error: AVN type mismatch: expected octet string \
+             ('...'H), found TRUE (Codec: AVN)"
+        ),
+    }
+    Ok(())
+}
+
+#[test]
+fn a_sequence_with_an_extension_addition(rt: HostRuntime) -> Result<(), Fail> {
+    let mut root = FieldShapes::new(rt.alloc());
+    root.required::<u8>("id", Tag::CONTEXT_0)?;
+    let mut added = FieldShapes::new(rt.alloc());
+    added.optional::<String>("note", Tag::CONTEXT_1)?;
+    let shape = root.extensible_sequence(added);
+    assert!(rt; is_readable(&shape));
+    let fields = match &shape {
+        Shape::Seq {
+            fields,
+            added: Some(added),
+            ..
+        } => fields.len() + added.len(),
+        _ => 0,
+    };
+    assert_eq!(rt; fields, 2);
+    Ok(())
+}

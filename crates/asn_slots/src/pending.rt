@@ -1,4 +1,5 @@
-// The slots that are still to be read.
+//! Holds the pending slots of a decoder: those that are still to be read, the next one first.
+//! Opening a SEQUENCE puts a slot for each of its fields, and reading a field takes one.
 ghost use Rattle.asn_slots.specs.Pending.{TakesAbsent};
 ghost use Rattle.std.specs.Prelude.{◌≡◌, ◌∷◌, [], ◌++◌, Some, map, MatchOption, OnOk, OnErr};
 
@@ -7,22 +8,26 @@ use std::alloc::Global;
 use std::marker::Model;
 use std::vec::IntoIter;
 
-/// A slot, and the values after it, each of which is a slot too.
+/// Holds a slot, and the values after it, each of which is a present slot too.
 #[derive(Drop)]
 struct Run<V> {
+    /// The slot that is read first.
     first: Option<V>,
+    /// The values after it, in the vector that they came in.
     later: IntoIter<V, Global>,
 }
 
-/// The slots that a reader has still to read, seen as a list, the next one first. A list of values
-/// is kept as it came, so that putting it copies none of them.
+/// The slots that a decoder has still to read. Contracts see them as a list, the next one first.
+/// A list of values is kept in the vector that it came in, so that putting it moves none of them.
 #[derive(Drop)]
 pub struct Pending<V> {
+    /// The allocator that the slots' own memory comes from.
     alloc: Global,
-    // The next one last.
+    /// The runs of slots, the one to be read next at the end.
     runs: Vec<Run<V>>,
 }
 
+/// Lets contracts see the slots as one list, whatever runs they are kept in.
 impl<V> Model for Pending<V> {
     ghost use Rattle.asn_slots.specs.Pending.{slots_of};
     ghost use Rattle.std.specs.Prelude.{List, Option, reverse};
@@ -32,8 +37,9 @@ impl<V> Model for Pending<V> {
     ghost view = { λ p. slots_of (reverse p.runs.items) };
 }
 
+/// Puts slots before the others, and takes the next one.
 impl<V: Drop> Pending<V> {
-    /// No slots.
+    /// Returns a list without slots. It takes no memory.
     pub fn new(alloc: Global) -> Pending<V>
         ensures { result ≡ [] }
     {
@@ -45,7 +51,9 @@ impl<V: Drop> Pending<V> {
 
     /// Puts a slot before the others.
     ///
-    /// Errors: `OutOfMemory`, and then nothing is put.
+    /// # Errors
+    ///
+    /// `OutOfMemory` alone, and then nothing is put.
     pub fn put(&mut self, slot: Option<V>) -> Result<(), OutOfMemory>
         ensures put { OnOk result (self.new ≡ slot ∷ self.old) }
         ensures kept { OnErr result (self.new ≡ self.old) }
@@ -57,15 +65,19 @@ impl<V: Drop> Pending<V> {
         Ok(())
     }
 
-    /// Puts these slots in their order before the others.
+    /// Puts these slots before the others, in their order, each as a run of its own.
     ///
-    /// Errors: `OutOfMemory`, and then none is put.
+    /// # Errors
+    ///
+    /// `OutOfMemory` alone, and then none is put.
     pub fn put_all(&mut self, slots: Vec<Option<V>>) -> Result<(), OutOfMemory>
         ensures put { OnOk result (self.new ≡ slots.items ++ self.old) }
         ensures kept { OnErr result (self.new ≡ self.old) }
     {
         let mut slots = slots;
+        // Room for all of them is made first: either every slot is put, or none.
         self.runs.reserve(slots.len())?;
+        // The last slot goes in first, since the end of `runs` is read first.
         while let Some(slot) = slots.pop() {
             self.runs.push_reserved(Run {
                 first: slot,
@@ -75,13 +87,17 @@ impl<V: Drop> Pending<V> {
         Ok(())
     }
 
-    /// Puts these values, each present, in their order before the slots.
+    /// Puts these values before the slots, each present and in their order. The vector stays as it
+    /// is, and no value is moved.
     ///
-    /// Errors: `OutOfMemory`, and then none is put.
+    /// # Errors
+    ///
+    /// `OutOfMemory` alone, and then none is put.
     pub fn put_present(&mut self, values: Vec<V>) -> Result<(), OutOfMemory>
         ensures put { OnOk result (self.new ≡ map Some values.items ++ self.old) }
         ensures kept { OnErr result (self.new ≡ self.old) }
     {
+        // An empty vector is no run at all.
         let mut later = values.into_iter();
         if let Some(value) = later.next() {
             self.runs.push(Run {
@@ -92,12 +108,14 @@ impl<V: Drop> Pending<V> {
         Ok(())
     }
 
-    /// Takes the next slot. None exactly where no slot is left.
+    /// Takes the next slot and returns it: `Some(None)` is an absent one, and `None` comes exactly
+    /// where no slot is left. It takes no memory.
     pub fn take(&mut self) -> Option<Option<V>>
         ensures { MatchOption result ((self.old ≡ []) × (self.new ≡ self.old))
             (λ slot. self.old ≡ slot ∷ self.new) }
     {
         let Run { first, mut later } = self.runs.pop()?;
+        // Popping the run left room for one, so what is left of it goes back without memory.
         if let Some(value) = later.next() {
             self.runs.push_reserved(Run {
                 first: Some(value),
@@ -107,8 +125,8 @@ impl<V: Drop> Pending<V> {
         Some(first)
     }
 
-    /// Takes the next slot if it is absent, and answers whether it was. None exactly where no slot
-    /// is left.
+    /// Takes the next slot if it is absent, and returns whether it was: a present one stays for the
+    /// next call. `None` comes exactly where no slot is left.
     pub fn take_absent(&mut self) -> Option<bool>
         ensures { TakesAbsent self.old result self.new }
     {

@@ -9,16 +9,16 @@ use asn_base::OutOfMemory;
 use std::alloc::Global;
 use std::marker::Model;
 
-/// The open frames of slots that an encoder has written. Contracts see them as a list, the last
+/// Holds the open frames of slots that an encoder has written. Contracts see a list, the last
 /// frame first. One frame at least is open, the root's. The slots of all frames lie in one vector,
 /// whose room is kept for later frames, so that opening and closing seldom need memory.
 #[derive(Drop)]
 pub struct Frames<V> {
-    /// The allocator that the slots' own memory comes from.
+    /// Allocates what is handed over when a frame is closed.
     alloc: Global,
-    /// The slots of all frames, the root's first.
+    /// Holds the slots of all frames, the root's first.
     slots: Vec<Option<V>>,
-    /// The places in `slots` where the frames above the root's begin, the last frame's at the end.
+    /// Holds where in `slots` the frames above the root's begin, the last frame's place at the end.
     starts: Vec<usize>,
 }
 

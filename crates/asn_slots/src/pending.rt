@@ -11,19 +11,19 @@ use std::vec::IntoIter;
 /// Holds a slot, and the values after it, each of which is a present slot too.
 #[derive(Drop)]
 struct Run<V> {
-    /// The slot that is read first.
+    /// Holds the slot that is read first.
     first: Option<V>,
-    /// The values after it, in the vector that they came in.
+    /// Holds the values after it, in the vector that they came in.
     later: IntoIter<V, Global>,
 }
 
-/// The slots that a decoder has still to read. Contracts see them as a list, the next one first.
+/// Holds the slots that a decoder has still to read. Contracts see a list, the next one first.
 /// A list of values is kept in the vector that it came in, so that putting it moves none of them.
 #[derive(Drop)]
 pub struct Pending<V> {
-    /// The allocator that the slots' own memory comes from.
+    /// Allocates the runs and the vectors that hold no later value.
     alloc: Global,
-    /// The runs of slots, the one to be read next at the end.
+    /// Holds the runs of slots, the one to be read next at the end.
     runs: Vec<Run<V>>,
 }
 

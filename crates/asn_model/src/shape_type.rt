@@ -60,9 +60,9 @@ pub enum PresenceShape {
 #[cycle(shape)]
 #[derive(Drop)]
 pub struct FieldShape {
-    /// Is the field's name, an identifier.
+    /// Holds the field's name, an identifier.
     pub name: String,
-    /// Is the smallest tag that its value may begin with.
+    /// Holds the smallest tag that its value may begin with.
     pub tag: Tag,
     /// States whether it may be absent.
     pub presence: PresenceShape,
@@ -74,9 +74,9 @@ pub struct FieldShape {
 #[cycle(shape)]
 #[derive(Drop)]
 pub struct AlternativeShape {
-    /// Is the identifier that stands before the payload.
+    /// Holds the identifier that stands before the payload.
     pub identifier: String,
-    /// Is the smallest tag that its value may begin with.
+    /// Holds the smallest tag that its value may begin with.
     pub tag: Tag,
     /// Describes the type of its payload.
     pub shape: Shape,
@@ -93,21 +93,21 @@ pub enum Shape {
     Bool,
     /// Is INTEGER, from the least to the greatest number, in a number of bits.
     Int {
-        /// Is the least number.
+        /// Holds the least number.
         least: i128,
-        /// Is the greatest number.
+        /// Holds the greatest number.
         greatest: u128,
         /// Counts the bits of the Rust type, which an overflow states.
         width: u32,
     },
     /// Is BIT STRING.
     Bits {
-        /// Is the number of bits, where the type fixes it.
+        /// Holds the number of bits, where the type fixes it.
         fixed: Option<usize>,
     },
     /// Is OCTET STRING.
     Octets,
-    /// Is a value of any type: a JSON document.
+    /// Is a value of any type, which is held as octets.
     Any,
     /// Is OBJECT IDENTIFIER.
     Oid,

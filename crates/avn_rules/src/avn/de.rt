@@ -38,8 +38,8 @@ impl Decoder {
     ///
     /// # Errors
     ///
-    /// `UnexpectedToken` where the text is no value of the notation; `ExceedsMaxParseDepth` where it
-    /// is deeper than 64 levels; `OutOfMemory`.
+    /// `UnexpectedToken` where the text is no value of the notation; `ExceedsMaxParseDepth` where
+    /// it is deeper than 64 levels; `OutOfMemory`.
     pub fn new(alloc: Global, input: &str) -> Result<Decoder, DecodeError>
         ensures tree { IfOk result (λ d. (t : AvnTree) × IsAvn input.now t
             × (pending_of d ≡ Some (Tree.avn t) ∷ [])) }

@@ -14,8 +14,8 @@ use asn_traits::{Field, place_of_field};
 use avn_value::AvnValue;
 use std::alloc::Global;
 
-/// Returns the elements of a list. A Sequence without entries is an empty list: `{}` is read as
-/// either. It takes no memory.
+/// Returns the elements of a list. A Sequence without entries is an empty list, since the text
+/// `{}` stands for both. It takes no memory.
 ///
 /// # Errors
 ///
@@ -38,8 +38,8 @@ pub fn into_items(alloc: Global, value: AvnValue) -> Result<Vec<AvnValue>, AvnVa
     }
 }
 
-/// Returns the fields of a Sequence. A SequenceOf without elements has no fields: `{}` is read as
-/// either. It takes no memory.
+/// Returns the fields of a Sequence. A SequenceOf without elements has no fields, since the text
+/// `{}` stands for both. It takes no memory.
 ///
 /// # Errors
 ///

@@ -2,7 +2,7 @@
 use std::alloc::AllocError;
 use thiserror::Error;
 
-/// States why a line is no row. The texts say what a row has to be.
+/// States why a line is no row. Each text states what a row has to be.
 #[derive(Clone, Copy, Debug, PartialEq, Eq, Drop, Error)]
 pub enum RowError {
     /// The line has fewer than three columns.

@@ -23,7 +23,7 @@ use tally::Tally;
 ///
 /// # Errors
 ///
-/// A line that is no row, with its number; a failure to print; want of memory for a run.
+/// A line that is no row, with its number; a failure to print; no memory for a run.
 fn run_rows(rt: &(impl Print + AllocGlobal), text: &str) -> Result<Tally> {
     let mut tally = Tally::new();
     for (index, line) in text.lines().enumerate() {

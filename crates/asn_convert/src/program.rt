@@ -1,5 +1,5 @@
 //! Runs the program: reads an input, decides what it asks for, converts the text at the Rust type
-//! of the sample that it names, and writes the answer. Each step below `run` is one function, and
+//! of the sample that it names, and writes the result. Each step below `run` is one function, and
 //! returns a `Status`.
 ghost use Rattle.std.specs.Prelude.{◌≡◌, ◌≢◌, ◌<◌, ◌⊎◌, ◌++◌, ◌∷◌, [], ℕ, List, length, IsUtf8, Some, None, true, string_bytes};
 ghost use Rattle.std.specs.Io.KnownBytes.{Keeps};
@@ -45,7 +45,7 @@ pub fn run<S: Source, K: Sink>(alloc: Global, source: &mut S, sink: &mut K) -> S
         (λ input. IsUtf8 input × (asked input ≡ None)) }
     // A read failed.
     ensures read_fault { result ≡ ReadFault → Rose (S.faults source.old) (S.faults source.new) }
-    // A write failed, and what was written is a front part of the answer or of the error's line.
+    // A write failed, and what was written is a front part of the text or of the error's line.
     ensures write_fault { result ≡ WriteFault → Rose (K.faults sink.old) (K.faults sink.new) }
     ensures cut { result ≡ WriteFault
         → ReadWhole (transfer_of S.left S.faults source.old source.new)
@@ -129,7 +129,7 @@ struct Conversion<'a> {
     alloc: Global,
     /// Names the notation of the text.
     from: Codec,
-    /// Names the notation of the answer.
+    /// Names the notation of the text that is written.
     to: Codec,
     /// Holds the text to convert, without the request line.
     text: &'a str,

@@ -12,7 +12,7 @@ pub enum Status {
     BadRequest,
     /// Reading failed.
     ReadFault,
-    /// Writing failed, and a front part of the answer may be written.
+    /// Writing failed, and a front part of the line or of the text may be written.
     WriteFault,
     /// Memory ran out, and nothing was written.
     WantOfMemory,

@@ -128,7 +128,7 @@ fn are_alternatives_readable(alternatives: &[AlternativeShape], around: &Around<
 }
 
 /// Returns that the numbers from the least to the greatest have at most 128 bits, as the types of
-/// the two arguments say. The definition has any integers, so this is a fact to prove.
+/// the two arguments state. The definition has any integers, so this is a fact to prove.
 fn has_128_bits(least: i128, greatest: u128) -> bool
     ensures { result ≡ has_128_bits least (pos greatest) }
 {
@@ -208,7 +208,7 @@ fn is_of_shape(shape: &Shape, plain: &Plain) -> bool
     }
 }
 
-/// Returns that the bytes of the text are UTF-8, as its type says.
+/// Returns that the bytes of the text are UTF-8, as its type states.
 fn is_utf8(text: &str) -> bool
     ensures { result ≡ is_utf8 text.now }
 {
@@ -226,7 +226,7 @@ fn has_alternative(alternatives: &[AlternativeShape]) -> bool
     }
 }
 
-/// Returns whether the alternatives of both lists are told apart by identifiers and by tags.
+/// Returns whether the alternatives of both lists are distinguishable by identifiers and by tags.
 #[tactic(auto, using(crate::proofs::ShapeNames::identifiers_viewed, crate::proofs::ShapeNames::tags_viewed))]
 fn are_told_apart(alternatives: &[AlternativeShape], added: &[AlternativeShape]) -> bool
     ensures { result ≡ are_told_apart

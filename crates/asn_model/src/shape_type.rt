@@ -1,4 +1,4 @@
-//! Defines the shape of a type as a value that a program holds: what ASN.1 says of the type's
+//! Defines the shape of a type as a value that a program holds: what ASN.1 states of the type's
 //! values. Contracts see it as the `Shape` of `specs/Shape.antt` (`shape_view`).
 use asn_base::Tag;
 

@@ -1,6 +1,6 @@
 //! Describes sample types by hand, as a user of the library describes a type of one's own, each
 //! with the laws of the traits, and gives the names by which the program knows them.
-//! `docs/YOUR-OWN-TYPE.md` goes through the files to copy. What contracts say of a type stands in
+//! `docs/YOUR-OWN-TYPE.md` goes through the files to copy. What contracts cite of a type stands in
 //! its file of `specs/`: its fields, items or alternatives, and the value of each Rust value.
 #![tactic(auto, using(asn_traits::proofs::Passing::field_steps))]
 

@@ -1,4 +1,4 @@
-//! States laws of the strings, each as the contract of a function that does nothing. They say
+//! States laws of the strings, each as the contract of a function that does nothing. They state
 //! what the words of the other contracts mean, such as the place of a character outside.
 ghost use Rattle.asn_strings.specs.Alphabets.{all_within, place_outside};
 ghost use Rattle.asn_strings.specs.Units.{has_text, text_of_units};

@@ -383,7 +383,7 @@ fn texts_that_are_read(rt: HostRuntime) -> Result<(), Fail> {
             "SequenceOf Enumerated Null",
             "{\n  a,\n  NULL\n}",
         ),
-        // A name may stand twice: which one counts is for a type to say.
+        // A name may stand twice: which one counts is for a type to decide.
         (
             "{ so-very 1, so-very 2 }",
             "Sequence Integer Integer",

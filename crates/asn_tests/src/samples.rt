@@ -220,7 +220,7 @@ fn choice(alternatives: Vec<AlternativeShape>) -> Shape {
     }
 }
 
-/// A shape of each kind that can't be read is told from the others: by its loops, its tags or its
+/// A shape of each kind that can't be read is found: by its loops, its tags or its
 /// names. Each breaks one condition alone.
 /// The conditions are those that `is_readable` lists.
 #[test]

@@ -25,11 +25,11 @@ use std::alloc::Global;
 
 /// Decodes one notation. Contracts see a decoder as a list of pending slots: a tree or absent.
 ///
-/// Unless said otherwise a call takes the first pending slot and decodes it.
+/// Unless stated otherwise a call takes the first pending slot and decodes it.
 ///
 /// # Errors
 ///
-/// Unless said otherwise the path and the kind by which the slot decodes to no value of the type,
+/// Unless stated otherwise the path and the kind by which the slot decodes to no value of the type,
 /// and else `OutOfMemory` alone. What is pending after an error is unspecified.
 pub trait Decoder {
     // The notation that is read.

@@ -23,11 +23,11 @@ use std::alloc::Global;
 /// Encodes in one notation. Contracts see an encoder as a list of open frames, each a list of
 /// slots: a value or absent.
 ///
-/// Unless said otherwise the last frame has one more slot after a call, the value.
+/// Unless stated otherwise the last frame has one more slot after a call, the value.
 ///
 /// # Errors
 ///
-/// Unless said otherwise the kind of the first part of the value that the notation cannot encode,
+/// Unless stated otherwise the kind of the first part of the value that the notation cannot encode,
 /// and else `OutOfMemory` alone. What an encoder holds after an error is unspecified.
 pub trait Encoder {
     // The notation that is written.

@@ -76,7 +76,7 @@ pub fn place_of_field(root: &[Field], additions: &[Field], name: &str) -> Option
 }
 
 /// Returns the first place of the identifier, or `None` where it is none of them. The case of
-/// ASCII letters makes no difference: alternatives are told apart so.
+/// ASCII letters makes no difference: alternatives are distinguished without it.
 pub fn place_of(identifiers: &[&'static str], name: &str) -> Option<usize>
     ensures is { result ≡ place_named same_identifier (map (λ s. s.now) identifiers.now)
         name.now }

@@ -1,4 +1,15 @@
+pub mod BitStrings
+pub mod Bounds
+pub mod Constraints
 pub mod Numbers
+pub mod ObjectIdentifiers
 pub mod Tags
 pub mod Texts
 pub mod Seen
+pub use Rattle.asn_strings.specs.Alphabets
+pub use Rattle.asn_strings.specs.Refusals
+pub use Rattle.asn_strings.specs.Units
+pub use Rattle.asn_times.specs.Days
+pub use Rattle.asn_times.specs.Utc
+pub use Rattle.asn_times.specs.Generalized
+pub use Rattle.asn_times.specs.Written

@@ -84,77 +84,21 @@ fn choice(alloc: Global, identifier: &str, value: AvnValue) -> Result<AvnValue, 
 /// A value, its printed text, and the variants and the printed text of its normal form.
 type Row = (AvnValue, &'static str, &'static str, &'static str);
 
-fn plain_rows(alloc: Global) -> Result<[Row; 9], AllocError> {
+/// Returns values that are not their own normal form.
+fn values_of_other_forms(alloc: Global) -> Result<[Row; 6], AllocError> {
+    let five = AvnValue::Real(string(alloc, "5")?);
+    let arcs = AvnValue::Oid(Vec::from_slice(alloc, &[2, 5])?);
+    let field = sequence(alloc, "field1", Some(AvnValue::Boolean(true)), "field2")?;
     Ok([
-        (AvnValue::Boolean(true), "TRUE", "Boolean", "TRUE"),
-        (AvnValue::Boolean(false), "FALSE", "Boolean", "FALSE"),
-        (AvnValue::Null, "NULL", "Null", "NULL"),
+        (five, "5", "Integer", "5"),
         (
-            AvnValue::Integer(string(alloc, "-12")?),
-            "-12",
-            "Integer",
-            "-12",
-        ),
-        (AvnValue::Real(string(alloc, "5")?), "5", "Integer", "5"),
-        (
-            AvnValue::Real(string(alloc, "NOT-A-NUMBER")?),
-            "NOT-A-NUMBER",
-            "Real",
-            "NOT-A-NUMBER",
-        ),
-        (
-            AvnValue::Enumerated(string(alloc, "red")?),
-            "red",
-            "Enumerated",
-            "red",
-        ),
-        (
-            AvnValue::CharString(string(alloc, "say \"hi\"")?),
-            "\"say \"\"hi\"\"\"",
-            "CharString",
-            "\"say \"\"hi\"\"\"",
-        ),
-        (
-            choice(alloc, "test1", AvnValue::Integer(string(alloc, "5")?))?,
-            "test1 : 5",
-            "Choice Integer",
-            "test1 : 5",
-        ),
-    ])
-}
-
-fn octet_rows(alloc: Global) -> Result<[Row; 6], AllocError> {
-    Ok([
-        (
-            AvnValue::OctetString(Vec::from_slice(alloc, &[1, 255])?),
-            "'01FF'H",
-            "OctetString",
-            "'01FF'H",
-        ),
-        (bits(alloc, &[], 0)?, "''H", "OctetString", "''H"),
-        (bits(alloc, &[0xA0], 8)?, "'A0'H", "OctetString", "'A0'H"),
-        (bits(alloc, &[0xFF], 3)?, "'111'B", "BitString", "'111'B"),
-        (
-            AvnValue::Oid(Vec::from_slice(alloc, &[2, 5])?),
+            arcs,
             "{ 2 5 }",
             "SequenceOf Integer Integer",
             "{\n  2,\n  5\n}",
         ),
-        (AvnValue::Oid(Vec::new(alloc)), "{ }", "SequenceOf", "{}"),
-    ])
-}
-
-fn brace_rows(alloc: Global) -> Result<[Row; 4], AllocError> {
-    let mut very = Vec::new(alloc);
-    very.push((
-        string(alloc, "very")?,
-        Some(sequence(alloc, "", None, "absent")?),
-    ))?;
-    very.push((string(alloc, "nested")?, Some(AvnValue::Boolean(false))))?;
-    let very = AvnValue::Sequence(very);
-    Ok([
         (
-            sequence(alloc, "field1", Some(AvnValue::Boolean(true)), "field2")?,
+            field,
             "{\n  field1 TRUE\n}",
             "Sequence Boolean",
             "{\n  field1 TRUE\n}",
@@ -165,56 +109,37 @@ fn brace_rows(alloc: Global) -> Result<[Row; 4], AllocError> {
             "SequenceOf",
             "{}",
         ),
-        (
-            AvnValue::SequenceOf(Vec::new(alloc)),
-            "{}",
-            "SequenceOf",
-            "{}",
-        ),
-        (
-            sequence(alloc, "a", Some(very), "b")?,
-            "{\n  a {\n    very {},\n    nested FALSE\n  }\n}",
-            "Sequence Sequence",
-            "{\n  a {\n    very {},\n    nested FALSE\n  }\n}",
-        ),
+        (bits(alloc, &[0xA0], 8)?, "'A0'H", "OctetString", "'A0'H"),
+        (bits(alloc, &[0xFF], 3)?, "'111'B", "BitString", "'111'B"),
     ])
 }
 
-/// The row's texts, a copy's variants and text, and that what is printed is read as the normal form.
-fn check_row(rt: &impl Abort, alloc: Global, row: &Row) -> Result<(), Fail> {
-    let (value, printed, variants, normal_text) = row;
-    let text = format!(in alloc; "{value}")?;
-    assert_eq!(rt; text.as_str(), *printed);
-    assert!(rt; value.is_well_formed());
-
-    let copy = value.try_clone(alloc)?;
-    assert_eq!(rt;
-        kinds(alloc, &copy)?.as_str(),
-        kinds(alloc, value)?.as_str()
-    );
-    assert_eq!(rt; format!(in alloc; "{copy}")?.as_str(), *printed);
-
-    let normal = value.normal(alloc)?;
-    assert_eq!(rt; kinds(alloc, &normal)?.as_str(), *variants);
-    assert_eq!(rt; format!(in alloc; "{normal}")?.as_str(), *normal_text);
-
-    let read = parse_avn(alloc, text.as_str())?;
-    assert_eq!(rt; kinds(alloc, &read)?.as_str(), *variants);
-    assert_eq!(rt; format!(in alloc; "{read}")?.as_str(), *normal_text);
+/// Checks that the value has these variants and prints this text.
+fn assert_value(
+    rt: &impl Abort,
+    alloc: Global,
+    value: &AvnValue,
+    variants: &str,
+    text: &str,
+) -> Result<(), Fail> {
+    assert_eq!(rt; kinds(alloc, value)?.as_str(), variants);
+    assert_eq!(rt; format!(in alloc; "{value}")?.as_str(), text);
     Ok(())
 }
 
 #[test]
-fn values_are_printed_copied_and_read_as_their_normal_form(rt: HostRuntime) -> Result<(), Fail> {
+fn values_are_printed_and_copied_and_have_a_normal_form(rt: HostRuntime) -> Result<(), Fail> {
     let alloc = rt.alloc();
-    for row in &plain_rows(alloc)? {
-        check_row(&rt, alloc, row)?;
-    }
-    for row in &octet_rows(alloc)? {
-        check_row(&rt, alloc, row)?;
-    }
-    for row in &brace_rows(alloc)? {
-        check_row(&rt, alloc, row)?;
+    for (value, printed, variants, normal_text) in &values_of_other_forms(alloc)? {
+        assert!(rt; value.is_well_formed());
+        let own = kinds(alloc, value)?;
+        assert_value(&rt, alloc, value, own.as_str(), printed)?;
+        let copy = value.try_clone(alloc)?;
+        assert_value(&rt, alloc, &copy, own.as_str(), printed)?;
+        let normal = value.normal(alloc)?;
+        assert_value(&rt, alloc, &normal, variants, normal_text)?;
+        let read = parse_avn(alloc, printed)?;
+        assert_value(&rt, alloc, &read, variants, normal_text)?;
     }
     Ok(())
 }
@@ -249,89 +174,89 @@ fn values_that_cannot_be_read_again_are_not_well_formed(rt: HostRuntime) -> Resu
     Ok(())
 }
 
-/// Each text is read as a value of these variants and this printed text.
-fn assert_read(
-    rt: &impl Abort,
-    alloc: Global,
-    rows: &[(&'static str, &'static str, &'static str)],
-) -> Result<(), Fail> {
-    for &(text, variants, printed) in rows {
-        let value = parse_avn(alloc, text)?;
-        assert_eq!(rt; kinds(alloc, &value)?.as_str(), variants, "{text}");
-        assert_eq!(rt; format!(in alloc; "{value}")?.as_str(), printed);
-    }
-    Ok(())
-}
-
-#[test]
-fn tokens_that_are_read(rt: HostRuntime) -> Result<(), Fail> {
-    const ROWS: [(&str, &str, &str); 22] = [
-        ("TRUE", "Boolean", "TRUE"),
-        ("FALSE", "Boolean", "FALSE"),
-        ("NULL", "Null", "NULL"),
-        ("PLUS-INFINITY", "Real", "PLUS-INFINITY"),
-        ("MINUS-INFINITY", "Real", "MINUS-INFINITY"),
-        ("NOT-A-NUMBER", "Real", "NOT-A-NUMBER"),
-        ("z", "Enumerated", "z"),
-        ("TRUE-9_Z", "Enumerated", "TRUE-9_Z"),
-        ("0", "Integer", "0"),
-        ("-0", "Integer", "-0"),
-        ("007", "Integer", "007"),
-        (
-            "1111111111111111111111111111111111111111",
-            "Integer",
-            "1111111111111111111111111111111111111111",
-        ),
-        ("1.5", "Real", "1.5"),
-        ("-00.50", "Real", "-00.50"),
-        ("''H", "OctetString", "''H"),
-        ("' 01 fF 'H", "OctetString", "'01FF'H"),
-        ("'01\u{A0}FF'H", "OctetString", "'01FF'H"),
-        ("''B", "BitString", "''H"),
-        ("'1'B", "BitString", "'1'B"),
-        ("'10\n101'B", "BitString", "'10101'B"),
-        ("\"\"", "CharString", "\"\""),
-        ("\"a\"\"b\"", "CharString", "\"a\"\"b\""),
-    ];
-    assert_read(&rt, rt.alloc(), &ROWS)
-}
+/// Texts, the variants of the values that they are read as, and what those print.
+const READ_TEXTS: [(&str, &str, &str); 37] = [
+    ("TRUE", "Boolean", "TRUE"),
+    ("FALSE", "Boolean", "FALSE"),
+    ("NULL", "Null", "NULL"),
+    ("PLUS-INFINITY", "Real", "PLUS-INFINITY"),
+    ("MINUS-INFINITY", "Real", "MINUS-INFINITY"),
+    ("NOT-A-NUMBER", "Real", "NOT-A-NUMBER"),
+    ("z", "Enumerated", "z"),
+    ("TRUE-9_Z", "Enumerated", "TRUE-9_Z"),
+    ("0", "Integer", "0"),
+    ("-0", "Integer", "-0"),
+    ("007", "Integer", "007"),
+    (
+        "1111111111111111111111111111111111111111",
+        "Integer",
+        "1111111111111111111111111111111111111111",
+    ),
+    ("1.5", "Real", "1.5"),
+    ("-00.50", "Real", "-00.50"),
+    ("''H", "OctetString", "''H"),
+    ("' 01 fF 'H", "OctetString", "'01FF'H"),
+    ("'01\u{A0}FF'H", "OctetString", "'01FF'H"),
+    ("''B", "BitString", "''H"),
+    ("'1'B", "BitString", "'1'B"),
+    ("'10\n101'B", "BitString", "'10101'B"),
+    ("\"\"", "CharString", "\"\""),
+    ("\"a\"\"b\"", "CharString", "\"a\"\"b\""),
+    ("{}", "SequenceOf", "{}"),
+    (
+        "{1 2, 3}",
+        "SequenceOf Integer Integer Integer",
+        "{\n  1,\n  2,\n  3\n}",
+    ),
+    ("{1-2}", "SequenceOf Integer Integer", "{\n  1,\n  -2\n}"),
+    ("{ 1 2.5 }", "SequenceOf Integer Real", "{\n  1,\n  2.5\n}"),
+    (
+        "{TRUE, FALSE}",
+        "SequenceOf Boolean Boolean",
+        "{\n  TRUE,\n  FALSE\n}",
+    ),
+    (
+        "{ a, NULL }",
+        "SequenceOf Enumerated Null",
+        "{\n  a,\n  NULL\n}",
+    ),
+    (
+        "{ so-very 1, so-very 2 }",
+        "Sequence Integer Integer",
+        "{\n  so-very 1,\n  so-very 2\n}",
+    ),
+    (
+        "{ Test1 : 3, test2 : \"x\" }",
+        "SequenceOf Choice Choice",
+        "{\n  Test1 : 3,\n  test2 : \"x\"\n}",
+    ),
+    ("a : b : 1", "Choice Choice", "a : b : 1"),
+    // Any Unicode white space may follow the whole value.
+    ("\tTRUE\u{2003}\u{A0}\n", "Boolean", "TRUE"),
+    (
+        "{ a { very { }, nested FALSE } }",
+        "Sequence Sequence",
+        "{\n  a {\n    very {},\n    nested FALSE\n  }\n}",
+    ),
+    ("-12", "Integer", "-12"),
+    ("red", "Enumerated", "red"),
+    ("test1 : 5", "Choice Integer", "test1 : 5"),
+    ("\"say \"\"hi\"\"\"", "CharString", "\"say \"\"hi\"\"\""),
+];
 
 #[test]
 fn texts_that_are_read(rt: HostRuntime) -> Result<(), Fail> {
-    const ROWS: [(&str, &str, &str); 10] = [
-        ("{}", "SequenceOf", "{}"),
-        (
-            "{1 2, 3}",
-            "SequenceOf Integer Integer Integer",
-            "{\n  1,\n  2,\n  3\n}",
-        ),
-        ("{1-2}", "SequenceOf Integer Integer", "{\n  1,\n  -2\n}"),
-        ("{ 1 2.5 }", "SequenceOf Integer Real", "{\n  1,\n  2.5\n}"),
-        (
-            "{TRUE, FALSE}",
-            "SequenceOf Boolean Boolean",
-            "{\n  TRUE,\n  FALSE\n}",
-        ),
-        (
-            "{ a, NULL }",
-            "SequenceOf Enumerated Null",
-            "{\n  a,\n  NULL\n}",
-        ),
-        (
-            "{ so-very 1, so-very 2 }",
-            "Sequence Integer Integer",
-            "{\n  so-very 1,\n  so-very 2\n}",
-        ),
-        (
-            "{ Test1 : 3, test2 : \"x\" }",
-            "SequenceOf Choice Choice",
-            "{\n  Test1 : 3,\n  test2 : \"x\"\n}",
-        ),
-        ("a : b : 1", "Choice Choice", "a : b : 1"),
-        // Any Unicode white space may follow the whole value.
-        ("\tTRUE\u{2003}\u{A0}\n", "Boolean", "TRUE"),
-    ];
-    assert_read(&rt, rt.alloc(), &ROWS)
+    let alloc = rt.alloc();
+    for &(text, variants, printed) in &READ_TEXTS {
+        let value = parse_avn(alloc, text)?;
+        assert_value(&rt, alloc, &value, variants, printed)?;
+        let copy = value.try_clone(alloc)?;
+        assert_value(&rt, alloc, &copy, variants, printed)?;
+        // The normal form prints the same, if as octets in place of whole octets of bits.
+        let normal = copy.normal(alloc)?;
+        assert_eq!(rt; format!(in alloc; "{normal}")?.as_str(), printed);
+    }
+    Ok(())
 }
 
 /// The error is that a token is unexpected.

@@ -48,18 +48,18 @@ never_deep s text v h = within h.has h.says
     within : {t : Tree} → HasTree Notation.jer text t → Says Notation.jer s (Some t) v → depth (jer_data v) ≤ max_depth
     within (HasTree.json_tree {d = d} is) says = le_trans (says-depth says) (depth-read text d is.0)
 
-json_again : (s : Shape) (v : Value) (text : List ℕ) → is_readable s ≡ true → Fits s v → ReadsBack Notation.jer v text → depth (jer_data v) ≤ max_depth → SaysAlone Notation.jer s text v
-json_again s v text read fit back shallow =
-    alone Notation.jer s text v tt (record { tree = jer_tree v; has = HasTree.json_tree (back shallow); says = says_written Notation.jer jer_tree jer_writes read fit })
+json_again : (s : Shape) (v : Value) (text : List ℕ) → is_readable s ≡ true → Fits s v → Writable Notation.jer v → ReadsBack Notation.jer v text → depth (jer_data v) ≤ max_depth → SaysAlone Notation.jer s text v
+json_again s v text read fit can back shallow =
+    alone Notation.jer s text v tt (record { tree = jer_tree v; has = HasTree.json_tree (back shallow); says = says_written Notation.jer jer_tree jer_writes read fit can })
 
--- The text of a value says that value alone, unless it nests too deep.
-pub again : (from to : Notation) (s : Shape) (v : Value) (input text : List ℕ) → is_readable s ≡ true → Fits s v → ReadsBack to v text → SaysValue from s input v → IsShallow from to v → SaysAlone to s text v
-again Notation.jer Notation.jer s v input text read fit back says shallow = json_again s v text read fit back (never_deep s input v says)
-again Notation.avn Notation.jer s v input text read fit back says shallow = json_again s v text read fit back shallow
-again Notation.other Notation.jer s v input text read fit back says shallow = json_again s v text read fit back shallow
-again from Notation.avn s v input text read fit back says shallow =
-    alone Notation.avn s text v tt (record { tree = read_tree v; has = HasTree.avn_tree (back.again shallow); says = says_written Notation.avn read_tree avn_writes read fit })
-again from Notation.other s v input text read fit back says shallow = absurd shallow
+-- The text of a value that can be written says that value alone, unless it nests too deep.
+pub again : (from to : Notation) (s : Shape) (v : Value) (input text : List ℕ) → is_readable s ≡ true → Fits s v → Writable to v → ReadsBack to v text → SaysValue from s input v → IsShallow from to v → SaysAlone to s text v
+again Notation.jer Notation.jer s v input text read fit can back says shallow = json_again s v text read fit can back (never_deep s input v says)
+again Notation.avn Notation.jer s v input text read fit can back says shallow = json_again s v text read fit can back shallow
+again Notation.other Notation.jer s v input text read fit can back says shallow = json_again s v text read fit can back shallow
+again from Notation.avn s v input text read fit can back says shallow =
+    alone Notation.avn s text v tt (record { tree = read_tree v; has = HasTree.avn_tree (back.again shallow); says = says_written Notation.avn read_tree avn_writes read fit can })
+again from Notation.other s v input text read fit can back says shallow = absurd shallow
 
 -- The text of a value that is too deep in AVN is refused for it.
 pub deep_again : (to : Codec) (v : Value) (text : List ℕ) → to ≡ Avn → ReadsBack (notation_of to) v text → LEVEL_LIMIT < deepest 0 (avn_tree v) → Deep LEVEL_LIMIT 0 (chars text)

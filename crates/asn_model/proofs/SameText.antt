@@ -32,9 +32,9 @@ normal-same t u h k same =
 
 pub same_text : (n : Notation) (s : Shape) (v w : Value) → IsText n → is_readable s ≡ true → Fits s v → Fits s w → Writable n v → Writable n w → canonical_text n v ≡ canonical_text n w → v ≡ w
 same_text Notation.jer s v w text a fit_v fit_w can_v can_w same =
-    one tt (says_written Notation.jer jer_tree jer_writes a fit_v)
-    (subst (λ d. Says Notation.jer s (Some (Tree.json d)) w) (sym (jer_data-same v w can_v can_w same)) (says_written Notation.jer jer_tree jer_writes a fit_w))
+    one tt (says_written Notation.jer jer_tree jer_writes a fit_v can_v)
+    (subst (λ d. Says Notation.jer s (Some (Tree.json d)) w) (sym (jer_data-same v w can_v can_w same)) (says_written Notation.jer jer_tree jer_writes a fit_w can_w))
 same_text Notation.avn s v w text a fit_v fit_w can_v can_w same =
-    one tt (says_written Notation.avn read_tree avn_writes a fit_v)
-    (subst (λ t. Says Notation.avn s (Some (Tree.avn t)) w) (sym (normal-same (avn_tree v) (avn_tree w) (well-formed a fit_v) (well-formed a fit_w) same)) (says_written Notation.avn read_tree avn_writes a fit_w))
+    one tt (says_written Notation.avn read_tree avn_writes a fit_v can_v)
+    (subst (λ t. Says Notation.avn s (Some (Tree.avn t)) w) (sym (normal-same (avn_tree v) (avn_tree w) (well-formed a fit_v can_v) (well-formed a fit_w can_w) same)) (says_written Notation.avn read_tree avn_writes a fit_w can_w))
 same_text Notation.other s v w text a fit_v fit_w can_v can_w same = absurd text

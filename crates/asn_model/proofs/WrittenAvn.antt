@@ -1,21 +1,30 @@
 -- What AVN writes is well formed, and is read as a tree that says the value.
-use Rattle.std.proofs.Common.{◌≡◌, refl, ap, sym, ◌∙◌, subst, ℕ, List, [], ◌∷◌, Bool, true, false, not, ◌&&◌, if◌then◌else◌, Some, None, Ok, Err}
+use Rattle.std.proofs.Common.{◌≡◌, refl, ap, sym, ◌∙◌, subst, arith, ℕ, ◌+◌, ◌/◌, List, [], ◌∷◌, length, Bool, true, false, not, ◌&&◌, if◌then◌else◌, Option, Some, None, Ok, Err}
 use Rattle.std.specs.Fmt.{signed_decimal}
 use Rattle.std.specs.Str.{bytes_eq}
+use Rattle.std.proofs.lemmas.Bool.{eqb-true, eq-eqb}
 use Rattle.std.proofs.lemmas.Slice.Eq.{bytes_eq-Decides}
 use Rattle.asn_base.specs.declared.codec.Codec.TheVariants.{Avn}
 use Rattle.asn_fault.specs.Stop.{Why}
 use Rattle.avn_grammar.specs.Tree.{Tree as AvnTree, Fields as AvnFields}
 use Rattle.avn_grammar.specs.Normal.{normal, normal_trees, normal_fields, braced}
-use Rattle.avn_grammar.specs.WellFormed.{is_identifier, is_keyword, is_well_formed, are_well_formed, are_fields_well_formed}
+use Rattle.avn_grammar.specs.Chars.{every}
+use Rattle.avn_grammar.specs.WellFormed.{is_identifier, is_keyword, is_arc, is_well_formed, are_well_formed, are_fields_well_formed}
+use Rattle.asn_base.specs.BitStrings.{padded}
+use Rattle.asn_base.specs.ObjectIdentifiers.{is_object_identifier}
+use Rattle.asn_model.specs.Arcs.{checked_identifier, listed_text}
 use Rattle.asn_model.specs.Canonical.{avn_tree, avn_trees, avn_fields}
-use Rattle.asn_model.specs.Leaf.{Blame, leaf, number_or, refined}
+use Rattle.asn_model.specs.Leaf.{Blame, leaf, number_or, or_blame, refined}
 use Rattle.asn_model.specs.Notation.{Notation}
 use Rattle.asn_model.specs.Readable.{is_readable, are_fields_readable, are_alternatives_readable, are_added_alternatives_readable, suits, has_alternative, are_told_apart, are_identifiers, are_words, are_apart}
 use Rattle.asn_model.specs.Shape.{Shape, Fields, Alternatives, Alphabet, all_items, all_alternatives, field_names, identifiers, tags, has_tag, tags_distinct, end_tag, are_distinct, is_item}
 use Rattle.asn_model.specs.Tree.{Tree, Slot, or_else, as_members, tree_slots, field_slot}
-use Rattle.asn_model.specs.Value.{Value, Values, Slots, Fits, FitsEach, FitsFields, FitsAlternative, is_leaf_of}
+use Rattle.asn_model.specs.Value.{Value, Values, Slots, Fits, FitsEach, FitsFields, FitsAlternative, is_leaf_of, is_same_size}
+use Rattle.asn_model.specs.Writable.{Writable, WritableEach, WritableSlots}
 use Rattle.asn_model.specs.Writes.{Writes, Finds, value_slots, slot_names}
+use Rattle.asn_model.proofs.ArcTexts.{braced-read}
+use Rattle.asn_model.proofs.BitsRead.{bits-read, padded-octets}
+use Rattle.asn_base.proofs.Padding.{length-padded}
 use Rattle.asn_model.proofs.Ranges.{inside}
 use Rattle.asn_model.proofs.Numerals.{number-read, number-form}
 use Rattle.asn_model.proofs.Readables.{and-left, and-right, and-both, unfolded-readable, fields_read}
@@ -25,19 +34,31 @@ use Rattle.asn_model.proofs.Written.{first_apart, rest_apart, none_named, others
 abbrev pub read_tree : Value → Tree
 read_tree v = Tree.avn (normal (avn_tree v))
 
-leaf-written : (s : Shape) (v : Value) → is_readable s ≡ true → is_leaf_of s v ≡ true → leaf Notation.avn s (read_tree v) ≡ Some (Ok v)
+same-size : (m n : Option ℕ) → is_same_size m n ≡ true → m ≡ n
+same-size None None e = refl
+same-size (Some m) (Some n) e = ap Some (eqb-true m n e)
+same-size None (Some n) e = no_leaf e
+same-size (Some m) None e = no_leaf e
+
+leaf-written : (s : Shape) (v : Value) → is_readable s ≡ true → is_leaf_of s v ≡ true → Writable Notation.avn v → leaf Notation.avn s (read_tree v) ≡ Some (Ok v)
 unfolding normal
-leaf-written Shape.null Value.null a e = refl
-leaf-written Shape.boolean (Value.boolean b) a e = refl
-leaf-written (Shape.int l g w) (Value.int k) a e =
+leaf-written Shape.null Value.null a e can = refl
+leaf-written Shape.boolean (Value.boolean b) a e can = refl
+leaf-written (Shape.int l g w) (Value.int k) a e can =
     let r = inside l g k e in
     let within = within_128_bits l g k a r.0 r.1 in
     ap (λ o. Some (refined Avn (Shape.int l g w) (number_or (Blame.because (Why.integer_parse_error (signed_decimal k))) o))) (number-read k within.0 within.1)
     ∙ ap (λ b. Some (if b then Ok (Value.int k) else Err (Blame.because (Why.integer_overflow w)))) e
-leaf-written (Shape.text Alphabet.utf8) (Value.text t) a e = refl
-leaf-written (Shape.enum items added) (Value.item i) a e = rw e refl
-leaf-written Shape.octets (Value.octets o) a e = refl
-leaf-written s v a e = no_leaf e
+leaf-written (Shape.text Alphabet.utf8) (Value.text t) a e can = refl
+leaf-written (Shape.enum items added) (Value.item i) a e can = rw e refl
+leaf-written Shape.octets (Value.octets o) a e can = refl
+leaf-written Shape.any (Value.octets o) a e can = refl
+leaf-written Shape.oid (Value.arcs arcs) a e can =
+    ap (λ o. Some (refined Avn Shape.oid (or_blame (checked_identifier o)))) (braced-read arcs (and-left (every is_arc arcs) (is_object_identifier arcs) e))
+    ∙ ap (λ b. Some (refined Avn Shape.oid (or_blame (if b then Ok (Value.arcs arcs) else Err (Why.invalid_oid (listed_text arcs)))))) (and-right (every is_arc arcs) (is_object_identifier arcs) e)
+leaf-written (Shape.bits m) (Value.bits bits n) a e can =
+    ap (λ r. Some (refined Avn (Shape.bits m) r)) (bits-read m bits) ∙ ap (λ k. Some (Ok (Value.bits bits k))) (same-size m n e)
+leaf-written s v a e can = no_leaf e
 
 items-written : (vs : Values) → tree_slots (normal_trees (avn_trees vs)) ≡ value_slots read_tree vs
 unfolding normal
@@ -122,50 +143,53 @@ word_of_item (n ∷ ns) i e h =
     (λ g. word_of_item ns i (and-right (is_identifier n && not (is_keyword n)) (are_words ns) e) g) h
 
 -- So is one of a shape whose values have no parts.
-leaf-formed : (s : Shape) (v : Value) → is_readable s ≡ true → is_leaf_of s v ≡ true → is_well_formed (avn_tree v) ≡ true
+leaf-formed : (s : Shape) (v : Value) → is_readable s ≡ true → is_leaf_of s v ≡ true → Writable Notation.avn v → is_well_formed (avn_tree v) ≡ true
 unfolding is_well_formed
-leaf-formed Shape.null Value.null a e = refl
-leaf-formed Shape.boolean (Value.boolean b) a e = refl
-leaf-formed (Shape.int l g w) (Value.int k) a e = let r = inside l g k e in let within = within_128_bits l g k a r.0 r.1 in number-form k within.0 within.1
-leaf-formed (Shape.text Alphabet.utf8) (Value.text t) a e = e
-leaf-formed (Shape.enum items added) (Value.item i) a e = word_of_item (all_items items added) i (and-left (are_words (all_items items added)) (are_distinct (all_items items added)) a) e
-leaf-formed Shape.octets (Value.octets o) a e = e
-leaf-formed s v a e = no_leaf e
+leaf-formed Shape.null Value.null a e can = refl
+leaf-formed Shape.boolean (Value.boolean b) a e can = refl
+leaf-formed (Shape.int l g w) (Value.int k) a e can = let r = inside l g k e in let within = within_128_bits l g k a r.0 r.1 in number-form k within.0 within.1
+leaf-formed (Shape.text Alphabet.utf8) (Value.text t) a e can = e
+leaf-formed (Shape.enum items added) (Value.item i) a e can = word_of_item (all_items items added) i (and-left (are_words (all_items items added)) (are_distinct (all_items items added)) a) e
+leaf-formed Shape.octets (Value.octets o) a e can = e
+leaf-formed Shape.any (Value.octets o) a e can = e
+leaf-formed Shape.oid (Value.arcs arcs) a e can = and-left (every is_arc arcs) (is_object_identifier arcs) e
+leaf-formed (Shape.bits m) (Value.bits bits n) a e can = and-both _ _ (padded-octets bits) (eq-eqb (length (padded bits)) ((length bits + 7) / 8) (omega (arith, length-padded bits)))
+leaf-formed s v a e can = no_leaf e
 
 mutual
   unfolding is_well_formed
 
-  -- The tree that AVN writes for a value of a shape that can be read is well formed.
-  pub well-formed : {s : Shape} {v : Value} → is_readable s ≡ true → Fits s v → is_well_formed (avn_tree v) ≡ true
-  well-formed a (Fits.fits_leaf {s} {v} e) = leaf-formed s v a e
-  well-formed a (Fits.fits_members {kind} {fs} {added} {ms} fit) = let read = fields_read kind fs added a in fields-formed read.spelled read.parts fit
-  well-formed a (Fits.fits_list fit) = each-formed a fit
-  well-formed a (Fits.fits_choice {alts} {added} {i} {v} fit) =
+  -- The tree that AVN writes for a value of a shape that can be read is well formed, where AVN can write the value.
+  pub well-formed : {s : Shape} {v : Value} → is_readable s ≡ true → Fits s v → Writable Notation.avn v → is_well_formed (avn_tree v) ≡ true
+  well-formed a (Fits.fits_leaf {s} {v} e) can = leaf-formed s v a e can
+  well-formed a (Fits.fits_members {kind} {fs} {added} {ms} fit) can = let read = fields_read kind fs added a in fields-formed read.spelled read.parts fit can
+  well-formed a (Fits.fits_list fit) can = each-formed a fit can
+  well-formed a (Fits.fits_choice {alts} {added} {i} {v} fit) can =
       let all = all_alternatives alts added in
       let names = has_alternative alts && are_told_apart all in
       let told = and-right (has_alternative alts) (are_told_apart all) (and-left names (are_alternatives_readable 0 alts && are_added_alternatives_readable 0 added) a) in
       let spelled = and-left (are_identifiers (identifiers all)) (are_apart (identifiers all)) (and-left (are_identifiers (identifiers all) && are_apart (identifiers all)) (tags_distinct (tags all) && not (has_tag (tags all) end_tag)) told) in
       let read = and-right names (are_alternatives_readable 0 alts && are_added_alternatives_readable 0 added) a in
       let parts = all_readable alts added (and-left (are_alternatives_readable 0 alts) (are_added_alternatives_readable 0 added) read) (and-right (are_alternatives_readable 0 alts) (are_added_alternatives_readable 0 added) read) in
-      alternative-formed spelled parts fit
-  well-formed a (Fits.fits_loop {b} fit) = well-formed (unfolded-readable b a) fit
+      alternative-formed spelled parts fit can
+  well-formed a (Fits.fits_loop {b} fit) can = well-formed (unfolded-readable b a) fit can
 
-  each-formed : {s : Shape} {vs : Values} → is_readable s ≡ true → FitsEach s vs → are_well_formed (avn_trees vs) ≡ true
-  each-formed a FitsEach.fits_none = refl
-  each-formed a (FitsEach.fits_one fit rest) = and-both _ _ (well-formed a fit) (each-formed a rest)
+  each-formed : {s : Shape} {vs : Values} → is_readable s ≡ true → FitsEach s vs → WritableEach Notation.avn vs → are_well_formed (avn_trees vs) ≡ true
+  each-formed a FitsEach.fits_none can = refl
+  each-formed a (FitsEach.fits_one fit rest) can = and-both _ _ (well-formed a fit can.0) (each-formed a rest can.1)
 
-  fields-formed : {fs : Fields} {ms : Slots} → are_identifiers (field_names fs) ≡ true → are_fields_readable 0 fs ≡ true → FitsFields fs ms → are_fields_well_formed (avn_fields ms) ≡ true
-  fields-formed i a FitsFields.fits_end = refl
-  fields-formed i a (FitsFields.fits_present {n = name} {p = p} {s = s} {fs = fs} fit kept rest) =
+  fields-formed : {fs : Fields} {ms : Slots} → are_identifiers (field_names fs) ≡ true → are_fields_readable 0 fs ≡ true → FitsFields fs ms → WritableSlots Notation.avn ms → are_fields_well_formed (avn_fields ms) ≡ true
+  fields-formed i a FitsFields.fits_end can = refl
+  fields-formed i a (FitsFields.fits_present {n = name} {p = p} {s = s} {fs = fs} fit kept rest) can =
       and-both _ _ (and-left (is_identifier name) (are_identifiers (field_names fs)) i)
-      (and-both _ _ (well-formed (and-right (suits p s) (is_readable s) (and-left (suits p s && is_readable s) (are_fields_readable 0 fs) a)) fit)
-      (fields-formed (and-right (is_identifier name) (are_identifiers (field_names fs)) i) (and-right (suits p s && is_readable s) (are_fields_readable 0 fs) a) rest))
-  fields-formed i a (FitsFields.fits_absent {n = name} {p = p} {s = s} {fs = fs} lack rest) =
+      (and-both _ _ (well-formed (and-right (suits p s) (is_readable s) (and-left (suits p s && is_readable s) (are_fields_readable 0 fs) a)) fit can.0)
+      (fields-formed (and-right (is_identifier name) (are_identifiers (field_names fs)) i) (and-right (suits p s && is_readable s) (are_fields_readable 0 fs) a) rest can.1))
+  fields-formed i a (FitsFields.fits_absent {n = name} {p = p} {s = s} {fs = fs} lack rest) can =
       and-both _ _ (and-left (is_identifier name) (are_identifiers (field_names fs)) i)
-      (fields-formed (and-right (is_identifier name) (are_identifiers (field_names fs)) i) (and-right (suits p s && is_readable s) (are_fields_readable 0 fs) a) rest)
+      (fields-formed (and-right (is_identifier name) (are_identifiers (field_names fs)) i) (and-right (suits p s && is_readable s) (are_fields_readable 0 fs) a) rest can)
 
-  alternative-formed : {alts : Alternatives} {i : List ℕ} {v : Value} → are_identifiers (identifiers alts) ≡ true → are_alternatives_readable 0 alts ≡ true → FitsAlternative alts i v → (is_identifier i && is_well_formed (avn_tree v)) ≡ true
-  alternative-formed e a (FitsAlternative.fits_here {i} {t} {s} {alts} fit) =
-      and-both _ _ (and-left (is_identifier i) (are_identifiers (identifiers alts)) e) (well-formed (and-left (is_readable s) (are_alternatives_readable 0 alts) a) fit)
-  alternative-formed e a (FitsAlternative.fits_later {i} {j} {t} {s} {alts} rest) =
-      alternative-formed (and-right (is_identifier j) (are_identifiers (identifiers alts)) e) (and-right (is_readable s) (are_alternatives_readable 0 alts) a) rest
+  alternative-formed : {alts : Alternatives} {i : List ℕ} {v : Value} → are_identifiers (identifiers alts) ≡ true → are_alternatives_readable 0 alts ≡ true → FitsAlternative alts i v → Writable Notation.avn v → (is_identifier i && is_well_formed (avn_tree v)) ≡ true
+  alternative-formed e a (FitsAlternative.fits_here {i} {t} {s} {alts} fit) can =
+      and-both _ _ (and-left (is_identifier i) (are_identifiers (identifiers alts)) e) (well-formed (and-left (is_readable s) (are_alternatives_readable 0 alts) a) fit can)
+  alternative-formed e a (FitsAlternative.fits_later {i} {j} {t} {s} {alts} rest) can =
+      alternative-formed (and-right (is_identifier j) (are_identifiers (identifiers alts)) e) (and-right (is_readable s) (are_alternatives_readable 0 alts) a) rest can

@@ -6,6 +6,8 @@ pub mod ShapeView
 pub mod Value
 pub mod Digits
 pub mod Tree
+pub mod Arcs
+pub mod BitLeaves
 pub mod Leaf
 pub mod Says
 pub mod Stops

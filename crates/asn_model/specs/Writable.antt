@@ -1,9 +1,10 @@
 -- What a notation can write, and why it cannot.
-use Rattle.std.specs.Prelude.{◌≡◌, ◌≤ℤ◌, ◌⊎◌, pos, negsuc, ℤ, ◌-◌, ◌^◌, true}
+use Rattle.std.specs.Prelude.{◌≡◌, ◌≤ℤ◌, ◌⊎◌, pos, negsuc, ℤ, ◌-◌, ◌^◌, length, true}
 use Rattle.std.specs.Str.{is_utf8}
 use Rattle.asn_fault.specs.Unwritten.{WhyUnwritten}
 use Rattle.asn_base.specs.declared.whole_number.WholeNumber.{WholeNumber}
 use Rattle.asn_base.specs.Numbers.{is_negative, magnitude}
+use Rattle.asn_model.specs.BitLeaves.{LengthStands, LengthBlocks}
 use Rattle.asn_model.specs.Notation.{Notation}
 use Rattle.asn_model.specs.Value.{Value, Values, Slots}
 
@@ -17,6 +18,7 @@ abbrev mutual
   pub Writable : Notation → Value → Type 0
   Writable n (Value.int k) = IntStands n k
   Writable n (Value.text t) = is_utf8 t ≡ true
+  Writable n (Value.bits bs size) = LengthStands n size (length bs)
   Writable n (Value.members ms) = WritableSlots n ms
   Writable n (Value.list vs) = WritableEach n vs
   Writable n (Value.choice i v) = Writable n v
@@ -41,6 +43,7 @@ abbrev mutual
   -- The first part of the value that the notation cannot write is refused so.
   pub Blocks : Notation → Value → WhyUnwritten → Type 0
   Blocks n (Value.int k) why = (IntStands n k → ⊥) × (why ≡ WhyUnwritten.exceeds_supported_int_size (whole k))
+  Blocks n (Value.bits bs size) why = LengthBlocks n size (length bs) why
   Blocks n (Value.members ms) why = BlocksSlots n ms why
   Blocks n (Value.list vs) why = BlocksEach n vs why
   Blocks n (Value.choice i v) why = Blocks n v why

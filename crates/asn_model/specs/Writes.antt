@@ -6,6 +6,7 @@ use Rattle.asn_model.specs.Readable.{is_readable}
 use Rattle.asn_model.specs.Shape.{Shape, are_distinct}
 use Rattle.asn_model.specs.Tree.{Tree, Slot, as_list, as_members, as_choice}
 use Rattle.asn_model.specs.Value.{Value, Values, Slots, is_leaf_of}
+use Rattle.asn_model.specs.Writable.{Writable}
 
 -- The trees of elements, as slots.
 abbrev pub value_slots : (Value → Tree) → Values → List Slot
@@ -24,9 +25,9 @@ Finds tree look Slots.no_slots = Unit {0}
 Finds tree look (Slots.absent n ms) = (look n ≡ None) × Finds tree look ms
 Finds tree look (Slots.present n v ms) = (look n ≡ Some (tree v)) × Finds tree look ms
 
--- Each value is written as a tree that says it.
+-- Each value that can be written is written as a tree that says it.
 pub record Writes (n : Notation) (tree : Value → Tree) : Type 0 where
-  pub leaf : (s : Shape) (v : Value) → is_readable s ≡ true → is_leaf_of s v ≡ true → leaf n s (tree v) ≡ Some (Ok v)
+  pub leaf : (s : Shape) (v : Value) → is_readable s ≡ true → is_leaf_of s v ≡ true → Writable n v → leaf n s (tree v) ≡ Some (Ok v)
   pub list : (vs : Values) → as_list n (tree (Value.list vs)) ≡ Some (value_slots tree vs)
   pub members : (ms : Slots) → are_distinct (slot_names ms) ≡ true → (look : List ℕ → Slot) × (as_members n (tree (Value.members ms)) ≡ Some look) × Finds tree look ms
   pub choice : (i : List ℕ) (v : Value) → as_choice n (tree (Value.choice i v)) ≡ Some (Some (i, tree v))

@@ -29,24 +29,27 @@ pub fn no_reason()
         → Says n s slot v → Stops n s slot p w → ⊥ }
 {}
 
-/// What is written for a value of a shape that can be read decodes to that value: in JER the JSON
-/// value that is written, and in AVN the normal form of what is written, which its text is read as.
+/// What is written for a value of a shape that can be read, which the notation can write, decodes to
+/// that value: in JER the JSON value that is written, and in AVN the normal form of what is written,
+/// which its text is read as.
 pub fn written_is_said()
     ensures jer { (s : Shape) (v : Value) → is_readable s ≡ true → Fits s v
+        → Writable Notation.jer v
         → Says Notation.jer s (Some (Tree.json (jer_data v))) v }
     ensures avn { (s : Shape) (v : Value) → is_readable s ≡ true → Fits s v
+        → Writable Notation.avn v
         → Says Notation.avn s (Some (Tree.avn (normal (avn_tree v)))) v }
 {}
 
-/// The text that AVN writes for a value of a shape that can be read is read as the normal form of
-/// its tree where that is no deeper than the limit, and else a value in it is nested beyond the
-/// limit.
+/// The text that AVN writes for a value of a shape that can be read, which it can write, is read as
+/// the normal form of its tree where that is no deeper than the limit, and else a value in it is
+/// nested beyond the limit.
 pub fn written_avn_is_read()
     ensures reads { (limit : ℕ) (s : Shape) (v : Value) → is_readable s ≡ true → Fits s v
-        → deepest 0 (avn_tree v) ≤ limit
+        → Writable Notation.avn v → deepest 0 (avn_tree v) ≤ limit
         → Reads limit (chars (canonical_text Notation.avn v)) (normal (avn_tree v)) }
     ensures deep { (limit : ℕ) (s : Shape) (v : Value) → is_readable s ≡ true → Fits s v
-        → limit < deepest 0 (avn_tree v) → Deep limit 0 (chars (canonical_text Notation.avn v)) }
+        → Writable Notation.avn v → limit < deepest 0 (avn_tree v) → Deep limit 0 (chars (canonical_text Notation.avn v)) }
 {}
 
 /// The JSON value that is written for a value nests no deeper than one that decodes to the value.

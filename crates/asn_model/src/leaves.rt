@@ -2,10 +2,10 @@
 ghost use Rattle.asn_model.specs.Leaf.{needed};
 ghost use Rattle.asn_model.specs.Notation.{notation_of};
 ghost use Rattle.avn_grammar.specs.Chars.{every};
-ghost use Rattle.avn_grammar.specs.WellFormed.{is_octet};
+ghost use Rattle.avn_grammar.specs.WellFormed.{is_octet, is_arc};
 ghost use Rattle.std.specs.Prelude.{true, ◌≡◌};
 
-use asn_base::{Codec, WholeNumber};
+use asn_base::{Bits, Codec, ObjectIdentifier, WholeNumber};
 
 /// The kinds of values without parts that the notations tell apart.
 #[derive(Clone, Copy)]
@@ -16,6 +16,12 @@ pub enum LeafKind {
     Text,
     Item,
     Octets,
+    /// A value of any type, as the octets of its encoding.
+    Any,
+    /// An object identifier.
+    Oid,
+    /// Bits, with the size that the type fixes, if it fixes one.
+    Bits(Option<usize>),
 }
 
 impl LeafKind {
@@ -31,6 +37,9 @@ impl LeafKind {
                 LeafKind::Text => "character string",
                 LeafKind::Item => "enumerated identifier",
                 LeafKind::Octets => "octet string ('...'H)",
+                LeafKind::Any => "octet string ('...'H)",
+                LeafKind::Oid => "OID as { arc... }",
+                LeafKind::Bits(_) => "bit string ('...'H or '...'B)",
             },
             _ => match self {
                 LeafKind::Null => "null",
@@ -39,6 +48,12 @@ impl LeafKind {
                 LeafKind::Text => "string",
                 LeafKind::Item => "enumerated item as string",
                 LeafKind::Octets => "hex string",
+                LeafKind::Any => "hex string",
+                LeafKind::Oid => "number array",
+                LeafKind::Bits(None) => {
+                    "JSON object containing 'value' and 'length' properties."
+                }
+                LeafKind::Bits(Some(_)) => "hex string",
             },
         }
     }
@@ -54,6 +69,10 @@ pub enum Leaf<'a> {
     /// The name of an item of an enumeration.
     Item(&'a str),
     Octets(&'a [u8]),
+    /// The arcs of an object identifier.
+    Arcs(&'a [u32]),
+    /// Bits, with the size that the type fixes, if it fixes one.
+    Bits(&'a Bits, Option<usize>),
 }
 
 /// A value without parts that was read.
@@ -67,6 +86,12 @@ pub enum OwnedLeaf {
     /// The name of an item of an enumeration, if it has one of that name.
     Item(String),
     Octets(Vec<u8>),
+    /// A value of any type, as the octets of its encoding.
+    Any(Vec<u8>),
+    /// An object identifier.
+    Oid(ObjectIdentifier),
+    /// Bits, with the size that the type fixes, if it fixes one.
+    Bits(Bits, Option<usize>),
 }
 
 /// Law: octets are below 256, as their type says.
@@ -74,4 +99,11 @@ pub fn are_octets(octets: &[u8])
     ensures { every is_octet octets.now ≡ true }
 {
     let _octets = octets;
+}
+
+/// Law: arcs are below 2^32, as their type says.
+pub fn are_arcs(arcs: &[u32])
+    ensures { every is_arc arcs.now ≡ true }
+{
+    let _arcs = arcs;
 }

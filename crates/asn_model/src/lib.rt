@@ -4,6 +4,8 @@
 //! (`shape_type`), the test of shapes (`readable`) and values without parts (`leaves`).
 #![tactic(auto)]
 
+mod arcs;
+mod fixed;
 pub mod laws;
 mod leaves;
 mod named;
@@ -11,7 +13,9 @@ mod readable;
 mod shape_type;
 mod tags;
 
-pub use leaves::{Leaf, LeafKind, OwnedLeaf, are_octets};
+pub use arcs::{arc_of, joined_arcs};
+pub use fixed::fixed_size;
+pub use leaves::{Leaf, LeafKind, OwnedLeaf, are_arcs, are_octets};
 pub use readable::is_readable;
 pub use shape_type::{
     Alphabet, AlternativeShape, FieldShape, Plain, PresenceShape, SeqKind, Shape,

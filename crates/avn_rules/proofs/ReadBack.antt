@@ -12,13 +12,14 @@ use Rattle.asn_traits.specs.Notation.{Notation}
 use Rattle.asn_traits.specs.Readable.{is_readable}
 use Rattle.asn_traits.specs.Shape.{Shape}
 use Rattle.asn_traits.specs.Value.{Value, Fits}
+use Rattle.asn_traits.specs.Writable.{Writable}
 use Rattle.asn_traits.proofs.WrittenAvn.{well-formed}
 use Rattle.avn_rules.specs.Text.{ReadsBack}
 
--- The canonical text of a value of a shape that can be read is read back.
-pub read_back : (s : Shape) (v : Value) (r : Result (String Global) EncodeError) → is_readable s ≡ true → Fits s v → IfOk r (λ t. string_bytes t ≡ canonical_text Notation.avn v) → IfOk r (λ t. ReadsBack v (string_bytes t))
-read_back s v (Ok t) a fit text = record {
-  again = λ within. subst (λ x. Reads LEVEL_LIMIT (chars x) (normal (avn_tree v))) (sym text) (reads_whole LEVEL_LIMIT 0 (avn_tree v) (well-formed a fit) within);
-  deep = λ above. subst (λ x. Deep LEVEL_LIMIT 0 (chars x)) (sym text) (sinks_whole LEVEL_LIMIT 0 (avn_tree v) (well-formed a fit) above);
+-- The canonical text of a value of a shape that can be read, which AVN can write, is read back.
+pub read_back : (s : Shape) (v : Value) (r : Result (String Global) EncodeError) → is_readable s ≡ true → Fits s v → Writable Notation.avn v → IfOk r (λ t. string_bytes t ≡ canonical_text Notation.avn v) → IfOk r (λ t. ReadsBack v (string_bytes t))
+read_back s v (Ok t) a fit can text = record {
+  again = λ within. subst (λ x. Reads LEVEL_LIMIT (chars x) (normal (avn_tree v))) (sym text) (reads_whole LEVEL_LIMIT 0 (avn_tree v) (well-formed a fit can) within);
+  deep = λ above. subst (λ x. Deep LEVEL_LIMIT 0 (chars x)) (sym text) (sinks_whole LEVEL_LIMIT 0 (avn_tree v) (well-formed a fit can) above);
 }
-read_back s v (Err e) a fit text = tt
+read_back s v (Err e) a fit can text = tt

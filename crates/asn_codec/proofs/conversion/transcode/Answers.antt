@@ -26,7 +26,7 @@ returns-in-Ok-encode_to_string-clause-read_again g c =
     let wrote = c.in-Ok-encode_to_string.ensures in
     λ v says shallow.
     let same = c.in-Ok.ensures.complete v says in
-    again (notation_of c.args.from) (notation_of c.args.to) s v c.args.input.now _ g.met.T.AsnType.readable (subst (Fits s) same wrote.fits)
+    again (notation_of c.args.from) (notation_of c.args.to) s v c.args.input.now _ g.met.T.AsnType.readable (subst (Fits s) same wrote.fits) (subst (Writable (notation_of c.args.to)) same wrote.writable)
     (subst (λ w. ReadsBack (notation_of c.args.to) w (string_bytes c.in-Ok-encode_to_string.text)) same wrote.reads_back) says shallow
 
 pub returns-in-Ok-encode_to_string-clause-too_deep : goal.returns-in-Ok-encode_to_string-clause-too_deep

@@ -5,6 +5,6 @@ use Rattle.asn_model.proofs.laws.written_is_said.Goals as goal
 
 pub returns : goal.returns
 returns c = record {
-  jer = λ s v a fit. says_written Notation.jer jer_tree jer_writes a fit;
-  avn = λ s v a fit. says_written Notation.avn read_tree avn_writes a fit;
+  jer = λ s v a fit can. says_written Notation.jer jer_tree jer_writes a fit can;
+  avn = λ s v a fit can. says_written Notation.avn read_tree avn_writes a fit can;
 }

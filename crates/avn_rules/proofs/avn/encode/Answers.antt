@@ -21,7 +21,7 @@ returns-clause-text g c =
     IfOk-weaker c.to_string.result _ _ (λ s text. let same : Some (canonical_text Notation.avn v) ≡ Some (string_bytes s) = text (Some v ∷ []) held in sym (cc same)) c.to_string.ensures.text
 
 pub returns-clause-reads_back : goal.returns-clause-reads_back
-returns-clause-reads_back g c = read_back g.T.AsnType.shape_of _ c.to_string.result g.met.T.AsnType.readable c.in_ok-encode.ensures.written.fit (returns-clause-text g c)
+returns-clause-reads_back g c = read_back g.T.AsnType.shape_of _ c.to_string.result g.met.T.AsnType.readable c.in_ok-encode.ensures.written.fit c.in_ok-encode.ensures.written.writable (returns-clause-text g c)
 
 pub returns-clause-refused : goal.returns-clause-refused
 returns-clause-refused g c =

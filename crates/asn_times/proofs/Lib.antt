@@ -6,3 +6,5 @@ pub mod ReadUtc
 pub mod ReadFractions
 pub mod ReadGeneralized
 pub mod Walks
+pub mod Meant
+pub mod AsciiTexts

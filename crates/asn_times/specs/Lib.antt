@@ -5,3 +5,4 @@ pub mod Moments
 pub mod Utc
 pub mod Generalized
 pub mod Written
+pub mod Meanings

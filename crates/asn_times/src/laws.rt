@@ -1,7 +1,8 @@
 //! The laws of the texts of times, each the contract of a function that does nothing.
-ghost use Rattle.std.specs.Prelude.{◌≡◌, ℕ, List, ℤ};
+ghost use Rattle.std.specs.Prelude.{◌≡◌, ◌↔◌, ℕ, List, ℤ, IsUtf8, Some};
 ghost use Rattle.asn_times.specs.Days.{DayReads, IsInDayYears};
 ghost use Rattle.asn_times.specs.Generalized.{GeneralizedReads, GeneralizedWritten, IsInGeneralizedYears};
+ghost use Rattle.asn_times.specs.Meanings.{day_of_text, generalized_of_text, utc_of_text};
 ghost use Rattle.asn_times.specs.Utc.{IsInUtcYears, UtcReads, UtcWritten};
 ghost use Rattle.asn_times.specs.Written.{day_text, generalized_text, utc_text};
 
@@ -53,4 +54,19 @@ pub fn one_generalized_moment()
 pub fn one_generalized_text()
     ensures { (n : ℤ) (text other : List ℕ)
         → GeneralizedWritten n text → GeneralizedWritten n other → text ≡ other }
+{}
+
+/// A text means what the functions from texts to numbers say.
+pub fn meanings_are_functions()
+    ensures day { (text : List ℕ) (n : ℤ) → DayReads text n ↔ (day_of_text text ≡ Some n) }
+    ensures utc { (text : List ℕ) (n : ℤ) → UtcReads text n ↔ (utc_of_text text ≡ Some n) }
+    ensures generalized { (text : List ℕ) (n : ℤ)
+        → GeneralizedReads text n ↔ (generalized_of_text text ≡ Some n) }
+{}
+
+/// The written texts are UTF-8.
+pub fn written_texts_are_utf8()
+    ensures day { (n : ℤ) → IsInDayYears n → IsUtf8 (day_text n) }
+    ensures utc { (n : ℤ) → IsInUtcYears n → IsUtf8 (utc_text n) }
+    ensures generalized { (n : ℤ) → IsInGeneralizedYears n → IsUtf8 (generalized_text n) }
 {}

@@ -1,5 +1,6 @@
 pub mod Meanings
 pub mod Readables
+pub mod StringFacts
 pub mod Written
 pub mod Viewing
 pub mod Numerals

@@ -2,13 +2,17 @@
 use Rattle.std.proofs.Common.{◌≡◌, refl, ap, sym, ◌∙◌, subst, arith, ℕ, suc, ◌≤◌, List, [], ◌∷◌, map, Bool, true, false, if◌then◌else◌, Option, Some, None, Result, Ok, Err, Ordering, Less, Equal, Greater, option_map}
 use Rattle.std.specs.Ordering.{nat_cmp, match_ordering}
 use Rattle.std.specs.Cmp.Lexicographic.{slice_cmp}
+use Rattle.std.specs.Str.{chars}
 use Rattle.hex.specs.Hex.{decode_of}
 use Rattle.hex.specs.declared.error.FromHexError.{FromHexError}
 use Rattle.asn_base.specs.declared.codec.Codec.TheVariants.{Jer}
+use Rattle.asn_base.specs.declared.tag.Tag.{Tag}
+use Rattle.asn_strings.specs.Alphabets.{is_bmp, place_outside}
 use Rattle.serde_json.specs.Data.{Data, Num, Items, Members, put, depth, items_depth, members_depth}
 use Rattle.serde_json.specs.Find.{get_member}
 use Rattle.asn_model.specs.Canonical.{jer_data, jer_items, jer_members}
-use Rattle.asn_model.specs.Leaf.{Blame, leaf, octets_or, as_leaf, kind_of, refine, refined}
+use Rattle.asn_model.specs.CharacterStrings.{alphabet_number, alphabet_of, bmp_number, universal_tag}
+use Rattle.asn_model.specs.Leaf.{Blame, leaf, octets_or, as_leaf, kind_of, refine, refined, within_alphabet}
 use Rattle.asn_model.specs.Notation.{Notation}
 use Rattle.asn_model.specs.Range.{is_between}
 use Rattle.asn_model.specs.Says.{Says, SaysEach, SaysFields}
@@ -82,9 +86,15 @@ tested-flat : (b : Bool) (v : Value) (blame : Blame) → depth (jer_data v) ≡ 
 tested-flat true v blame e = e
 tested-flat false v blame e = refl
 
+placed-flat : (tag : Tag) (v : Value) (place : Option ℕ) → depth (jer_data v) ≡ 0 → answer_depth (within_alphabet tag v place) ≡ 0
+placed-flat tag v None e = e
+placed-flat tag v (Some place) e = refl
+
 refine-flat : (s : Shape) (v : Value) → depth (jer_data v) ≡ 0 → answer_depth (refine Jer s v) ≡ 0
 refine-flat (Shape.int l g w) (Value.int n) e = tested-flat (is_between l g n) (Value.int n) _ e
 refine-flat (Shape.enum items added) (Value.item i) e = tested-flat (is_item (all_items items added) i) (Value.item i) _ e
+refine-flat (Shape.text a) (Value.text t) e = placed-flat (universal_tag (alphabet_number a)) (Value.text t) (place_outside (alphabet_of a) (chars t)) e
+refine-flat Shape.bmp (Value.text t) e = placed-flat (universal_tag bmp_number) (Value.units (chars t)) (place_outside is_bmp (chars t)) refl
 refine-flat s v e = e
 
 refined-flat : (s : Shape) (r : Result Value Blame) → answer_depth r ≡ 0 → answer_depth (refined Jer s r) ≡ 0

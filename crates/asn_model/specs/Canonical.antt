@@ -7,6 +7,7 @@ use Rattle.serde_json.specs.Written.{compact_text}
 use Rattle.avn_grammar.specs.Tree.{Tree as AvnTree, Trees as AvnTrees, Fields as AvnFields}
 use Rattle.hex.specs.Hex.{encode_upper}
 use Rattle.avn_grammar.specs.Print.{print}
+use Rattle.asn_strings.specs.Units.{text_of_units}
 use Rattle.asn_model.specs.Notation.{Notation}
 use Rattle.asn_model.specs.Tree.{Tree}
 use Rattle.asn_model.specs.Value.{Value, Values, Slots}
@@ -17,6 +18,7 @@ abbrev mutual
   jer_data (Value.boolean b) = Data.boolean b
   jer_data (Value.int n) = Data.number (of_integer n)
   jer_data (Value.text t) = Data.string t
+  jer_data (Value.units u) = Data.string (text_of_units u)
   jer_data (Value.item i) = Data.string i
   jer_data (Value.octets o) = Data.string (encode_upper o)
   jer_data (Value.members ms) = Data.object (jer_members ms)
@@ -41,6 +43,7 @@ abbrev mutual
   avn_tree (Value.boolean b) = AvnTree.boolean b
   avn_tree (Value.int n) = AvnTree.integer (signed_decimal n)
   avn_tree (Value.text t) = AvnTree.char_string t
+  avn_tree (Value.units u) = AvnTree.char_string (text_of_units u)
   avn_tree (Value.item i) = AvnTree.enumerated i
   avn_tree (Value.octets o) = AvnTree.octet_string o
   avn_tree (Value.members ms) = AvnTree.sequence (avn_fields ms)

@@ -1,6 +1,6 @@
 -- What a tree says by a shape whose values have no parts, and why it says nothing.
 use Rattle.std.specs.Prelude.{◌≡◌, ◌≤◌, ◌^◌, ℕ, ℤ, pos, List, Option, Some, None, Result, Ok, Err, Bool, false, if◌then◌else◌, option_map, codes, string_bytes}
-use Rattle.std.specs.Str.{is_utf8}
+use Rattle.std.specs.Str.{chars, is_utf8}
 use Rattle.serde_json.specs.Data.{Data, Num}
 use Rattle.serde_json.specs.Written.{compact_text, has_float}
 use Rattle.avn_grammar.specs.Tree.{Tree as AvnTree}
@@ -10,11 +10,14 @@ use Rattle.hex.specs.declared.error.FromHexError.{FromHexError}
 use Rattle.asn_base.specs.Numbers.{signed}
 use Rattle.asn_base.specs.declared.codec.Codec.{Codec}
 use Rattle.asn_base.specs.declared.codec.Codec.TheVariants.{Jer, Avn}
+use Rattle.asn_base.specs.declared.tag.Tag.{Tag}
 use Rattle.asn_fault.specs.Stop.{Why}
+use Rattle.asn_strings.specs.Alphabets.{is_bmp, place_outside}
+use Rattle.asn_model.specs.CharacterStrings.{alphabet_number, alphabet_of, bmp_number, outside_alphabet, universal_tag}
 use Rattle.asn_model.specs.Digits.{signed_number}
 use Rattle.asn_model.specs.Notation.{Notation}
 use Rattle.asn_model.specs.Range.{is_between}
-use Rattle.asn_model.specs.Shape.{Shape, Alphabet, all_items, is_item}
+use Rattle.asn_model.specs.Shape.{Shape, all_items, is_item}
 use Rattle.asn_model.specs.Tree.{Tree}
 use Rattle.asn_model.specs.Value.{Value}
 use Rattle.asn_model.specs.declared.leaves.LeafKind.{LeafKind}
@@ -114,15 +117,23 @@ abbrev pub kind_of : Shape → Option LeafKind
 kind_of Shape.null = Some Null
 kind_of Shape.boolean = Some Boolean
 kind_of (Shape.int least greatest width) = Some Number
-kind_of (Shape.text Alphabet.utf8) = Some Text
+kind_of (Shape.text a) = Some Text
+kind_of Shape.bmp = Some Text
 kind_of (Shape.enum items added) = Some Item
 kind_of Shape.octets = Some Octets
 kind_of s = None
+
+-- The value, unless a character is outside the alphabet of the type with this universal tag, after so many characters.
+abbrev pub within_alphabet : Tag → Value → Option ℕ → Result Value Blame
+within_alphabet tag v None = Ok v
+within_alphabet tag v (Some place) = Err (Blame.because (outside_alphabet tag place))
 
 -- The value of the shape that a value of its kind is, or why it is none.
 abbrev pub refine : Codec → Shape → Value → Result Value Blame
 refine c (Shape.int least greatest width) (Value.int n) = if is_between least greatest n then Ok (Value.int n) else Err (Blame.because (Why.integer_overflow width))
 refine c (Shape.enum items added) (Value.item i) = if is_item (all_items items added) i then Ok (Value.item i) else Err (Blame.because (Why.invalid_enum_discriminant c i))
+refine c (Shape.text a) (Value.text t) = within_alphabet (universal_tag (alphabet_number a)) (Value.text t) (place_outside (alphabet_of a) (chars t))
+refine c Shape.bmp (Value.text t) = within_alphabet (universal_tag bmp_number) (Value.units (chars t)) (place_outside is_bmp (chars t))
 refine c s v = Ok v
 
 -- The same, of an answer.

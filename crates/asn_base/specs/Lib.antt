@@ -1,4 +1,6 @@
+pub mod BitStrings
 pub mod Numbers
+pub mod ObjectIdentifiers
 pub mod Tags
 pub mod Texts
 pub mod Seen

@@ -1,5 +1,5 @@
 -- Compact texts tell JSON values apart, where each number is one that JER has.
-use Rattle.std.proofs.Common.{◌≡◌, ◌<◌, ◌^◌, ℕ, ℤ, pos, negsuc, suc, max, List, [], ◌∷◌, ◌++◌, get_or, ◌==◌, false, Option, Some, None, unwrap_or, decimal, refl, sym, ap, ◌∙◌, subst, arith, Ordering, Less, Equal, Greater}
+use Rattle.std.proofs.Common.{◌≡◌, ◌<◌, ◌^◌, ℕ, ℤ, pos, negsuc, suc, max, List, [], ◌∷◌, ◌++◌, get_or, length, ◌==◌, false, Option, Some, None, unwrap_or, decimal, refl, sym, ap, ◌∙◌, subst, arith, Ordering, Less, Equal, Greater}
 use Rattle.std.proofs.lemmas.Bool.{ne_eqb}
 use Rattle.std.proofs.lemmas.Fmt.{first_decimal}
 use Rattle.std.proofs.lemmas.Int.{ints}
@@ -143,9 +143,13 @@ put-whole n d Members.no_members h k = (h, tt)
 put-whole n d (Members.member m e ms) h k =
     ordered-whole (slice_cmp nat_cmp n m) (Members.member n d (Members.member m e ms)) (Members.member m d ms) (Members.member m e (put n d ms)) (h, k) (h, k.1) (k.0, put-whole n d ms h k.1)
 
+length-stands : (n : ℕ) → n < 2 ^ 64 → IntStands Notation.jer (pos n)
+length-stands n h = (omega (arith, ints), omega (arith, ints, h))
+
 mutual
   written-whole : (v : Value) → Writable Notation.jer v → IsWhole (jer_data v)
   written-whole (Value.int k) h = (k, refl, h)
+  written-whole (Value.bits bits None) h = ((pos (length bits), refl, length-stands (length bits) h), (tt, tt))
   written-whole (Value.members ms) h = slots-whole ms h
   written-whole (Value.list vs) h = each-whole vs h
   written-whole (Value.choice i v) h = (written-whole v h, tt)

@@ -1,9 +1,15 @@
 pub mod Meanings
 pub mod Readables
 pub mod StringFacts
+pub mod TimeFacts
 pub mod Written
 pub mod Viewing
 pub mod Numerals
+pub mod ArcTexts
+pub mod ArcsParsed
+pub mod Elements
+pub mod Joining
+pub mod BitsRead
 pub mod WrittenAvn
 pub mod JerTexts
 pub mod Nesting

@@ -1,18 +1,28 @@
 -- What JER writes nests no deeper than what it read.
-use Rattle.std.proofs.Common.{◌≡◌, refl, ap, sym, ◌∙◌, subst, arith, ℕ, suc, ◌≤◌, List, [], ◌∷◌, map, Bool, true, false, if◌then◌else◌, Option, Some, None, Result, Ok, Err, Ordering, Less, Equal, Greater, option_map}
+use Rattle.std.proofs.Common.{◌≡◌, refl, ap, subst, arith, ℕ, ℤ, suc, ◌≤◌, List, [], ◌∷◌, map, length, ◌==◌, Bool, true, false, if◌then◌else◌, Option, Some, None, Result, Ok, Err, Ordering, Less, Equal, Greater, option_map}
 use Rattle.std.specs.Ordering.{nat_cmp, match_ordering}
 use Rattle.std.specs.Cmp.Lexicographic.{slice_cmp}
 use Rattle.std.specs.Str.{chars}
+use Rattle.std.specs.List.{slice_split}
+use Rattle.std.specs.Prelude.{codes, option_and_then}
+use Rattle.std.specs.Int.{div_ceil}
 use Rattle.hex.specs.Hex.{decode_of}
 use Rattle.hex.specs.declared.error.FromHexError.{FromHexError}
+use Rattle.asn_base.specs.BitStrings.{bits_of}
+use Rattle.asn_base.specs.ObjectIdentifiers.{is_object_identifier}
 use Rattle.asn_base.specs.declared.codec.Codec.TheVariants.{Jer}
 use Rattle.asn_base.specs.declared.tag.Tag.{Tag}
 use Rattle.asn_strings.specs.Alphabets.{is_bmp, place_outside}
+use Rattle.asn_times.specs.Meanings.{day_of_text, generalized_of_text, utc_of_text}
+use Rattle.asn_fault.specs.Stop.{Why}
 use Rattle.serde_json.specs.Data.{Data, Num, Items, Members, put, depth, items_depth, members_depth}
-use Rattle.serde_json.specs.Find.{get_member}
+use Rattle.serde_json.specs.Find.{as_str, get_member}
+use Rattle.serde_json.specs.Written.{compact_text}
 use Rattle.asn_model.specs.Canonical.{jer_data, jer_items, jer_members}
 use Rattle.asn_model.specs.CharacterStrings.{alphabet_number, alphabet_of, bmp_number, universal_tag}
-use Rattle.asn_model.specs.Leaf.{Blame, leaf, octets_or, as_leaf, kind_of, refine, refined, within_alphabet}
+use Rattle.asn_model.specs.Arcs.{arc_numbers, identifier_or}
+use Rattle.asn_model.specs.BitLeaves.{no_bits, sized_bits}
+use Rattle.asn_model.specs.Leaf.{Blame, leaf, declared_bits, length_in, octets_or, or_blame, as_leaf, kind_of, refine, refined, time_or, within_alphabet}
 use Rattle.asn_model.specs.Notation.{Notation}
 use Rattle.asn_model.specs.Range.{is_between}
 use Rattle.asn_model.specs.Says.{Says, SaysEach, SaysFields}
@@ -20,7 +30,7 @@ use Rattle.asn_model.specs.Shape.{Shape, Fields, all_fields, is_item, all_items,
 use Rattle.asn_model.specs.Tree.{Tree, Slot, as_list, as_members, as_choice, item_slots, member_slot}
 use Rattle.asn_model.specs.Value.{Value, Values, Slots, is_kept}
 use Rattle.asn_model.specs.declared.leaves.LeafKind.{LeafKind}
-use Rattle.asn_model.specs.declared.leaves.LeafKind.TheVariants.{Null, Boolean, Number, Text, Item, Octets}
+use Rattle.asn_model.specs.declared.leaves.LeafKind.TheVariants.{Null, Boolean, Number, Text, Time, Date, Item, Octets, Any, Oid, Bits}
 
 -- How deep a tree of JSON nests.
 abbrev tree_depth : Tree → ℕ
@@ -72,41 +82,81 @@ octets-flat : (r : Result (List ℕ) FromHexError) → answer_depth (octets_or r
 octets-flat (Ok o) = refl
 octets-flat (Err e) = refl
 
-kind-flat : (k : LeafKind) (t : Tree) → answer_depth (as_leaf Notation.jer k t) ≡ 0
-kind-flat Null (Tree.json Data.null) = refl
-kind-flat Boolean (Tree.json (Data.boolean b)) = refl
-kind-flat Number (Tree.json (Data.number (Num.unsigned n))) = refl
-kind-flat Number (Tree.json (Data.number (Num.negative z))) = refl
-kind-flat Text (Tree.json (Data.string x)) = refl
-kind-flat Item (Tree.json (Data.string x)) = refl
-kind-flat Octets (Tree.json (Data.string x)) = octets-flat (decode_of x)
-kind-flat k t = refl
+-- The bits of a fixed size are a text, and other bits an object of a number and a text.
+size-depth : (size : Option ℕ) (bits : List Bool) → depth (jer_data (Value.bits bits size)) ≤ 1
+size-depth None bits = omega arith
+size-depth (Some n) bits = omega arith
 
-tested-flat : (b : Bool) (v : Value) (blame : Blame) → depth (jer_data v) ≡ 0 → answer_depth (if b then Ok v else Err blame) ≡ 0
-tested-flat true v blame e = e
-tested-flat false v blame e = refl
+sized-depth : (b : Bool) (size : Option ℕ) (bits : List Bool) (why : Why) (n : ℕ) → depth (jer_data (Value.bits bits size)) ≤ n → answer_depth (or_blame (if b then Ok (Value.bits bits size) else Err why)) ≤ n
+sized-depth true size bits why n h = h
+sized-depth false size bits why n h = omega arith
 
-placed-flat : (tag : Tag) (v : Value) (place : Option ℕ) → depth (jer_data v) ≡ 0 → answer_depth (within_alphabet tag v place) ≡ 0
-placed-flat tag v None e = e
-placed-flat tag v (Some place) e = refl
+-- Bits nest no deeper than what is written for them.
+bits-depth : (size : Option ℕ) (k : ℕ) (bad : Why) (r : Result (List ℕ) FromHexError) (n : ℕ) → ((bits : List Bool) → depth (jer_data (Value.bits bits size)) ≤ n) → answer_depth (or_blame (sized_bits size k bad r)) ≤ n
+bits-depth size k bad (Ok o) n h = sized-depth (length o == div_ceil k 8) size (bits_of o k) _ n (h (bits_of o k))
+bits-depth size k bad (Err e) n h = omega arith
 
-refine-flat : (s : Shape) (v : Value) → depth (jer_data v) ≡ 0 → answer_depth (refine Jer s v) ≡ 0
-refine-flat (Shape.int l g w) (Value.int n) e = tested-flat (is_between l g n) (Value.int n) _ e
-refine-flat (Shape.enum items added) (Value.item i) e = tested-flat (is_item (all_items items added) i) (Value.item i) _ e
-refine-flat (Shape.text a) (Value.text t) e = placed-flat (universal_tag (alphabet_number a)) (Value.text t) (place_outside (alphabet_of a) (chars t)) e
-refine-flat Shape.bmp (Value.text t) e = placed-flat (universal_tag bmp_number) (Value.units (chars t)) (place_outside is_bmp (chars t)) refl
-refine-flat s v e = e
+declared-depth : (digits : Option (List ℕ)) (size : Option ℕ) (n : ℕ) → 1 ≤ n → answer_depth (declared_bits digits size) ≤ n
+declared-depth (Some x) (Some k) n h = bits-depth None k no_bits (decode_of x) n (λ bits. omega (arith, size-depth None bits, h))
+declared-depth digits size n h = omega arith
 
-refined-flat : (s : Shape) (r : Result Value Blame) → answer_depth r ≡ 0 → answer_depth (refined Jer s r) ≡ 0
-refined-flat s (Ok v) e = refine-flat s v e
-refined-flat s (Err b) e = refl
+tested-flat : (b : Bool) (v : Value) (blame : Blame) (n : ℕ) → depth (jer_data v) ≤ n → answer_depth (if b then Ok v else Err blame) ≤ n
+tested-flat true v blame n h = h
+tested-flat false v blame n h = omega arith
 
-leaf-flat : (s : Shape) (t : Tree) → leaf_depth (leaf Notation.jer s t) ≡ 0
+identifier-depth : (why : Why) (o : Option (List ℕ)) → answer_depth (or_blame (identifier_or why o)) ≡ 0
+identifier-depth why None = refl
+identifier-depth why (Some arcs) = by (is_object_identifier arcs)
+  where
+    by : (b : Bool) → answer_depth (or_blame (if b then Ok (Value.arcs arcs) else Err why)) ≡ 0
+    by true = refl
+    by false = refl
+
+-- A value without parts nests no deeper than the tree that is it.
+kind-flat : (k : LeafKind) (t : Tree) → answer_depth (as_leaf Notation.jer k t) ≤ tree_depth t
+kind-flat Null (Tree.json Data.null) = omega arith
+kind-flat Boolean (Tree.json (Data.boolean b)) = omega arith
+kind-flat Number (Tree.json (Data.number (Num.unsigned n))) = omega arith
+kind-flat Number (Tree.json (Data.number (Num.negative z))) = omega arith
+kind-flat Text (Tree.json (Data.string x)) = omega arith
+kind-flat Time (Tree.json (Data.string x)) = omega arith
+kind-flat Date (Tree.json (Data.string x)) = omega arith
+kind-flat Item (Tree.json (Data.string x)) = omega arith
+kind-flat Octets (Tree.json (Data.string x)) = omega (arith, octets-flat (decode_of x))
+kind-flat Any (Tree.json (Data.string x)) = omega (arith, octets-flat (decode_of x))
+kind-flat Oid (Tree.json (Data.string x)) = omega (arith, identifier-depth (Why.invalid_oid_string (compact_text (Data.string x))) (arc_numbers (slice_split (λ c. c == 46) x)))
+kind-flat (Bits None) (Tree.json (Data.object ms)) = declared-depth (option_and_then as_str (get_member (codes "value") ms)) (option_and_then length_in (get_member (codes "length") ms)) _ (omega arith)
+kind-flat (Bits (Some size)) (Tree.json (Data.string x)) = bits-depth (Some size) size Why.invalid_jer_octet_string (decode_of x) 0 (λ bits. omega arith)
+kind-flat k t = omega arith
+
+placed-flat : (tag : Tag) (v : Value) (place : Option ℕ) (n : ℕ) → depth (jer_data v) ≤ n → answer_depth (within_alphabet tag v place) ≤ n
+placed-flat tag v None n h = h
+placed-flat tag v (Some place) n h = omega arith
+
+timed-flat : (text : List ℕ) (value : ℤ → Value) (o : Option ℤ) (n : ℕ) → ((k : ℤ) → depth (jer_data (value k)) ≤ n) → answer_depth (time_or text value o) ≤ n
+timed-flat text value None n h = omega arith
+timed-flat text value (Some k) n h = h k
+
+refine-flat : (s : Shape) (v : Value) (n : ℕ) → depth (jer_data v) ≤ n → answer_depth (refine Jer s v) ≤ n
+refine-flat (Shape.int l g w) (Value.int k) n h = tested-flat (is_between l g k) (Value.int k) _ n h
+refine-flat (Shape.enum items added) (Value.item i) n h = tested-flat (is_item (all_items items added) i) (Value.item i) _ n h
+refine-flat (Shape.text a) (Value.text t) n h = placed-flat (universal_tag (alphabet_number a)) (Value.text t) (place_outside (alphabet_of a) (chars t)) n h
+refine-flat Shape.bmp (Value.text t) n h = placed-flat (universal_tag bmp_number) (Value.units (chars t)) (place_outside is_bmp (chars t)) n h
+refine-flat Shape.utc (Value.text t) n h = timed-flat t Value.utc (utc_of_text t) n (λ k. h)
+refine-flat Shape.gen (Value.text t) n h = timed-flat t Value.gen (generalized_of_text t) n (λ k. h)
+refine-flat Shape.day (Value.text t) n h = timed-flat t Value.day (day_of_text t) n (λ k. h)
+refine-flat s v n h = h
+
+refined-flat : (s : Shape) (r : Result Value Blame) (n : ℕ) → answer_depth r ≤ n → answer_depth (refined Jer s r) ≤ n
+refined-flat s (Ok v) n h = refine-flat s v n h
+refined-flat s (Err b) n h = omega arith
+
+leaf-flat : (s : Shape) (t : Tree) → leaf_depth (leaf Notation.jer s t) ≤ tree_depth t
 leaf-flat s t = by (kind_of s)
   where
-    by : (o : Option LeafKind) → leaf_depth (option_map (λ k. refined Jer s (as_leaf Notation.jer k t)) o) ≡ 0
-    by None = refl
-    by (Some k) = refined-flat s (as_leaf Notation.jer k t) (kind-flat k t)
+    by : (o : Option LeafKind) → leaf_depth (option_map (λ k. refined Jer s (as_leaf Notation.jer k t)) o) ≤ tree_depth t
+    by None = omega arith
+    by (Some k) = refined-flat s (as_leaf Notation.jer k t) (tree_depth t) (kind-flat k t)
 
 no_list : {A : Type 0} {P : Type 0} {x : A} → ◌≡◌ {A = Option A} None (Some x) → P
 no_list e = cc e
@@ -159,7 +209,7 @@ no_other e = cc e
 mutual
   -- What JER writes for a value that a slot says nests no deeper than the slot's tree.
   pub says-depth : {s : Shape} {slot : Slot} {v : Value} → Says Notation.jer s slot v → depth (jer_data v) ≤ slot_depth slot
-  says-depth (Says.says_leaf s t v e) = let flat : depth (jer_data v) ≡ 0 = sym (ap leaf_depth e) ∙ leaf-flat s t in omega (arith, flat)
+  says-depth (Says.says_leaf s t v e) = subst (λ o. leaf_depth o ≤ tree_depth t) e (leaf-flat s t)
   says-depth (Says.says_seq kind fs more t look vs e h) =
       let o = members-opened t look e in
       let below = fields-depth o.inner h (looked-within look o.inner o.parts (field_names (all_fields fs more))) in omega (arith, below, o.outer)

@@ -1,22 +1,31 @@
 -- What is written says the value that was written.
-use Rattle.std.proofs.Common.{◌≡◌, refl, ap, sym, ◌∙◌, subst, arith, ℕ, zero, suc, ◌<◌, nat_lt, slice_index, [], ◌-◌, ◌^◌, ℤ, pos, negsuc, ◌≤ℤ◌, List, ◌∷◌, map, Bool, true, false, not, ◌&&◌, if◌then◌else◌, Some, None, Ok}
+use Rattle.std.proofs.Common.{◌≡◌, refl, ap, sym, ◌∙◌, subst, arith, ℕ, zero, suc, ◌<◌, nat_lt, slice_index, [], ◌-◌, ◌^◌, ℤ, pos, negsuc, ◌≤ℤ◌, List, ◌∷◌, map, Bool, true, false, not, ◌&&◌, if◌then◌else◌, Option, Some, None, Ok, Err, length}
 use Rattle.std.specs.Prelude.{option_map}
 use Rattle.std.specs.Int.Signed.{lt_z_no}
 use Rattle.std.proofs.lemmas.Float.{T_from_true}
-use Rattle.std.proofs.lemmas.Bool.{ltb-true}
+use Rattle.std.proofs.lemmas.Bool.{ltb-true, eqb-true, eq-eqb}
 use Rattle.std.proofs.lemmas.Int.{ints}
 use Rattle.std.specs.Str.{bytes_eq}
 use Rattle.std.specs.Char.{to_ascii_lowercase}
 use Rattle.std.proofs.lemmas.Slice.Eq.{bytes_eq-Decides}
 use Rattle.serde_json.specs.Data.{Data, Members, put}
 use Rattle.serde_json.specs.Find.{get_member}
+use Rattle.serde_json.specs.Written.{compact_text}
 use Rattle.serde_json.proofs.Views.{get_member-put, get_member-put_other}
 use Rattle.asn_base.specs.declared.codec.Codec.TheVariants.{Jer}
 use Rattle.hex.proofs.HexLemmas.{decode_of-encode_upper}
+use Rattle.hex.specs.Hex.{decode_of, encode_upper}
 use Rattle.avn_grammar.specs.Chars.{every}
-use Rattle.avn_grammar.specs.WellFormed.{is_octet}
+use Rattle.avn_grammar.specs.WellFormed.{is_octet, is_arc}
+use Rattle.std.specs.Int.{div_ceil}
+use Rattle.asn_base.specs.BitStrings.{bits_of, padded}
+use Rattle.asn_base.specs.ObjectIdentifiers.{is_object_identifier}
+use Rattle.asn_base.proofs.Padding.{first-padded, length-padded}
+use Rattle.asn_fault.specs.Stop.{Why}
+use Rattle.asn_model.specs.Arcs.{dotted_text, identifier_or}
+use Rattle.asn_model.specs.BitLeaves.{another_length, no_bits, sized_bits}
 use Rattle.asn_model.specs.Canonical.{jer_data, jer_items, jer_members}
-use Rattle.asn_model.specs.Leaf.{leaf, octets_or, refined}
+use Rattle.asn_model.specs.Leaf.{leaf, octets_or, or_blame, refined}
 use Rattle.asn_model.specs.Notation.{Notation}
 use Rattle.asn_model.specs.Readable.{is_readable, are_fields_readable, are_alternatives_readable, are_added_alternatives_readable, suits, has_alternative, are_told_apart, are_identifiers, are_apart, has_identifier, has_128_bits}
 use Rattle.asn_model.specs.Range.{at_most}
@@ -26,8 +35,11 @@ use Rattle.asn_model.specs.Tree.{Tree, Slot, item_slots, member_slot, same_ident
 use Rattle.asn_model.specs.Value.{Value, Values, Slots, Fits, FitsEach, FitsFields, FitsAlternative, is_leaf_of}
 use Rattle.asn_model.specs.Writable.{Writable, WritableEach, WritableSlots}
 use Rattle.asn_model.specs.Writes.{Writes, Finds, value_slots, slot_names}
+use Rattle.asn_model.proofs.ArcTexts.{dotted-read}
+use Rattle.asn_model.proofs.BitsRead.{padded-octets}
 use Rattle.asn_model.proofs.Readables.{and-left, and-right, and-both, unfolded-readable, fields_read}
 use Rattle.asn_model.proofs.StringFacts.{string_kept, units_kept}
+use Rattle.asn_model.proofs.TimeFacts.{day_kept, generalized_kept, utc_kept}
 
 slot_names-fields : {fs : Fields} {ms : Slots} → FitsFields fs ms → slot_names ms ≡ field_names fs
 slot_names-fields FitsFields.fits_end = refl
@@ -135,6 +147,15 @@ octets-bytes [] e i = omega arith
 octets-bytes (b ∷ bs) e zero = ltb-true b 256 (and-left (nat_lt b 256) (every is_octet bs) e)
 octets-bytes (b ∷ bs) e (suc i) = octets-bytes bs (and-right (nat_lt b 256) (every is_octet bs) e) i
 
+-- The digits of bits say these bits.
+sized-read : (mark : Option ℕ) (bad : Why) (bits : List Bool) → sized_bits mark (length bits) bad (decode_of (encode_upper (padded bits))) ≡ Ok (Value.bits bits mark)
+sized-read mark bad bits =
+    let n = length bits in
+    let octets = padded bits in
+    ap (sized_bits mark n bad) (decode_of-encode_upper octets (octets-bytes octets (padded-octets bits)))
+    ∙ ap (λ b. if b then Ok (Value.bits (bits_of octets n) mark) else Err (another_length (length octets) n)) (eq-eqb (length octets) (div_ceil n 8) (length-padded bits))
+    ∙ ap (λ l. Ok (Value.bits l mark)) (first-padded bits)
+
 leaf-written : (s : Shape) (v : Value) → is_readable s ≡ true → is_leaf_of s v ≡ true → Writable Notation.jer v → leaf Notation.jer s (jer_tree v) ≡ Some (Ok v)
 leaf-written Shape.null Value.null a e can = refl
 leaf-written Shape.boolean (Value.boolean b) a e can = refl
@@ -142,8 +163,23 @@ leaf-written (Shape.int l g w) (Value.int (pos m)) a e can = rw e refl
 leaf-written (Shape.int l g w) (Value.int (negsuc m)) a e can = rw e refl
 leaf-written (Shape.text alphabet) (Value.text t) a e can = ap Some (string_kept Jer alphabet t can e)
 leaf-written Shape.bmp (Value.units u) a e can = ap Some (units_kept Jer u can e)
+leaf-written Shape.utc (Value.utc n) a e can = ap Some (utc_kept Jer n can)
+leaf-written Shape.gen (Value.gen n) a e can = ap Some (generalized_kept Jer n can)
+leaf-written Shape.day (Value.day n) a e can = ap Some (day_kept Jer n can)
 leaf-written (Shape.enum items added) (Value.item i) a e can = rw e refl
 leaf-written Shape.octets (Value.octets o) a e can = ap (λ r. Some (refined Jer Shape.octets (octets_or r))) (decode_of-encode_upper o (octets-bytes o e))
+leaf-written Shape.any (Value.octets o) a e can = ap (λ r. Some (refined Jer Shape.any (octets_or r))) (decode_of-encode_upper o (octets-bytes o e))
+leaf-written Shape.oid (Value.arcs arcs) a e can =
+    let accepted = and-right (every is_arc arcs) (is_object_identifier arcs) e in
+    let why = Why.invalid_oid_string (compact_text (Data.string (dotted_text arcs))) in
+    ap (λ o. Some (refined Jer Shape.oid (or_blame (identifier_or why o)))) (dotted-read arcs (and-left (every is_arc arcs) (is_object_identifier arcs) e) accepted)
+    ∙ ap (λ b. Some (refined Jer Shape.oid (or_blame (if b then Ok (Value.arcs arcs) else Err why)))) accepted
+leaf-written (Shape.bits None) (Value.bits bits None) a e can = ap (λ r. Some (refined Jer (Shape.bits None) (or_blame r))) (sized-read None no_bits bits)
+leaf-written (Shape.bits (Some m)) (Value.bits bits (Some n)) a e can =
+    let same : m ≡ length bits = eqb-true m n e ∙ sym can in
+    ap (λ k. Some (refined Jer (Shape.bits (Some k)) (or_blame (sized_bits (Some k) k Why.invalid_jer_octet_string (decode_of (encode_upper (padded bits))))))) same
+    ∙ ap (λ r. Some (refined Jer (Shape.bits (Some (length bits))) (or_blame r))) (sized-read (Some (length bits)) Why.invalid_jer_octet_string bits)
+    ∙ ap (λ k. Some (Ok (Value.bits bits (Some k)))) can
 leaf-written s v a e can = no_leaf e
 
 items-written : (vs : Values) → item_slots (jer_items vs) ≡ value_slots jer_tree vs

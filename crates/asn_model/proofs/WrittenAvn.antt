@@ -1,31 +1,46 @@
 -- What AVN writes is well formed, and is read as a tree that says the value.
-use Rattle.std.proofs.Common.{◌≡◌, refl, ap, sym, ◌∙◌, subst, ℕ, List, [], ◌∷◌, Bool, true, false, not, ◌&&◌, if◌then◌else◌, Some, None, Ok, Err}
+use Rattle.std.proofs.Common.{◌≡◌, refl, ap, sym, ◌∙◌, subst, arith, ℕ, ◌+◌, ◌/◌, List, [], ◌∷◌, length, Bool, true, false, not, ◌&&◌, if◌then◌else◌, Option, Some, None, Ok, Err}
 use Rattle.std.specs.Fmt.{signed_decimal}
 use Rattle.std.specs.Str.{bytes_eq}
+use Rattle.std.proofs.lemmas.Bool.{eqb-true, eq-eqb}
 use Rattle.std.proofs.lemmas.Slice.Eq.{bytes_eq-Decides}
 use Rattle.asn_base.specs.declared.codec.Codec.TheVariants.{Avn}
 use Rattle.asn_fault.specs.Stop.{Why}
 use Rattle.avn_grammar.specs.Tree.{Tree as AvnTree, Fields as AvnFields}
 use Rattle.avn_grammar.specs.Normal.{normal, normal_trees, normal_fields, braced}
-use Rattle.avn_grammar.specs.WellFormed.{is_identifier, is_keyword, is_well_formed, are_well_formed, are_fields_well_formed}
+use Rattle.avn_grammar.specs.Chars.{every}
+use Rattle.avn_grammar.specs.WellFormed.{is_identifier, is_keyword, is_arc, is_well_formed, are_well_formed, are_fields_well_formed}
+use Rattle.asn_base.specs.BitStrings.{padded}
+use Rattle.asn_base.specs.ObjectIdentifiers.{is_object_identifier}
+use Rattle.asn_model.specs.Arcs.{checked_identifier, listed_text}
 use Rattle.asn_model.specs.Canonical.{avn_tree, avn_trees, avn_fields}
-use Rattle.asn_model.specs.Leaf.{Blame, leaf, number_or, refined}
+use Rattle.asn_model.specs.Leaf.{Blame, leaf, number_or, or_blame, refined}
 use Rattle.asn_model.specs.Notation.{Notation}
 use Rattle.asn_model.specs.Readable.{is_readable, are_fields_readable, are_alternatives_readable, are_added_alternatives_readable, suits, has_alternative, are_told_apart, are_identifiers, are_words, are_apart}
 use Rattle.asn_model.specs.Shape.{Shape, Fields, Alternatives, all_items, all_alternatives, field_names, identifiers, tags, has_tag, tags_distinct, end_tag, are_distinct, is_item}
 use Rattle.asn_model.specs.Tree.{Tree, Slot, or_else, as_members, tree_slots, field_slot}
-use Rattle.asn_model.specs.Value.{Value, Values, Slots, Fits, FitsEach, FitsFields, FitsAlternative, is_leaf_of}
+use Rattle.asn_model.specs.Value.{Value, Values, Slots, Fits, FitsEach, FitsFields, FitsAlternative, is_leaf_of, is_same_size}
 use Rattle.asn_model.specs.Writable.{Writable, WritableEach, WritableSlots}
 use Rattle.asn_model.specs.Writes.{Writes, Finds, value_slots, slot_names}
+use Rattle.asn_model.proofs.ArcTexts.{braced-read}
+use Rattle.asn_model.proofs.BitsRead.{bits-read, padded-octets}
+use Rattle.asn_base.proofs.Padding.{length-padded}
 use Rattle.asn_model.proofs.Ranges.{inside}
 use Rattle.asn_model.proofs.Numerals.{number-read, number-form}
 use Rattle.asn_model.proofs.Readables.{and-left, and-right, and-both, unfolded-readable, fields_read}
 use Rattle.asn_model.proofs.StringFacts.{string_kept, units_kept, units_utf8}
+use Rattle.asn_model.proofs.TimeFacts.{day_kept, day_text_utf8, generalized_kept, generalized_text_utf8, utc_kept, utc_text_utf8}
 use Rattle.asn_model.proofs.Written.{first_apart, rest_apart, none_named, others_named, different, within_128_bits, all_readable, no_leaf}
 
 -- The tree that the text which AVN writes is read as.
 abbrev pub read_tree : Value → Tree
 read_tree v = Tree.avn (normal (avn_tree v))
+
+same-size : (m n : Option ℕ) → is_same_size m n ≡ true → m ≡ n
+same-size None None e = refl
+same-size (Some m) (Some n) e = ap Some (eqb-true m n e)
+same-size None (Some n) e = no_leaf e
+same-size (Some m) None e = no_leaf e
 
 leaf-written : (s : Shape) (v : Value) → is_readable s ≡ true → is_leaf_of s v ≡ true → Writable Notation.avn v → leaf Notation.avn s (read_tree v) ≡ Some (Ok v)
 unfolding normal
@@ -38,8 +53,17 @@ leaf-written (Shape.int l g w) (Value.int k) a e can =
     ∙ ap (λ b. Some (if b then Ok (Value.int k) else Err (Blame.because (Why.integer_overflow w)))) e
 leaf-written (Shape.text alphabet) (Value.text t) a e can = ap Some (string_kept Avn alphabet t can e)
 leaf-written Shape.bmp (Value.units u) a e can = ap Some (units_kept Avn u can e)
+leaf-written Shape.utc (Value.utc n) a e can = ap Some (utc_kept Avn n can)
+leaf-written Shape.gen (Value.gen n) a e can = ap Some (generalized_kept Avn n can)
+leaf-written Shape.day (Value.day n) a e can = ap Some (day_kept Avn n can)
 leaf-written (Shape.enum items added) (Value.item i) a e can = rw e refl
 leaf-written Shape.octets (Value.octets o) a e can = refl
+leaf-written Shape.any (Value.octets o) a e can = refl
+leaf-written Shape.oid (Value.arcs arcs) a e can =
+    ap (λ o. Some (refined Avn Shape.oid (or_blame (checked_identifier o)))) (braced-read arcs (and-left (every is_arc arcs) (is_object_identifier arcs) e))
+    ∙ ap (λ b. Some (refined Avn Shape.oid (or_blame (if b then Ok (Value.arcs arcs) else Err (Why.invalid_oid (listed_text arcs)))))) (and-right (every is_arc arcs) (is_object_identifier arcs) e)
+leaf-written (Shape.bits m) (Value.bits bits n) a e can =
+    ap (λ r. Some (refined Avn (Shape.bits m) r)) (bits-read m bits) ∙ ap (λ k. Some (Ok (Value.bits bits k))) (same-size m n e)
 leaf-written s v a e can = no_leaf e
 
 items-written : (vs : Values) → tree_slots (normal_trees (avn_trees vs)) ≡ value_slots read_tree vs
@@ -132,8 +156,14 @@ leaf-formed Shape.boolean (Value.boolean b) a e can = refl
 leaf-formed (Shape.int l g w) (Value.int k) a e can = let r = inside l g k e in let within = within_128_bits l g k a r.0 r.1 in number-form k within.0 within.1
 leaf-formed (Shape.text alphabet) (Value.text t) a e can = can
 leaf-formed Shape.bmp (Value.units u) a e can = units_utf8 u can
+leaf-formed Shape.utc (Value.utc n) a e can = utc_text_utf8 n can
+leaf-formed Shape.gen (Value.gen n) a e can = generalized_text_utf8 n can
+leaf-formed Shape.day (Value.day n) a e can = day_text_utf8 n can
 leaf-formed (Shape.enum items added) (Value.item i) a e can = word_of_item (all_items items added) i (and-left (are_words (all_items items added)) (are_distinct (all_items items added)) a) e
 leaf-formed Shape.octets (Value.octets o) a e can = e
+leaf-formed Shape.any (Value.octets o) a e can = e
+leaf-formed Shape.oid (Value.arcs arcs) a e can = and-left (every is_arc arcs) (is_object_identifier arcs) e
+leaf-formed (Shape.bits m) (Value.bits bits n) a e can = and-both _ _ (padded-octets bits) (eq-eqb (length (padded bits)) ((length bits + 7) / 8) (omega (arith, length-padded bits)))
 leaf-formed s v a e can = no_leaf e
 
 mutual

@@ -1,5 +1,5 @@
 -- The one tree and the one text that each notation writes for a value.
-use Rattle.std.specs.Prelude.{ℕ, List}
+use Rattle.std.specs.Prelude.{ℕ, pos, Bool, List, length, Option, Some, None, codes}
 use Rattle.std.specs.Fmt.{signed_decimal}
 use Rattle.serde_json.specs.Data.{Data, Items, Members, put}
 use Rattle.serde_json.specs.Find.{of_integer}
@@ -8,9 +8,17 @@ use Rattle.avn_grammar.specs.Tree.{Tree as AvnTree, Trees as AvnTrees, Fields as
 use Rattle.hex.specs.Hex.{encode_upper}
 use Rattle.avn_grammar.specs.Print.{print}
 use Rattle.asn_strings.specs.Units.{text_of_units}
+use Rattle.asn_times.specs.Written.{day_text, generalized_text, utc_text}
+use Rattle.asn_base.specs.BitStrings.{padded}
+use Rattle.asn_model.specs.Arcs.{dotted_text}
 use Rattle.asn_model.specs.Notation.{Notation}
 use Rattle.asn_model.specs.Tree.{Tree}
 use Rattle.asn_model.specs.Value.{Value, Values, Slots}
+
+-- The JSON value that JER writes for bits: the digits of their octets, and beside them the length where no size is fixed.
+abbrev pub bits_data : Option ℕ → List Bool → Data
+bits_data (Some size) bs = Data.string (encode_upper (padded bs))
+bits_data None bs = Data.object (Members.member (codes "length") (Data.number (of_integer (pos (length bs)))) (Members.member (codes "value") (Data.string (encode_upper (padded bs))) Members.no_members))
 
 abbrev mutual
   -- The JSON value that JER writes for a value.
@@ -19,8 +27,13 @@ abbrev mutual
   jer_data (Value.int n) = Data.number (of_integer n)
   jer_data (Value.text t) = Data.string t
   jer_data (Value.units u) = Data.string (text_of_units u)
+  jer_data (Value.utc n) = Data.string (utc_text n)
+  jer_data (Value.gen n) = Data.string (generalized_text n)
+  jer_data (Value.day n) = Data.string (day_text n)
   jer_data (Value.item i) = Data.string i
   jer_data (Value.octets o) = Data.string (encode_upper o)
+  jer_data (Value.arcs a) = Data.string (dotted_text a)
+  jer_data (Value.bits bs size) = bits_data size bs
   jer_data (Value.members ms) = Data.object (jer_members ms)
   jer_data (Value.list vs) = Data.array (jer_items vs)
   jer_data (Value.choice i v) = Data.object (Members.member i (jer_data v) Members.no_members)
@@ -44,8 +57,13 @@ abbrev mutual
   avn_tree (Value.int n) = AvnTree.integer (signed_decimal n)
   avn_tree (Value.text t) = AvnTree.char_string t
   avn_tree (Value.units u) = AvnTree.char_string (text_of_units u)
+  avn_tree (Value.utc n) = AvnTree.char_string (utc_text n)
+  avn_tree (Value.gen n) = AvnTree.char_string (generalized_text n)
+  avn_tree (Value.day n) = AvnTree.char_string (day_text n)
   avn_tree (Value.item i) = AvnTree.enumerated i
   avn_tree (Value.octets o) = AvnTree.octet_string o
+  avn_tree (Value.arcs a) = AvnTree.oid a
+  avn_tree (Value.bits bs size) = AvnTree.bit_string (padded bs) (length bs)
   avn_tree (Value.members ms) = AvnTree.sequence (avn_fields ms)
   avn_tree (Value.list vs) = AvnTree.sequence_of (avn_trees vs)
   avn_tree (Value.choice i v) = AvnTree.choice i (avn_tree v)

@@ -7,6 +7,8 @@ pub mod CharacterStrings
 pub mod Value
 pub mod Digits
 pub mod Tree
+pub mod Arcs
+pub mod BitLeaves
 pub mod Leaf
 pub mod Says
 pub mod Stops

@@ -1,11 +1,13 @@
 -- What a Rust value of an ASN.1 type stands for, and what values a shape has.
-use Rattle.std.specs.Prelude.{◌≡◌, ℕ, ℤ, ◌+◌, List, [], ◌∷◌, Bool, true, false, not, if◌then◌else◌, Option}
+use Rattle.std.specs.Prelude.{◌≡◌, ℕ, ℤ, ◌+◌, ◌&&◌, nat_eq, List, [], ◌∷◌, Bool, true, false, not, if◌then◌else◌, Option, Some, None}
 use Rattle.std.specs.Str.{bytes_eq}
 use Rattle.std.specs.Ordering.{int_eq}
 use Rattle.avn_grammar.specs.Chars.{every}
-use Rattle.avn_grammar.specs.WellFormed.{is_octet}
+use Rattle.avn_grammar.specs.WellFormed.{is_octet, is_arc}
+use Rattle.asn_base.specs.ObjectIdentifiers.{is_object_identifier}
 use Rattle.asn_base.specs.declared.tag.Tag.{Tag}
 use Rattle.asn_strings.specs.Alphabets.{all_within, is_bmp}
+use Rattle.asn_times.specs.Held.{is_held_day, is_held_nanosecond, is_held_second}
 use Rattle.asn_model.specs.CharacterStrings.{is_string_of}
 use Rattle.asn_model.specs.Range.{is_between}
 use Rattle.asn_model.specs.Shape.{Shape, SeqKind, Fields, FieldAdditions, Alternatives, AlternativeAdditions, Plain, Presence, all_fields, all_items, all_alternatives, unfold_loop, is_item}
@@ -117,6 +119,12 @@ may_lack _ = true
 abbrev pub with_field : Presence → List ℕ → Value → Slots → Slots
 with_field p name v vs = if is_kept p v then Slots.present name v vs else Slots.absent name vs
 
+-- The sizes are the same, or there is none in either place.
+abbrev pub is_same_size : Option ℕ → Option ℕ → Bool
+is_same_size None None = true
+is_same_size (Some m) (Some n) = nat_eq m n
+is_same_size m n = false
+
 -- The value is one of the shape, whose values have no parts.
 abbrev pub is_leaf_of : Shape → Value → Bool
 is_leaf_of Shape.null Value.null = true
@@ -124,8 +132,14 @@ is_leaf_of Shape.boolean (Value.boolean b) = true
 is_leaf_of (Shape.int least greatest width) (Value.int n) = is_between least greatest n
 is_leaf_of (Shape.text a) (Value.text t) = is_string_of a t
 is_leaf_of Shape.bmp (Value.units u) = all_within is_bmp u
+is_leaf_of Shape.utc (Value.utc n) = is_held_second n
+is_leaf_of Shape.gen (Value.gen n) = is_held_nanosecond n
+is_leaf_of Shape.day (Value.day n) = is_held_day n
 is_leaf_of (Shape.enum items added) (Value.item i) = is_item (all_items items added) i
 is_leaf_of Shape.octets (Value.octets o) = every is_octet o
+is_leaf_of Shape.any (Value.octets o) = every is_octet o
+is_leaf_of Shape.oid (Value.arcs a) = every is_arc a && is_object_identifier a
+is_leaf_of (Shape.bits m) (Value.bits bs n) = is_same_size m n
 is_leaf_of s v = false
 
 mutual

@@ -2,6 +2,7 @@
 //! and the text that are canonical for a value, and the laws on all of these.
 #![tactic(auto)]
 
+mod arcs;
 pub mod laws;
 mod leaves;
 mod named;
@@ -9,7 +10,8 @@ mod readable;
 mod shape_type;
 mod tags;
 
-pub use leaves::{Leaf, LeafKind, OwnedLeaf, are_octets};
+pub use arcs::{arc_of, joined_arcs};
+pub use leaves::{Leaf, LeafKind, OwnedLeaf, are_arcs, are_octets};
 pub use readable::is_readable;
 pub use shape_type::{
     Alphabet, AlternativeShape, FieldShape, Plain, PresenceShape, SeqKind, Shape,

@@ -8,3 +8,4 @@ pub mod ReadGeneralized
 pub mod Walks
 pub mod Meant
 pub mod AsciiTexts
+pub mod HeldTimes

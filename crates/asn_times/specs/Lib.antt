@@ -6,3 +6,4 @@ pub mod Utc
 pub mod Generalized
 pub mod Written
 pub mod Meanings
+pub mod Held

@@ -1,10 +1,13 @@
 //! The laws of the texts of times, each the contract of a function that does nothing.
-ghost use Rattle.std.specs.Prelude.{◌≡◌, ◌↔◌, ℕ, List, ℤ, IsUtf8, Some};
+ghost use Rattle.std.specs.Prelude.{◌≡◌, ◌↔◌, ℕ, List, ℤ, IsUtf8, Some, true};
 ghost use Rattle.asn_times.specs.Days.{DayReads, IsInDayYears};
 ghost use Rattle.asn_times.specs.Generalized.{GeneralizedReads, GeneralizedWritten, IsInGeneralizedYears};
+ghost use Rattle.asn_times.specs.Held.{is_held_day, is_held_nanosecond, is_held_second};
 ghost use Rattle.asn_times.specs.Meanings.{day_of_text, generalized_of_text, utc_of_text};
 ghost use Rattle.asn_times.specs.Utc.{IsInUtcYears, UtcReads, UtcWritten};
 ghost use Rattle.asn_times.specs.Written.{day_text, generalized_text, utc_text};
+
+use crate::{Date, GeneralizedTime, UtcTime};
 
 /// The written text of a day within its years means that day.
 pub fn written_day_reads()
@@ -70,3 +73,24 @@ pub fn written_texts_are_utf8()
     ensures utc { (n : ℤ) → IsInUtcYears n → IsUtf8 (utc_text n) }
     ensures generalized { (n : ℤ) → IsInGeneralizedYears n → IsUtf8 (generalized_text n) }
 {}
+
+/// A DATE lies in the years -9999 to 9999.
+pub fn day_is_held(day: &Date)
+    ensures { is_held_day day.now ≡ true }
+{
+    let _day = day.day();
+}
+
+/// A UTCTime lies in the years -9999 to 9999.
+pub fn utc_is_held(time: &UtcTime)
+    ensures { is_held_second time.now ≡ true }
+{
+    let _moment = time.moment();
+}
+
+/// A GeneralizedTime lies in the years -9999 to 9999.
+pub fn generalized_is_held(time: &GeneralizedTime)
+    ensures { is_held_nanosecond time.now ≡ true }
+{
+    let _moment = time.moment();
+}

@@ -1,9 +1,8 @@
 -- Object identifiers as the notations write them are read as those object identifiers.
-use Rattle.std.proofs.Common.{◌≡◌, refl, ap, sym, ◌∙◌, subst, arith, ℕ, ◌^◌, ◌<◌, List, [], ◌∷◌, ◌++◌, map, drop, Bool, true, false, cond, ◌==◌, ◌&&◌, if◌then◌else◌, Option, Some, None, Result, Ok, Err}
+use Rattle.std.proofs.Common.{◌≡◌, refl, ap, sym, ◌∙◌, arith, ℕ, List, [], ◌∷◌, ◌++◌, map, drop, Bool, true, false, cond, ◌==◌, if◌then◌else◌, Some, None, Ok}
 use Rattle.std.specs.Fmt.{decimal}
-use Rattle.std.specs.List.{slice_split, onto_first, flat_map}
+use Rattle.std.specs.List.{slice_split, onto_first}
 use Rattle.std.specs.Str.Parse.{without_leading_plus}
-use Rattle.std.specs.Prelude.{codes}
 use Rattle.std.proofs.lemmas.Bool.{ne_eqb}
 use Rattle.std.proofs.lemmas.List.{append-nil}
 use Rattle.avn_grammar.specs.Chars.{is_digit, begins, every}
@@ -11,7 +10,6 @@ use Rattle.avn_grammar.specs.Normal.{arc_trees}
 use Rattle.avn_grammar.specs.WellFormed.{is_digits, is_arc}
 use Rattle.avn_grammar.proofs.Digits.{arc-lt, digits-arc}
 use Rattle.asn_base.specs.ObjectIdentifiers.{is_object_identifier}
-use Rattle.asn_fault.specs.Stop.{Why}
 use Rattle.asn_model.specs.Arcs.{arc_number, arc_numbers, arc_before, arc_or, braced_arcs, dotted_text, if_arc, in_front}
 use Rattle.asn_model.specs.Digits.{digits}
 use Rattle.asn_model.proofs.Numerals.{digits-read}

@@ -1,7 +1,7 @@
 -- Bits as the notations write them are read as those bits.
-use Rattle.std.proofs.Common.{◌≡◌, refl, ap, sym, ◌∙◌, arith, ℕ, zero, suc, ◌+◌, ◌*◌, ◌/◌, ◌%◌, ◌<◌, ◌≤◌, List, [], ◌∷◌, map, take, length, slice_index, Bool, true, false, cond, ◌==◌, ◌&&◌, if◌then◌else◌, Option, Some, None, Ok, inl, inr}
+use Rattle.std.proofs.Common.{◌≡◌, refl, ap, sym, ◌∙◌, arith, ℕ, zero, suc, ◌+◌, ◌/◌, ◌%◌, ◌<◌, ◌≤◌, List, [], ◌∷◌, map, take, length, Bool, true, false, cond, ◌==◌, Option, Some, None, Ok, inl, inr}
 use Rattle.std.proofs.lemmas.Bool.{lt-ltb, eq-eqb, eqb-true, cases_Bool, cond-true, cond-false}
-use Rattle.std.proofs.lemmas.List.{take_all, take-map, length-map}
+use Rattle.std.proofs.lemmas.List.{take_all, take-map}
 use Rattle.avn_grammar.specs.Chars.{every}
 use Rattle.avn_grammar.specs.Normal.{normal}
 use Rattle.avn_grammar.specs.Octets.{bit_text, packed}

@@ -1,5 +1,7 @@
 pub mod Meanings
 pub mod Readables
+pub mod StringFacts
+pub mod TimeFacts
 pub mod Written
 pub mod Viewing
 pub mod Numerals

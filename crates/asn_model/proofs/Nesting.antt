@@ -1,7 +1,8 @@
 -- What JER writes nests no deeper than what it read.
-use Rattle.std.proofs.Common.{◌≡◌, refl, ap, sym, ◌∙◌, subst, arith, ℕ, suc, ◌≤◌, List, [], ◌∷◌, map, length, ◌==◌, Bool, true, false, if◌then◌else◌, Option, Some, None, Result, Ok, Err, Ordering, Less, Equal, Greater, option_map}
+use Rattle.std.proofs.Common.{◌≡◌, refl, ap, subst, arith, ℕ, ℤ, suc, ◌≤◌, List, [], ◌∷◌, map, length, ◌==◌, Bool, true, false, if◌then◌else◌, Option, Some, None, Result, Ok, Err, Ordering, Less, Equal, Greater, option_map}
 use Rattle.std.specs.Ordering.{nat_cmp, match_ordering}
 use Rattle.std.specs.Cmp.Lexicographic.{slice_cmp}
+use Rattle.std.specs.Str.{chars}
 use Rattle.std.specs.List.{slice_split}
 use Rattle.std.specs.Prelude.{codes, option_and_then}
 use Rattle.std.specs.Int.{div_ceil}
@@ -10,14 +11,18 @@ use Rattle.hex.specs.declared.error.FromHexError.{FromHexError}
 use Rattle.asn_base.specs.BitStrings.{bits_of}
 use Rattle.asn_base.specs.ObjectIdentifiers.{is_object_identifier}
 use Rattle.asn_base.specs.declared.codec.Codec.TheVariants.{Jer}
+use Rattle.asn_base.specs.declared.tag.Tag.{Tag}
+use Rattle.asn_strings.specs.Alphabets.{is_bmp, place_outside}
+use Rattle.asn_times.specs.Meanings.{day_of_text, generalized_of_text, utc_of_text}
 use Rattle.asn_fault.specs.Stop.{Why}
 use Rattle.serde_json.specs.Data.{Data, Num, Items, Members, put, depth, items_depth, members_depth}
 use Rattle.serde_json.specs.Find.{as_str, get_member}
 use Rattle.serde_json.specs.Written.{compact_text}
 use Rattle.asn_model.specs.Canonical.{jer_data, jer_items, jer_members}
+use Rattle.asn_model.specs.CharacterStrings.{alphabet_number, alphabet_of, bmp_number, universal_tag}
 use Rattle.asn_model.specs.Arcs.{arc_numbers, identifier_or}
 use Rattle.asn_model.specs.BitLeaves.{no_bits, sized_bits}
-use Rattle.asn_model.specs.Leaf.{Blame, leaf, declared_bits, length_in, octets_or, or_blame, as_leaf, kind_of, refine, refined}
+use Rattle.asn_model.specs.Leaf.{Blame, leaf, declared_bits, length_in, octets_or, or_blame, as_leaf, kind_of, refine, refined, time_or, within_alphabet}
 use Rattle.asn_model.specs.Notation.{Notation}
 use Rattle.asn_model.specs.Range.{is_between}
 use Rattle.asn_model.specs.Says.{Says, SaysEach, SaysFields}
@@ -25,7 +30,7 @@ use Rattle.asn_model.specs.Shape.{Shape, Fields, all_fields, is_item, all_items,
 use Rattle.asn_model.specs.Tree.{Tree, Slot, as_list, as_members, as_choice, item_slots, member_slot}
 use Rattle.asn_model.specs.Value.{Value, Values, Slots, is_kept}
 use Rattle.asn_model.specs.declared.leaves.LeafKind.{LeafKind}
-use Rattle.asn_model.specs.declared.leaves.LeafKind.TheVariants.{Null, Boolean, Number, Text, Item, Octets, Any, Oid, Bits}
+use Rattle.asn_model.specs.declared.leaves.LeafKind.TheVariants.{Null, Boolean, Number, Text, Time, Date, Item, Octets, Any, Oid, Bits}
 
 -- How deep a tree of JSON nests.
 abbrev tree_depth : Tree → ℕ
@@ -114,6 +119,8 @@ kind-flat Boolean (Tree.json (Data.boolean b)) = omega arith
 kind-flat Number (Tree.json (Data.number (Num.unsigned n))) = omega arith
 kind-flat Number (Tree.json (Data.number (Num.negative z))) = omega arith
 kind-flat Text (Tree.json (Data.string x)) = omega arith
+kind-flat Time (Tree.json (Data.string x)) = omega arith
+kind-flat Date (Tree.json (Data.string x)) = omega arith
 kind-flat Item (Tree.json (Data.string x)) = omega arith
 kind-flat Octets (Tree.json (Data.string x)) = omega (arith, octets-flat (decode_of x))
 kind-flat Any (Tree.json (Data.string x)) = omega (arith, octets-flat (decode_of x))
@@ -122,9 +129,22 @@ kind-flat (Bits None) (Tree.json (Data.object ms)) = declared-depth (option_and_
 kind-flat (Bits (Some size)) (Tree.json (Data.string x)) = bits-depth (Some size) size Why.invalid_jer_octet_string (decode_of x) 0 (λ bits. omega arith)
 kind-flat k t = omega arith
 
+placed-flat : (tag : Tag) (v : Value) (place : Option ℕ) (n : ℕ) → depth (jer_data v) ≤ n → answer_depth (within_alphabet tag v place) ≤ n
+placed-flat tag v None n h = h
+placed-flat tag v (Some place) n h = omega arith
+
+timed-flat : (text : List ℕ) (value : ℤ → Value) (o : Option ℤ) (n : ℕ) → ((k : ℤ) → depth (jer_data (value k)) ≤ n) → answer_depth (time_or text value o) ≤ n
+timed-flat text value None n h = omega arith
+timed-flat text value (Some k) n h = h k
+
 refine-flat : (s : Shape) (v : Value) (n : ℕ) → depth (jer_data v) ≤ n → answer_depth (refine Jer s v) ≤ n
 refine-flat (Shape.int l g w) (Value.int k) n h = tested-flat (is_between l g k) (Value.int k) _ n h
 refine-flat (Shape.enum items added) (Value.item i) n h = tested-flat (is_item (all_items items added) i) (Value.item i) _ n h
+refine-flat (Shape.text a) (Value.text t) n h = placed-flat (universal_tag (alphabet_number a)) (Value.text t) (place_outside (alphabet_of a) (chars t)) n h
+refine-flat Shape.bmp (Value.text t) n h = placed-flat (universal_tag bmp_number) (Value.units (chars t)) (place_outside is_bmp (chars t)) n h
+refine-flat Shape.utc (Value.text t) n h = timed-flat t Value.utc (utc_of_text t) n (λ k. h)
+refine-flat Shape.gen (Value.text t) n h = timed-flat t Value.gen (generalized_of_text t) n (λ k. h)
+refine-flat Shape.day (Value.text t) n h = timed-flat t Value.day (day_of_text t) n (λ k. h)
 refine-flat s v n h = h
 
 refined-flat : (s : Shape) (r : Result Value Blame) (n : ℕ) → answer_depth r ≤ n → answer_depth (refined Jer s r) ≤ n

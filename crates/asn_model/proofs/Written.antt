@@ -30,7 +30,7 @@ use Rattle.asn_model.specs.Notation.{Notation}
 use Rattle.asn_model.specs.Readable.{is_readable, are_fields_readable, are_alternatives_readable, are_added_alternatives_readable, suits, has_alternative, are_told_apart, are_identifiers, are_apart, has_identifier, has_128_bits}
 use Rattle.asn_model.specs.Range.{at_most}
 use Rattle.asn_model.specs.Says.{Says, SaysEach, SaysFields}
-use Rattle.asn_model.specs.Shape.{Shape, Fields, Alternatives, AlternativeAdditions, Alphabet, all_alternatives, join_alternatives, field_names, identifiers, tags, has_tag, tags_distinct, end_tag, are_distinct, is_item, alternative_named}
+use Rattle.asn_model.specs.Shape.{Shape, Fields, Alternatives, AlternativeAdditions, all_alternatives, join_alternatives, field_names, identifiers, tags, has_tag, tags_distinct, end_tag, are_distinct, is_item, alternative_named}
 use Rattle.asn_model.specs.Tree.{Tree, Slot, item_slots, member_slot, same_identifier}
 use Rattle.asn_model.specs.Value.{Value, Values, Slots, Fits, FitsEach, FitsFields, FitsAlternative, is_leaf_of}
 use Rattle.asn_model.specs.Writable.{Writable, WritableEach, WritableSlots}
@@ -38,6 +38,8 @@ use Rattle.asn_model.specs.Writes.{Writes, Finds, value_slots, slot_names}
 use Rattle.asn_model.proofs.ArcTexts.{dotted-read}
 use Rattle.asn_model.proofs.BitsRead.{padded-octets}
 use Rattle.asn_model.proofs.Readables.{and-left, and-right, and-both, unfolded-readable, fields_read}
+use Rattle.asn_model.proofs.StringFacts.{string_kept, units_kept}
+use Rattle.asn_model.proofs.TimeFacts.{day_kept, generalized_kept, utc_kept}
 
 slot_names-fields : {fs : Fields} {ms : Slots} → FitsFields fs ms → slot_names ms ≡ field_names fs
 slot_names-fields FitsFields.fits_end = refl
@@ -159,7 +161,11 @@ leaf-written Shape.null Value.null a e can = refl
 leaf-written Shape.boolean (Value.boolean b) a e can = refl
 leaf-written (Shape.int l g w) (Value.int (pos m)) a e can = rw e refl
 leaf-written (Shape.int l g w) (Value.int (negsuc m)) a e can = rw e refl
-leaf-written (Shape.text Alphabet.utf8) (Value.text t) a e can = refl
+leaf-written (Shape.text alphabet) (Value.text t) a e can = ap Some (string_kept Jer alphabet t can e)
+leaf-written Shape.bmp (Value.units u) a e can = ap Some (units_kept Jer u can e)
+leaf-written Shape.utc (Value.utc n) a e can = ap Some (utc_kept Jer n can)
+leaf-written Shape.gen (Value.gen n) a e can = ap Some (generalized_kept Jer n can)
+leaf-written Shape.day (Value.day n) a e can = ap Some (day_kept Jer n can)
 leaf-written (Shape.enum items added) (Value.item i) a e can = rw e refl
 leaf-written Shape.octets (Value.octets o) a e can = ap (λ r. Some (refined Jer Shape.octets (octets_or r))) (decode_of-encode_upper o (octets-bytes o e))
 leaf-written Shape.any (Value.octets o) a e can = ap (λ r. Some (refined Jer Shape.any (octets_or r))) (decode_of-encode_upper o (octets-bytes o e))

@@ -17,7 +17,7 @@ use Rattle.asn_model.specs.Canonical.{avn_tree, avn_trees, avn_fields}
 use Rattle.asn_model.specs.Leaf.{Blame, leaf, number_or, or_blame, refined}
 use Rattle.asn_model.specs.Notation.{Notation}
 use Rattle.asn_model.specs.Readable.{is_readable, are_fields_readable, are_alternatives_readable, are_added_alternatives_readable, suits, has_alternative, are_told_apart, are_identifiers, are_words, are_apart}
-use Rattle.asn_model.specs.Shape.{Shape, Fields, Alternatives, Alphabet, all_items, all_alternatives, field_names, identifiers, tags, has_tag, tags_distinct, end_tag, are_distinct, is_item}
+use Rattle.asn_model.specs.Shape.{Shape, Fields, Alternatives, all_items, all_alternatives, field_names, identifiers, tags, has_tag, tags_distinct, end_tag, are_distinct, is_item}
 use Rattle.asn_model.specs.Tree.{Tree, Slot, or_else, as_members, tree_slots, field_slot}
 use Rattle.asn_model.specs.Value.{Value, Values, Slots, Fits, FitsEach, FitsFields, FitsAlternative, is_leaf_of, is_same_size}
 use Rattle.asn_model.specs.Writable.{Writable, WritableEach, WritableSlots}
@@ -28,6 +28,8 @@ use Rattle.asn_base.proofs.Padding.{length-padded}
 use Rattle.asn_model.proofs.Ranges.{inside}
 use Rattle.asn_model.proofs.Numerals.{number-read, number-form}
 use Rattle.asn_model.proofs.Readables.{and-left, and-right, and-both, unfolded-readable, fields_read}
+use Rattle.asn_model.proofs.StringFacts.{string_kept, units_kept, units_utf8}
+use Rattle.asn_model.proofs.TimeFacts.{day_kept, day_text_utf8, generalized_kept, generalized_text_utf8, utc_kept, utc_text_utf8}
 use Rattle.asn_model.proofs.Written.{first_apart, rest_apart, none_named, others_named, different, within_128_bits, all_readable, no_leaf}
 
 -- The tree that the text which AVN writes is read as.
@@ -49,7 +51,11 @@ leaf-written (Shape.int l g w) (Value.int k) a e can =
     let within = within_128_bits l g k a r.0 r.1 in
     ap (λ o. Some (refined Avn (Shape.int l g w) (number_or (Blame.because (Why.integer_parse_error (signed_decimal k))) o))) (number-read k within.0 within.1)
     ∙ ap (λ b. Some (if b then Ok (Value.int k) else Err (Blame.because (Why.integer_overflow w)))) e
-leaf-written (Shape.text Alphabet.utf8) (Value.text t) a e can = refl
+leaf-written (Shape.text alphabet) (Value.text t) a e can = ap Some (string_kept Avn alphabet t can e)
+leaf-written Shape.bmp (Value.units u) a e can = ap Some (units_kept Avn u can e)
+leaf-written Shape.utc (Value.utc n) a e can = ap Some (utc_kept Avn n can)
+leaf-written Shape.gen (Value.gen n) a e can = ap Some (generalized_kept Avn n can)
+leaf-written Shape.day (Value.day n) a e can = ap Some (day_kept Avn n can)
 leaf-written (Shape.enum items added) (Value.item i) a e can = rw e refl
 leaf-written Shape.octets (Value.octets o) a e can = refl
 leaf-written Shape.any (Value.octets o) a e can = refl
@@ -148,7 +154,11 @@ unfolding is_well_formed
 leaf-formed Shape.null Value.null a e can = refl
 leaf-formed Shape.boolean (Value.boolean b) a e can = refl
 leaf-formed (Shape.int l g w) (Value.int k) a e can = let r = inside l g k e in let within = within_128_bits l g k a r.0 r.1 in number-form k within.0 within.1
-leaf-formed (Shape.text Alphabet.utf8) (Value.text t) a e can = e
+leaf-formed (Shape.text alphabet) (Value.text t) a e can = can
+leaf-formed Shape.bmp (Value.units u) a e can = units_utf8 u can
+leaf-formed Shape.utc (Value.utc n) a e can = utc_text_utf8 n can
+leaf-formed Shape.gen (Value.gen n) a e can = generalized_text_utf8 n can
+leaf-formed Shape.day (Value.day n) a e can = day_text_utf8 n can
 leaf-formed (Shape.enum items added) (Value.item i) a e can = word_of_item (all_items items added) i (and-left (are_words (all_items items added)) (are_distinct (all_items items added)) a) e
 leaf-formed Shape.octets (Value.octets o) a e can = e
 leaf-formed Shape.any (Value.octets o) a e can = e

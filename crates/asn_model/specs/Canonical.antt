@@ -7,6 +7,8 @@ use Rattle.serde_json.specs.Written.{compact_text}
 use Rattle.avn_grammar.specs.Tree.{Tree as AvnTree, Trees as AvnTrees, Fields as AvnFields}
 use Rattle.hex.specs.Hex.{encode_upper}
 use Rattle.avn_grammar.specs.Print.{print}
+use Rattle.asn_strings.specs.Units.{text_of_units}
+use Rattle.asn_times.specs.Written.{day_text, generalized_text, utc_text}
 use Rattle.asn_base.specs.BitStrings.{padded}
 use Rattle.asn_model.specs.Arcs.{dotted_text}
 use Rattle.asn_model.specs.Notation.{Notation}
@@ -24,6 +26,10 @@ abbrev mutual
   jer_data (Value.boolean b) = Data.boolean b
   jer_data (Value.int n) = Data.number (of_integer n)
   jer_data (Value.text t) = Data.string t
+  jer_data (Value.units u) = Data.string (text_of_units u)
+  jer_data (Value.utc n) = Data.string (utc_text n)
+  jer_data (Value.gen n) = Data.string (generalized_text n)
+  jer_data (Value.day n) = Data.string (day_text n)
   jer_data (Value.item i) = Data.string i
   jer_data (Value.octets o) = Data.string (encode_upper o)
   jer_data (Value.arcs a) = Data.string (dotted_text a)
@@ -50,6 +56,10 @@ abbrev mutual
   avn_tree (Value.boolean b) = AvnTree.boolean b
   avn_tree (Value.int n) = AvnTree.integer (signed_decimal n)
   avn_tree (Value.text t) = AvnTree.char_string t
+  avn_tree (Value.units u) = AvnTree.char_string (text_of_units u)
+  avn_tree (Value.utc n) = AvnTree.char_string (utc_text n)
+  avn_tree (Value.gen n) = AvnTree.char_string (generalized_text n)
+  avn_tree (Value.day n) = AvnTree.char_string (day_text n)
   avn_tree (Value.item i) = AvnTree.enumerated i
   avn_tree (Value.octets o) = AvnTree.octet_string o
   avn_tree (Value.arcs a) = AvnTree.oid a

@@ -1,6 +1,6 @@
 -- What a tree says by a shape whose values have no parts, and why it says nothing.
 use Rattle.std.specs.Prelude.{◌≡◌, ◌≤◌, ◌^◌, ℕ, ℤ, pos, List, Option, Some, None, Result, Ok, Err, Bool, false, if◌then◌else◌, option_and_then, option_map, codes, string_bytes}
-use Rattle.std.specs.Str.{is_utf8}
+use Rattle.std.specs.Str.{chars, is_utf8}
 use Rattle.serde_json.specs.Data.{Data, Num}
 use Rattle.serde_json.specs.Find.{as_number, as_str, as_u64, get_member}
 use Rattle.serde_json.specs.Written.{compact_text, has_float}
@@ -11,18 +11,22 @@ use Rattle.hex.specs.declared.error.FromHexError.{FromHexError}
 use Rattle.asn_base.specs.Numbers.{signed}
 use Rattle.asn_base.specs.declared.codec.Codec.{Codec}
 use Rattle.asn_base.specs.declared.codec.Codec.TheVariants.{Jer, Avn}
+use Rattle.asn_base.specs.declared.tag.Tag.{Tag}
 use Rattle.asn_fault.specs.Stop.{Why}
+use Rattle.asn_strings.specs.Alphabets.{is_bmp, place_outside}
+use Rattle.asn_times.specs.Meanings.{day_of_text, generalized_of_text, utc_of_text}
+use Rattle.asn_model.specs.CharacterStrings.{alphabet_number, alphabet_of, bmp_number, outside_alphabet, universal_tag}
 use Rattle.asn_base.specs.BitStrings.{all_bits, bits_of}
 use Rattle.asn_model.specs.Arcs.{dotted_identifier, braced_arcs, checked_identifier}
 use Rattle.asn_model.specs.BitLeaves.{no_bits, sized_bits}
 use Rattle.asn_model.specs.Digits.{signed_number}
 use Rattle.asn_model.specs.Notation.{Notation}
 use Rattle.asn_model.specs.Range.{is_between}
-use Rattle.asn_model.specs.Shape.{Shape, Alphabet, all_items, is_item}
+use Rattle.asn_model.specs.Shape.{Shape, all_items, is_item}
 use Rattle.asn_model.specs.Tree.{Tree}
 use Rattle.asn_model.specs.Value.{Value}
 use Rattle.asn_model.specs.declared.leaves.LeafKind.{LeafKind}
-use Rattle.asn_model.specs.declared.leaves.LeafKind.TheVariants.{Null, Boolean, Number, Text, Item, Octets, Any, Oid, Bits}
+use Rattle.asn_model.specs.declared.leaves.LeafKind.TheVariants.{Null, Boolean, Number, Text, Time, Date, Item, Octets, Any, Oid, Bits}
 use Rattle.asn_model.specs.declared.leaves.Leaf.{Leaf}
 use Rattle.asn_model.specs.declared.leaves.Leaf.TheVariants as put
 use Rattle.asn_model.specs.declared.leaves.OwnedLeaf.{OwnedLeaf}
@@ -72,6 +76,8 @@ needed Notation.avn Null = codes "null"
 needed Notation.avn Boolean = codes "boolean"
 needed Notation.avn Number = codes "integer"
 needed Notation.avn Text = codes "character string"
+needed Notation.avn Time = codes "character string"
+needed Notation.avn Date = codes "character string"
 needed Notation.avn Item = codes "enumerated identifier"
 needed Notation.avn Octets = codes "octet string ('...'H)"
 needed Notation.avn Any = codes "octet string ('...'H)"
@@ -81,6 +87,8 @@ needed _ Null = codes "null"
 needed _ Boolean = codes "boolean"
 needed _ Number = codes "number (supported range -2^63..2^64)"
 needed _ Text = codes "string"
+needed _ Time = codes "time string"
+needed _ Date = codes "date string"
 needed _ Item = codes "enumerated item as string"
 needed _ Octets = codes "hex string"
 needed _ Any = codes "hex string"
@@ -128,6 +136,12 @@ as_leaf Notation.avn Number (Tree.avn (AvnTree.integer x)) = number_or (Blame.be
 as_leaf Notation.jer Text (Tree.json (Data.string x)) = Ok (Value.text x)
 as_leaf Notation.avn Text (Tree.avn (AvnTree.char_string x)) = Ok (Value.text x)
 as_leaf Notation.avn Text (Tree.avn (AvnTree.octet_string o)) = utf8_octets o
+as_leaf Notation.jer Time (Tree.json (Data.string x)) = Ok (Value.text x)
+as_leaf Notation.avn Time (Tree.avn (AvnTree.char_string x)) = Ok (Value.text x)
+as_leaf Notation.avn Time (Tree.avn (AvnTree.octet_string o)) = utf8_octets o
+as_leaf Notation.jer Date (Tree.json (Data.string x)) = Ok (Value.text x)
+as_leaf Notation.avn Date (Tree.avn (AvnTree.char_string x)) = Ok (Value.text x)
+as_leaf Notation.avn Date (Tree.avn (AvnTree.octet_string o)) = utf8_octets o
 as_leaf Notation.jer Item (Tree.json (Data.string x)) = Ok (Value.item x)
 as_leaf Notation.avn Item (Tree.avn (AvnTree.enumerated x)) = Ok (Value.item x)
 as_leaf Notation.jer Octets (Tree.json (Data.string x)) = octets_or (decode_of x)
@@ -150,7 +164,11 @@ abbrev pub kind_of : Shape → Option LeafKind
 kind_of Shape.null = Some Null
 kind_of Shape.boolean = Some Boolean
 kind_of (Shape.int least greatest width) = Some Number
-kind_of (Shape.text Alphabet.utf8) = Some Text
+kind_of (Shape.text a) = Some Text
+kind_of Shape.bmp = Some Text
+kind_of Shape.utc = Some Time
+kind_of Shape.gen = Some Time
+kind_of Shape.day = Some Date
 kind_of (Shape.enum items added) = Some Item
 kind_of Shape.octets = Some Octets
 kind_of Shape.any = Some Any
@@ -158,10 +176,25 @@ kind_of Shape.oid = Some Oid
 kind_of (Shape.bits size) = Some (Bits size)
 kind_of s = None
 
+-- The value, unless a character is outside the alphabet of the type with this universal tag, after so many characters.
+abbrev pub within_alphabet : Tag → Value → Option ℕ → Result Value Blame
+within_alphabet tag v None = Ok v
+within_alphabet tag v (Some place) = Err (Blame.because (outside_alphabet tag place))
+
+-- The time that a text means, or the blame of one that means none.
+abbrev pub time_or : List ℕ → (ℤ → Value) → Option ℤ → Result Value Blame
+time_or text value (Some n) = Ok (value n)
+time_or text value None = Err (Blame.because (Why.invalid_date text))
+
 -- The value of the shape that a value of its kind is, or why it is none.
 abbrev pub refine : Codec → Shape → Value → Result Value Blame
 refine c (Shape.int least greatest width) (Value.int n) = if is_between least greatest n then Ok (Value.int n) else Err (Blame.because (Why.integer_overflow width))
 refine c (Shape.enum items added) (Value.item i) = if is_item (all_items items added) i then Ok (Value.item i) else Err (Blame.because (Why.invalid_enum_discriminant c i))
+refine c (Shape.text a) (Value.text t) = within_alphabet (universal_tag (alphabet_number a)) (Value.text t) (place_outside (alphabet_of a) (chars t))
+refine c Shape.bmp (Value.text t) = within_alphabet (universal_tag bmp_number) (Value.units (chars t)) (place_outside is_bmp (chars t))
+refine c Shape.utc (Value.text t) = time_or t Value.utc (utc_of_text t)
+refine c Shape.gen (Value.text t) = time_or t Value.gen (generalized_of_text t)
+refine c Shape.day (Value.text t) = time_or t Value.day (day_of_text t)
 refine c s v = Ok v
 
 -- The same, of an answer.
@@ -183,6 +216,12 @@ leaf_value (put.Item s) = Value.item s.now
 leaf_value (put.Octets o) = Value.octets o.now
 leaf_value (put.Arcs a) = Value.arcs a.now
 leaf_value (put.Bits bs size) = Value.bits bs.now size
+
+-- The kind of the answer to what is asked for: a time or a date is answered as its text.
+abbrev pub answer_kind : LeafKind → LeafKind
+answer_kind Time = Text
+answer_kind Date = Text
+answer_kind k = k
 
 -- The kind of an answer.
 abbrev pub kind_of_owned : OwnedLeaf → LeafKind

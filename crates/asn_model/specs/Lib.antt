@@ -3,6 +3,7 @@ pub mod Notation
 pub mod Range
 pub mod Shape
 pub mod ShapeView
+pub mod CharacterStrings
 pub mod Value
 pub mod Digits
 pub mod Tree

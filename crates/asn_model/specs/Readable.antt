@@ -1,9 +1,9 @@
 -- When a shape can be read: its names tell its parts apart, AVN can spell them, and its loops end.
 use Rattle.std.specs.Prelude.{ℕ, suc, ℤ, pos, negsuc, ◌-◌, ◌^◌, nat_le, nat_lt, List, [], ◌∷◌, ◌++◌, Bool, true, false, not, ◌&&◌, if◌then◌else◌}
-use Rattle.std.specs.Str.{is_utf8}
 use Rattle.avn_grammar.specs.WellFormed.{is_identifier, is_keyword}
+use Rattle.asn_model.specs.CharacterStrings.{is_string_of}
 use Rattle.asn_model.specs.Range.{at_most, is_between}
-use Rattle.asn_model.specs.Shape.{Shape, Fields, FieldAdditions, Alternatives, AlternativeAdditions, Alphabet, Plain, Presence, all_items, all_alternatives, are_distinct, is_item, field_names, identifiers, tags, has_tag, tags_distinct, end_tag}
+use Rattle.asn_model.specs.Shape.{Shape, Fields, FieldAdditions, Alternatives, AlternativeAdditions, Plain, Presence, all_items, all_alternatives, are_distinct, is_item, field_names, identifiers, tags, has_tag, tags_distinct, end_tag}
 use Rattle.asn_model.specs.Tree.{same_identifier}
 
 -- An identifier is one of these but for the case of ASCII letters.
@@ -39,7 +39,7 @@ has_128_bits least greatest = at_most (negsuc (2 ^ 127 - 1)) least && at_most gr
 abbrev pub is_of_shape : Shape → Plain → Bool
 is_of_shape Shape.boolean (Plain.boolean b) = true
 is_of_shape (Shape.int least greatest width) (Plain.int n) = is_between least greatest n
-is_of_shape (Shape.text Alphabet.utf8) (Plain.text t) = is_utf8 t
+is_of_shape (Shape.text a) (Plain.text t) = is_string_of a t
 is_of_shape (Shape.enum items added) (Plain.item i) = is_item (all_items items added) i
 is_of_shape s p = false
 

@@ -1,13 +1,16 @@
 -- What a Rust value of an ASN.1 type stands for, and what values a shape has.
 use Rattle.std.specs.Prelude.{◌≡◌, ℕ, ℤ, ◌+◌, ◌&&◌, nat_eq, List, [], ◌∷◌, Bool, true, false, not, if◌then◌else◌, Option, Some, None}
-use Rattle.std.specs.Str.{bytes_eq, is_utf8}
+use Rattle.std.specs.Str.{bytes_eq}
 use Rattle.std.specs.Ordering.{int_eq}
 use Rattle.avn_grammar.specs.Chars.{every}
 use Rattle.avn_grammar.specs.WellFormed.{is_octet, is_arc}
 use Rattle.asn_base.specs.ObjectIdentifiers.{is_object_identifier}
 use Rattle.asn_base.specs.declared.tag.Tag.{Tag}
+use Rattle.asn_strings.specs.Alphabets.{all_within, is_bmp}
+use Rattle.asn_times.specs.Held.{is_held_day, is_held_nanosecond, is_held_second}
+use Rattle.asn_model.specs.CharacterStrings.{is_string_of}
 use Rattle.asn_model.specs.Range.{is_between}
-use Rattle.asn_model.specs.Shape.{Shape, SeqKind, Fields, FieldAdditions, Alternatives, AlternativeAdditions, Alphabet, Plain, Presence, all_fields, all_items, all_alternatives, unfold_loop, is_item}
+use Rattle.asn_model.specs.Shape.{Shape, SeqKind, Fields, FieldAdditions, Alternatives, AlternativeAdditions, Plain, Presence, all_fields, all_items, all_alternatives, unfold_loop, is_item}
 
 mutual
   -- The abstract value of an ASN.1 type.
@@ -127,7 +130,11 @@ abbrev pub is_leaf_of : Shape → Value → Bool
 is_leaf_of Shape.null Value.null = true
 is_leaf_of Shape.boolean (Value.boolean b) = true
 is_leaf_of (Shape.int least greatest width) (Value.int n) = is_between least greatest n
-is_leaf_of (Shape.text Alphabet.utf8) (Value.text t) = is_utf8 t
+is_leaf_of (Shape.text a) (Value.text t) = is_string_of a t
+is_leaf_of Shape.bmp (Value.units u) = all_within is_bmp u
+is_leaf_of Shape.utc (Value.utc n) = is_held_second n
+is_leaf_of Shape.gen (Value.gen n) = is_held_nanosecond n
+is_leaf_of Shape.day (Value.day n) = is_held_day n
 is_leaf_of (Shape.enum items added) (Value.item i) = is_item (all_items items added) i
 is_leaf_of Shape.octets (Value.octets o) = every is_octet o
 is_leaf_of Shape.any (Value.octets o) = every is_octet o

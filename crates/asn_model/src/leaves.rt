@@ -14,6 +14,10 @@ pub enum LeafKind {
     Boolean,
     Number,
     Text,
+    /// The text of a time, which is answered as `Text`.
+    Time,
+    /// The text of a date, which is answered as `Text`.
+    Date,
     Item,
     Octets,
     /// A value of any type, as the octets of its encoding.
@@ -35,6 +39,8 @@ impl LeafKind {
                 LeafKind::Boolean => "boolean",
                 LeafKind::Number => "integer",
                 LeafKind::Text => "character string",
+                LeafKind::Time => "character string",
+                LeafKind::Date => "character string",
                 LeafKind::Item => "enumerated identifier",
                 LeafKind::Octets => "octet string ('...'H)",
                 LeafKind::Any => "octet string ('...'H)",
@@ -46,6 +52,8 @@ impl LeafKind {
                 LeafKind::Boolean => "boolean",
                 LeafKind::Number => "number (supported range -2^63..2^64)",
                 LeafKind::Text => "string",
+                LeafKind::Time => "time string",
+                LeafKind::Date => "date string",
                 LeafKind::Item => "enumerated item as string",
                 LeafKind::Octets => "hex string",
                 LeafKind::Any => "hex string",

@@ -1,16 +1,22 @@
 //! Tests whether a shape can be read. By such a shape, what is written for a value decodes to that
 //! value (`laws::written_is_said`), so every `AsnType` has one by a law of the trait.
 ghost use Rattle.asn_model.specs.Around.{loops_of, bare_of, entries_of};
+ghost use Rattle.asn_model.specs.CharacterStrings.{is_string_of};
 ghost use Rattle.asn_model.specs.Readable.{is_readable, is_readable_in, are_fields_readable, are_alternatives_readable, has_128_bits, is_of_shape, suits, has_alternative, are_told_apart};
 ghost use Rattle.asn_model.specs.Shape.{has_tag, tags_distinct, join_alternatives};
-ghost use Rattle.asn_model.specs.ShapeView.{shape_view, plain_view, presence_view, field_views, alternative_views};
+ghost use Rattle.asn_model.specs.ShapeView.{alphabet_view, shape_view, plain_view, presence_view, field_views, alternative_views};
+ghost use Rattle.avn_grammar.specs.Chars.{every};
+ghost use Rattle.avn_grammar.specs.WellFormed.{is_octet};
 ghost use Rattle.std.specs.Prelude.{◌≡◌, ◌++◌, ◌&&◌, map, nat_le, nat_lt, pos};
 ghost use Rattle.std.specs.Str.{is_utf8};
 
+use crate::leaves::are_octets;
 use crate::named::{are_apart, are_distinct, are_identifiers, are_words, has_name};
 use crate::tags::same_tag;
 use crate::{Alphabet, AlternativeShape, FieldShape, Plain, PresenceShape, Shape};
 use asn_base::Tag;
+use asn_strings::character_sets::{Graphic, Ia5, Numeric, Printable, Visible, is_within};
+use asn_strings::octets::are_within;
 
 /// Holds what stands around a part of a shape, the innermost first, as a chain of references on
 /// the stack: no count of loops can overflow, and none takes memory.
@@ -195,17 +201,38 @@ fn is_of_shape(shape: &Shape, plain: &Plain) -> bool
             },
             Plain::Int(number),
         ) => { *least <= *number && (*number < 0 || *number as u128 <= *greatest) }
-        (
-            Shape::Str {
-                alphabet: Alphabet::Utf8,
-            },
-            Plain::Text(text),
-        ) => is_utf8(text.as_str()),
+        (Shape::Str { alphabet }, Plain::Text(text)) => is_string_of(*alphabet, text.as_str()),
         (Shape::Enum { items, added }, Plain::Item(item)) => {
             has_name(items, entries(added), item.as_str())
         }
         _ => false,
     }
+}
+
+/// Whether the bytes of the text are a value of the character string type.
+fn is_string_of(alphabet: Alphabet, text: &str) -> bool
+    ensures { result ≡ is_string_of (alphabet_view alphabet) text.now }
+{
+    match alphabet {
+        Alphabet::Numeric => is_utf8(text) && is_within::<Numeric>(text),
+        Alphabet::Printable => is_utf8(text) && is_within::<Printable>(text),
+        Alphabet::Visible => is_utf8(text) && is_within::<Visible>(text),
+        Alphabet::Ia5 => is_utf8(text) && is_within::<Ia5>(text),
+        Alphabet::Utf8 => is_utf8(text),
+        Alphabet::Universal => is_utf8(text),
+        Alphabet::General => is_octets(text.as_bytes()),
+        Alphabet::Graphic => {
+            is_octets(text.as_bytes()) && are_within::<Graphic>(text.as_bytes())
+        }
+    }
+}
+
+/// That octets are below 256, as their type says.
+fn is_octets(octets: &[u8]) -> bool
+    ensures { result ≡ every is_octet octets.now }
+{
+    are_octets(octets);
+    true
 }
 
 /// Returns that the bytes of the text are UTF-8, as its type states.

@@ -1,2 +1,3 @@
 pub mod Places
 pub mod Utf8Octets
+pub mod UnitTexts

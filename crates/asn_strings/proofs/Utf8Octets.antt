@@ -1,9 +1,9 @@
 -- The UTF-8 octets of characters in an alphabet that has every octet past ASCII.
-use Rattle.std.proofs.Common.{◌≡◌, ℕ, ◌<◌, ◌≤◌, ⊎_elim, Bool, true, false, not, List, [], ◌∷◌, IsTrue, length, get_or, chars, IsUtf8, refl, ap, ◌&&◌}
+use Rattle.std.proofs.Common.{◌≡◌, ℕ, ◌<◌, ◌≤◌, ⊎_elim, Bool, true, false, not, List, [], ◌∷◌, ◌++◌, IsTrue, length, get_or, chars, encode_utf8, encode_utf8_all, IsUtf8, refl, sym, ap, subst, ◌∙◌, ◌&&◌}
 use Rattle.std.proofs.lemmas.Bool.{cases_lt, false≢true}
 use Rattle.std.proofs.lemmas.List.Elements.{All-from_get_or}
 use Rattle.std.proofs.lemmas.List.Sums.{list_all-from_AllPass}
-use Rattle.std.proofs.lemmas.Str.{NoCharPasses-byte, encodes-chars}
+use Rattle.std.proofs.lemmas.Str.{NoCharPasses-byte, encode_ascii, encodes-chars}
 use Rattle.std.specs.List.{list_all}
 use Rattle.std.specs.Str.{NonePass, NoCharPasses}
 use Rattle.asn_strings.specs.Alphabets.{all_within}
@@ -36,3 +36,34 @@ octets_within p past_ascii bs utf8 h =
     let octet : (i : ℕ) → i < length bs → p (get_or bs i 0) ≡ true =
     λ i k. ⊎_elim (in_ascii i k) (past_ascii (get_or bs i 0)) (cases_lt (get_or bs i 0) 128) in
     list_all-from_AllPass p bs (All-from_get_or (λ n. p n ≡ true) bs 0 octet)
+
+-- What a list has in the alphabet after others.
+later_within : (p : ℕ → Bool) (xs ys : List ℕ) → IsTrue (all_within p (xs ++ ys))
+    → IsTrue (all_within p ys)
+later_within p [] ys h = h
+later_within p (x ∷ xs) ys h = later_within p xs ys (both (p x) (list_all p (xs ++ ys)) h).1
+
+-- A character is in the alphabet where its octets are.
+character_within : (p : ℕ → Bool) → ((c : ℕ) → 128 ≤ c → p c ≡ true) → (c : ℕ) (rest : List ℕ)
+    → IsTrue (all_within p (encode_utf8 c ++ rest)) → p c ≡ true
+character_within p past_ascii c rest h =
+    ⊎_elim (λ l. (both (p c) (list_all p rest) (in_ascii l)).0) (past_ascii c) (cases_lt c 128)
+  where
+    in_ascii : c < 128 → list_all p (c ∷ rest) ≡ true
+    in_ascii l = subst (λ cs. list_all p (cs ++ rest) ≡ true) (encode_ascii c l) h
+
+each_within : (p : ℕ → Bool) → ((c : ℕ) → 128 ≤ c → p c ≡ true) → (cs : List ℕ)
+    → IsTrue (all_within p (encode_utf8_all cs)) → IsTrue (all_within p cs)
+each_within p past_ascii [] h = refl
+each_within p past_ascii (c ∷ cs) h =
+    let first = character_within p past_ascii c (encode_utf8_all cs) h in
+    let others = each_within p past_ascii cs (later_within p (encode_utf8 c) _ h) in
+    ap (λ b. b && list_all p cs) first ∙ others
+
+-- In an alphabet that has every character past ASCII the characters of a text are, where its
+-- octets are.
+pub characters_within : (p : ℕ → Bool) → ((c : ℕ) → 128 ≤ c → p c ≡ true)
+    → (bs : List ℕ) → IsUtf8 bs → IsTrue (all_within p bs) → IsTrue (all_within p (chars bs))
+characters_within p past_ascii bs utf8 h =
+    each_within p past_ascii (chars bs)
+    (subst (λ octets. list_all p octets ≡ true) (sym (encodes-chars bs utf8)) h)

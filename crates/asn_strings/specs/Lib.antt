@@ -1,3 +1,3 @@
 pub mod Alphabets
-pub mod Refusals
 pub mod Units
+pub mod Refusals

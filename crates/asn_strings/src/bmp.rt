@@ -1,13 +1,14 @@
 //! Defines BMPString, which holds 16-bit units: the characters of the Basic Multilingual Plane in
 //! two octets each.
 ghost use Rattle.asn_strings.specs.Alphabets.{all_within, is_bmp, place_outside};
-ghost use Rattle.asn_strings.specs.Refusals.{refused_place};
+ghost use Rattle.asn_strings.specs.Refusals.{IsUntexted, refused_place};
+ghost use Rattle.asn_strings.specs.Units.{has_text, text_of_units};
 ghost use Rattle.std.specs.Cmp.Lexicographic.{nat_list_eq_equiv};
 ghost use Rattle.std.specs.Cmp.{partial_equiv_from_equiv};
-ghost use Rattle.std.specs.Prelude.{◌≡◌, IfOk, IsTrue, OnOk, bytes_eq, chars};
+ghost use Rattle.std.specs.Prelude.{◌≡◌, IfErr, IfOk, IsTrue, OnOk, bytes_eq, chars, string_bytes};
 
-use crate::StringFault;
 use crate::character_sets::{Bmp, first_outside};
+use crate::{StringFault, UnitFault};
 use std::alloc::{AllocError, Global};
 use std::marker::Model;
 
@@ -56,6 +57,20 @@ impl BmpString {
         BmpString { units }
     }
 
+    /// Returns the text of the units.
+    ///
+    /// # Errors
+    ///
+    /// `Surrogate` where a unit is a surrogate, with the place of the first such one;
+    /// `OutOfMemory`.
+    pub fn to_text(&self, alloc: Global) -> Result<String, UnitFault>
+        ensures text { IfOk result (λ s. string_bytes s ≡ text_of_units self.now) }
+        ensures characters { OnOk result (IsTrue (has_text self.now)) }
+        ensures refused { IfErr result (IsUntexted self.now) }
+    {
+        text_of(alloc, self.units.as_slice())
+    }
+
     /// Returns the units.
     pub fn units(&self) -> &[u16]
         ensures { result.now ≡ self.now }
@@ -79,6 +94,22 @@ fn units_of(alloc: Global, text: &str) -> Result<Vec<u16>, AllocError>
         units.push(character as u16)?;
     }
     Ok(units)
+}
+
+/// Returns the text of the units.
+fn text_of(alloc: Global, units: &[u16]) -> Result<String, UnitFault>
+    ensures text { IfOk result (λ s. string_bytes s ≡ text_of_units units.now) }
+    ensures characters { OnOk result (IsTrue (has_text units.now)) }
+    ensures refused { IfErr result (IsUntexted units.now) }
+{
+    let mut text = String::new(alloc);
+    for place in 0..units.len() {
+        match char::from_u32(units[place] as u32) {
+            Some(character) => text.push(character)?,
+            None => return Err(UnitFault::Surrogate { place }),
+        }
+    }
+    Ok(text)
 }
 
 /// Compares two strings: they are equal where their units are.

@@ -23,6 +23,13 @@ pub fn first_outside<C: CharacterSet>(text: &str) -> Option<usize>
     text.chars().position(|character| !C::contains(character))
 }
 
+/// Returns whether each character is in the alphabet of `C`.
+pub fn is_within<C: CharacterSet>(text: &str) -> bool
+    ensures { result ≡ all_within C.alphabet (chars text.now) }
+{
+    text.chars().all(|character| C::contains(character))
+}
+
 /// Is the set of NumericString: the digits and space.
 #[derive(Clone, Copy)]
 pub struct Numeric;

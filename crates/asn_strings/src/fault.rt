@@ -1,5 +1,6 @@
 //! Defines why a text is no value of a character string type.
 ghost use Rattle.asn_strings.specs.declared.fault.StringFault.TheVariants.{OutOfMemory};
+ghost use Rattle.asn_strings.specs.declared.fault.UnitFault.TheVariants as unit;
 ghost use Rattle.std.specs.Prelude.{◌≡◌};
 
 use std::alloc::{AllocError, AllocFailed};
@@ -15,6 +16,25 @@ pub enum StringFault {
     /// Memory ran out.
     #[error("Out of memory")]
     OutOfMemory,
+}
+
+/// Why the units of a BMPString have no text.
+#[derive(Debug, Drop, Error)]
+pub enum UnitFault {
+    /// A unit is a surrogate; `place` units stand before the first such one.
+    #[error("surrogate at place {place}")]
+    Surrogate { place: usize },
+    /// An allocation failed.
+    #[error("Out of memory")]
+    OutOfMemory,
+}
+
+impl From<AllocError> for UnitFault {
+    ghost from_gives = { λ _ fault. fault ≡ unit.OutOfMemory };
+
+    fn from(_error: AllocError) -> UnitFault {
+        UnitFault::OutOfMemory
+    }
 }
 
 /// Makes `?` turn a refusal of memory into `OutOfMemory`.

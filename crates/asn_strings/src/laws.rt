@@ -39,6 +39,15 @@ pub fn octets_are_within()
         → IsTrue (all_within alphabet text) }
 {}
 
+/// The characters of a text are in an alphabet that has every character past ASCII, where its UTF-8
+/// octets are.
+pub fn characters_are_within()
+    ensures { (alphabet : ℕ → Bool) (text : List ℕ)
+        → ((character : ℕ) → 128 ≤ character → alphabet character ≡ true)
+        → IsUtf8 text → IsTrue (all_within alphabet text)
+        → IsTrue (all_within alphabet (chars text)) }
+{}
+
 /// The units of a text have a text, which is that text.
 pub fn units_have_their_text()
     ensures { (text : List ℕ) → IsUtf8 text

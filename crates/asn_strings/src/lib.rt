@@ -13,7 +13,7 @@ pub mod text;
 
 pub use bmp::BmpString;
 pub use character_sets::CharacterSet;
-pub use fault::StringFault;
+pub use fault::{StringFault, UnitFault};
 pub use octets::{GeneralString, GraphicString, RestrictedOctets, TeletexString};
 pub use text::{
     Ia5String, NumericString, PrintableString, RestrictedString, UniversalString, Utf8String,

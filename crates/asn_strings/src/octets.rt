@@ -82,7 +82,7 @@ impl<C: OctetSet> Model for RestrictedOctets<C> {
 }
 
 /// Returns whether each octet is in the alphabet of `C`, taken as the character of its number.
-fn are_within<C: OctetSet>(octets: &[u8]) -> bool
+pub fn are_within<C: OctetSet>(octets: &[u8]) -> bool
     ensures { result ≡ all_within C.alphabet octets.now }
 {
     octets.iter().all(|octet| C::contains(char::from(*octet)))

@@ -6,3 +6,6 @@ pub mod ReadUtc
 pub mod ReadFractions
 pub mod ReadGeneralized
 pub mod Walks
+pub mod Meant
+pub mod AsciiTexts
+pub mod HeldTimes

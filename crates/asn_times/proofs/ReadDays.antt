@@ -43,7 +43,7 @@ day-digits y m d a b c =
     ∙ ap (λ o. bind o (λ e. at_end (fields y m e.0) e.1)) (two-two_digits d c [])
 
 -- What is read as numbers is their digits.
-day-is : (text : List ℕ) (f : DayFields) → day_fields text ≡ Some f → text ≡ day_digits f.year f.month f.day
+pub day-is : (text : List ℕ) (f : DayFields) → day_fields text ≡ Some f → text ≡ day_digits f.year f.month f.day
 day-is text f e =
     let y = bind-some (four text) after_years f e in
     let s = bind-some (dash y.0.1) (λ s. bind (two s) (after_months y.0.0)) f y.2 in

@@ -1,5 +1,5 @@
 -- The walk over the calendar comes to the day.
-use Rattle.std.proofs.Common.{◌≡◌, ℕ, zero, suc, ◌+◌, ◌-◌, ◌*◌, ◌/◌, ◌%◌, ◌<◌, ◌≤◌, ◌⊎◌, inl, inr, Bool, true, false, nat_lt, List, refl, sym, ap, ◌∙◌, arith, ℤ, pos, ◌-ℤ◌, ◌*ℤ◌, ◌≤ℤ◌, ◌<ℤ◌}
+use Rattle.std.proofs.Common.{◌≡◌, ℕ, zero, suc, ◌+◌, ◌-◌, ◌*◌, ◌/◌, ◌%◌, ◌<◌, ◌≤◌, ◌⊎◌, inl, inr, Bool, true, false, nat_lt, List, refl, sym, ap, ◌∙◌, arith, ℤ, pos, ◌+ℤ◌, ◌-ℤ◌, ◌*ℤ◌, ◌≤ℤ◌, ◌<ℤ◌}
 use Rattle.std.specs.Prelude.{unsigned_abs}
 use Rattle.std.proofs.lemmas.Bool.Decides.{nat_tests}
 use Rattle.jiff.specs.Types.{Date, DateTime}
@@ -7,7 +7,7 @@ use Rattle.jiff.specs.Words.{civil_nanos, epoch_day, time_nanos}
 use Rattle.jiff.proofs.SpanFacts.{signed_arith}
 use Rattle.jiff.proofs.Family.{civil_nanos-parts, epoch_day_injective, time_nanos_bound}
 use Rattle.jiff_core.specs.Calendar.{days_from_civil, day_count, days_in_year, days_in_month, days_of_months, day_of_year}
-use Rattle.jiff_core.proofs.CalendarLemmas.{day_count-next_year, day_count-day_of_year, day_count-lt_year, days_of_months_more, days_of_months_all, days_of_months-zero, days_in_year_bounds, days_in_month_bounds, days_from_civil-day_count}
+use Rattle.jiff_core.proofs.CalendarLemmas.{day_count_bounds, day_count-end, day_count-later_year, day_count-next_year, day_count-day_of_year, day_count-lt_year, days_of_months_more, days_of_months_all, days_of_months-zero, days_in_year_bounds, days_in_month_bounds, days_from_civil-day_count}
 use Rattle.jiff_core.proofs.DateLemmas.{civil}
 use Rattle.asn_times.specs.Days.{DayReads, IsInDayYears, day_digits, fields_of_date}
 use Rattle.asn_times.specs.Moments.{IsInYears, IsMomentText, fields_of_moment}
@@ -88,22 +88,13 @@ days_before d y = natural (epoch_day d -ℤ first_day) (by (sides d.year y))
         let f = days_from_civil-day_count (pos 0) 1 1 in
         omega (arith, signed_arith)
 
-module _ (d : Date) (from : pos 0 ≤ℤ d.year) where
-  abbrev days : ℕ
-  days = unsigned_abs (epoch_day d -ℤ first_day)
-
+-- The date of the day that many days after 0000-01-01, up to 9999-12-31.
+module _ (days : ℕ) (within : day_count (pos 0) 1 1 + days < 7_304_850) where
   abbrev y : ℕ × ℕ
   y = year_of_days days 0 days
 
   abbrev m : ℕ × ℕ
   m = month_of_days 12 (pos y.0) 1 y.1
-
-  counted : day_count d.year d.month d.day ≡ day_count (pos 0) 1 1 + days
-  counted =
-      let a = days_before d from in
-      let k = days_from_civil-day_count d.year d.month d.day in
-      let f = days_from_civil-day_count (pos 0) 1 1 in
-      omega (arith, signed_arith)
 
   in_year : InYear 0 days y
   in_year = year_walk days 0 days (omega arith)
@@ -120,15 +111,15 @@ module _ (d : Date) (from : pos 0 ≤ℤ d.year) where
       by : (b : Bool) → nat_lt 9999 y.0 ≡ b → y.0 ≤ 9999
       by true t =
           let gt = below 9999 y.0 t in
-          let h = d.year_in in
-          let l = day_count-lt_year d.year d.month d.day (pos y.0) 1 1 (civil d) (omega arith) (omega (arith, signed_arith)) in
-          let c = counted in
+          let later = day_count-later_year (pos 9999) (pos y.0) (omega (arith, signed_arith)) (omega (arith, signed_arith)) in
+          let next = day_count-next_year (pos 9999) (pos 10000) (omega (arith, signed_arith)) (omega (arith, signed_arith)) in
+          let end = day_count-end in
           let s = in_year.same in
           absurd (omega arith)
       by false t = above 9999 y.0 t
 
-  walked : Date
-  walked = record {
+  pub date_after : Date
+  date_after = record {
     year = pos y.0;
     month = m.0;
     day = m.1 + 1;
@@ -137,24 +128,40 @@ module _ (d : Date) (from : pos 0 ≤ℤ d.year) where
     day_in = (omega arith, let h = in_month.short in omega arith);
   }
 
-  walked-same : epoch_day walked ≡ epoch_day d
-  unfolding walked
-  walked-same =
+  pub date_after-number : epoch_day date_after ≡ first_day +ℤ pos days
+  unfolding date_after
+  date_after-number =
       let a = day_count-day_of_year (pos y.0) m.0 (m.1 + 1) (omega arith) in
       let e = in_year.same in
       let f = in_month.same in
       let z = days_of_months-zero (pos y.0) in
-      let c = counted in
-      let k = days_from_civil-day_count d.year d.month d.day in
       let u = days_from_civil-day_count (pos y.0) m.0 (m.1 + 1) in
+      let k = days_from_civil-day_count (pos 0) 1 1 in
+      omega (arith, signed_arith)
+
+  date_after-fields : day_after days ≡ fields_of_date date_after
+  unfolding date_after
+  date_after-fields = refl
+
+module _ (d : Date) (from : pos 0 ≤ℤ d.year) where
+  abbrev before : ℕ
+  before = unsigned_abs (epoch_day d -ℤ first_day)
+
+  within : day_count (pos 0) 1 1 + before < 7_304_850
+  within =
+      let a = days_before d from in
+      let b = day_count_bounds d.year d.month d.day (civil d) in
+      let k = days_from_civil-day_count d.year d.month d.day in
+      let f = days_from_civil-day_count (pos 0) 1 1 in
       omega (arith, signed_arith)
 
   -- The walk comes to the date.
-  pub day_after-date : day_after days ≡ fields_of_date d
-  unfolding walked
+  pub day_after-date : day_after before ≡ fields_of_date d
   day_after-date =
-      let same = epoch_day_injective walked d walked-same in
-      λ i. record { year = unsigned_abs (same.0 i); month = same.1 i; day = same.2 i }
+      let number = date_after-number before within in
+      let same = epoch_day_injective (date_after before within) d (let a = days_before d from in omega (arith, signed_arith)) in
+      date_after-fields before within
+      ∙ (λ i. record { year = unsigned_abs (same.0 i); month = same.1 i; day = same.2 i })
 
 -- The numbers of a moment are those that the walk comes to.
 pub moment_at-moment : (utc : DateTime) → pos 0 ≤ℤ utc.date.year → moment_at (civil_nanos utc) ≡ fields_of_moment utc

@@ -5,3 +5,5 @@ pub mod Moments
 pub mod Utc
 pub mod Generalized
 pub mod Written
+pub mod Meanings
+pub mod Held

@@ -3,6 +3,7 @@ pub use Rattle.asn_model.specs.Notation
 pub use Rattle.asn_model.specs.Range
 pub use Rattle.asn_model.specs.Shape
 pub use Rattle.asn_model.specs.ShapeView
+pub use Rattle.asn_model.specs.CharacterStrings
 pub use Rattle.asn_model.specs.Value
 pub use Rattle.asn_model.specs.Digits
 pub use Rattle.asn_model.specs.Tree

@@ -4,19 +4,9 @@ use Rattle.asn_base.specs.Tags.{smaller_tag, smallest}
 use Rattle.asn_base.specs.declared.tag.Tag.{Tag}
 use Rattle.asn_base.specs.declared.tag_tree.TagTree.{TagTree}
 use Rattle.asn_base.specs.declared.tag.Class.TheVariants.{Universal}
-use Rattle.asn_model.specs.Shape.{Shape, Alphabet, SeqKind, end_tag, opened, tag_eq}
+use Rattle.asn_model.specs.CharacterStrings.{alphabet_number, bmp_number}
+use Rattle.asn_model.specs.Shape.{Shape, SeqKind, end_tag, opened, tag_eq}
 use Rattle.asn_traits.specs.Tables.{root_tags}
-
--- The number of a string type's tag.
-abbrev pub alphabet_number : Alphabet → ℕ
-alphabet_number Alphabet.numeric = 18
-alphabet_number Alphabet.printable = 19
-alphabet_number Alphabet.visible = 26
-alphabet_number Alphabet.ia5 = 22
-alphabet_number Alphabet.utf8 = 12
-alphabet_number Alphabet.universal = 28
-alphabet_number Alphabet.general = 27
-alphabet_number Alphabet.graphic = 25
 
 -- The number of the universal tag of types of this shape. A CHOICE and an open type have none, and so 0.
 abbrev pub universal_number : Shape → ℕ
@@ -28,7 +18,7 @@ universal_number Shape.octets = 4
 universal_number Shape.any = 0
 universal_number Shape.oid = 6
 universal_number (Shape.text a) = alphabet_number a
-universal_number Shape.bmp = 30
+universal_number Shape.bmp = bmp_number
 universal_number Shape.utc = 23
 universal_number Shape.gen = 24
 universal_number Shape.day = 31

@@ -1,4 +1,4 @@
-use Rattle.std.proofs.Common.{◌≡◌, ap, ◌∙◌, ◌++◌, List, ℕ, get_or, string_bytes, arith}
+use Rattle.std.proofs.Common.{ap, ◌∙◌, ◌++◌, List, ℕ, get_or, string_bytes, arith}
 use Rattle.std.specs.Fmt.{decimal}
 use Rattle.asn_model.proofs.Joining.{joined-first, joined-more}
 use Rattle.asn_model.proofs.arcs.joined_arcs.Goals as goal

@@ -1,0 +1,88 @@
+-- The text of units, one unit at a time.
+use Rattle.std.proofs.Common.{◌≡◌, ℕ, ◌+◌, ◌<◌, ◌≤◌, ◌^◌, ⊎_elim, Bool, true, false, cond, not, ◌&&◌, List, [], ◌∷◌, ◌++◌, IsTrue, drop, get_or, length, encode_utf8, refl, sym, ap, ◌∙◌, arith, append_assoc, append-nil}
+use Rattle.std.specs.Char.{IsScalar, OutOfScalarRange}
+use Rattle.std.specs.Int.{IsInRange}
+use Rattle.std.proofs.Math.Utf8.{scalar, scalar_cases}
+use Rattle.std.proofs.lemmas.Bool.Decides.{nat_tests}
+use Rattle.std.proofs.lemmas.List.{drop_more, at_drop_all}
+use Rattle.asn_strings.specs.Units.{has_text, is_surrogate, text_of_units, units_valid_len}
+
+-- What is written is the text of the units before the place, which are characters.
+pub record IsTextBefore (units : List ℕ) (place : ℕ) (written : List ℕ) : Type 0 where
+  pub text : written ++ text_of_units (drop place units) ≡ text_of_units units
+  pub characters : has_text (drop place units) ≡ has_text units
+  pub valid : place + units_valid_len (drop place units) ≡ units_valid_len units
+
+pub nothing_before : (units : List ℕ) → IsTextBefore units 0 []
+nothing_before units = record { text = refl; characters = refl; valid = omega arith }
+
+-- What stands from the place on, where a unit is read there.
+read_at : (units : List ℕ) (place unit : ℕ) → place < length units → unit ≡ get_or units place unit
+    → drop place units ≡ unit ∷ drop (place + 1) units
+read_at units place unit l e =
+    drop_more units place unit l ∙ ap (λ u. u ∷ drop (place + 1) units) (sym e)
+
+below_surrogates : (c : ℕ) → c < 55296 → is_surrogate c ≡ false
+below_surrogates c h = grind (arith, nat_tests)
+
+above_surrogates : (c : ℕ) → (57344 ≤ c) × (c < 1114112) → is_surrogate c ≡ false
+above_surrogates c h = grind (arith, nat_tests)
+
+-- A character is no surrogate.
+no_surrogate : (c : ℕ) → IsScalar c → is_surrogate c ≡ false
+no_surrogate c e = ⊎_elim (below_surrogates c) (above_surrogates c) (scalar_cases c e)
+
+-- One unit more, a character.
+pub one_before : (units : List ℕ) (place unit : ℕ) (written : List ℕ) → place < length units
+    → unit ≡ get_or units place unit → IsScalar unit → IsTextBefore units place written
+    → IsTextBefore units (place + 1) (written ++ encode_utf8 unit)
+one_before units place unit written l e is before =
+    let rest = drop (place + 1) units in
+    let from = read_at units place unit l e in
+    let valid : units_valid_len (drop place units) ≡ 1 + units_valid_len rest =
+    ap units_valid_len from
+    ∙ ap (λ b. cond (not b) (1 + units_valid_len rest) 0) (no_surrogate unit is) in
+    record {
+      text = append_assoc written (encode_utf8 unit) (text_of_units rest)
+          ∙ ap (λ us. written ++ text_of_units us) (sym from) ∙ before.text;
+      characters = ap (λ b. b && has_text rest) (sym is) ∙ ap has_text (sym from)
+          ∙ before.characters;
+      valid = let v = before.valid in omega arith;
+    }
+
+-- All units are characters.
+pub all_before : (units : List ℕ) (place : ℕ) (written : List ℕ) → length units ≤ place
+    → IsTextBefore units place written
+    → (written ≡ text_of_units units) × IsTrue (has_text units)
+all_before units place written l before =
+    let text : written ++ text_of_units (drop place units) ≡ written =
+    at_drop_all (λ us. written ++ text_of_units us) units place l ∙ append-nil written in
+    let characters : has_text (drop place units) ≡ true = at_drop_all has_text units place l in
+    (sym text ∙ before.text, sym before.characters ∙ characters)
+
+surrogate_in : (c : ℕ) → IsInRange 0xD800 0xDFFF c → is_surrogate c ≡ true
+surrogate_in c h = grind (arith, nat_tests)
+
+too_high : (c : ℕ) → c < 2 ^ 16 → 0x11_0000 ≤ c → is_surrogate c ≡ true
+too_high c l h = absurd (omega arith)
+
+untold : (c : ℕ) (b : Bool) → scalar c ≡ b → is_surrogate c ≡ true → b ≡ false
+untold c true e h = let f : true ≡ false = sym h ∙ no_surrogate c e in cc f
+untold c false e h = refl
+
+-- The first unit that is no character.
+pub stopped_at : (units : List ℕ) (place unit : ℕ) (written : List ℕ) → place < length units
+    → unit ≡ get_or units place unit → unit < 2 ^ 16 → OutOfScalarRange unit
+    → IsTextBefore units place written
+    → (has_text units ≡ false) × (place ≡ units_valid_len units)
+stopped_at units place unit written l e small out before =
+    let rest = drop (place + 1) units in
+    let from = read_at units place unit l e in
+    let is : is_surrogate unit ≡ true =
+    ⊎_elim (surrogate_in unit) (too_high unit small) out in
+    let none = untold unit (scalar unit) refl is in
+    let characters : has_text (drop place units) ≡ false =
+    ap has_text from ∙ ap (λ b. b && has_text rest) none in
+    let valid : units_valid_len (drop place units) ≡ 0 =
+    ap units_valid_len from ∙ ap (λ b. cond (not b) (1 + units_valid_len rest) 0) is in
+    (sym before.characters ∙ characters, let v = before.valid in omega arith)

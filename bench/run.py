@@ -5,7 +5,8 @@ usage: bench/run.py [-n RUNS] [-k PART] [-p PROGRAM DIR]
 
 Each input whose name has PART in it is run RUNS times (3 unless given) by either program in turn, and the least time
 counts. Times are processor times. Both outputs have to be equal. A speed is the peer's time by ours, so that more than
-1 is faster than the peer. bench/native/build.sh builds the peers in Rust (Debian's librust-serde-json-dev).
+1 is faster than the peer. bench/native/build.sh builds the peers in Rust (Debian's librust-serde-json-dev and
+librust-hex-dev).
 
 The first table is of the program, beside Python's json module or Rust's serde_json: seconds, user and system, and peak
 memory. The second is of avn_bench beside a plain reader and printer of AVN: MB/s of text read and of text printed,
@@ -13,6 +14,9 @@ each the best of ten turns in a process, and how many times as long twice the in
 
 With -p, the inputs are the files *.in in DIR, each a request line and a text, and the peer is PROGRAM, which takes the
 same requests: seconds and peak memory of both, and ours by its.
+
+The third table is of the string types, from JER to JER and to AVN: seconds of each on one ASCII text, by those of
+UTF8String on the same text.
 """
 import hashlib
 import os
@@ -28,6 +32,7 @@ PYTHON = (
     "sys.stdout.write(json.dumps(json.loads(text),separators=(',',':'),ensure_ascii=False)+'\\n')\n"
 )
 NATIVE = [os.path.join(OUT, "native_peer")]
+OCTETS = [os.path.join(OUT, "octets_peer")]
 PROGRAM = [os.path.join(TOP, "asn_convert")]
 AVN_PEER = os.path.join(OUT, "avn_peer")
 AVN_CRATE = os.path.join(TOP, "crates", "avn_bench")
@@ -49,8 +54,19 @@ INPUTS = {
         lambda: b'jer jer Utf8String\n"' + "größe 漢字 ".encode() * 625_000 + b'"',
         NATIVE,
     ),
+    "octets, 10 MB": (
+        lambda: b'jer jer OctetString\n"' + b"00ff5A17" * 1_250_000 + b'"',
+        OCTETS,
+    ),
+    "octets, 5 MB": (
+        lambda: b'jer jer OctetString\n"' + b"00ff5A17" * 625_000 + b'"',
+        OCTETS,
+    ),
 }
 
+STRINGS = (
+    "NumericString PrintableString VisibleString Ia5String UniversalString GeneralString GraphicString BmpString"
+).split()
 MILLION = 1_000_000
 QUOTED = 'The quick brown fox says ""hello"".\n'
 AVN_INPUTS = {
@@ -61,6 +77,7 @@ AVN_INPUTS = {
     "wide braces": lambda size: "{" + ", ".join(["{}"] * MILLION * size) + "}",
     "braces 60 deep": lambda size: "{" + ", ".join(["{" * 60 + "}" * 60] * (MILLION // 60 * size)) + "}",
     "octets, 10 MB": lambda size: "'" + "00FF5A17" * (10 * MILLION // 4 * size) + "'H",
+    "bits, 10 MB": lambda size: "'" + "0110100" * (10 * MILLION // 7 * size) + "'B",
 }
 
 
@@ -122,6 +139,21 @@ def compare_peer(program, path, runs):
         f" {ours[0] / theirs[0]:6.2f}  | {ours[1]:7.0f} {theirs[1]:7.0f} {ours[1] / theirs[1]:6.2f}",
         flush=True,
     )
+
+
+def compare_strings(runs):
+    """Prints the rows of the string types, beside UTF8String on the same text of digits."""
+    path = os.path.join(OUT, "input")
+    print(f"{'string types':20} {'jer jer s':>9} {'by UTF8':>8} {'jer avn s':>10} {'by UTF8':>8}")
+    plain = {}
+    for name in ["Utf8String", *STRINGS]:
+        row = f"{name:20}"
+        for to in ("jer", "avn"):
+            write_input(lambda: f"jer {to} {name}\n".encode() + b'"' + b"0123456789 " * 900_000 + b'"', path)
+            seconds = min(measure(PROGRAM, path)[0] for _ in range(runs))
+            plain.setdefault(to, seconds)
+            row += f" {seconds:9.3f} {seconds / plain[to]:8.2f}"
+        print(row, flush=True)
 
 
 def turns(program, path):
@@ -195,6 +227,8 @@ def main():
         print(f"{'':30}  | {columns}  | {columns}")
     for name in avn_inputs:
         compare_avn(name, runs)
+    if part in "string types":
+        compare_strings(runs)
 
 
 main()

@@ -1,5 +1,6 @@
 #!/bin/sh
-# Builds the peers into OUT (bench/out unless named). Needs Debian's package librust-serde-json-dev.
+# Builds the peers into OUT (bench/out unless named). Needs Debian's packages librust-serde-json-dev and
+# librust-hex-dev.
 set -eu
 here=$(CDPATH= cd -- "$(dirname -- "$0")" && pwd)
 out=${1:-$here/../out}
@@ -15,4 +16,5 @@ TOML
 cd "$out/native"
 cargo build --release --offline -q
 cp target/release/native "$out/native_peer"
+cp target/release/octets_peer "$out/octets_peer"
 cp target/release/avn_peer "$out/avn_peer"

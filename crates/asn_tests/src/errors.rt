@@ -4,292 +4,157 @@
 use asn_base::{Bounded, Codec, Size, Tag, WholeNumber};
 use asn_fault::*;
 use std::alloc::{AllocError, Global};
-use std::fmt;
-use std::process::Abort;
 use std::test::Fail;
 
-/// Returns a short text, which stands for any that an error may hold.
-fn m(alloc: Global) -> Result<String, AllocError> {
-    String::from_str(alloc, "m")
-}
+/// Lists the texts of the errors that `read_error` returns, by their places: five kinds of JER, six
+/// of AVN, and those that any codec has.
+const READ_TEXTS: [&str; 21] = [
+    "JER decoding error: Unexpected end of input while decoding JER (Codec: JER)",
+    "JER decoding error: Found mismatching JSON value. Expected type: null. \
+     Found value: m (Codec: JER)",
+    "JER decoding error: Found invalid character in octet string (Codec: JER)",
+    "JER decoding error: Failed to construct OID from value m (Codec: JER)",
+    "JER decoding error: Found invalid enumerated discriminant m (Codec: JER)",
+    "AVN decoding error: Unexpected end of AVN input (Codec: AVN)",
+    "AVN decoding error: AVN type mismatch: expected null, found m (Codec: AVN)",
+    "AVN decoding error: Invalid OID in AVN: m (Codec: AVN)",
+    "AVN decoding error: Invalid enumerated discriminant in AVN: m (Codec: AVN)",
+    "AVN decoding error: Unexpected token in AVN: m (Codec: AVN)",
+    "AVN decoding error: Integer parse error in AVN: m (Codec: AVN)",
+    "Error in Parser: m (Codec: JER)",
+    "Decoder doesn't support `REAL` type (Codec: AVN)",
+    "Exceeded maximum parse depth (Codec: AVN)",
+    "Missing field `x` (Codec: OER)",
+    "Actual integer larger than expected 8 bits (Codec: UPER)",
+    "No valid choice for `Either` (Codec: JER)",
+    "Failed to convert byte array into valid ASN.1 string. String type as tag: \
+     UNIVERSAL 22 Error: m (Codec: JER)",
+    "Custom error: m (Codec: XER)",
+    "Out of memory (Codec: APER)",
+    "BER decoding error: Invalid date string: m (Codec: BER)",
+];
 
-/// Checks that the error prints this text.
-fn assert_text<E: fmt::Display + Drop>(
-    rt: &impl Abort,
-    alloc: Global,
-    error: E,
-    want: &str,
-) -> Result<(), Fail> {
-    assert_eq!(rt; error.to_string(alloc)?.as_str(), want);
-    Ok(())
-}
-
-/// Each kind of JER has its text, after the words that name JER's errors and before the codec.
-#[test]
-fn texts_of_jer(rt: HostRuntime) -> Result<(), Fail> {
-    let alloc = rt.alloc();
-    // A value is expected where none is.
-    assert_text::<DecodeError>(
-        &rt,
-        alloc,
-        JerDecodeErrorKind::eoi().into(),
-        "JER decoding error: Unexpected end of input while decoding JER (Codec: JER)",
-    )?;
-    assert_text::<DecodeError>(
-        &rt,
-        alloc,
-        // The JSON value is of another kind.
-        DecodeError::from(JerDecodeErrorKind::TypeMismatch {
+/// Returns the kind of JER at this place, with `text` where it has a text.
+fn jer_kind(text: String, place: usize) -> JerDecodeErrorKind {
+    match place {
+        0 => JerDecodeErrorKind::EndOfInput {},
+        1 => JerDecodeErrorKind::TypeMismatch {
             needed: "null",
-            found: m(alloc)?,
-        }),
-        "JER decoding error: Found mismatching JSON value. Expected type: null. Found value: m (Codec: JER)",
-    )?;
-    assert_text::<DecodeError>(
-        &rt,
-        alloc,
-        // The string is no hexadecimal text.
-        DecodeError::from(JerDecodeErrorKind::InvalidJerOctetString {}),
-        "JER decoding error: Found invalid character in octet string (Codec: JER)",
-    )?;
-    assert_text::<DecodeError>(
-        &rt,
-        alloc,
-        // The JSON value is no OBJECT IDENTIFIER.
-        DecodeError::from(JerDecodeErrorKind::InvalidOIDString { value: m(alloc)? }),
-        "JER decoding error: Failed to construct OID from value m (Codec: JER)",
-    )?;
-    assert_text::<DecodeError>(
-        &rt,
-        alloc,
-        // The string is no item.
-        DecodeError::from(JerDecodeErrorKind::InvalidEnumDiscriminant {
-            discriminant: m(alloc)?,
-        }),
-        "JER decoding error: Found invalid enumerated discriminant m (Codec: JER)",
-    )?;
-    Ok(())
+            found: text,
+        },
+        2 => JerDecodeErrorKind::InvalidJerOctetString {},
+        3 => JerDecodeErrorKind::InvalidOIDString { value: text },
+        _ => JerDecodeErrorKind::InvalidEnumDiscriminant { discriminant: text },
+    }
 }
 
-/// Each kind of AVN has its text, after the words that name AVN's errors and before the codec.
-#[test]
-fn texts_of_avn(rt: HostRuntime) -> Result<(), Fail> {
-    let alloc = rt.alloc();
-    // A value is expected where none is.
-    assert_text::<DecodeError>(
-        &rt,
-        alloc,
-        AvnDecodeErrorKind::eoi().into(),
-        "AVN decoding error: Unexpected end of AVN input (Codec: AVN)",
-    )?;
-    assert_text::<DecodeError>(
-        &rt,
-        alloc,
-        // The AVN value is of another kind.
-        DecodeError::from(AvnDecodeErrorKind::AvnTypeMismatch {
+/// Returns the kind of AVN at this place, with `text` where it has a text.
+fn avn_kind(text: String, place: usize) -> AvnDecodeErrorKind {
+    match place {
+        5 => AvnDecodeErrorKind::AvnEndOfInput {},
+        6 => AvnDecodeErrorKind::AvnTypeMismatch {
             needed: "null",
-            found: m(alloc)?,
-        }),
-        "AVN decoding error: AVN type mismatch: expected null, found m (Codec: AVN)",
-    )?;
-    assert_text::<DecodeError>(
-        &rt,
-        alloc,
-        // The arcs are no OBJECT IDENTIFIER.
-        DecodeError::from(AvnDecodeErrorKind::InvalidOid { value: m(alloc)? }),
-        "AVN decoding error: Invalid OID in AVN: m (Codec: AVN)",
-    )?;
-    assert_text::<DecodeError>(
-        &rt,
-        alloc,
-        // The identifier is no item.
-        DecodeError::from(AvnDecodeErrorKind::AvnInvalidEnumDiscriminant {
-            discriminant: m(alloc)?,
-        }),
-        "AVN decoding error: Invalid enumerated discriminant in AVN: m (Codec: AVN)",
-    )?;
-    assert_text::<DecodeError>(
-        &rt,
-        alloc,
-        // The text is not in the notation.
-        DecodeError::from(AvnDecodeErrorKind::UnexpectedToken { found: m(alloc)? }),
-        "AVN decoding error: Unexpected token in AVN: m (Codec: AVN)",
-    )?;
-    assert_text::<DecodeError>(
-        &rt,
-        alloc,
-        // The text of a number is none.
-        DecodeError::from(AvnDecodeErrorKind::IntegerParseError { msg: m(alloc)? }),
-        "AVN decoding error: Integer parse error in AVN: m (Codec: AVN)",
-    )?;
+            found: text,
+        },
+        7 => AvnDecodeErrorKind::InvalidOid { value: text },
+        8 => AvnDecodeErrorKind::AvnInvalidEnumDiscriminant { discriminant: text },
+        9 => AvnDecodeErrorKind::UnexpectedToken { found: text },
+        _ => AvnDecodeErrorKind::IntegerParseError { msg: text },
+    }
+}
+
+/// Returns the error of reading at this place of `READ_TEXTS`, with `text` where it has a text.
+fn read_error(text: String, place: usize) -> DecodeError {
+    match place {
+        0..=4 => jer_kind(text, place).into(),
+        5..=10 => avn_kind(text, place).into(),
+        11 => DecodeError::parser_fail(text, Codec::Jer),
+        12 => DecodeError::real_not_supported(Codec::Avn),
+        13 => DecodeError::from_kind(DecodeErrorKind::ExceedsMaxParseDepth, Codec::Avn),
+        14 => DecodeError::missing_field("x", Codec::Oer),
+        15 => DecodeError::integer_overflow(8, Codec::Uper),
+        16 => DecodeError::no_valid_choice("Either", Codec::Jer),
+        17 => DecodeError::string_conversion_failed(Tag::IA5_STRING, text, Codec::Jer),
+        18 => DecodeError::custom(text, Codec::Xer),
+        19 => DecodeError::out_of_memory(Codec::Aper),
+        _ => BerDecodeErrorKind::invalid_date(text).into(),
+    }
+}
+
+/// Each kind of decoding has its text, after the words that name the codec of the kind and before
+/// the codec of the error. A date is an error of BER whatever codec found it.
+#[test]
+fn errors_of_reading_print_their_texts(rt: HostRuntime) -> Result<(), Fail> {
+    for (place, &want) in READ_TEXTS.iter().enumerate() {
+        // `m` stands for any text that an error may hold.
+        let error = read_error(String::from_str(rt.alloc(), "m")?, place);
+        assert_eq!(rt; error.to_string(rt.alloc())?.as_str(), want);
+    }
     Ok(())
 }
 
-/// Each other kind of decoding has its text, under any codec. A date is an error of BER whatever
-/// codec found it.
-#[test]
-fn texts_of_reading(rt: HostRuntime) -> Result<(), Fail> {
-    let alloc = rt.alloc();
-    assert_text::<DecodeError>(
-        &rt,
-        alloc,
-        // The text is no JSON.
-        DecodeError::parser_fail(m(alloc)?, Codec::Jer),
-        "Error in Parser: m (Codec: JER)",
-    )?;
-    assert_text::<DecodeError>(
-        &rt,
-        alloc,
-        // The value holds a REAL.
-        DecodeError::real_not_supported(Codec::Avn),
-        "Decoder doesn't support `REAL` type (Codec: AVN)",
-    )?;
-    assert_text::<DecodeError>(
-        &rt,
-        alloc,
-        // Braces are nested beyond the limit.
-        DecodeError::from_kind(DecodeErrorKind::ExceedsMaxParseDepth, Codec::Avn),
-        "Exceeded maximum parse depth (Codec: AVN)",
-    )?;
-    assert_text::<DecodeError>(
-        &rt,
-        alloc,
-        // A required extension addition is absent.
-        DecodeError::missing_field("x", Codec::Oer),
-        "Missing field `x` (Codec: OER)",
-    )?;
-    assert_text::<DecodeError>(
-        &rt,
-        alloc,
-        // The number is outside the range of 8 bits.
-        DecodeError::integer_overflow(8, Codec::Uper),
-        "Actual integer larger than expected 8 bits (Codec: UPER)",
-    )?;
-    assert_text::<DecodeError>(
-        &rt,
-        alloc,
-        // The identifier is that of no alternative.
-        DecodeError::no_valid_choice("Either", Codec::Jer),
-        "No valid choice for `Either` (Codec: JER)",
-    )?;
-    assert_text::<DecodeError>(
-        &rt,
-        alloc,
-        // A character is outside the alphabet of IA5String, whose tag is universal 22.
-        DecodeError::string_conversion_failed(Tag::IA5_STRING, m(alloc)?, Codec::Jer),
-        "Failed to convert byte array into valid ASN.1 string. String type as tag: UNIVERSAL 22 Error: m (Codec: JER)",
-    )?;
-    assert_text::<DecodeError>(
-        &rt,
-        alloc,
-        // Any other cause has its own words.
-        DecodeError::custom(m(alloc)?, Codec::Xer),
-        "Custom error: m (Codec: XER)",
-    )?;
-    assert_text::<DecodeError>(
-        &rt,
-        alloc,
-        // This text is the library's own.
-        DecodeError::out_of_memory(Codec::Aper),
-        "Out of memory (Codec: APER)",
-    )?;
-    assert_text::<DecodeError>(
-        &rt,
-        alloc,
-        // The text is no date.
-        BerDecodeErrorKind::invalid_date(m(alloc)?).into(),
-        "BER decoding error: Invalid date string: m (Codec: BER)",
-    )?;
-    Ok(())
+/// Lists the texts of the errors that `write_error` returns, by their places: three kinds of JER,
+/// two of AVN, and those that any codec has.
+const WRITE_TEXTS: [&str; 10] = [
+    "JER encoding error: No encoded JSON root value found (Codec: JER)",
+    "JER encoding error: Exceeds supported integer range -2^63..2^64 \
+     (-9223372036854775809) (Codec: JER)",
+    "JER encoding error: Invalid character: after 3 (Codec: JER)",
+    "AVN encoding error: No encoded AVN root value found (Codec: AVN)",
+    "AVN encoding error: Error in AVN encoder: m (Codec: AVN)",
+    "Size constraint not satisfied: expected: 2..MAX; actual: 1 (Codec: JER)",
+    "Selected Variant not found in Choice (Codec: AVN)",
+    "Encoder doesn't support `REAL` type (Codec: JER)",
+    "Custom error: m (Codec: COER)",
+    "Out of memory (Codec: DER)",
+];
+
+/// Returns the kind of JER's encoding at this place: the number is one below the least that JER
+/// has, and three octets of the string are text.
+fn jer_write_kind(place: usize) -> JerEncodeErrorKind {
+    match place {
+        0 => JerEncodeErrorKind::NoRootValueFound,
+        1 => JerEncodeErrorKind::ExceedsSupportedIntSize {
+            value: WholeNumber {
+                negative: true,
+                magnitude: 9223372036854775809,
+            },
+        },
+        _ => JerEncodeErrorKind::InvalidCharacter {
+            error: Utf8Fault { valid_up_to: 3 },
+        },
+    }
 }
 
-/// Each kind of encoding has its text, under any codec.
-#[test]
-fn texts_of_writing(rt: HostRuntime) -> Result<(), Fail> {
-    let alloc = rt.alloc();
-    // A size of 2 at least, and a number one below the least that JER has.
+/// Returns the error of writing at this place of `WRITE_TEXTS`, with `text` where it has a text.
+fn write_error(text: String, place: usize) -> EncodeError {
+    // A size of 2 at least, where the value has 1.
     let size = Size {
         bounds: Bounded::Range {
             start: Some(2),
             end: None,
         },
     };
-    let value = WholeNumber {
-        negative: true,
-        magnitude: 9223372036854775809,
-    };
-    assert_text::<EncodeError>(
-        &rt,
-        alloc,
-        // The encoder was given nothing.
-        EncodeError::from(JerEncodeErrorKind::NoRootValueFound),
-        "JER encoding error: No encoded JSON root value found (Codec: JER)",
-    )?;
-    assert_text::<EncodeError>(
-        &rt,
-        alloc,
-        // The number is below -2^63.
-        EncodeError::from(JerEncodeErrorKind::ExceedsSupportedIntSize { value }),
-        "JER encoding error: Exceeds supported integer range -2^63..2^64 (-9223372036854775809) (Codec: JER)",
-    )?;
-    assert_text::<EncodeError>(
-        &rt,
-        alloc,
-        // Three octets of the string are text.
-        EncodeError::from(JerEncodeErrorKind::InvalidCharacter {
-            error: Utf8Fault { valid_up_to: 3 },
-        }),
-        "JER encoding error: Invalid character: after 3 (Codec: JER)",
-    )?;
-    assert_text::<EncodeError>(
-        &rt,
-        alloc,
-        // The encoder was given nothing.
-        EncodeError::from(AvnEncodeErrorKind::AvnNoRootValueFound),
-        "AVN encoding error: No encoded AVN root value found (Codec: AVN)",
-    )?;
-    assert_text::<EncodeError>(
-        &rt,
-        alloc,
-        // The value has no text.
-        EncodeError::from(AvnEncodeErrorKind::AvnEncoder { msg: m(alloc)? }),
-        "AVN encoding error: Error in AVN encoder: m (Codec: AVN)",
-    )?;
-    assert_text::<EncodeError>(
-        &rt,
-        alloc,
-        // A value of size 1, where the type has 2 at least.
-        EncodeError::size_constraint_not_satisfied(1, &size, Codec::Jer),
-        "Size constraint not satisfied: expected: 2..MAX; actual: 1 (Codec: JER)",
-    )?;
-    assert_text::<EncodeError>(
-        &rt,
-        alloc,
-        // The tag is that of no alternative.
-        EncodeError::variant_not_in_choice(Codec::Avn),
-        "Selected Variant not found in Choice (Codec: AVN)",
-    )?;
-    assert_text::<EncodeError>(
-        &rt,
-        alloc,
-        // A REAL is to be encoded.
-        EncodeError::real_not_supported(Codec::Jer),
-        "Encoder doesn't support `REAL` type (Codec: JER)",
-    )?;
-    assert_text::<EncodeError>(
-        &rt,
-        alloc,
-        // Any other cause has its own words.
-        EncodeError::custom(m(alloc)?, Codec::Coer),
-        "Custom error: m (Codec: COER)",
-    )?;
-    assert_text::<EncodeError>(
-        &rt,
-        alloc,
-        // This text is the library's own.
-        EncodeError::out_of_memory(Codec::Der),
-        "Out of memory (Codec: DER)",
-    )?;
+    match place {
+        0..=2 => jer_write_kind(place).into(),
+        3 => AvnEncodeErrorKind::AvnNoRootValueFound.into(),
+        4 => AvnEncodeErrorKind::AvnEncoder { msg: text }.into(),
+        5 => EncodeError::size_constraint_not_satisfied(1, &size, Codec::Jer),
+        6 => EncodeError::variant_not_in_choice(Codec::Avn),
+        7 => EncodeError::real_not_supported(Codec::Jer),
+        8 => EncodeError::custom(text, Codec::Coer),
+        _ => EncodeError::out_of_memory(Codec::Der),
+    }
+}
+
+/// Each kind of encoding has its text, in the same way.
+#[test]
+fn errors_of_writing_print_their_texts(rt: HostRuntime) -> Result<(), Fail> {
+    for (place, &want) in WRITE_TEXTS.iter().enumerate() {
+        // The place of a text in the list is that of its error.
+        let error = write_error(String::from_str(rt.alloc(), "m")?, place);
+        assert_eq!(rt; error.to_string(rt.alloc())?.as_str(), want);
+    }
     Ok(())
 }
 
@@ -305,7 +170,8 @@ fn fields_lead_to_the_root_cause(rt: HostRuntime) -> Result<(), Fail> {
     // The names come from the outside in, and the codecs from the inside out.
     assert_eq!(rt;
         outer.to_string(alloc)?.as_str(),
-        "Error when decoding field `a`: Error when decoding field `x`: Actual integer larger than expected 8 bits (Codec: JER) (Codec: JER) (Codec: AVN)"
+        "Error when decoding field `a`: Error when decoding field `x`: Actual integer larger \
+         than expected 8 bits (Codec: JER) (Codec: JER) (Codec: AVN)"
     );
     // One predicate that holds of the cause, and one that holds of the levels above it alone.
     let is_overflow = |kind: &DecodeErrorKind| matches!(

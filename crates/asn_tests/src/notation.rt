@@ -91,97 +91,25 @@ fn choice(alloc: Global, identifier: &str, value: AvnValue) -> Result<AvnValue, 
 /// Holds a value, its printed text, and the variants and the printed text of its normal form.
 type Row = (AvnValue, &'static str, &'static str, &'static str);
 
-/// Returns values without braces. A number that is held as a real without a fraction is read as an
-/// integer, and all others as they are.
-fn plain_rows(alloc: Global) -> Result<[Row; 9], AllocError> {
+/// Returns values that are not their own normal form: a real without a fraction, arcs, absent
+/// fields, and bits of whole octets or with others past their length.
+fn values_of_other_forms(alloc: Global) -> Result<[Row; 6], AllocError> {
+    let five = AvnValue::Real(string(alloc, "5")?);
+    let arcs = AvnValue::Oid(Vec::from_slice(alloc, &[2, 5])?);
+    let field = sequence(alloc, "field1", Some(AvnValue::Boolean(true)), "field2")?;
     Ok([
-        (AvnValue::Boolean(true), "TRUE", "Boolean", "TRUE"),
-        (AvnValue::Boolean(false), "FALSE", "Boolean", "FALSE"),
-        (AvnValue::Null, "NULL", "Null", "NULL"),
-        // A number is its text, with no limit on digits.
-        (
-            AvnValue::Integer(string(alloc, "-12")?),
-            "-12",
-            "Integer",
-            "-12",
-        ),
-        // The one of these whose normal form is of another variant.
-        (AvnValue::Real(string(alloc, "5")?), "5", "Integer", "5"),
-        // A keyword needs no fraction to stay a real.
-        (
-            AvnValue::Real(string(alloc, "NOT-A-NUMBER")?),
-            "NOT-A-NUMBER",
-            "Real",
-            "NOT-A-NUMBER",
-        ),
-        // A word that is no keyword is an item of an enumeration.
-        (
-            AvnValue::Enumerated(string(alloc, "red")?),
-            "red",
-            "Enumerated",
-            "red",
-        ),
-        // A quote in the text is printed twice, and read as one.
-        (
-            AvnValue::CharString(string(alloc, "say \"hi\"")?),
-            "\"say \"\"hi\"\"\"",
-            "CharString",
-            "\"say \"\"hi\"\"\"",
-        ),
-        // A choice is printed on one line, with blanks round its colon.
-        (
-            choice(alloc, "test1", AvnValue::Integer(string(alloc, "5")?))?,
-            "test1 : 5",
-            "Choice Integer",
-            "test1 : 5",
-        ),
-    ])
-}
-
-/// Returns octets, bits and arcs. Bits of whole octets are printed in hexadecimal and read as
-/// octets, and arcs are read as a list of integers.
-fn octet_rows(alloc: Global) -> Result<[Row; 6], AllocError> {
-    Ok([
-        // Octets are printed in capitals.
-        (
-            AvnValue::OctetString(Vec::from_slice(alloc, &[1, 255])?),
-            "'01FF'H",
-            "OctetString",
-            "'01FF'H",
-        ),
-        // No bits and no octets have the same text.
-        (bits(alloc, &[], 0)?, "''H", "OctetString", "''H"),
-        // Eight bits are printed as an octet.
-        (bits(alloc, &[0xA0], 8)?, "'A0'H", "OctetString", "'A0'H"),
-        // Five bits past the length are not printed.
-        (bits(alloc, &[0xFF], 3)?, "'111'B", "BitString", "'111'B"),
+        // A number without a fraction is read as an integer.
+        (five, "5", "Integer", "5"),
         // Arcs are printed on one line, and the list that is read from it on several.
         (
-            AvnValue::Oid(Vec::from_slice(alloc, &[2, 5])?),
+            arcs,
             "{ 2 5 }",
             "SequenceOf Integer Integer",
             "{\n  2,\n  5\n}",
         ),
-        // Without arcs the braces are those of an empty list.
-        (AvnValue::Oid(Vec::new(alloc)), "{ }", "SequenceOf", "{}"),
-    ])
-}
-
-/// Returns fields and lists. Absent fields are not printed, and braces without any entry are read
-/// as a list.
-fn brace_rows(alloc: Global) -> Result<[Row; 4], AllocError> {
-    // Fields within a field, the first of them without any that is present.
-    let mut very = Vec::new(alloc);
-    very.push((
-        string(alloc, "very")?,
-        Some(sequence(alloc, "", None, "absent")?),
-    ))?;
-    very.push((string(alloc, "nested")?, Some(AvnValue::Boolean(false))))?;
-    let very = AvnValue::Sequence(very);
-    Ok([
         // An absent field leaves no line.
         (
-            sequence(alloc, "field1", Some(AvnValue::Boolean(true)), "field2")?,
+            field,
             "{\n  field1 TRUE\n}",
             "Sequence Boolean",
             "{\n  field1 TRUE\n}",
@@ -193,63 +121,43 @@ fn brace_rows(alloc: Global) -> Result<[Row; 4], AllocError> {
             "SequenceOf",
             "{}",
         ),
-        // An empty list is read as itself.
-        (
-            AvnValue::SequenceOf(Vec::new(alloc)),
-            "{}",
-            "SequenceOf",
-            "{}",
-        ),
-        // Each level is indented by two more blanks, and its closing brace stands under its name.
-        (
-            sequence(alloc, "a", Some(very), "b")?,
-            "{\n  a {\n    very {},\n    nested FALSE\n  }\n}",
-            "Sequence Sequence",
-            "{\n  a {\n    very {},\n    nested FALSE\n  }\n}",
-        ),
+        // Eight bits are printed as an octet, and read as octets.
+        (bits(alloc, &[0xA0], 8)?, "'A0'H", "OctetString", "'A0'H"),
+        // Five bits past the length are not printed.
+        (bits(alloc, &[0xFF], 3)?, "'111'B", "BitString", "'111'B"),
     ])
 }
 
-/// Checks the row's text, a copy's variants and text, and that what is printed is read as the
-/// normal form.
-fn check_row(rt: &impl Abort, alloc: Global, row: &Row) -> Result<(), Fail> {
-    let (value, printed, variants, normal_text) = row;
-    let text = format!(in alloc; "{value}")?;
-    assert_eq!(rt; text.as_str(), *printed);
-    assert!(rt; value.is_well_formed());
-
-    // A copy is the same in variants and text, before any normal form.
-    let copy = value.try_clone(alloc)?;
-    assert_eq!(rt;
-        kinds(alloc, &copy)?.as_str(),
-        kinds(alloc, value)?.as_str()
-    );
-    assert_eq!(rt; format!(in alloc; "{copy}")?.as_str(), *printed);
-
-    // The normal form as it is computed, and as it is read from the printed text.
-    let normal = value.normal(alloc)?;
-    assert_eq!(rt; kinds(alloc, &normal)?.as_str(), *variants);
-    assert_eq!(rt; format!(in alloc; "{normal}")?.as_str(), *normal_text);
-
-    let read = parse_avn(alloc, text.as_str())?;
-    assert_eq!(rt; kinds(alloc, &read)?.as_str(), *variants);
-    assert_eq!(rt; format!(in alloc; "{read}")?.as_str(), *normal_text);
+/// Checks that the value has these variants and prints this text.
+fn assert_value(
+    rt: &impl Abort,
+    alloc: Global,
+    value: &AvnValue,
+    variants: &str,
+    text: &str,
+) -> Result<(), Fail> {
+    // The variants are compared too, since the text doesn't always show them.
+    assert_eq!(rt; kinds(alloc, value)?.as_str(), variants);
+    assert_eq!(rt; format!(in alloc; "{value}")?.as_str(), text);
     Ok(())
 }
 
-/// Values of each kind are printed as their text and are well formed, a copy is the same value,
-/// and their printed text is read as their normal form.
+/// Values are printed as their text and are well formed, a copy is the same value, and the normal
+/// form is what their printed text is read as.
 #[test]
-fn values_are_printed_copied_and_read_as_their_normal_form(rt: HostRuntime) -> Result<(), Fail> {
+fn values_are_printed_and_copied_and_have_a_normal_form(rt: HostRuntime) -> Result<(), Fail> {
     let alloc = rt.alloc();
-    for row in &plain_rows(alloc)? {
-        check_row(&rt, alloc, row)?;
-    }
-    for row in &octet_rows(alloc)? {
-        check_row(&rt, alloc, row)?;
-    }
-    for row in &brace_rows(alloc)? {
-        check_row(&rt, alloc, row)?;
+    for (value, printed, variants, normal_text) in &values_of_other_forms(alloc)? {
+        assert!(rt; value.is_well_formed());
+        // The value itself and its copy have the same variants, the normal form may have others.
+        let own = kinds(alloc, value)?;
+        assert_value(&rt, alloc, value, own.as_str(), printed)?;
+        let copy = value.try_clone(alloc)?;
+        assert_value(&rt, alloc, &copy, own.as_str(), printed)?;
+        let normal = value.normal(alloc)?;
+        assert_value(&rt, alloc, &normal, variants, normal_text)?;
+        let read = parse_avn(alloc, printed)?;
+        assert_value(&rt, alloc, &read, variants, normal_text)?;
     }
     Ok(())
 }
@@ -294,113 +202,109 @@ fn values_that_cannot_be_read_again_are_not_well_formed(rt: HostRuntime) -> Resu
     Ok(())
 }
 
-/// Checks that each text is read as a value of these variants and this printed text.
-fn assert_read(
-    rt: &impl Abort,
-    alloc: Global,
-    rows: &[(&'static str, &'static str, &'static str)],
-) -> Result<(), Fail> {
-    for &(text, variants, printed) in rows {
-        let value = parse_avn(alloc, text)?;
-        assert_eq!(rt; kinds(alloc, &value)?.as_str(), variants, "{text}");
-        assert_eq!(rt; format!(in alloc; "{value}")?.as_str(), printed);
-    }
-    Ok(())
-}
+/// Lists texts, the variants of the values that they are read as, and what those print: tokens,
+/// then braces and choices.
+const READ_TEXTS: [(&str, &str, &str); 37] = [
+    // The six keywords mean a value of their own.
+    ("TRUE", "Boolean", "TRUE"),
+    ("FALSE", "Boolean", "FALSE"),
+    ("NULL", "Null", "NULL"),
+    ("PLUS-INFINITY", "Real", "PLUS-INFINITY"),
+    ("MINUS-INFINITY", "Real", "MINUS-INFINITY"),
+    ("NOT-A-NUMBER", "Real", "NOT-A-NUMBER"),
+    // Any other name is an identifier, as a keyword with more characters is.
+    ("z", "Enumerated", "z"),
+    ("TRUE-9_Z", "Enumerated", "TRUE-9_Z"),
+    // The digits of a number are kept as they stand, however many they are.
+    ("0", "Integer", "0"),
+    ("-0", "Integer", "-0"),
+    ("007", "Integer", "007"),
+    (
+        "1111111111111111111111111111111111111111",
+        "Integer",
+        "1111111111111111111111111111111111111111",
+    ),
+    // A point and a digit make it a real, whose digits are kept too.
+    ("1.5", "Real", "1.5"),
+    ("-00.50", "Real", "-00.50"),
+    // White space of Unicode may stand between digits, and capitals are printed.
+    ("''H", "OctetString", "''H"),
+    ("' 01 fF 'H", "OctetString", "'01FF'H"),
+    ("'01\u{A0}FF'H", "OctetString", "'01FF'H"),
+    // No bits are printed as no octets, and bits that are no whole octets stay bits.
+    ("''B", "BitString", "''H"),
+    ("'1'B", "BitString", "'1'B"),
+    ("'10\n101'B", "BitString", "'10101'B"),
+    // A doubled quote is one quote of the string.
+    ("\"\"", "CharString", "\"\""),
+    ("\"a\"\"b\"", "CharString", "\"a\"\"b\""),
+    // Braces without an entry are a list. Between integers a comma may stand or be left out.
+    ("{}", "SequenceOf", "{}"),
+    (
+        "{1 2, 3}",
+        "SequenceOf Integer Integer Integer",
+        "{\n  1,\n  2,\n  3\n}",
+    ),
+    ("{1-2}", "SequenceOf Integer Integer", "{\n  1,\n  -2\n}"),
+    // The comma may be left out after integers alone, whatever number follows.
+    ("{ 1 2.5 }", "SequenceOf Integer Real", "{\n  1,\n  2.5\n}"),
+    // Words need a comma between them, or the first would be a field's name.
+    (
+        "{TRUE, FALSE}",
+        "SequenceOf Boolean Boolean",
+        "{\n  TRUE,\n  FALSE\n}",
+    ),
+    (
+        "{ a, NULL }",
+        "SequenceOf Enumerated Null",
+        "{\n  a,\n  NULL\n}",
+    ),
+    // A name may stand twice: which one counts is for a type to decide.
+    (
+        "{ so-very 1, so-very 2 }",
+        "Sequence Integer Integer",
+        "{\n  so-very 1,\n  so-very 2\n}",
+    ),
+    // An item of braces may be a choice, whose payload ends at the comma.
+    (
+        "{ Test1 : 3, test2 : \"x\" }",
+        "SequenceOf Choice Choice",
+        "{\n  Test1 : 3,\n  test2 : \"x\"\n}",
+    ),
+    // A choice as the payload of a choice.
+    ("a : b : 1", "Choice Choice", "a : b : 1"),
+    // Any Unicode white space may follow the whole value.
+    ("\tTRUE\u{2003}\u{A0}\n", "Boolean", "TRUE"),
+    // Each level is indented by two more blanks, and its closing brace stands under its name.
+    (
+        "{ a { very { }, nested FALSE } }",
+        "Sequence Sequence",
+        "{\n  a {\n    very {},\n    nested FALSE\n  }\n}",
+    ),
+    // A minus belongs to the number after it.
+    ("-12", "Integer", "-12"),
+    ("red", "Enumerated", "red"),
+    ("test1 : 5", "Choice Integer", "test1 : 5"),
+    // A text with quotes is printed as it was read.
+    ("\"say \"\"hi\"\"\"", "CharString", "\"say \"\"hi\"\"\""),
+];
 
-/// Each token is read as its value: keywords, identifiers, numbers of any length, octets and bits
-/// with white space between digits, and strings with doubled quotes.
-/// The rows have the expected variants and texts, by the tokens of X.680, section 12.
-#[test]
-fn tokens_that_are_read(rt: HostRuntime) -> Result<(), Fail> {
-    const ROWS: [(&str, &str, &str); 22] = [
-        // The six keywords mean a value of their own.
-        ("TRUE", "Boolean", "TRUE"),
-        ("FALSE", "Boolean", "FALSE"),
-        ("NULL", "Null", "NULL"),
-        ("PLUS-INFINITY", "Real", "PLUS-INFINITY"),
-        ("MINUS-INFINITY", "Real", "MINUS-INFINITY"),
-        ("NOT-A-NUMBER", "Real", "NOT-A-NUMBER"),
-        // Any other name is an identifier, as a keyword with more characters is.
-        ("z", "Enumerated", "z"),
-        ("TRUE-9_Z", "Enumerated", "TRUE-9_Z"),
-        // The digits of a number are kept as they stand.
-        ("0", "Integer", "0"),
-        ("-0", "Integer", "-0"),
-        ("007", "Integer", "007"),
-        // A number may have more digits than any type takes.
-        (
-            "1111111111111111111111111111111111111111",
-            "Integer",
-            "1111111111111111111111111111111111111111",
-        ),
-        // A point and a digit make it a real, whose digits are kept too.
-        ("1.5", "Real", "1.5"),
-        ("-00.50", "Real", "-00.50"),
-        // White space of Unicode may stand between digits, and capitals are printed.
-        ("''H", "OctetString", "''H"),
-        ("' 01 fF 'H", "OctetString", "'01FF'H"),
-        ("'01\u{A0}FF'H", "OctetString", "'01FF'H"),
-        // No bits are printed as no octets.
-        ("''B", "BitString", "''H"),
-        // Bits that are no whole octets stay bits.
-        ("'1'B", "BitString", "'1'B"),
-        ("'10\n101'B", "BitString", "'10101'B"),
-        // A doubled quote is one quote of the string.
-        ("\"\"", "CharString", "\"\""),
-        ("\"a\"\"b\"", "CharString", "\"a\"\"b\""),
-    ];
-    assert_read(&rt, rt.alloc(), &ROWS)
-}
-
-/// Braces and choices are read as fields or lists. Commas between integers may be left out, names
-/// may stand twice, and choices within choices need no braces.
-/// The rows have the expected variants and texts, by the forms that the crate `rasn` reads.
+/// Each text is read as its value, a copy of it is the same, and its normal form prints the same
+/// text again. The rows have the expected variants and texts, by the forms that the crate `rasn`
+/// reads.
 #[test]
 fn texts_that_are_read(rt: HostRuntime) -> Result<(), Fail> {
-    const ROWS: [(&str, &str, &str); 10] = [
-        // Braces without an entry are a list.
-        ("{}", "SequenceOf", "{}"),
-        // Between integers a comma may stand or be left out.
-        (
-            "{1 2, 3}",
-            "SequenceOf Integer Integer Integer",
-            "{\n  1,\n  2,\n  3\n}",
-        ),
-        // A minus begins the next number, and no comma is needed before it.
-        ("{1-2}", "SequenceOf Integer Integer", "{\n  1,\n  -2\n}"),
-        // The comma may be left out after integers alone, whatever number follows.
-        ("{ 1 2.5 }", "SequenceOf Integer Real", "{\n  1,\n  2.5\n}"),
-        // Words need a comma between them, or the first would be a field's name.
-        (
-            "{TRUE, FALSE}",
-            "SequenceOf Boolean Boolean",
-            "{\n  TRUE,\n  FALSE\n}",
-        ),
-        // A word before a comma or a brace is a value, and before another value a field's name.
-        (
-            "{ a, NULL }",
-            "SequenceOf Enumerated Null",
-            "{\n  a,\n  NULL\n}",
-        ),
-        // A name may stand twice: which one counts is for a type to decide.
-        (
-            "{ so-very 1, so-very 2 }",
-            "Sequence Integer Integer",
-            "{\n  so-very 1,\n  so-very 2\n}",
-        ),
-        // An item of braces may be a choice, whose payload ends at the comma.
-        (
-            "{ Test1 : 3, test2 : \"x\" }",
-            "SequenceOf Choice Choice",
-            "{\n  Test1 : 3,\n  test2 : \"x\"\n}",
-        ),
-        // A choice as the payload of a choice.
-        ("a : b : 1", "Choice Choice", "a : b : 1"),
-        // Any Unicode white space may follow the whole value.
-        ("\tTRUE\u{2003}\u{A0}\n", "Boolean", "TRUE"),
-    ];
-    assert_read(&rt, rt.alloc(), &ROWS)
+    let alloc = rt.alloc();
+    for &(text, variants, printed) in &READ_TEXTS {
+        let value = parse_avn(alloc, text)?;
+        assert_value(&rt, alloc, &value, variants, printed)?;
+        let copy = value.try_clone(alloc)?;
+        assert_value(&rt, alloc, &copy, variants, printed)?;
+        // The normal form prints the same, if as octets in place of whole octets of bits.
+        let normal = copy.normal(alloc)?;
+        assert_eq!(rt; format!(in alloc; "{normal}")?.as_str(), printed);
+    }
+    Ok(())
 }
 
 /// Returns whether the error is that a token is unexpected.

@@ -1,11 +1,13 @@
-//! The printed text of each kind of error, and chains of errors, with ample memory. The texts are
-//! those of the crate `rasn`, but for those that it doesn't have.
+//! Prints the error of each kind, and chains of errors, with ample memory. The texts follow those
+//! of the crate `rasn` 0.30.0, with texts and numbers in place of foreign errors; that of memory
+//! is the library's own.
 use asn_base::{Bounded, Codec, Size, Tag, WholeNumber};
 use asn_fault::*;
 use std::alloc::{AllocError, Global};
 use std::test::Fail;
 
-/// The texts of the errors that `read_error` returns, by their places.
+/// Lists the texts of the errors that `read_error` returns, by their places: five kinds of JER, six
+/// of AVN, and those that any codec has.
 const READ_TEXTS: [&str; 21] = [
     "JER decoding error: Unexpected end of input while decoding JER (Codec: JER)",
     "JER decoding error: Found mismatching JSON value. Expected type: null. \
@@ -79,16 +81,20 @@ fn read_error(text: String, place: usize) -> DecodeError {
     }
 }
 
+/// Each kind of decoding has its text, after the words that name the codec of the kind and before
+/// the codec of the error. A date is an error of BER whatever codec found it.
 #[test]
 fn errors_of_reading_print_their_texts(rt: HostRuntime) -> Result<(), Fail> {
     for (place, &want) in READ_TEXTS.iter().enumerate() {
+        // `m` stands for any text that an error may hold.
         let error = read_error(String::from_str(rt.alloc(), "m")?, place);
         assert_eq!(rt; error.to_string(rt.alloc())?.as_str(), want);
     }
     Ok(())
 }
 
-/// The texts of the errors that `write_error` returns, by their places.
+/// Lists the texts of the errors that `write_error` returns, by their places: three kinds of JER,
+/// two of AVN, and those that any codec has.
 const WRITE_TEXTS: [&str; 10] = [
     "JER encoding error: No encoded JSON root value found (Codec: JER)",
     "JER encoding error: Exceeds supported integer range -2^63..2^64 \
@@ -103,7 +109,8 @@ const WRITE_TEXTS: [&str; 10] = [
     "Out of memory (Codec: DER)",
 ];
 
-/// Returns the kind of JER's writing at this place.
+/// Returns the kind of JER's encoding at this place: the number is one below the least that JER
+/// has, and three octets of the string are text.
 fn jer_write_kind(place: usize) -> JerEncodeErrorKind {
     match place {
         0 => JerEncodeErrorKind::NoRootValueFound,
@@ -121,6 +128,7 @@ fn jer_write_kind(place: usize) -> JerEncodeErrorKind {
 
 /// Returns the error of writing at this place of `WRITE_TEXTS`, with `text` where it has a text.
 fn write_error(text: String, place: usize) -> EncodeError {
+    // A size of 2 at least, where the value has 1.
     let size = Size {
         bounds: Bounded::Range {
             start: Some(2),
@@ -139,33 +147,42 @@ fn write_error(text: String, place: usize) -> EncodeError {
     }
 }
 
+/// Each kind of encoding has its text, in the same way.
 #[test]
 fn errors_of_writing_print_their_texts(rt: HostRuntime) -> Result<(), Fail> {
     for (place, &want) in WRITE_TEXTS.iter().enumerate() {
+        // The place of a text in the list is that of its error.
         let error = write_error(String::from_str(rt.alloc(), "m")?, place);
         assert_eq!(rt; error.to_string(rt.alloc())?.as_str(), want);
     }
     Ok(())
 }
 
+/// Nested field errors print each level with its codec, the root cause is found through them, and
+/// out of memory stays outside of any field.
 #[test]
 fn fields_lead_to_the_root_cause(rt: HostRuntime) -> Result<(), Fail> {
     let alloc = rt.alloc();
     let overflow = DecodeError::integer_overflow(8, Codec::Jer);
+    // The codec may differ from level to level: AVN without, JER within.
     let inner = DecodeError::field_error(alloc, "x", overflow, Codec::Jer);
     let outer = DecodeError::field_error(alloc, "a", inner, Codec::Avn);
+    // The names come from the outside in, and the codecs from the inside out.
     assert_eq!(rt;
         outer.to_string(alloc)?.as_str(),
         "Error when decoding field `a`: Error when decoding field `x`: Actual integer larger \
          than expected 8 bits (Codec: JER) (Codec: JER) (Codec: AVN)"
     );
+    // One predicate that holds of the cause, and one that holds of the levels above it alone.
     let is_overflow = |kind: &DecodeErrorKind| matches!(
         kind,
         DecodeErrorKind::IntegerOverflow { max_width: 8 }
     );
     let is_field = |kind: &DecodeErrorKind| matches!(kind, DecodeErrorKind::FieldError { .. });
+    // The cause is at the end of the chain, whatever the levels above it are.
     assert!(rt; outer.matches_root_cause(is_overflow));
     assert!(rt; !outer.matches_root_cause(is_field));
+    // The codec is that of the level at which the field was decoded.
     let memory = DecodeError::out_of_memory(Codec::Jer);
     let memory = DecodeError::field_error(alloc, "x", memory, Codec::Avn);
     assert_eq!(rt;

@@ -9,7 +9,7 @@ pub enum RowError {
     #[error("a row has an input, a status, what is written, and perhaps faults, parted by tabs")]
     Columns,
     /// The second column is no number of a byte.
-    #[error("a status is a number from 0 to 7")]
+    #[error("a status is a number from 0 to 255")]
     Status,
     /// A fault of the fourth column is none of the three forms.
     #[error("a fault is `read N`, `write N` or `room N`")]

@@ -1,4 +1,4 @@
--- CHOICE { Wine INTEGER (0..3) }
+-- CHOICE { Wine INTEGER (0..3) }. The range isn't checked, so the shape has every number of eight bits.
 use Rattle.std.specs.Prelude.{pos, codes}
 use Rattle.asn_traits.specs.Shape.{Shape, Alternatives, closed_choice}
 use Rattle.asn_traits.specs.Value.{Value}

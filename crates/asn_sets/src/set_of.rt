@@ -73,17 +73,10 @@ impl<D: Eq + Hash + Drop> SetOf<D> {
         ensures counted { OnOk result (length self.new ≡ length self.old + 1) }
         ensures unchanged { OnErr result (self.new ≡ self.old) }
     {
-        let count = match self.counts.get(&value) {
-            Some(count) => *count,
-            None => 0,
-        };
-        match self.counts.insert(value, count + 1) {
-            Ok(_) => {
-                self.total += 1;
-                Ok(())
-            }
-            Err(_) => Err(OutOfMemory),
-        }
+        let count = self.counts.get(&value).copied().unwrap_or(0);
+        self.counts.insert(value, count + 1)?;
+        self.total += 1;
+        Ok(())
     }
 
     /// Returns how many elements there are, repeats counted.
@@ -111,10 +104,7 @@ impl<D: Eq + Hash + Drop> SetOf<D> {
         let mut elements = Vec::new(alloc);
         for (element, count) in &self.counts {
             for _ in 0..*count {
-                match elements.push(element) {
-                    Ok(()) => {}
-                    Err(_) => return Err(OutOfMemory),
-                }
+                elements.push(element)?;
             }
         }
         Ok(elements)

@@ -18,7 +18,7 @@ loop-element-preserved g c =
 
 pub loop-preserved : goal.loop-preserved
 loop-preserved g c =
-    ap (map (deref {X = g.row.D.Denot})) c.in-Ok.ensures.items
+    ap (map (deref {X = g.row.D.Denot})) c.in_ok-push.ensures.items
     ∙ map-append (deref {X = g.row.D.Denot}) c.loop.elements.items (c.in-Some.element ∷ [])
     ∙ ap (λ l. l ++ c.in-Some.element.now ∷ []) c.loop.invariant
     ∙ append_assoc (map (deref {X = g.row.D.Denot}) c.loop-element.elements.items) (replicate c.loop.counter c.in-Some.element.now) (c.in-Some.element.now ∷ [])

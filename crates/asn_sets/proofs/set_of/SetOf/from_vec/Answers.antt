@@ -1,0 +1,8 @@
+use Rattle.std.proofs.Common.{[], ◌∷◌, arith, length-append}
+use Rattle.asn_sets.specs.Multiplicities.{same_push}
+use Rattle.asn_sets.proofs.set_of.SetOf.from_vec.Goals as goal
+
+pub loop-value-preserved : goal.loop-value-preserved
+loop-value-preserved g c =
+    let n = length-append c.loop-value.yielded (c.in-Some.value ∷ []) in
+    (omega (arith, c.in_ok-insert.ensures.counted, c.loop-value.invariant.0, n), same_push g.D.PartialEq.eq _ _ _ _ c.loop-value.invariant.1 c.in_ok-insert.ensures.added)

@@ -18,3 +18,10 @@ pub mod Paying
 pub mod QuotedText
 pub mod Finding
 pub mod Whole
+pub mod NodeForms
+pub mod Descendants
+pub mod RangesGrow
+pub mod Extending
+pub mod Putting
+pub mod Tables
+pub mod Walks

@@ -5,3 +5,11 @@ pub mod Ahead
 pub mod Gathering
 pub mod Answer
 pub mod Radix
+pub mod NodeKinds
+pub mod Preorder
+pub mod NodeViews
+pub mod NodeLists
+pub mod NodeRanges
+pub mod Forest
+pub mod ForestLaws
+pub mod TreeCode

@@ -9,12 +9,18 @@ mod digits;
 mod fault;
 mod form;
 mod gathered;
+mod node_kind;
+mod node_table;
+mod nodes;
 mod normal;
 mod parse;
 mod print;
+mod put;
 mod quoted;
 mod token;
 mod value;
 
+pub use node_kind::NodeKind;
+pub use node_table::NodeTable;
 pub use parse::{parse_avn, parse_scan};
 pub use value::AvnValue;

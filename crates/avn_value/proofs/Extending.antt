@@ -3,13 +3,13 @@ use Rattle.std.proofs.Common.{◌≡◌, ℕ, suc, ◌+◌, List, [], ◌∷◌,
 use Rattle.std.proofs.lemmas.List.{append-nil}
 use Rattle.std.specs.Prelude.{codes}
 use Rattle.std.specs.Str.{bytes_eq}
-use Rattle.avn_grammar.specs.Tree.{Tree, boolean, null, integer, real, enumerated, char_string, sequence, sequence_of, choice, no_trees}
+use Rattle.avn_grammar.specs.Tree.{Tree, boolean, null, integer, real, octet_string, bit_string, oid, enumerated, char_string, sequence, sequence_of, choice, no_trees}
 use Rattle.avn_grammar.specs.Grammar.{Item, named, bare, fields_of, trees_of, AllNamed, AllBare, IsGathered, word_of, is_real_keyword, is_integer}
 use Rattle.std.proofs.Common.{inl, inr}
 use Rattle.avn_value.specs.Preorder.{NamedSlot, descendants, fields_preorder, list_preorder, preorder, item_preorder, items_preorder}
 use Rattle.avn_value.specs.NodeViews.{NodeView, node_view, node_views, kind_of, text_of, octets_of, bit_length_of, arcs_of}
 use Rattle.avn_value.proofs.NodeForms.{only_nodes, view_as}
-use Rattle.avn_value.specs.NodeLists.{NodeList, next_node, with_leaf, with_open, closed_node, extended}
+use Rattle.avn_value.specs.NodeLists.{NodeList, next_node, with_leaf, with_octets, with_arcs, with_open, closed_node, extended}
 use Rattle.avn_value.specs.declared.node_kind.NodeKind.{NodeKind}
 use Rattle.avn_value.specs.declared.node_kind.NodeKind.TheVariants as kind
 
@@ -63,6 +63,18 @@ extended-null s = extended-leaf s null refl
 pub extended-no_trees : (s : NodeList) → with_leaf kind.SequenceOf s ≡ extended s (preorder s.name (sequence_of no_trees))
 unfolding descendants
 extended-no_trees s = extended-leaf s (sequence_of no_trees) refl
+
+pub extended-octets : (s : NodeList) (o : List ℕ) → with_octets kind.OctetString o 0 s ≡ extended s (preorder s.name (octet_string o))
+unfolding descendants
+extended-octets s o = extended-leaf s (octet_string o) refl
+
+pub extended-bits : (s : NodeList) (o : List ℕ) (n : ℕ) → with_octets kind.BitString o n s ≡ extended s (preorder s.name (bit_string o n))
+unfolding descendants
+extended-bits s o n = extended-leaf s (bit_string o n) refl
+
+pub extended-arcs : (s : NodeList) (a : List ℕ) → with_arcs a s ≡ extended s (preorder s.name (oid a))
+unfolding descendants
+extended-arcs s a = extended-leaf s (oid a) refl
 
 cond_case : {A : Type 0} (P : A → Type 0) (b : Bool) (x y : A) → P x → P y → P (cond b x y)
 cond_case P true x y h k = h

@@ -8,11 +8,15 @@ pub mod Packed
 pub mod Leads
 pub mod Looking
 pub mod Pairs
-pub mod Items
+pub mod ItemFlags
 pub mod NoToken
 pub mod NotDeep
 pub mod Going
 pub mod Steps
+pub mod Turns
+pub mod NumberNodes
+pub mod TextNodes
+pub mod Readings
 pub mod Tokens
 pub mod Paying
 pub mod QuotedText

@@ -3,27 +3,15 @@ use Rattle.std.proofs.Common.{◌≡◌, ℕ, ◌+◌, ◌<◌, List, [], ◌∷
 use Rattle.std.specs.Prelude.{map, option_map, OnOk}
 use Rattle.std.proofs.lemmas.List.{append-nil, take_more}
 use Rattle.std.proofs.lemmas.Result.{on_ok_weaker}
-use Rattle.avn_grammar.specs.Tree.{Tree, Trees, Fields, boolean, null, real, octet_string, bit_string, oid, sequence, sequence_of, choice}
+use Rattle.avn_grammar.specs.Tree.{Tree, Trees, Fields, sequence, sequence_of, choice}
 use Rattle.avn_value.specs.View.{tree_of, trees_in, fields_in}
-use Rattle.avn_value.proofs.Extending.{extended-extended, extended-leaf, IsOver, Closes, closing, over-choice}
+use Rattle.avn_value.proofs.Extending.{extended-extended, IsOver, Closes, closing, over-choice}
 use Rattle.avn_value.proofs.NodeForms.{worded, list_as}
 use Rattle.avn_value.specs.NodeViews.{NodeView}
 use Rattle.avn_value.specs.Preorder.{NamedSlot, descendants, fields_preorder, list_preorder, preorder, slot_descendants}
-use Rattle.avn_value.specs.NodeLists.{NodeList, extended, with_leaf, with_octets, with_arcs, with_open}
+use Rattle.avn_value.specs.NodeLists.{NodeList, extended, with_leaf, with_open}
 use Rattle.avn_value.specs.declared.node_kind.NodeKind.{NodeKind}
 use Rattle.avn_value.specs.declared.node_kind.NodeKind.TheVariants as kind
-
-pub extended-octets : (s : NodeList) (o : List ℕ) → with_octets kind.OctetString o 0 s ≡ extended s (preorder s.name (octet_string o))
-unfolding descendants
-extended-octets s o = extended-leaf s (octet_string o) refl
-
-pub extended-bits : (s : NodeList) (o : List ℕ) (n : ℕ) → with_octets kind.BitString o n s ≡ extended s (preorder s.name (bit_string o n))
-unfolding descendants
-extended-bits s o n = extended-leaf s (bit_string o n) refl
-
-pub extended-arcs : (s : NodeList) (a : List ℕ) → with_arcs a s ≡ extended s (preorder s.name (oid a))
-unfolding descendants
-extended-arcs s a = extended-leaf s (oid a) refl
 
 pub extended-absent : (s : NodeList) → with_leaf kind.Absent s ≡ extended s ((s.name, None) ∷ [])
 extended-absent s = let e : suc (length s.nodes) ≡ suc (length s.nodes + 0) = omega arith in ap (λ n. list_as (s.nodes ++ (record { kind = kind.Absent; name = s.name; text = []; octets = []; bits = 0; arcs = []; end = n } ∷ [])) [] []) e

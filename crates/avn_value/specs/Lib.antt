@@ -9,6 +9,7 @@ pub mod NodeKinds
 pub mod Preorder
 pub mod NodeViews
 pub mod NodeLists
+pub mod ReadNodes
 pub mod NodeRanges
 pub mod Forest
 pub mod ForestLaws

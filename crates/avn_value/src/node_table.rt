@@ -1,18 +1,30 @@
 //! A value of the notation as a table of nodes, which contracts see as its tree.
-ghost use Rattle.std.specs.Prelude.{◌≡◌, ◌≢◌, Some, ◌<◌, ◌+◌, length, IfOk, string_bytes};
+ghost use Rattle.std.specs.Prelude.{◌≡◌, ◌≢◌, Some, ◌<◌, ◌≤◌, ◌+◌, ◌*◌, ℕ, List, length, IfOk, IfErr, string_bytes};
+ghost use Rattle.std.specs.Str.{chars};
+ghost use Rattle.asn_fault.specs.Stop.{Why, error_stop};
+ghost use Rattle.avn_grammar.specs.Depth.{Deep};
+ghost use Rattle.avn_grammar.specs.Grammar.{Reads};
 ghost use Rattle.avn_grammar.specs.Print.{print};
 ghost use Rattle.avn_grammar.specs.Tree.{Tree, sequence, sequence_of};
+ghost use Rattle.avn_grammar.specs.Unread.{Unread};
+ghost use Rattle.avn_value.specs.Ahead.{LooksAtMost};
+ghost use Rattle.avn_value.specs.Answer.{Explains, IsTable, IsRefusal};
 ghost use Rattle.avn_value.specs.View.{tree_of, list_trees, fields_trees};
 ghost use Rattle.avn_value.specs.NodeViews.{kind_of, text_of, octets_of, bit_length_of, arcs_of};
 ghost use Rattle.avn_value.specs.Preorder.{node_at, tree_at, choice_with, node_count, slot_descendants};
 
+use crate::cursor::Cursor;
 use crate::node_kind::NodeKind;
 use crate::nodes::Nodes;
+use crate::parse::read_whole;
 use crate::put::put_value;
 use crate::value::AvnValue;
-use asn_base::OutOfMemory;
+use asn_base::{OutOfMemory, Scan};
+use asn_fault::DecodeError;
+use avn_grammar::limits::{LEVEL_LIMIT, LOOKS_PER_CHARACTER};
 use std::alloc::Global;
 use std::marker::Model;
+use std::mem;
 
 /// A value of the notation as its nodes in preorder. A node is named by its index. The first node
 /// within a node is the next one, and the one after that stands at the first one's `end`.
@@ -41,6 +53,62 @@ impl Model for NodeTable {
 }
 
 impl NodeTable {
+    /// Reads the value that the whole text of the scan is, in the ASN.1 value notation (X.680), where
+    /// no value is looked for at a level above `LEVEL_LIMIT`. White space may follow it. What the
+    /// scan counts rises by at most `LOOKS_PER_CHARACTER` for each character, and as many more,
+    /// whatever the answer.
+    ///
+    /// # Errors
+    ///
+    /// Of the codec AVN: `UnexpectedToken` where no value is read and none is looked for too deep,
+    /// with the first `EXCERPT_LENGTH` characters of what is not read, or where more than white
+    /// space follows the value, with all that follows it; `ExceedsMaxParseDepth` where a value is
+    /// looked for too deep; and `OutOfMemory`, also where the table would have more nodes or text
+    /// than 32 bits count.
+    pub fn parse(alloc: Global, scan: &mut Scan<'_>) -> Result<NodeTable, DecodeError>
+        ensures text { scan.new.text ≡ scan.old.text }
+        ensures rises { scan.old.looks ≤ scan.new.looks }
+        ensures looks { scan.new.looks
+            ≤ scan.old.looks + LOOKS_PER_CHARACTER * (length (chars scan.old.text) + 1) }
+
+        ensures ok { IfOk result (λ table. Reads LEVEL_LIMIT (chars scan.old.text) table) }
+        ensures err { IfErr result (λ error.
+            Explains LEVEL_LIMIT (chars scan.old.text) (error_stop error)) }
+
+        // Each of the two errors comes exactly where it says, and a table else, memory aside.
+        ensures reads { (tree : Tree) → Reads LEVEL_LIMIT (chars scan.old.text) tree
+            → IsTable tree result }
+        ensures unread { (found : List ℕ) → Unread LEVEL_LIMIT (chars scan.old.text) found
+            → IsRefusal (Why.unexpected_token found) result }
+        ensures deep { Deep LEVEL_LIMIT 0 (chars scan.old.text)
+            → IsRefusal Why.exceeds_max_parse_depth result }
+    {
+        let mut cursor = Cursor::new(mem::replace(scan, Scan::new("")));
+        let found = NodeTable::read(alloc, &mut cursor, LEVEL_LIMIT);
+        *scan = cursor.into_scan();
+        found
+    }
+
+    /// Reads the value that the whole text ahead is, within the limit on levels.
+    ///
+    /// # Errors
+    ///
+    /// As `parse` has them, for this limit.
+    fn read(alloc: Global, cursor: &mut Cursor<'_>, limit: usize) -> Result<NodeTable, DecodeError>
+        requires bounded { limit < usize.MAX }
+        requires together { cursor.old.ahead ≡ cursor.old.rest }
+        requires whole { cursor.old.rest ≡ chars cursor.old.text }
+        ensures looks { LooksAtMost (4 * length cursor.old.rest + 2) cursor.old cursor.new }
+        ensures ok { IfOk result (λ table. Reads limit cursor.old.rest table) }
+        ensures err { IfErr result (λ error. Explains limit cursor.old.rest (error_stop error)) }
+    {
+        let mut nodes = Nodes::new(alloc);
+        match read_whole(alloc, &mut nodes, cursor, limit) {
+            Ok(()) => Ok(NodeTable { nodes }),
+            Err(error) => Err(error),
+        }
+    }
+
     /// Returns the table of a value's tree, absent fields kept.
     ///
     /// # Errors

@@ -4,7 +4,7 @@ use Rattle.avn_grammar.specs.Grammar.{Reads}
 use Rattle.avn_grammar.specs.Depth.{Deep}
 use Rattle.avn_grammar.specs.Normal.{normal}
 use Rattle.avn_grammar.proofs.WholePrinted.{reads_whole, sinks_whole}
-use Rattle.avn_value.proofs.parse.parse_avn.Goals as goal
+use Rattle.avn_value.proofs.text.parse_avn.Goals as goal
 
 pub returns-clause-reads : goal.returns-clause-reads
 returns-clause-reads c = λ t r. c.parse_scan.ensures.reads t (subst (λ x. Reads 64 (chars x) t) (sym c.new-scan.ensures.text) r)

@@ -5,7 +5,7 @@ use Rattle.asn_base.specs.declared.codec.Codec.TheVariants.{Avn}
 use Rattle.asn_fault.specs.Stop.{Why, at_root}
 use Rattle.avn_grammar.specs.Chars.{past}
 use Rattle.avn_value.specs.Answer.{IsMoreOrMemory, more, no_memory}
-use Rattle.avn_value.proofs.parse.whole_value.Goals as goal
+use Rattle.avn_value.proofs.parse.end_of_text.Goals as goal
 
 pub returns-in-Some-clause-err : goal.returns-in-Some-clause-err
 returns-in-Some-clause-err c =

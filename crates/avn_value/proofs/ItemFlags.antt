@@ -1,7 +1,7 @@
 -- What flags say of the items of braces.
 use Rattle.std.proofs.Common.{◌≡◌, ℕ, List, [], ◌∷◌, ◌++◌, inl, inr, true, false, Bool, cond, refl, sym, ap, ◌∙◌}
 use Rattle.std.proofs.lemmas.Bool.{cases_Bool}
-use Rattle.avn_grammar.specs.Grammar.{Item, named, bare, is_integer, fields_of, trees_of, AllIntegers, AllNamed, AllBare, IsGathered}
+use Rattle.avn_grammar.specs.Grammar.{Item, named, bare, is_integer, fields_of, trees_of, AllIntegers, AllNamed, AllBare}
 use Rattle.avn_grammar.specs.Tree.{Tree, sequence, sequence_of}
 use Rattle.avn_value.specs.Gathering.{Holds, MakesKind}
 use Rattle.avn_value.specs.ReadNodes.{kind_of_item}
@@ -56,9 +56,6 @@ more_named (bare v ∷ xs) id t h = absurd h
 
 no : {A : Type 0} → true ≡ false → A
 no e = let n : ⊥ = cc in absurd n
-
-pub none_held : Holds (record { named = false; bare = false; integers = true }) []
-none_held = record { named = λ e. let n : ⊥ = cc in absurd n; only_bare = λ _. tt; bare = λ e. let n : ⊥ = cc in absurd n; only_named = λ _. tt; integers = λ _. tt; only_integers = λ _. refl }
 
 -- Which entry an item has.
 named_entry : (x : Item) → entry.Named ≡ kind_of_item x → (id : List ℕ) × (t : Tree) × (x ≡ named id t)
@@ -116,7 +113,3 @@ list_kind g items e k = (sequence_of (trees_of items), inr (k.only_bare e, refl)
 
 pub fields_kind : (g : BraceItems) (items : List Item) → g.bare ≡ false → Holds g items → MakesKind items kind.Sequence
 fields_kind g items e k = (sequence (fields_of items), inl (k.only_named e, refl), refl)
-
-pub no_kind : (g : BraceItems) (items : List Item) (t : Tree) → g.named ≡ true → g.bare ≡ true → Holds g items → IsGathered items t → ⊥
-no_kind g items t e f k (inl a) = k.bare f a.0
-no_kind g items t e f k (inr a) = k.named e a.0

@@ -1,13 +1,12 @@
 -- Values that are put into nodes.
-use Rattle.std.proofs.Common.{◌≡◌, ℕ, ◌+◌, ◌<◌, List, [], ◌∷◌, ◌++◌, Bool, Option, Some, None, String, Vec, Global, string_bytes, length, get_or, take, append_assoc, suc, arith, refl, sym, ap, ◌∙◌, rules, Result}
+use Rattle.std.proofs.Common.{◌≡◌, ℕ, ◌+◌, ◌<◌, List, [], ◌∷◌, ◌++◌, Option, Some, None, String, string_bytes, length, get_or, take, append_assoc, suc, arith, refl, sym, ap, ◌∙◌, Result}
 use Rattle.std.specs.Prelude.{map, option_map, OnOk}
 use Rattle.std.proofs.lemmas.List.{append-nil, take_more}
 use Rattle.std.proofs.lemmas.Result.{on_ok_weaker}
 use Rattle.avn_grammar.specs.Tree.{Tree, Trees, Fields, sequence, sequence_of, choice}
-use Rattle.avn_value.specs.View.{tree_of, trees_in, fields_in}
+use Rattle.avn_value.specs.View.{trees_in, fields_in}
 use Rattle.avn_value.proofs.Extending.{extended-extended, IsOver, Closes, closing, over-choice}
 use Rattle.avn_value.proofs.NodeForms.{worded, list_as}
-use Rattle.avn_value.specs.NodeViews.{NodeView}
 use Rattle.avn_value.specs.Preorder.{NamedSlot, descendants, fields_preorder, list_preorder, preorder, slot_descendants}
 use Rattle.avn_value.specs.NodeLists.{NodeList, extended, with_leaf, with_open}
 use Rattle.avn_value.specs.declared.node_kind.NodeKind.{NodeKind}

@@ -59,14 +59,6 @@ pub all_views-more : (xs ys zs more : List ℕ) (ns : List Node) → All (HasRan
 all_views-more xs ys zs more [] k = refl
 all_views-more xs ys zs more (n ∷ ns) k = map-same (view_of (xs ++ more) ys zs) (view_of xs ys zs) (n ∷ ns) n (λ i l. view_of-more xs ys zs more (get_or (n ∷ ns) i n) (k i n l))
 
-pub within_more : (xs ys zs more : List ℕ) (n : Node) → HasRanges xs ys zs n → HasRanges (xs ++ more) ys zs n
-within_more xs ys zs more n k = record {
-  name = char_range_more xs more n.name_start n.name_end k.name;
-  text = λ e. char_range_more xs more n.start n.stop (k.text e);
-  octets = k.octets;
-  arcs = k.arcs;
-}
-
 -- A node of a range that the text has.
 pub within_leaf : (xs ys zs : List ℕ) (n : Node) → IsCharRange xs n.name_start n.name_end → IsCharRange xs n.start n.stop → has_octets n.kind ≡ false → has_arcs n.kind ≡ false → HasRanges xs ys zs n
 within_leaf xs ys zs n k l e f = record { name = k; text = λ _. l; octets = λ h. let no : ⊥ = cc in absurd no; arcs = λ h. let no : ⊥ = cc in absurd no }

@@ -1,5 +1,5 @@
 -- A turn of the loop over items, into nodes.
-use Rattle.std.proofs.Common.{◌≡◌, ◌≢◌, ℕ, ◌<◌, ◌≤◌, ◌+◌, List, [], ◌∷◌, ◌++◌, true, false, sym, ap, subst, ◌∙◌, length, arith, length-append, append_assoc}
+use Rattle.std.proofs.Common.{◌≡◌, ◌≢◌, ℕ, ◌≤◌, List, [], ◌∷◌, ◌++◌, true, false, sym, ap, subst, ◌∙◌, length, arith, append_assoc}
 use Rattle.avn_grammar.proofs.DeepStands.{close_comma, number_close, number_comma}
 use Rattle.avn_grammar.proofs.Refusals.{Follows, follows, ends, after_comma, after_number}
 use Rattle.avn_grammar.specs.declared.chars.Lead.TheVariants as is
@@ -9,13 +9,12 @@ use Rattle.avn_grammar.specs.Grammar.{BeginsNumber, Item, IsGathered, BracesStan
 use Rattle.avn_grammar.specs.Tree.{Tree, choice}
 use Rattle.avn_value.proofs.NotDeep.{deep_comma_only, deep_number_only}
 use Rattle.avn_value.proofs.Going.{Going}
-use Rattle.avn_value.proofs.Extending.{Closes, extended-push, closing, over-gathered, gathered-integer, over-choice, length-node_views}
+use Rattle.avn_value.proofs.Extending.{Closes, extended-push, closing, over-gathered, gathered-integer, over-choice}
 use Rattle.avn_value.proofs.NodeForms.{worded}
-use Rattle.avn_value.specs.NodeViews.{node_views}
 use Rattle.avn_value.specs.Gathering.{Holds, MakesKind}
 use Rattle.avn_value.specs.ReadNodes.{IsRead}
-use Rattle.avn_value.specs.Preorder.{NamedSlot, preorder, item_preorder, items_preorder}
-use Rattle.avn_value.specs.NodeLists.{NodeList, extended, with_open, next_node}
+use Rattle.avn_value.specs.Preorder.{preorder, item_preorder, items_preorder}
+use Rattle.avn_value.specs.NodeLists.{NodeList, extended, with_open}
 use Rattle.avn_value.specs.declared.brace_items.BraceItems.{BraceItems}
 use Rattle.avn_value.specs.declared.node_kind.NodeKind.{NodeKind}
 use Rattle.avn_value.specs.declared.node_kind.NodeKind.TheVariants as kind
@@ -114,13 +113,6 @@ choice_closed s s1 s2 s3 s4 id p place e f g h l =
     let grew : s3 ≡ extended (with_open kind.Choice s1) (preorder (spelled id) p) = h ∙ ap (λ (y : NodeList). extended y (preorder y.name p)) g ∙ ap (λ w. extended (with_open kind.Choice s1) (preorder w p)) (ap (λ (y : NodeList). y.word) e) in
     closing s1 s3 s4 kind.Choice kind.Choice (choice (spelled id) p) (preorder (spelled id) p) place f grew (over-choice (spelled id) p) l
     ∙ ap (λ (y : NodeList). extended y (preorder y.name (choice (spelled id) p))) e
-
--- The opened node is there.
-pub open_below : (s1 s2 s3 : NodeList) (k : NodeKind) (ss : List NamedSlot) (place : ℕ) → place ≡ length s1.nodes → s2 ≡ with_open k s1 → s3 ≡ extended s2 ss → place < length s3.nodes
-open_below s1 s2 s3 k ss place e f g =
-    let a : length s3.nodes ≡ length s2.nodes + length ss = ap (λ (y : NodeList). length y.nodes) g ∙ length-append s2.nodes (node_views (length s2.nodes) ss) ∙ ap (λ n. length s2.nodes + n) (length-node_views (length s2.nodes) ss) in
-    let b : length s2.nodes ≡ length s1.nodes + 1 = ap (λ (y : NodeList). length y.nodes) f ∙ length-append s1.nodes (next_node k s1 ∷ []) in
-    omega arith
 
 pub word_closed : (s s1 s2 : NodeList) (id : List ℕ) → s1 ≡ worded s (spelled id) → s2 ≡ extended s1 (preorder s1.name (word_of s1.word)) → s2 ≡ extended s (preorder s.name (word_of (spelled id)))
 word_closed s s1 s2 id e f = f ∙ ap (λ (y : NodeList). extended y (preorder y.name (word_of y.word))) e

@@ -133,11 +133,6 @@ payload_at root i h e =
     let q = from_first root (i + 1) (k.0, Some k.1) (descendants k.1) f in
     (k.0, k.1, k.2, q.0, q.1)
 
-pub end_below : (root : Tree) (i : ℕ) → i < node_count root → i + length (slot_descendants (tree_at root i)) + 1 ≤ node_count root
-end_below root i h =
-    let f = from_inside root i h in
-    omega (arith, ap (λ (x : List NamedSlot). length x) f.are, length-drop (i + 1) (preorder [] root), length-append (slot_descendants (tree_at root i)) f.after)
-
 -- Fields, and others after them.
 pub joined : Fields → Fields → Fields
 joined no_fields gs = gs

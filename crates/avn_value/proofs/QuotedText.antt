@@ -1,6 +1,6 @@
 -- Texts in quotes.
 use Rattle.std.specs.Prelude.{not, is_some}
-use Rattle.std.proofs.Common.{Option, Some, None, MatchOption, ◌≡◌, ◌≢◌, ℕ, List, [], ◌∷◌, ◌++◌, Bool, true, false, cond, ◌==◌, refl, sym, ap, subst, ◌∙◌, append_assoc, ◌+◌, ◌≤◌, ◌<◌, take, set, length, length-append, arith}
+use Rattle.std.proofs.Common.{Option, Some, None, MatchOption, ◌≡◌, ◌≢◌, ℕ, List, [], ◌∷◌, ◌++◌, Bool, true, false, cond, ◌==◌, refl, sym, ap, subst, ◌∙◌, append_assoc, ◌+◌, ◌≤◌, ◌<◌, take, set, length, arith}
 use Rattle.std.proofs.lemmas.Bool.{eqb-true, eq-eqb, false_from_ne_true}
 use Rattle.std.proofs.lemmas.List.{append-nil, take_more_set}
 use Rattle.std.proofs.lemmas.Str.{encodes-append, encodes-IsAscii}
@@ -76,10 +76,6 @@ pub chunk_more : (u r n cs ds : List ℕ) → u ≡ (34 ∷ doubled cs) ++ r →
 chunk_more u r n cs ds e f =
     let g : r ≡ doubled ds ++ n = cc f in
     e ∙ ap (λ x. (34 ∷ doubled cs) ++ x) g ∙ sym (append_assoc (34 ∷ doubled cs) (doubled ds) n) ∙ ap (λ x. (34 ∷ x) ++ n) (sym (doubled-append cs ds))
-
--- A chunk takes as many characters of the text at least as it has.
-pub chunk_shorter : (r n ds : List ℕ) → 34 ∷ r ≡ (34 ∷ doubled ds) ++ n → length ds + length n ≤ length r
-chunk_shorter r n ds f = omega (arith, doubled-longer ds, ap length f, length-append (34 ∷ doubled ds) n)
 
 -- The characters of a chunk are spelled as they are.
 pub spelled_chunk : (a b text cs ds : List ℕ) → a ≡ spelled cs → b ≡ a ++ text → text ≡ ds → IsAscii ds → b ≡ spelled (cs ++ ds)

@@ -1,20 +1,13 @@
 -- Steps of a reader.
-use Rattle.std.proofs.Common.{◌≡◌, ◌≢◌, inl, inr, ℕ, suc, ◌+◌, ◌<◌, ◌≤◌, List, [], ◌∷◌, ◌++◌, Bool, true, false, cond, ◌==◌, ◌||◌, sym, ap, subst, ◌∙◌, append_assoc, length, arith, add-one, length-append, Result, Ok, Err, IfOk, OnOk, Option, Some, None}
+use Rattle.std.proofs.Common.{◌≡◌, ◌≢◌, inl, inr, ℕ, suc, ◌+◌, ◌<◌, ◌≤◌, List, [], ◌∷◌, Bool, true, false, cond, ◌==◌, ◌||◌, sym, ap, subst, ◌∙◌, length, arith, add-one, length-append}
 use Rattle.avn_grammar.specs.declared.chars.Lead.{Lead}
 use Rattle.avn_grammar.specs.declared.chars.Lead.TheVariants as is
-use Rattle.avn_grammar.proofs.DeepStands.{close_comma, number_comma, number_close}
-use Rattle.avn_grammar.proofs.Refusals.{Follows, follows, ends, after_comma, after_number}
-use Rattle.avn_grammar.proofs.Runs.{past-le, skip-le}
+use Rattle.avn_grammar.proofs.Runs.{past-le}
 use Rattle.avn_grammar.specs.Chars.{lead, tail, past, skip, is_letter, is_digit, is_name, doubled, has_fraction, inside, spelled}
-use Rattle.avn_grammar.specs.Depth.{Deep, ItemDeep, ItemsDeep, deep_payload, deep_braces, deep_choice, deep_field, deep_value, deep_after_comma, deep_after_number}
-use Rattle.avn_grammar.specs.Grammar.{word_of, Token, number_token, past_number, negative_token, octets_token, bits_token, text_token, Ident, ComesAfterWord, BeginsNumber, Item, named, bare, IsGathered, BracesStand, Stands, token, bare_word, choose, empty_braces, fields_in_braces, list_in_braces, ItemStands, choice_item, word_item, field_item, value_item, ItemsStand, last_item, comma_item, number_item}
+use Rattle.avn_grammar.specs.Depth.{Deep, ItemDeep, ItemsDeep, deep_payload, deep_braces, deep_choice, deep_field, deep_value}
+use Rattle.avn_grammar.specs.Grammar.{word_of, Token, number_token, past_number, negative_token, octets_token, bits_token, text_token, Ident, ComesAfterWord, named, bare, BracesStand, Stands, bare_word, choose, empty_braces, fields_in_braces, list_in_braces, ItemStands, choice_item, word_item, field_item, value_item, ItemsStand}
 use Rattle.avn_grammar.specs.Tree.{Tree, choice, sequence_of, no_trees}
-use Rattle.avn_value.proofs.Going.{Going}
 use Rattle.avn_value.proofs.Leads.{lead_letter, lead_digit}
-use Rattle.avn_value.proofs.NotDeep.{deep_comma_only, deep_number_only}
-use Rattle.avn_value.specs.Gathering.{Holds}
-use Rattle.std.specs.Prelude.{ok_or, IfSome, IfNone}
-use Rattle.avn_value.specs.declared.gathered.Gathered.{Gathered}
 
 letter-name : (c : ℕ) → is_letter c ≡ true → is_name c ≡ true
 letter-name c h = ap (λ b. b || is_digit c || (c == 45) || (c == 95)) h
@@ -69,10 +62,6 @@ module _ (limit level : ℕ) (u w : List ℕ) (at : w ≡ skip u) where
   value_word r n id b t le i c e f g =
       subst (λ x. Stands limit level u t x) (sym e) (subst (λ x. Stands limit level u x r) (sym (f ∙ ap word_of g)) (bare_word le (ident_at i) c))
 
-  pub value_token : (A E : Type 0) (see : A → Tree) (n v : List ℕ) (r : Result A E) → level ≤ limit → v ≡ w → IfOk r (λ x. Token v (see x) n) → IfOk r (λ x. Stands limit level u (see x) n)
-  value_token A E see n v (Err e) le f k = tt
-  value_token A E see n v (Ok x) le f k = token le (subst (λ y. Token y (see x) n) (f ∙ at) k)
-
   pub value_empty : (z m : List ℕ) (t : Tree) → level ≤ limit → lead w ≡ is.OpenBrace → z ≡ tail w → lead (skip z) ≡ is.CloseBrace → m ≡ tail (skip z) → t ≡ sequence_of no_trees → Stands limit level u t m
   value_empty z m t le o e c f g =
       let e1 : z ≡ tail (skip u) = e ∙ ap tail at in
@@ -109,98 +98,8 @@ module _ (limit level : ℕ) (u w : List ℕ) (at : w ≡ skip u) where
   pub item_value : (v n : List ℕ) (t : Tree) → v ≡ w → lead w ≢ is.Letter → Stands limit level v t n → ItemStands limit level u (bare t) n
   item_value v n t e c d = value_item (λ h. c (ap lead at ∙ h)) (subst (λ x. Stands limit level x t n) (e ∙ at) d)
 
--- A turn of the loop over items, backwards.
-only_on : {limit m : ℕ} {start now r next : List ℕ} {before : List Item} {x : Item}
-    → ((ys : List Item) (n : List ℕ) → ItemsStand limit m [] start ys n → (xs : List Item) × (ys ≡ before ++ xs) × ItemsStand limit m before now xs n)
-    → ItemStands limit m now x r
-    → ((xs : List Item) (n : List ℕ) → Follows limit m before x r xs n → (zs : List Item) × (xs ≡ x ∷ zs) × ItemsStand limit m (before ++ (x ∷ [])) next zs n)
-    → (ys : List Item) (n : List ℕ) → ItemsStand limit m [] start ys n → (zs : List Item) × (ys ≡ (before ++ (x ∷ [])) ++ zs) × ItemsStand limit m (before ++ (x ∷ [])) next zs n
-only_on {before = before} {x = x} f k g ys n d =
-    let p = f ys n d in
-    let q = g p.0 n (follows k p.2) in
-    (q.0, p.1 ∙ ap (λ v. before ++ v) q.1 ∙ sym (append_assoc before (x ∷ []) q.0), q.2)
-
-comma_only : {limit m : ℕ} {before xs : List Item} {x : Item} {r n next : List ℕ} → next ≡ tail (skip r) → lead (skip r) ≡ is.Comma → Follows limit m before x r xs n → (zs : List Item) × (xs ≡ x ∷ zs) × ItemsStand limit m (before ++ (x ∷ [])) next zs n
-comma_only e c (ends a b d) = absurd (close_comma _ a c)
-comma_only {limit = limit} {m = m} {before = before} {x = x} {n = n} e c (after_comma zs a b d) = (zs, b, subst (λ v. ItemsStand limit m (before ++ (x ∷ [])) v zs n) (sym e) d)
-comma_only e c (after_number zs a b d f) = absurd (number_comma _ b c)
-
-number_only : {limit m : ℕ} {before xs : List Item} {x : Item} {r n next : List ℕ} → next ≡ skip r → BeginsNumber (lead (skip r)) → Follows limit m before x r xs n → (zs : List Item) × (xs ≡ x ∷ zs) × ItemsStand limit m (before ++ (x ∷ [])) next zs n
-number_only e c (ends a b d) = absurd (number_close _ c a)
-number_only e c (after_comma zs a b d) = absurd (number_comma _ c a)
-number_only {limit = limit} {m = m} {before = before} {x = x} {n = n} e c (after_number zs a b d f) = (zs, d, subst (λ v. ItemsStand limit m (before ++ (x ∷ [])) v zs n) (sym e) f)
-
--- A turn of the loop over items.
-going_on : {limit m : ℕ} {start now : List ℕ} {before : List Item} (x : Item) (next : List ℕ)
-    → ((xs : List Item) (rest : List ℕ) → ItemsStand limit m before now xs rest → ItemsStand limit m [] start (before ++ xs) rest)
-    → ((xs : List Item) (rest : List ℕ) → ItemsStand limit m (before ++ (x ∷ [])) next xs rest → ItemsStand limit m before now (x ∷ xs) rest)
-    → (xs : List Item) (rest : List ℕ) → ItemsStand limit m (before ++ (x ∷ [])) next xs rest → ItemsStand limit m [] start ((before ++ (x ∷ [])) ++ xs) rest
-going_on {limit = limit} {m = m} {start = start} {before = before} x next f g xs rest d =
-    subst (λ y. ItemsStand limit m [] start y rest) (sym (append_assoc before (x ∷ []) xs)) (f (x ∷ xs) rest (g xs rest d))
-
-module _ (limit m : ℕ) (start now r : List ℕ) (g h : Gathered) (x : Item) (going : Going limit m start now g) (stands : ItemStands limit m now x r) (pushed : (before : List Item) → Holds g before → Holds h (before ++ (x ∷ []))) where
-  pub going_comma : (next : List ℕ) → next ≡ tail (skip r) → length next ≤ length now → lead (skip r) ≡ is.Comma → Going limit m start next h
-  going_comma next e le c = record {
-    before = going.before ++ (x ∷ []);
-    holds = pushed going.before going.holds;
-    completes = going_on x next going.completes (λ xs rest d. comma_item stands c (subst (λ y. ItemsStand limit m (going.before ++ (x ∷ [])) y xs rest) e d));
-    only = only_on going.only stands (λ xs n f. comma_only e c f);
-    deeper = λ d. going.deeper (deep_after_comma stands c (subst (λ y. ItemsDeep limit m (going.before ++ (x ∷ [])) y) e d));
-    shallower = λ d. deep_comma_only e stands c (going.shallower d);
-    shorter = omega (arith, going.shorter);
-  }
-
-  pub going_number : (next : List ℕ) → next ≡ skip r → length next ≤ length now → BeginsNumber (lead (skip r)) → h.integers ≡ true → Going limit m start next h
-  going_number next e le c i =
-      let k = pushed going.before going.holds in
-      record {
-        before = going.before ++ (x ∷ []);
-        holds = k;
-        completes = going_on x next going.completes (λ xs rest d. number_item stands (k.integers i) c (subst (λ y. ItemsStand limit m (going.before ++ (x ∷ [])) y xs rest) e d));
-        only = only_on going.only stands (λ xs n f. number_only e c f);
-        deeper = λ d. going.deeper (deep_after_number stands (k.integers i) c (subst (λ y. ItemsDeep limit m (going.before ++ (x ∷ [])) y) e d));
-        shallower = λ d. deep_number_only e stands c (going.shallower d);
-        shorter = omega (arith, going.shorter);
-      }
-
-  pub unclosed : lead (skip r) ≡ is.CloseBrace → ((xs : List Item) (t : Tree) → Holds h xs → IsGathered xs t → ⊥) → (t : Tree) (n : List ℕ) → BracesStand limit m start t n → ⊥
-  unclosed c f t n b =
-      let p = going.only b.0 n b.1 in
-      elim (follows stands p.2) [
-        | ends i j k ↦ f (going.before ++ (x ∷ [])) t (pushed going.before going.holds) (subst (λ v. IsGathered v t) (p.1 ∙ ap (λ v. going.before ++ v) j) b.2)
-        | after_comma zs i j k ↦ close_comma _ c i
-        | after_number zs i j k l ↦ number_close _ j c
-      ]
-
-  pub not_going : lead (skip r) ≢ is.CloseBrace → lead (skip r) ≢ is.Comma → (BeginsNumber (lead (skip r)) → h.integers ≢ true) → (t : Tree) (n : List ℕ) → BracesStand limit m start t n → ⊥
-  not_going c d f t n b =
-      let p = going.only b.0 n b.1 in
-      elim (follows stands p.2) [
-        | ends i j k ↦ c i
-        | after_comma zs i j k ↦ d i
-        | after_number zs i j k l ↦ f j ((pushed going.before going.holds).only_integers i)
-      ]
-
-  pub closed : (n : List ℕ) (t : Tree) → n ≡ tail (skip r) → lead (skip r) ≡ is.CloseBrace → ((xs : List Item) → Holds h xs → IsGathered xs t) → BracesStand limit m start t n
-  closed n t e c f =
-      let xs = going.before ++ (x ∷ []) in
-      (xs, subst (λ y. ItemsStand limit m [] start xs y) (sym e) (going.completes (x ∷ []) (tail (skip r)) (last_item stands c)), f xs (pushed going.before going.holds))
-
-pub shorter_token : (A E : Type 0) (see : A → Tree) (n u v : List ℕ) (r : Result A E) → v ≡ skip u → IfOk r (λ x. Token v (see x) n) → OnOk r (length n < length u)
-shorter_token A E see n u v (Err e) f k = tt
-shorter_token A E see n u v (Ok x) f k = omega (arith, token-shorter k, skip-le u, ap length f)
-
-pub all_closed : (A E : Type 0) (see : A → Tree) (limit m : ℕ) (start n : List ℕ) (h : Gathered) (e : E) (o : Option A) (r : Result A E) → r ≡ ok_or o e → IfSome o (λ v. (xs : List Item) → Holds h xs → IsGathered xs (see v))
-    → ((t : Tree) → ((xs : List Item) → Holds h xs → IsGathered xs t) → BracesStand limit m start t n) → IfOk r (λ v. BracesStand limit m start (see v) n)
-all_closed A E see limit m start n h e None r f k g = subst (λ r. IfOk r (λ v. BracesStand limit m start (see v) n)) (sym f) tt
-all_closed A E see limit m start n h e (Some v) r f k g = subst (λ r. IfOk r (λ v. BracesStand limit m start (see v) n)) (sym f) (g (see v) k)
-
 pub braces_along : (limit m : ℕ) (v u n : List ℕ) (t : Tree) → v ≡ u → BracesStand limit m v t n → BracesStand limit m u t n
 braces_along limit m v u n t e d = subst (λ x. BracesStand limit m x t n) e d
-
-pub refused : {A E : Type 0} {P : Type 0} {e : E} (o : Option A) (r : Result A E) → r ≡ ok_or o e → r ≡ Err e → IfNone o P → P
-refused None r f g h = h
-refused (Some v) r f g h = let n : ⊥ = cc in absurd n
 
 -- What is looked for too deep.
 module _ (limit level : ℕ) (u w : List ℕ) (at : w ≡ skip u) where

@@ -17,13 +17,21 @@ pub data Explains (limit : ℕ) (text : List ℕ) : Stop → Type 0 where
   exceeds_depth : Deep limit 0 text → Explains limit text (at_root Why.exceeds_max_parse_depth Avn)
   out_of_memory : Explains limit text (at_root Why.out_of_memory Avn)
 
+-- The answer is seen as the tree, or it is that memory ran out.
+abbrev pub IsSeenAs : {A : Type 0} → (A → Tree) → Tree → Result A DecodeError → Type 0
+IsSeenAs see t (Ok v) = see v ≡ t
+IsSeenAs see t (Err e) = error_stop e ≡ at_root Why.out_of_memory Avn
+
 -- The answer is a value of the tree, or that memory ran out.
 abbrev pub IsValue : Tree → Result AvnValue DecodeError → Type 0
-IsValue t (Ok v) = tree_of v ≡ t
-IsValue t (Err e) = error_stop e ≡ at_root Why.out_of_memory Avn
+IsValue = IsSeenAs tree_of
+
+-- The answer is a table of the tree, or that memory ran out.
+abbrev pub IsTable : Tree → Result Tree DecodeError → Type 0
+IsTable = IsSeenAs (λ t. t)
 
 -- The answer is the error, or that memory ran out.
-abbrev pub IsRefusal : Why → Result AvnValue DecodeError → Type 0
+abbrev pub IsRefusal : {A : Type 0} → Why → Result A DecodeError → Type 0
 IsRefusal why (Ok v) = ⊥
 IsRefusal why (Err e) = (error_stop e ≡ at_root why Avn) ⊎ (error_stop e ≡ at_root Why.out_of_memory Avn)
 

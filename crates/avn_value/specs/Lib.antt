@@ -5,3 +5,12 @@ pub mod Ahead
 pub mod Gathering
 pub mod Answer
 pub mod Radix
+pub mod NodeKinds
+pub mod Preorder
+pub mod NodeViews
+pub mod NodeLists
+pub mod ReadNodes
+pub mod NodeRanges
+pub mod Forest
+pub mod ForestLaws
+pub mod TreeCode

@@ -1,6 +1,7 @@
 //! Values of the ASN.1 value notation (X.680): printing them, reading them, and their normal form.
 #![tactic(auto)]
 
+mod brace_items;
 mod chars;
 mod chunk;
 mod copy;
@@ -8,13 +9,19 @@ mod cursor;
 mod digits;
 mod fault;
 mod form;
-mod gathered;
+mod node_kind;
+mod node_table;
+mod nodes;
 mod normal;
 mod parse;
 mod print;
+mod put;
 mod quoted;
+mod text;
 mod token;
 mod value;
 
-pub use parse::{parse_avn, parse_scan};
+pub use node_kind::NodeKind;
+pub use node_table::NodeTable;
+pub use text::{parse_avn, parse_scan};
 pub use value::AvnValue;

@@ -1,47 +1,51 @@
-// A reader of values, by descent.
-ghost use Rattle.std.specs.Prelude.{List, [], ℕ, true, ◌≡◌, ◌+◌, ◌*◌, ◌≤◌, ◌<◌, length, Err, IfOk, IfErr, OnOk, string_bytes};
+//! A reader of values into nodes, by descent.
+ghost use Rattle.std.specs.Prelude.{List, [], ℕ, true, false, ◌≡◌, ◌+◌, ◌*◌, ◌≤◌, ◌<◌, length, Err, IfOk, IfErr, OnOk, string_bytes};
 ghost use Rattle.std.specs.Char.{is_whitespace};
-ghost use Rattle.asn_fault.specs.Stop.{Why, error_stop};
+ghost use Rattle.asn_fault.specs.Stop.{error_stop};
 ghost use Rattle.avn_grammar.specs.Chars.{past, spelled};
-ghost use Rattle.avn_grammar.specs.Depth.{Deep, ItemDeep, ItemsDeep, deepest};
+ghost use Rattle.avn_grammar.specs.Depth.{Deep, ItemDeep, ItemsDeep};
 ghost use Rattle.avn_grammar.specs.Grammar.{Item, Stands, ItemStands, BracesStand, Reads};
 ghost use Rattle.avn_grammar.specs.Tree.{Tree};
-ghost use Rattle.avn_grammar.specs.Unread.{Found, Unread};
-ghost use Rattle.avn_grammar.specs.Print.{print};
-ghost use Rattle.avn_grammar.specs.WellFormed.{is_well_formed};
-ghost use Rattle.avn_grammar.specs.Normal.{normal};
+ghost use Rattle.avn_grammar.specs.Unread.{Found};
 ghost use Rattle.avn_value.specs.Ahead.{Advances, LooksAtMost};
-ghost use Rattle.avn_value.specs.Answer.{Explains, IsMoreOrMemory, IsFoundOrMemory, IsValue, IsRefusal};
-ghost use Rattle.avn_value.specs.Gathering.{item_of};
-ghost use Rattle.avn_value.specs.View.{tree_of};
+ghost use Rattle.avn_value.specs.Answer.{Explains, IsMoreOrMemory, IsFoundOrMemory};
+ghost use Rattle.avn_value.specs.NodeLists.{NodeList, extended};
+ghost use Rattle.avn_value.specs.Preorder.{preorder};
+ghost use Rattle.avn_value.specs.ReadNodes.{IsRead, IsItemRead};
 ghost use Rattle.std.specs.Str.{chars};
 
+use crate::brace_items::{BraceItems, ItemKind};
 use crate::cursor::Cursor;
 use crate::fault::Fault;
-use crate::gathered::{Entry, Gathered};
+use crate::node_kind::NodeKind;
+use crate::nodes::Nodes;
 use crate::quoted::quoted;
-use crate::token::{bare, identifier, number, text};
-use crate::value::AvnValue;
-use asn_base::{Codec, OutOfMemory, Scan};
+use crate::token::{identifier, number, text};
+use asn_base::{Codec, OutOfMemory};
 use asn_fault::{AvnDecodeErrorKind, DecodeError, DecodeErrorKind};
 use avn_grammar::chars::Lead;
-use avn_grammar::limits::{EXCERPT_LENGTH, LEVEL_LIMIT, LOOKS_PER_CHARACTER};
+use avn_grammar::limits::EXCERPT_LENGTH;
 use std::alloc::Global;
-use std::mem;
 
-/// Reads a value that is looked for at the level. `TooDeep` where a level above the limit is looked
-/// for before any other fault.
+/// Reads a value that is looked for at the level into nodes. Returns whether it is an Integer.
+///
+/// # Errors
+///
+/// `TooDeep` where a level above the limit is looked for before any other fault,
+/// `UnexpectedToken` where no value is ahead, and `OutOfMemory`.
 #[cycle(read)]
 fn read_value(
     alloc: Global,
+    nodes: &mut Nodes,
     cursor: &mut Cursor<'_>,
     limit: usize,
     level: usize,
-) -> Result<AvnValue, Fault>
-    requires { limit < usize.MAX }
+) -> Result<bool, Fault>
+    requires bounded { limit < usize.MAX }
+    requires clear { nodes.old.word ≡ [] }
     ensures advances { Advances 2 cursor.old cursor.new }
-    ensures ok { IfOk result (λ v.
-        Stands limit level cursor.old.rest (tree_of v) cursor.new.rest) }
+    ensures ok { IfOk result (IsRead
+        (λ tree. Stands limit level cursor.old.rest tree cursor.new.rest) nodes.old nodes.new) }
     ensures deep { result ≡ Err Fault.TooDeep → Deep limit level cursor.old.rest }
     ensures token { result ≡ Err Fault.UnexpectedToken
         → Deep limit level cursor.old.rest → ⊥ }
@@ -56,19 +60,21 @@ fn read_value(
     cursor.skip();
     match cursor.lead() {
         Lead::Letter => {
-            let name = identifier(alloc, cursor)?;
+            identifier(nodes, cursor)?;
             match cursor.lead_past_blanks() {
                 Lead::Colon => {
                     cursor.skip();
                     let _colon = cursor.take();
-                    let payload = read_value(alloc, cursor, limit, level + 1)?;
-                    let payload = Box::new(alloc, payload)?;
-                    Ok(AvnValue::Choice {
-                        identifier: name,
-                        value: payload,
-                    })
+                    let place = nodes.len();
+                    nodes.open(NodeKind::Choice)?;
+                    let _integer = read_value(alloc, nodes, cursor, limit, level + 1)?;
+                    nodes.close(place, NodeKind::Choice);
+                    Ok(false)
                 }
-                _ => Ok(bare(name)),
+                _ => {
+                    nodes.word_leaf()?;
+                    Ok(false)
+                }
             }
         }
         Lead::OpenBrace => {
@@ -77,33 +83,42 @@ fn read_value(
                 Lead::CloseBrace => {
                     cursor.skip();
                     let _close = cursor.take();
-                    Ok(AvnValue::SequenceOf(Vec::new(alloc)))
+                    nodes.leaf(NodeKind::SequenceOf)?;
+                    Ok(false)
                 }
                 _ => {
-                    let list = read_items(alloc, cursor, limit, level + 1)?;
-                    Ok(list)
+                    read_items(alloc, nodes, cursor, limit, level + 1)?;
+                    Ok(false)
                 }
             }
         }
-        Lead::Digit | Lead::Minus => number(alloc, cursor),
-        Lead::Quote => text(alloc, cursor),
-        Lead::Apostrophe => quoted(alloc, cursor),
+        Lead::Digit | Lead::Minus => number(nodes, cursor),
+        Lead::Quote => text(nodes, cursor),
+        Lead::Apostrophe => quoted(alloc, nodes, cursor),
         _ => Err(Fault::UnexpectedToken),
     }
 }
 
-/// Reads an item of braces, whose values are looked for at the level.
+/// Reads an item of braces, whose values are looked for at the level, into nodes.
+///
+/// # Errors
+///
+/// As `read_value` has them.
 #[cycle(read)]
 fn read_item(
     alloc: Global,
+    nodes: &mut Nodes,
     cursor: &mut Cursor<'_>,
     limit: usize,
     level: usize,
-) -> Result<Entry, Fault>
-    requires { limit < usize.MAX }
+) -> Result<ItemKind, Fault>
+    requires bounded { limit < usize.MAX }
+    requires nameless { nodes.old.name ≡ [] }
+    requires clear { nodes.old.word ≡ [] }
     ensures advances { Advances 2 cursor.old cursor.new }
-    ensures ok { IfOk result (λ x.
-        ItemStands limit level cursor.old.rest (item_of x) cursor.new.rest) }
+    ensures ok { IfOk result (IsItemRead
+        (λ item. ItemStands limit level cursor.old.rest item cursor.new.rest)
+        nodes.old nodes.new) }
     ensures deep { result ≡ Err Fault.TooDeep → ItemDeep limit level cursor.old.rest }
     ensures token { result ≡ Err Fault.UnexpectedToken
         → ItemDeep limit level cursor.old.rest → ⊥ }
@@ -116,43 +131,53 @@ fn read_item(
     match cursor.lead() {
         Lead::Letter => {}
         _ => {
-            let bare = read_value(alloc, cursor, limit, level)?;
-            return Ok(Entry::Bare(bare));
+            let integer = read_value(alloc, nodes, cursor, limit, level)?;
+            return Ok(ItemKind::of(integer));
         }
     }
-    let name = identifier(alloc, cursor)?;
+    identifier(nodes, cursor)?;
     match cursor.lead_past_blanks() {
         Lead::Colon => {
             cursor.skip();
             let _colon = cursor.take();
-            let payload = read_value(alloc, cursor, limit, level)?;
-            let payload = Box::new(alloc, payload)?;
-            Ok(Entry::Bare(AvnValue::Choice {
-                identifier: name,
-                value: payload,
-            }))
+            let place = nodes.len();
+            nodes.open(NodeKind::Choice)?;
+            let _integer = read_value(alloc, nodes, cursor, limit, level)?;
+            nodes.close(place, NodeKind::Choice);
+            Ok(ItemKind::Bare)
         }
-        Lead::Comma | Lead::CloseBrace => Ok(Entry::Bare(bare(name))),
+        Lead::Comma | Lead::CloseBrace => {
+            nodes.word_leaf()?;
+            Ok(ItemKind::Bare)
+        }
         _ => {
-            let field = read_value(alloc, cursor, limit, level)?;
-            Ok(Entry::Named(name, field))
+            nodes.name_next();
+            let _integer = read_value(alloc, nodes, cursor, limit, level)?;
+            Ok(ItemKind::Named)
         }
     }
 }
 
-/// Reads the items of braces, to the closing one. `UnexpectedToken` where a comma is missing other
-/// than between Integers, or where items with a name and without are mixed.
+/// Reads the items of braces, to the closing one, into nodes under a node of the braces.
+///
+/// # Errors
+///
+/// As `read_value` has them. `UnexpectedToken` comes also where a comma is missing other than
+/// between Integers, and where items with a name and without are mixed.
 #[cycle(read)]
 fn read_items(
     alloc: Global,
+    nodes: &mut Nodes,
     cursor: &mut Cursor<'_>,
     limit: usize,
     level: usize,
-) -> Result<AvnValue, Fault>
-    requires { limit < usize.MAX }
+) -> Result<(), Fault>
+    requires bounded { limit < usize.MAX }
+    requires clear { nodes.old.word ≡ [] }
     ensures advances { Advances 2 cursor.old cursor.new }
-    ensures ok { IfOk result (λ v.
-        BracesStand limit level cursor.old.rest (tree_of v) cursor.new.rest) }
+    ensures ok { OnOk result (IsRead
+        (λ tree. BracesStand limit level cursor.old.rest tree cursor.new.rest)
+        nodes.old nodes.new false) }
     ensures deep { result ≡ Err Fault.TooDeep → ItemsDeep limit level [] cursor.old.rest }
     ensures token { result ≡ Err Fault.UnexpectedToken
         → ItemsDeep limit level [] cursor.old.rest → ⊥ }
@@ -161,10 +186,12 @@ fn read_items(
         → BracesStand limit level cursor.old.rest tree rest → ⊥ }
     ensures shorter { OnOk result (length cursor.new.rest < length cursor.old.rest) }
 {
-    let mut gathered = Gathered::new(alloc);
+    let place = nodes.len();
+    nodes.open(NodeKind::SequenceOf)?;
+    let mut gathered = BraceItems::new();
     'items: loop {
-        let entry = read_item(alloc, cursor, limit, level)?;
-        gathered.push(entry)?;
+        let entry = read_item(alloc, nodes, cursor, limit, level)?;
+        gathered.add(entry);
         cursor.skip();
         match cursor.lead() {
             Lead::Comma => {
@@ -172,10 +199,16 @@ fn read_items(
             }
             Lead::CloseBrace => {
                 let _close = cursor.take();
-                return gathered.finish().ok_or(Fault::UnexpectedToken);
+                match gathered.kind() {
+                    Some(kind) => {
+                        nodes.close(place, kind);
+                        return Ok(());
+                    }
+                    None => return Err(Fault::UnexpectedToken),
+                }
             }
             Lead::Digit | Lead::Minus => {
-                if !gathered.are_integers() {
+                if !gathered.integers {
                     return Err(Fault::UnexpectedToken);
                 }
             }
@@ -184,8 +217,8 @@ fn read_items(
     }
 }
 
-/// What is not read: the first characters ahead, past white space and each identifier with a
-/// colon.
+/// Returns what is not read: the first characters ahead, past white space and each identifier with
+/// a colon.
 fn found(alloc: Global, cursor: &mut Cursor<'_>) -> Result<String, OutOfMemory>
     requires { cursor.old.ahead ≡ cursor.old.rest }
     ensures looks { LooksAtMost (2 * length cursor.old.ahead + 1) cursor.old cursor.new }
@@ -200,15 +233,14 @@ fn found(alloc: Global, cursor: &mut Cursor<'_>) -> Result<String, OutOfMemory>
     }
 }
 
-/// The value, unless more than white space follows it.
-fn whole_value(
-    alloc: Global,
-    cursor: &mut Cursor<'_>,
-    value: AvnValue,
-) -> Result<AvnValue, DecodeError>
+/// Checks that no more than white space follows.
+///
+/// # Errors
+///
+/// `UnexpectedToken` with all that follows where it is more, and `OutOfMemory`.
+fn end_of_text(alloc: Global, cursor: &mut Cursor<'_>) -> Result<(), DecodeError>
     ensures looks { LooksAtMost (2 * length cursor.old.rest + 2) cursor.old cursor.new }
-    ensures ok { IfOk result (λ v.
-        (tree_of v ≡ tree_of value) × (past is_whitespace cursor.old.rest ≡ [])) }
+    ensures ok { OnOk result (past is_whitespace cursor.old.rest ≡ []) }
     ensures err { IfErr result (λ e. IsMoreOrMemory cursor.old.rest (error_stop e)) }
 {
     let Ok(found) = cursor.other_than_white(alloc) else {
@@ -216,11 +248,11 @@ fn whole_value(
     };
     match found {
         Some(found) => Err(AvnDecodeErrorKind::UnexpectedToken { found }.into()),
-        None => Ok(value),
+        None => Ok(()),
     }
 }
 
-/// The error of a text that is no value: what was found in place of one.
+/// Returns the error of a text that is no value: what was found in place of one.
 fn no_value(alloc: Global, cursor: &mut Cursor<'_>) -> DecodeError
     ensures looks { LooksAtMost (2 * length (chars cursor.old.text) + 2) cursor.old cursor.new }
     ensures error { IsFoundOrMemory (chars cursor.old.text) (error_stop result) }
@@ -232,81 +264,32 @@ fn no_value(alloc: Global, cursor: &mut Cursor<'_>) -> DecodeError
     }
 }
 
-/// Reads the value that the whole text is, within the limit on levels.
-fn read_whole(alloc: Global, cursor: &mut Cursor<'_>, limit: usize) -> Result<AvnValue, DecodeError>
+/// Reads the value that the whole text is into nodes, within the limit on levels.
+///
+/// # Errors
+///
+/// As `parse_scan` has them, for this limit.
+pub fn read_whole(
+    alloc: Global,
+    nodes: &mut Nodes,
+    cursor: &mut Cursor<'_>,
+    limit: usize,
+) -> Result<(), DecodeError>
     requires bounded { limit < usize.MAX }
+    requires clear { nodes.old.word ≡ [] }
     requires together { cursor.old.ahead ≡ cursor.old.rest }
     requires whole { cursor.old.rest ≡ chars cursor.old.text }
     ensures looks { LooksAtMost (4 * length cursor.old.rest + 2) cursor.old cursor.new }
-    ensures ok { IfOk result (λ v. Reads limit cursor.old.rest (tree_of v)) }
+    ensures ok { OnOk result ((tree : Tree) × Reads limit cursor.old.rest tree
+        × (nodes.new ≡ extended nodes.old (preorder nodes.old.name tree))) }
     ensures err { IfErr result (λ e. Explains limit cursor.old.rest (error_stop e)) }
 {
-    match read_value(alloc, cursor, limit, 0) {
-        Ok(value) => whole_value(alloc, cursor, value),
+    match read_value(alloc, nodes, cursor, limit, 0) {
+        Ok(_integer) => end_of_text(alloc, cursor),
         Err(Fault::UnexpectedToken) => Err(no_value(alloc, cursor)),
         Err(Fault::TooDeep) => {
             Err(DecodeError::from_kind(DecodeErrorKind::ExceedsMaxParseDepth, Codec::Avn))
         }
         Err(Fault::OutOfMemory) => Err(DecodeError::out_of_memory(Codec::Avn)),
     }
-}
-
-/// The value that the whole text of the scan is, in the ASN.1 value notation (X.680), where no
-/// value is looked for at a level above `LEVEL_LIMIT`. White space may follow it. What the scan
-/// counts rises by at most `LOOKS_PER_CHARACTER` for each character, and as many more, whatever the
-/// answer.
-///
-/// The errors, of the codec AVN: `UnexpectedToken` where no value is read and none is looked for
-/// too deep, with the first `EXCERPT_LENGTH` characters of what is not read, or where more than
-/// white space follows the value, with all that follows it; `ExceedsMaxParseDepth` where a value is
-/// looked for too deep; and `OutOfMemory`.
-pub fn parse_scan(alloc: Global, scan: &mut Scan<'_>) -> Result<AvnValue, DecodeError>
-    ensures text { scan.new.text ≡ scan.old.text }
-    ensures rises { scan.old.looks ≤ scan.new.looks }
-    ensures looks { scan.new.looks
-        ≤ scan.old.looks + LOOKS_PER_CHARACTER * (length (chars scan.old.text) + 1) }
-
-    ensures ok { IfOk result (λ value. Reads LEVEL_LIMIT (chars scan.old.text) (tree_of value)) }
-    ensures err { IfErr result (λ error.
-        Explains LEVEL_LIMIT (chars scan.old.text) (error_stop error)) }
-
-    // Each of the two errors comes exactly where it says, and a value else, memory aside.
-    ensures reads { (tree : Tree) → Reads LEVEL_LIMIT (chars scan.old.text) tree
-        → IsValue tree result }
-    ensures unread { (found : List ℕ) → Unread LEVEL_LIMIT (chars scan.old.text) found
-        → IsRefusal (Why.unexpected_token found) result }
-    ensures deep { Deep LEVEL_LIMIT 0 (chars scan.old.text)
-        → IsRefusal Why.exceeds_max_parse_depth result }
-{
-    let mut cursor = Cursor::new(mem::replace(scan, Scan::new("")));
-    let found = read_whole(alloc, &mut cursor, LEVEL_LIMIT);
-    *scan = cursor.into_scan();
-    found
-}
-
-/// The value that the whole text is, as `parse_scan` reads it, with the same errors. The printed
-/// text of a well-formed value is read as the value's normal form, unless it is too deep.
-pub fn parse_avn(alloc: Global, input: &str) -> Result<AvnValue, DecodeError>
-    ensures ok { IfOk result (λ value. Reads LEVEL_LIMIT (chars input.now) (tree_of value)) }
-    ensures err { IfErr result (λ error.
-        Explains LEVEL_LIMIT (chars input.now) (error_stop error)) }
-
-    ensures reads { (tree : Tree) → Reads LEVEL_LIMIT (chars input.now) tree
-        → IsValue tree result }
-    ensures unread { (found : List ℕ) → Unread LEVEL_LIMIT (chars input.now) found
-        → IsRefusal (Why.unexpected_token found) result }
-    ensures deep { Deep LEVEL_LIMIT 0 (chars input.now)
-        → IsRefusal Why.exceeds_max_parse_depth result }
-
-    ensures printed { (tree : Tree)
-        → input.now ≡ print 0 tree → is_well_formed tree ≡ true
-        → deepest 0 tree ≤ LEVEL_LIMIT
-        → IsValue (normal tree) result }
-    ensures printed_deep { (tree : Tree)
-        → input.now ≡ print 0 tree → is_well_formed tree ≡ true
-        → LEVEL_LIMIT < deepest 0 tree
-        → IsRefusal Why.exceeds_max_parse_depth result }
-{
-    let mut scan = Scan::new(input);
-    parse_scan(alloc, &mut scan)
 }

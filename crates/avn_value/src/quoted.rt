@@ -1,16 +1,18 @@
 // The tokens between apostrophes: octets in hexadecimal, and bits.
-ghost use Rattle.std.specs.Prelude.{◌≡◌, ◌≢◌, ◌+◌, ◌<◌, ◌≤◌, ℕ, List, [], ◌∷◌, true, false, drop, length, Err, IfOk, MatchOption, slice_index_or};
+ghost use Rattle.std.specs.Prelude.{◌≡◌, ◌≢◌, ◌+◌, ◌<◌, ◌≤◌, ℕ, List, [], ◌∷◌, true, false, drop, length, Err, IfOk, OnOk, MatchOption, slice_index_or};
 ghost use Rattle.avn_grammar.specs.Tree.{Tree};
 ghost use Rattle.avn_grammar.specs.Chars.{lead, every};
 ghost use Rattle.avn_grammar.specs.Octets.{is_hex, hex_value, are_pairs, octets_of, is_bit, packed};
 ghost use Rattle.avn_grammar.specs.Grammar.{Token};
 ghost use Rattle.avn_value.specs.Ahead.{Advances};
 ghost use Rattle.avn_value.specs.Radix.{letter_of};
-ghost use Rattle.avn_value.specs.View.{tree_of};
+ghost use Rattle.avn_value.specs.NodeLists.{NodeList};
+ghost use Rattle.avn_value.specs.ReadNodes.{IsRead};
 
 use crate::cursor::Cursor;
 use crate::fault::Fault;
-use crate::value::AvnValue;
+use crate::node_kind::NodeKind;
+use crate::nodes::Nodes;
 use avn_grammar::chars::Lead;
 use std::alloc::{AllocError, Global};
 
@@ -142,18 +144,25 @@ fn closing(cursor: &mut Cursor<'_>) -> Option<Radix>
     }
 }
 
-/// Reads octets in hexadecimal, or bits, whose first apostrophe is ahead. `UnexpectedToken` where
-/// no apostrophe and `H` or `B` follow, or other characters stand between than these digits and
-/// white space.
-pub fn quoted(alloc: Global, cursor: &mut Cursor<'_>) -> Result<AvnValue, Fault>
+/// Reads octets in hexadecimal, or bits, whose first apostrophe is ahead, into a node. Returns that
+/// it is no Integer.
+///
+/// # Errors
+///
+/// `UnexpectedToken` where no apostrophe and `H` or `B` follow, or other characters stand between
+/// than these digits and white space; and `OutOfMemory`.
+pub fn quoted(alloc: Global, nodes: &mut Nodes, cursor: &mut Cursor<'_>) -> Result<bool, Fault>
     requires together { cursor.old.ahead ≡ cursor.old.rest }
     requires apostrophe { lead cursor.old.rest ≡ Lead.Apostrophe }
+    requires clear { nodes.old.word ≡ [] }
     ensures advances { Advances 2 cursor.old cursor.new }
     ensures together { cursor.new.ahead ≡ cursor.new.rest }
-    ensures ok { IfOk result (λ v. Token cursor.old.rest (tree_of v) cursor.new.rest) }
+    ensures ok { IfOk result (IsRead
+        (λ tree. Token cursor.old.rest tree cursor.new.rest) nodes.old nodes.new) }
     ensures shallow { result ≢ Err Fault.TooDeep }
     ensures none { result ≡ Err Fault.UnexpectedToken
         → (tree : Tree) (rest : List ℕ) → Token cursor.old.rest tree rest → ⊥ }
+    ensures shorter { OnOk result (length cursor.new.rest < length cursor.old.rest) }
 {
     let _open = cursor.take();
     let mut digits = Vec::new(alloc);
@@ -163,7 +172,10 @@ pub fn quoted(alloc: Global, cursor: &mut Cursor<'_>) -> Result<AvnValue, Fault>
     };
     match radix {
         Radix::Hexadecimal => match octets_of_pairs(alloc, &digits)? {
-            Some(octets) => Ok(AvnValue::OctetString(octets)),
+            Some(octets) => {
+                nodes.octets_leaf(NodeKind::OctetString, &octets, 0)?;
+                Ok(false)
+            }
             None => Err(Fault::UnexpectedToken),
         },
         Radix::Binary => {
@@ -171,10 +183,8 @@ pub fn quoted(alloc: Global, cursor: &mut Cursor<'_>) -> Result<AvnValue, Fault>
                 return Err(Fault::UnexpectedToken);
             }
             let bytes = octets_of_bits(alloc, &digits)?;
-            Ok(AvnValue::BitString {
-                bytes,
-                bit_length: digits.len(),
-            })
+            nodes.octets_leaf(NodeKind::BitString, &bytes, digits.len())?;
+            Ok(false)
         }
     }
 }

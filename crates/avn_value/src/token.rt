@@ -1,127 +1,137 @@
-// The tokens of the notation, other than those between apostrophes.
-ghost use Rattle.std.specs.Prelude.{◌≡◌, ◌≢◌, ◌⊎◌, ◌≤◌, ℕ, List, length, Err, IfOk, OnOk, string_bytes};
+//! The tokens of the notation, other than those between apostrophes, read into nodes.
+ghost use Rattle.std.specs.Prelude.{◌≡◌, ◌≢◌, ◌⊎◌, ◌<◌, ℕ, List, [], length, Err, IfOk, OnOk};
 ghost use Rattle.avn_grammar.specs.Tree.{Tree};
 ghost use Rattle.avn_grammar.specs.Chars.{lead, spelled};
-ghost use Rattle.avn_grammar.specs.Grammar.{number_tree, past_number, word_of, Token, Ident};
+ghost use Rattle.avn_grammar.specs.Grammar.{number_tree, past_number, Token, Ident, is_integer};
 ghost use Rattle.avn_value.specs.Ahead.{Advances};
-ghost use Rattle.avn_value.specs.View.{tree_of};
+ghost use Rattle.avn_value.specs.NodeLists.{NodeList, extended};
+ghost use Rattle.avn_value.specs.Preorder.{preorder};
+ghost use Rattle.avn_value.specs.ReadNodes.{IsRead};
 
 use crate::chars::{Run, ascii};
 use crate::chunk::{CHUNK, take_chunk};
 use crate::cursor::Cursor;
 use crate::fault::Fault;
-use crate::value::AvnValue;
+use crate::node_kind::NodeKind;
+use crate::nodes::Nodes;
 use avn_grammar::chars::Lead;
-use std::alloc::{AllocError, Global};
+use std::alloc::AllocError;
 
-/// Reads an identifier, whose first letter is ahead.
+/// Reads an identifier, whose first letter is ahead, as the pending word.
+///
+/// # Errors
+///
+/// `AllocError` where memory is refused.
 #[inline(always)]
-pub fn identifier(alloc: Global, cursor: &mut Cursor<'_>) -> Result<String, AllocError>
+pub fn identifier(nodes: &mut Nodes, cursor: &mut Cursor<'_>) -> Result<(), AllocError>
     requires together { cursor.old.ahead ≡ cursor.old.rest }
     requires letter { lead cursor.old.rest ≡ Lead.Letter }
+    requires clear { nodes.old.word ≡ [] }
     ensures advances { Advances 1 cursor.old cursor.new }
     ensures together { cursor.new.ahead ≡ cursor.new.rest }
-    ensures ok { IfOk result (λ s. (id : _) × Ident cursor.old.rest id cursor.new.rest
-        × (string_bytes s ≡ spelled id)) }
+    ensures ok { OnOk result ((id : List ℕ) × Ident cursor.old.rest id cursor.new.rest
+        × (nodes.new ≡ record nodes.old { word = spelled id })) }
 {
-    let mut name = String::new(alloc);
-    cursor.take_run(Run::Name, &mut name)?;
-    Ok(name)
+    nodes.take_run(cursor, Run::Name)
 }
 
-/// What a bare identifier means.
+/// Reads a number after its sign, which is the pending word. Returns whether it is an Integer.
+///
+/// # Errors
+///
+/// `UnexpectedToken` where no digit is ahead, and `OutOfMemory`.
 #[inline(always)]
-#[tactic(auto, unfolding(avn_grammar::specs::Grammar::word_of))]
-pub fn bare(name: String) -> AvnValue
-    ensures { tree_of result ≡ word_of (string_bytes name) }
-{
-    match name.as_str() {
-        "TRUE" => AvnValue::Boolean(true),
-        "FALSE" => AvnValue::Boolean(false),
-        "NULL" => AvnValue::Null,
-        "PLUS-INFINITY" | "MINUS-INFINITY" | "NOT-A-NUMBER" => AvnValue::Real(name),
-        _ => AvnValue::Enumerated(name),
-    }
-}
-
-/// Reads a number after its sign. `UnexpectedToken` where no digit is ahead.
-#[inline(always)]
-fn unsigned(cursor: &mut Cursor<'_>, sign: String) -> Result<AvnValue, Fault>
+fn unsigned(nodes: &mut Nodes, cursor: &mut Cursor<'_>) -> Result<bool, Fault>
     requires together { cursor.old.ahead ≡ cursor.old.rest }
     ensures advances { Advances 2 cursor.old cursor.new }
     ensures together { cursor.new.ahead ≡ cursor.new.rest }
     ensures digit { OnOk result (lead cursor.old.rest ≡ Lead.Digit) }
     ensures moves { OnOk result (cursor.new.rest ≡ past_number cursor.old.rest) }
-    ensures tree { IfOk result (λ v. tree_of v
-        ≡ number_tree (string_bytes sign) cursor.old.rest) }
+    ensures integer { IfOk result (λ integer.
+        integer ≡ is_integer (number_tree nodes.old.word cursor.old.rest)) }
+    ensures tree { OnOk result (nodes.new ≡ extended nodes.old
+        (preorder nodes.old.name (number_tree nodes.old.word cursor.old.rest))) }
     ensures shallow { result ≢ Err Fault.TooDeep }
     ensures none { result ≡ Err Fault.UnexpectedToken → lead cursor.old.rest ≢ Lead.Digit }
 {
-    let mut digits = sign;
     if cursor.lead() != Lead::Digit {
         return Err(Fault::UnexpectedToken);
     }
-    cursor.take_run(Run::Digits, &mut digits)?;
+    nodes.take_run(cursor, Run::Digits)?;
     if !cursor.has_fraction() {
-        return Ok(AvnValue::Integer(digits));
+        nodes.leaf(NodeKind::Integer)?;
+        return Ok(true);
     }
     let _point = cursor.take();
-    digits.push('.')?;
-    cursor.take_run(Run::Digits, &mut digits)?;
-    Ok(AvnValue::Real(digits))
+    nodes.push_char('.')?;
+    nodes.take_run(cursor, Run::Digits)?;
+    nodes.leaf(NodeKind::Real)?;
+    Ok(false)
 }
 
-/// Reads a number, whose sign or first digit is ahead. `UnexpectedToken` where no digit follows a
-/// sign.
+/// Reads a number, whose sign or first digit is ahead. Returns whether it is an Integer.
+///
+/// # Errors
+///
+/// `UnexpectedToken` where no digit follows a sign, and `OutOfMemory`.
 #[inline(always)]
-pub fn number(alloc: Global, cursor: &mut Cursor<'_>) -> Result<AvnValue, Fault>
+pub fn number(nodes: &mut Nodes, cursor: &mut Cursor<'_>) -> Result<bool, Fault>
     requires together { cursor.old.ahead ≡ cursor.old.rest }
     requires begins { (lead cursor.old.rest ≡ Lead.Digit)
         ⊎ (lead cursor.old.rest ≡ Lead.Minus) }
+    requires clear { nodes.old.word ≡ [] }
     ensures advances { Advances 2 cursor.old cursor.new }
     ensures together { cursor.new.ahead ≡ cursor.new.rest }
-    ensures ok { IfOk result (λ v. Token cursor.old.rest (tree_of v) cursor.new.rest) }
+    ensures ok { IfOk result (IsRead
+        (λ tree. Token cursor.old.rest tree cursor.new.rest) nodes.old nodes.new) }
     ensures shallow { result ≢ Err Fault.TooDeep }
     ensures none { result ≡ Err Fault.UnexpectedToken
         → (tree : Tree) (rest : List ℕ) → Token cursor.old.rest tree rest → ⊥ }
+    ensures shorter { OnOk result (length cursor.new.rest < length cursor.old.rest) }
 {
     match cursor.lead() {
         Lead::Minus => {
             let _minus = cursor.take();
-            let mut sign = String::new(alloc);
-            sign.push('-')?;
-            unsigned(cursor, sign)
+            nodes.push_char('-')?;
+            unsigned(nodes, cursor)
         }
-        _ => unsigned(cursor, String::new(alloc)),
+        _ => unsigned(nodes, cursor),
     }
 }
 
-/// Reads a text in quotes, whose first quote is ahead. `UnexpectedToken` where no quote ends it.
+/// Reads a text in quotes, whose first quote is ahead. Returns that it is no Integer.
+///
+/// # Errors
+///
+/// `UnexpectedToken` where no quote ends it, and `OutOfMemory`.
 #[inline(always)]
-pub fn text(alloc: Global, cursor: &mut Cursor<'_>) -> Result<AvnValue, Fault>
+pub fn text(nodes: &mut Nodes, cursor: &mut Cursor<'_>) -> Result<bool, Fault>
     requires together { cursor.old.ahead ≡ cursor.old.rest }
     requires quote { lead cursor.old.rest ≡ Lead.Quote }
+    requires clear { nodes.old.word ≡ [] }
     ensures advances { Advances 2 cursor.old cursor.new }
     ensures together { cursor.new.ahead ≡ cursor.new.rest }
-    ensures ok { IfOk result (λ v. Token cursor.old.rest (tree_of v) cursor.new.rest) }
+    ensures ok { IfOk result (IsRead
+        (λ tree. Token cursor.old.rest tree cursor.new.rest) nodes.old nodes.new) }
     ensures shallow { result ≢ Err Fault.TooDeep }
     ensures none { result ≡ Err Fault.UnexpectedToken
         → (tree : Tree) (rest : List ℕ) → Token cursor.old.rest tree rest → ⊥ }
+    ensures shorter { OnOk result (length cursor.new.rest < length cursor.old.rest) }
 {
-    let mut content = String::new(alloc);
     let mut room = [0; CHUNK];
     let _open = cursor.take();
     'chunks: loop {
         let chunk = take_chunk(cursor, &mut room);
-        content.push_str(ascii(&room[..chunk.length]))?;
+        nodes.push_text(ascii(&room[..chunk.length]))?;
         if chunk.closed {
-            return Ok(AvnValue::CharString(content));
+            nodes.leaf(NodeKind::CharString)?;
+            return Ok(false);
         }
         if chunk.length < CHUNK {
             let Some(c) = cursor.take() else {
                 return Err(Fault::UnexpectedToken);
             };
-            content.push(c)?;
+            nodes.push_char(c)?;
         }
     }
 }

@@ -1,8 +1,4 @@
 // A value of the notation.
-ghost use Rattle.std.specs.Prelude.{◌≡◌};
-ghost use Rattle.avn_grammar.specs.Grammar.{is_integer};
-ghost use Rattle.avn_value.specs.View.{tree_of};
-
 /// A value of the notation, with numbers, names and texts as they are written.
 #[derive(Drop)]
 pub enum AvnValue {
@@ -32,13 +28,4 @@ pub enum AvnValue {
         value: Box<AvnValue>,
     },
     CharString(String),
-}
-
-impl AvnValue {
-    /// The value is an Integer.
-    pub(crate) fn is_integer(&self) -> bool
-        ensures { result ≡ is_integer (tree_of self.now) }
-    {
-        matches!(self, AvnValue::Integer(_))
-    }
 }

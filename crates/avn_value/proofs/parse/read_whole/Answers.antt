@@ -2,8 +2,7 @@ use Rattle.std.proofs.Common.{sym, subst, ap, ◌∙◌}
 use Rattle.std.specs.Str.{chars}
 use Rattle.asn_fault.specs.Stop.{error_stop}
 use Rattle.avn_value.specs.Answer.{Explains, IsFoundOrMemory, exceeds_depth, out_of_memory}
-use Rattle.avn_value.specs.View.{tree_of}
-use Rattle.avn_value.proofs.Whole.{found_explains, whole_explains}
+use Rattle.avn_value.proofs.Whole.{whole_read, found_explains, whole_explains}
 use Rattle.avn_value.proofs.parse.read_whole.Goals as goal
 
 pub returns-in-Err-UnexpectedToken-clause-err : goal.returns-in-Err-UnexpectedToken-clause-err
@@ -15,7 +14,10 @@ pub returns-in-Err-TooDeep-clause-err : goal.returns-in-Err-TooDeep-clause-err
 returns-in-Err-TooDeep-clause-err c = subst (λ e. Explains c.args.limit c.args.cursor.now.rest (error_stop e)) (sym c.from_kind.ensures) (exceeds_depth (c.in-Err-TooDeep.ensures.deep cc))
 
 pub returns-in-Ok-clause-err : goal.returns-in-Ok-clause-err
-returns-in-Ok-clause-err c = whole_explains error_stop c.args.limit c.args.cursor.now.rest c.read_value.new.cursor.rest (tree_of c.in-Ok.value) c.whole_value.result c.in-Ok.ensures.ok c.whole_value.ensures.err
+returns-in-Ok-clause-err c = whole_explains error_stop c.args.limit c.args.cursor.now.rest c.read_value.new.cursor.rest c.in-Ok.ensures.ok.0 c.end_of_text.result c.in-Ok.ensures.ok.1 c.end_of_text.ensures.err
 
 pub returns-in-Err-OutOfMemory-clause-err : goal.returns-in-Err-OutOfMemory-clause-err
 returns-in-Err-OutOfMemory-clause-err c = subst (Explains c.args.limit c.args.cursor.now.rest) (sym c.out_of_memory.ensures) out_of_memory
+
+pub returns-in-Ok-clause-ok : goal.returns-in-Ok-clause-ok
+returns-in-Ok-clause-ok c = whole_read c.end_of_text.result c.args.nodes.now c.read_value.new.nodes c.in-Ok.ensures.ok c.end_of_text.ensures.ok

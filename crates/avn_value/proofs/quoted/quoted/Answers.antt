@@ -3,7 +3,6 @@ use Rattle.avn_grammar.specs.Chars.{tail, front, past, inside, solid, every}
 use Rattle.avn_grammar.specs.Octets.{are_pairs, octets_of, is_bit, packed}
 use Rattle.avn_value.proofs.Tokens.{octets_read, bits_read, inside_read, inside_closed}
 use Rattle.avn_value.proofs.NoToken.{octets_none, bits_none, unclosed_none}
-use Rattle.avn_value.proofs.Views.{view-OctetString, view-BitString}
 use Rattle.avn_value.proofs.quoted.quoted.Goals as goal
 
 pub returns-clause-ok : goal.returns-clause-ok
@@ -14,7 +13,7 @@ returns-clause-ok c =
     let closed = inside_closed w _ _ r _ _ c.take-open.ensures.moves c.in_ok-take_inside.ensures.moves c.in-Some.ensures.found c.in-Binary.is in
     let bits : every is_bit (solid (front inside (tail w))) ≡ true = ap (every is_bit) (sym (c.deref-in-Binary.ensures.value ∙ digits)) ∙ sym c.are_bits.ensures ∙ c.if-not-are_bits.false in
     let n : c.len.result ≡ length (solid (front inside (tail w))) = omega (arith, c.len.ensures, c.deref-in-Binary.ensures.len, ap length (c.deref-in-Binary.ensures.value ∙ digits)) in
-    bits_read w r c.in_ok-bytes-in-Binary.bytes.items c.len.result _ c.requires.apostrophe closed bits (c.in_ok-bytes-in-Binary.ensures ∙ ap packed (c.deref-in-Binary-2.ensures.value ∙ digits)) n (view-BitString c.in_ok-bytes-in-Binary.bytes c.len.result)
+    bits_read w r _ c.len.result c.args.nodes.now _ c.requires.apostrophe closed bits (c.deref-in-Binary-3.ensures.value ∙ c.in_ok-bytes-in-Binary.ensures ∙ ap packed (c.deref-in-Binary-2.ensures.value ∙ digits)) n c.in_ok-octets_leaf-in-Binary.ensures
 
 pub returns-in-Hexadecimal-clause-none : goal.returns-in-Hexadecimal-clause-none
 returns-in-Hexadecimal-clause-none c = λ e.
@@ -43,7 +42,7 @@ returns-in-Some-2-clause-ok c =
     let ds = c.deref.result.now in
     let paired = subst (λ o. MatchOption o (are_pairs ds ≡ false) (λ octets. (are_pairs ds ≡ true) × (octets.items ≡ octets_of ds))) c.in-Some-2.is c.in_ok-octets-in-Hexadecimal.ensures in
     let same = c.deref.ensures.value ∙ digits in
-    octets_read w r c.in-Some-2.octets.items _ c.requires.apostrophe closed (ap are_pairs (sym same) ∙ paired.0) (paired.1 ∙ ap octets_of same) (view-OctetString c.in-Some-2.octets)
+    octets_read w r _ c.args.nodes.now _ c.requires.apostrophe closed (ap are_pairs (sym same) ∙ paired.0) (c.deref-in-Some-2.ensures.value ∙ paired.1 ∙ ap octets_of same) c.in_ok-octets_leaf-in-Some-2.ensures
 
 pub returns-in_default-clause-none : goal.returns-in_default-clause-none
 returns-in_default-clause-none c = λ e.

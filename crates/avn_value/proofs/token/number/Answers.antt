@@ -1,29 +1,32 @@
-use Rattle.std.proofs.Common.{◌≡◌, ◌++◌, ap, ◌∙◌, string_bytes}
-use Rattle.std.specs.Char.{encode_utf8}
+use Rattle.std.proofs.Common.{◌≡◌, ◌∙◌, ap, arith}
+use Rattle.avn_grammar.specs.declared.chars.Lead.TheVariants as is
 use Rattle.avn_grammar.specs.Chars.{tail, lead}
 use Rattle.avn_value.proofs.NoToken.{minus_none, plain_none}
-use Rattle.avn_value.proofs.Tokens.{plain, signed}
-use Rattle.avn_value.specs.View.{tree_of}
-use Rattle.avn_grammar.specs.declared.chars.Lead.TheVariants as is
+use Rattle.avn_value.proofs.NumberNodes.{plain_read, signed_read, shorter_read}
 use Rattle.avn_value.proofs.token.number.Goals as goal
 
-pub returns-in_ok-push-in-Minus-clause-ok : goal.returns-in_ok-push-in-Minus-clause-ok
-returns-in_ok-push-in-Minus-clause-ok c =
+pub returns-in_ok-push_char-in-Minus-clause-ok : goal.returns-in_ok-push_char-in-Minus-clause-ok
+returns-in_ok-push_char-in-Minus-clause-ok c =
     let e = c.unsigned.ensures in
     let m : lead c.args.cursor.now.rest ≡ is.Minus = cc in
-    let s : string_bytes c.push.new.self ≡ encode_utf8 45 = c.in_ok-push-in-Minus.ensures.bytes ∙ ap (λ x. x ++ encode_utf8 45) c.new-sign.ensures.bytes in
-    signed tree_of c.args.cursor.now.rest c.unsigned.new.cursor.rest c.take-minus.new.self.rest (string_bytes c.push.new.self) c.unsigned.result
-    m (c.take-minus.ensures.moves ∙ ap tail c.lead.ensures.stays) s e.digit e.moves e.tree
+    signed_read c.args.cursor.now.rest c.unsigned.new.cursor.rest c.take-minus.new.self.rest _ c.args.nodes.now c.push_char.new.self c.unsigned.new.nodes c.unsigned.result c.requires.clear c.in_ok-push_char-in-Minus.ensures.pushed
+    (c.push_char.ensures.ascii (omega arith)) m (c.take-minus.ensures.moves ∙ ap tail c.lead.ensures.stays) e.digit e.moves e.integer e.tree
+
+pub returns-in_ok-push_char-in-Minus-clause-shorter : goal.returns-in_ok-push_char-in-Minus-clause-shorter
+returns-in_ok-push_char-in-Minus-clause-shorter c = shorter_read _ _ c.args.nodes.now _ _ (returns-in_ok-push_char-in-Minus-clause-ok c)
+
+pub returns-in_ok-push_char-in-Minus-clause-none : goal.returns-in_ok-push_char-in-Minus-clause-none
+returns-in_ok-push_char-in-Minus-clause-none c = λ e.
+    let m : lead c.args.cursor.now.rest ≡ is.Minus = cc in
+    minus_none c.args.cursor.now.rest c.take-minus.new.self.rest m (c.take-minus.ensures.moves ∙ ap tail c.lead.ensures.stays) (c.unsigned.ensures.none e)
 
 pub returns-in_default-clause-ok : goal.returns-in_default-clause-ok
 returns-in_default-clause-ok c =
     let e = c.unsigned-in_default.ensures in
-    rw (← c.lead.ensures.stays) (plain tree_of c.lead.new.self.rest c.unsigned-in_default.new.cursor.rest (string_bytes c.new.result) c.unsigned-in_default.result c.new.ensures.bytes e.digit e.moves e.tree)
+    plain_read c.args.cursor.now.rest c.unsigned-in_default.new.cursor.rest c.lead.new.self.rest c.args.nodes.now c.unsigned-in_default.new.nodes c.unsigned-in_default.result c.requires.clear c.lead.ensures.stays e.digit e.moves e.integer e.tree
 
-pub returns-in_ok-push-in-Minus-clause-none : goal.returns-in_ok-push-in-Minus-clause-none
-returns-in_ok-push-in-Minus-clause-none c = λ e.
-    let m : lead c.args.cursor.now.rest ≡ is.Minus = cc in
-    minus_none c.args.cursor.now.rest c.take-minus.new.self.rest m (c.take-minus.ensures.moves ∙ ap tail c.lead.ensures.stays) (c.unsigned.ensures.none e)
+pub returns-in_default-clause-shorter : goal.returns-in_default-clause-shorter
+returns-in_default-clause-shorter c = shorter_read _ _ c.args.nodes.now _ _ (returns-in_default-clause-ok c)
 
 pub returns-in_default-clause-none : goal.returns-in_default-clause-none
 returns-in_default-clause-none c = λ e.

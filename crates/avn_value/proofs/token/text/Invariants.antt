@@ -1,4 +1,4 @@
-use Rattle.std.proofs.Common.{◌≡◌, ℕ, List, ◌∷◌, ◌++◌, length, string_bytes}
+use Rattle.std.proofs.Common.{◌≡◌, ℕ, List, ◌∷◌, ◌++◌, length}
 use Rattle.avn_grammar.specs.Chars.{doubled, spelled}
 use Rattle.avn_value.specs.Ahead.{Advances}
 use Rattle.avn_value.proofs.token.text.Given as goal
@@ -6,7 +6,7 @@ use Rattle.avn_value.proofs.token.text.Given as goal
 -- The characters that were read, each quote twice, stand before what is ahead.
 abbrev pub invariant-chunks : goal.invariant-chunks
 invariant-chunks l =
-    (cs : List ℕ) × (string_bytes l.content ≡ spelled cs) × (l.fn.cursor.rest ≡ (34 ∷ doubled cs) ++ l.cursor.rest) × (l.cursor.ahead ≡ l.cursor.rest) × Advances 2 l.fn.cursor l.cursor
+    (cs : List ℕ) × (l.nodes ≡ record l.fn.nodes { word = spelled cs }) × (l.fn.cursor.rest ≡ (34 ∷ doubled cs) ++ l.cursor.rest) × (l.cursor.ahead ≡ l.cursor.rest) × Advances 2 l.fn.cursor l.cursor
 
 abbrev pub decreases-chunks : goal.decreases-chunks
 decreases-chunks l = length l.cursor.rest

@@ -1,0 +1,10 @@
+use Rattle.std.proofs.Common.{ap, ◌∙◌}
+use Rattle.avn_value.proofs.Tables.{table_below, table_at}
+use Rattle.avn_value.specs.NodeViews.{NodeView}
+use Rattle.avn_value.proofs.node_table.NodeTable.kind.Goals as goal
+
+pub kind-requires : goal.kind-requires
+kind-requires c = table_below _ _ c.self.invariant c.self.view_is c.args.node c.requires
+
+pub returns : goal.returns
+returns c = c.kind.ensures ∙ ap (λ (x : NodeView). x.kind) (table_at _ _ c.self.invariant c.self.view_is c.args.node c.requires)

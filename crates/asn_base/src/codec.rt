@@ -1,25 +1,36 @@
-// The names of the encoding rules.
+//! Defines the names of the encoding rules, JER and AVN among them.
 ghost use Rattle.asn_base.specs.Texts.{codec_name};
 ghost use Rattle.std.specs.Prelude.{Some};
 
 use std::fmt;
 
-/// A set of encoding rules. JER and AVN are the two text notations that this library has.
+/// Names a set of encoding rules. JER and AVN are the two text notations that this library has; an
+/// error names the rules that it comes from.
 #[derive(Clone, Copy, Debug, PartialEq, Eq, PartialOrd, Ord)]
 pub enum Codec {
+    /// Packed, aligned (X.691).
     Aper,
+    /// Basic (X.690).
     Ber,
+    /// Canonical (X.690).
     Cer,
+    /// Distinguished (X.690).
     Der,
+    /// Packed, unaligned (X.691).
     Uper,
+    /// JSON (X.697).
     Jer,
+    /// Octets (X.696).
     Oer,
+    /// Canonical octets (X.696).
     Coer,
+    /// XML (X.693).
     Xer,
+    /// The value notation (X.680).
     Avn,
 }
 
-/// The name in capitals.
+/// Prints the name in capitals.
 impl fmt::Display for Codec {
     ghost output = { λ codec. Some (codec_name codec) };
 

@@ -1,4 +1,5 @@
-// Constraints on values and on sizes (X.680, sections 49 to 51).
+//! Defines constraints on values and on sizes (X.680, sections 49 to 51). Neither notation checks
+//! them; a fixed size of a BIT STRING alone changes what JER writes.
 ghost use Rattle.asn_base.specs.Bounds.{HasCount, IsCount, intersection, is_admitted, is_every, nat_cmp-int_cmp};
 ghost use Rattle.asn_base.specs.Bounds.{is_from, is_single, is_up_to, larger, range_if_any, smaller, start_of};
 ghost use Rattle.asn_base.specs.Constraints.{any_has_marker, first_size_constraint, has_marker};

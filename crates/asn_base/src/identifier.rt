@@ -1,12 +1,13 @@
-// Names that a type can carry beside its tag.
+//! Defines the names that a type can carry beside its tag.
 
-/// The name of a type's element, for encoding rules that write one. JER and AVN ignore it.
+/// Holds the name of a type's element, for encoding rules that write one. JER and AVN ignore it.
 #[derive(Clone, Copy, Debug, PartialEq, Eq)]
 pub struct Identifier {
+    /// The name, if the type has one.
     pub name: Option<&'static str>,
 }
 
 impl Identifier {
-    /// No name.
+    /// Is no name.
     pub const EMPTY: Identifier = Identifier { name: None };
 }

@@ -1,7 +1,7 @@
-// The refusal of memory.
+//! Defines the error of a call that can fail for lack of memory alone.
 use std::alloc::{AllocError, AllocFailed};
 
-/// Memory ran out. It is the one refusal of a call that fails in no other way.
+/// States that memory ran out. It is the error of a call that fails in no other way.
 #[derive(Clone, Copy, Debug, PartialEq, Eq)]
 pub struct OutOfMemory;
 

@@ -1,4 +1,4 @@
-// A text that is read a character at a time.
+//! Defines a text that is read a character at a time, by calls that are counted.
 ghost use Rattle.std.specs.Prelude.{◌≡◌, ◌+◌, ◌-◌, ◌<◌, ◌≤◌, ◌^◌, [], ◌∷◌, min, MatchOption, length, take, OnOk, OnErr, IfOk, string_bytes};
 ghost use Rattle.std.specs.Str.{IsCharBoundary, encode_utf8_all};
 ghost use Rattle.std.specs.Char.{len_utf8};
@@ -8,7 +8,7 @@ use crate::memory::OutOfMemory;
 use std::alloc::Global;
 use std::marker::Model;
 
-/// A text whose characters are reached only through two counted calls, so that its count bounds
+/// Shows a text whose characters are reached only through two counted calls, so that its count bounds
 /// the work of a reader. A place is a byte offset on a character's edge.
 #[derive(Drop)]
 pub struct Scan<'a> {
@@ -27,7 +27,7 @@ impl<'a> Model for Scan<'a> {
 }
 
 impl<'a> Scan<'a> {
-    /// A scan of the text, of which nothing was looked at.
+    /// Returns a scan of the text, of which nothing was looked at.
     pub fn new(text: &'a str) -> Scan<'a>
         ensures text { result.text ≡ text.now }
         ensures count { result.looks ≡ 0 }
@@ -35,7 +35,7 @@ impl<'a> Scan<'a> {
         Scan { text, count: 0 }
     }
 
-    /// The character at the place, none at the end. The count rises by one, up to the greatest
+    /// Returns the character at the place, none at the end. The count rises by one, up to the greatest
     /// `u128`.
     #[inline(always)]
     pub fn look(&mut self, place: usize) -> Option<char>
@@ -60,10 +60,12 @@ impl<'a> Scan<'a> {
         wide_at(text, place)
     }
 
-    /// A copy of the first `at_most` characters from the place on, or of fewer at the end. The
-    /// count rises by the characters copied, up to the greatest `u128`.
+    /// Returns a copy of the first `at_most` characters from the place on, or of fewer at the end.
+    /// The count rises by the characters copied, up to the greatest `u128`.
     ///
-    /// Its only error is want of memory, and then the scan is as it was.
+    /// # Errors
+    ///
+    /// `OutOfMemory`, and then the scan is as it was.
     pub fn excerpt(
         &mut self,
         alloc: Global,
@@ -97,14 +99,14 @@ impl<'a> Scan<'a> {
         Ok(out)
     }
 
-    /// Law: the text's start is a character's edge.
+    /// States that the text's start is a character's edge.
     pub fn has_edge_at_start(&self)
         ensures { IsCharBoundary self.now.text 0 }
     {
         let _text = whole(self.text);
     }
 
-    /// Law: a machine word can count the characters from a place on.
+    /// States that a machine word can count the characters from a place on.
     pub fn has_short_rest(&self, place: usize)
         requires { IsCharBoundary self.now.text place }
         ensures { length (after self.now.text place) < 2 ^ 64 }
@@ -112,7 +114,7 @@ impl<'a> Scan<'a> {
         let _text = whole(self.text);
     }
 
-    /// How many characters were looked at or copied.
+    /// Returns how many characters were looked at or copied.
     pub fn count(&self) -> u128
         ensures { result ≡ self.now.looks }
     {
@@ -120,7 +122,7 @@ impl<'a> Scan<'a> {
     }
 }
 
-/// The character at the place, none at the end. It stands apart, so that the common case of an
+/// Returns the character at the place, none at the end. It stands apart, so that the common case of an
 /// ASCII character stays short.
 #[inline(never)]
 fn wide_at(text: &str, place: usize) -> Option<char>
@@ -133,7 +135,7 @@ fn wide_at(text: &str, place: usize) -> Option<char>
     text[place..].chars().next()
 }
 
-/// The character at the place, none at the end.
+/// Returns the character at the place, none at the end.
 fn char_at(text: &str, place: usize) -> Option<char>
     requires { IsCharBoundary text.now place }
     ensures found { MatchOption result (after text.now place ≡ [])
@@ -146,7 +148,7 @@ fn char_at(text: &str, place: usize) -> Option<char>
     wide_at(text, place)
 }
 
-/// The text itself, of which a proof learns here that it is UTF-8.
+/// Returns the text itself, of which a proof learns here that it is UTF-8.
 fn whole(text: &str) -> &str
     ensures { result.now ≡ text.now }
 {

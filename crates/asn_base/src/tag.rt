@@ -1,4 +1,5 @@
-// Tags of types (X.680, section 8).
+//! Defines the tags of types (X.680, section 8). Neither notation writes a tag; they tell apart the
+//! alternatives of a CHOICE and order the fields of a SET.
 ghost use Rattle.asn_base.specs.Texts.{class_name, tag_text};
 ghost use Rattle.std.specs.Prelude.{◌≡◌, Some};
 
@@ -7,13 +8,17 @@ use std::fmt;
 /// The class of a tag, in the order in which classes compare.
 #[derive(Clone, Copy, Debug, PartialEq, Eq, PartialOrd, Ord)]
 pub enum Class {
+    /// Is for the types of X.680 itself.
     Universal,
+    /// Is for types that one application defines.
     Application,
+    /// Is for the fields and alternatives of one type.
     Context,
+    /// Is for types that an enterprise defines.
     Private,
 }
 
-/// The name in capitals.
+/// Prints the name in capitals.
 impl fmt::Display for Class {
     ghost output = { λ class. Some (class_name class) };
 
@@ -30,11 +35,13 @@ impl fmt::Display for Class {
 /// A tag: its class and its number within the class. Tags compare by class first.
 #[derive(Clone, Copy, Debug, PartialEq, Eq, PartialOrd, Ord)]
 pub struct Tag {
+    /// The class, by which tags compare first.
     pub class: Class,
+    /// The number within the class.
     pub value: u32,
 }
 
-/// The class, a space and the number.
+/// Prints the class, a space and the number.
 impl fmt::Display for Tag {
     ghost output = { λ tag. Some (tag_text tag) };
 
@@ -46,121 +53,145 @@ impl fmt::Display for Tag {
 }
 
 impl Tag {
+    /// Ends contents of indefinite length in BER. No alternative of a CHOICE has it.
     pub const EOC: Tag = Tag {
         class: Class::Universal,
         value: 0,
     };
 
+    /// Is the tag of BOOLEAN (X.680, section 18).
     pub const BOOL: Tag = Tag {
         class: Class::Universal,
         value: 1,
     };
 
+    /// Is the tag of INTEGER (X.680, section 19).
     pub const INTEGER: Tag = Tag {
         class: Class::Universal,
         value: 2,
     };
 
+    /// Is the tag of BIT STRING (X.680, section 22).
     pub const BIT_STRING: Tag = Tag {
         class: Class::Universal,
         value: 3,
     };
 
+    /// Is the tag of OCTET STRING (X.680, section 23).
     pub const OCTET_STRING: Tag = Tag {
         class: Class::Universal,
         value: 4,
     };
 
+    /// Is the tag of NULL (X.680, section 24).
     pub const NULL: Tag = Tag {
         class: Class::Universal,
         value: 5,
     };
 
+    /// Is the tag of OBJECT IDENTIFIER (X.680, section 32).
     pub const OBJECT_IDENTIFIER: Tag = Tag {
         class: Class::Universal,
         value: 6,
     };
 
+    /// Is the tag of REAL (X.680, section 21), which neither notation here reads or writes.
     pub const REAL: Tag = Tag {
         class: Class::Universal,
         value: 9,
     };
 
+    /// Is the tag of ENUMERATED (X.680, section 20).
     pub const ENUMERATED: Tag = Tag {
         class: Class::Universal,
         value: 10,
     };
 
+    /// Is the tag of UTF8String (X.680, section 41).
     pub const UTF8_STRING: Tag = Tag {
         class: Class::Universal,
         value: 12,
     };
 
+    /// Is the tag of SEQUENCE and of SEQUENCE OF (X.680, sections 25 and 26).
     pub const SEQUENCE: Tag = Tag {
         class: Class::Universal,
         value: 16,
     };
 
+    /// Is the tag of SET and of SET OF (X.680, sections 27 and 28).
     pub const SET: Tag = Tag {
         class: Class::Universal,
         value: 17,
     };
 
+    /// Is the tag of NumericString (X.680, section 41).
     pub const NUMERIC_STRING: Tag = Tag {
         class: Class::Universal,
         value: 18,
     };
 
+    /// Is the tag of PrintableString (X.680, section 41).
     pub const PRINTABLE_STRING: Tag = Tag {
         class: Class::Universal,
         value: 19,
     };
 
+    /// Is the tag of TeletexString (X.680, section 41).
     pub const TELETEX_STRING: Tag = Tag {
         class: Class::Universal,
         value: 20,
     };
 
+    /// Is the tag of IA5String (X.680, section 41).
     pub const IA5_STRING: Tag = Tag {
         class: Class::Universal,
         value: 22,
     };
 
+    /// Is the tag of UTCTime (X.680, section 47).
     pub const UTC_TIME: Tag = Tag {
         class: Class::Universal,
         value: 23,
     };
 
+    /// Is the tag of GeneralizedTime (X.680, section 46).
     pub const GENERALIZED_TIME: Tag = Tag {
         class: Class::Universal,
         value: 24,
     };
 
+    /// Is the tag of GraphicString (X.680, section 41).
     pub const GRAPHIC_STRING: Tag = Tag {
         class: Class::Universal,
         value: 25,
     };
 
+    /// Is the tag of VisibleString (X.680, section 41).
     pub const VISIBLE_STRING: Tag = Tag {
         class: Class::Universal,
         value: 26,
     };
 
+    /// Is the tag of GeneralString (X.680, section 41).
     pub const GENERAL_STRING: Tag = Tag {
         class: Class::Universal,
         value: 27,
     };
 
+    /// Is the tag of UniversalString (X.680, section 41).
     pub const UNIVERSAL_STRING: Tag = Tag {
         class: Class::Universal,
         value: 28,
     };
 
+    /// Is the tag of BMPString (X.680, section 41).
     pub const BMP_STRING: Tag = Tag {
         class: Class::Universal,
         value: 30,
     };
 
+    /// Is the tag of DATE (X.680, section 38).
     pub const DATE: Tag = Tag {
         class: Class::Universal,
         value: 31,

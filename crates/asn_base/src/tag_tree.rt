@@ -1,10 +1,10 @@
-// The tags of types with and without a tag of their own (X.680, sections 8 and 29).
+//! Defines the tags of types with and without a tag of their own (X.680, sections 8 and 29).
 ghost use Rattle.asn_base.specs.Tags.{smallest, smaller_tag};
 ghost use Rattle.std.specs.Prelude.{◌≡◌, IsSome, Some};
 
 use crate::Tag;
 
-/// The tags that a value of a type can have.
+/// Holds the tags that a value of a type can have.
 #[derive(Clone, Copy)]
 pub enum TagTree {
     /// The tag of a type that has one of its own.
@@ -14,7 +14,7 @@ pub enum TagTree {
 }
 
 impl TagTree {
-    /// The least leaf tag, in the order of tags (X.680, section 8.6). A type is ordered by it.
+    /// Returns the least leaf tag, in the order of tags (X.680, section 8.6). A type is ordered by it.
     /// There has to be one.
     pub fn smallest_tag(&self) -> Tag
         requires { IsSome (smallest self.now) }
@@ -23,7 +23,7 @@ impl TagTree {
         self.least_leaf().unwrap()
     }
 
-    /// The least leaf tag, if there is one.
+    /// Returns the least leaf tag, if there is one.
     pub fn least_leaf(&self) -> Option<Tag>
         ensures { result ≡ smallest self.now }
     {
@@ -40,7 +40,7 @@ impl TagTree {
     }
 }
 
-/// The smaller of two tags, where an absent tag is above all.
+/// Returns the smaller of two tags, where an absent tag is above all.
 fn smaller(a: Option<Tag>, b: Option<Tag>) -> Option<Tag>
     ensures { result ≡ smaller_tag a b }
 {

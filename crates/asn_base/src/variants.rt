@@ -1,4 +1,4 @@
-// The tags of the alternatives of a CHOICE type (X.680, section 29).
+//! Defines the tags of the alternatives of a CHOICE (X.680, section 29).
 ghost use Rattle.asn_base.specs.Tags.{smallest, has_tag, alternatives};
 ghost use Rattle.std.specs.List.{list_all};
 ghost use Rattle.std.specs.Prelude.{◌≡◌, ◌++◌, IfOk, IsTrue, OnOk, Some, map};
@@ -7,7 +7,7 @@ use crate::{OutOfMemory, Tag, TagTree};
 use std::alloc::Global;
 use std::marker::Model;
 
-/// The tags of the alternatives of a CHOICE type, seen as their list. An alternative that is
+/// Holds the tags of the alternatives of a CHOICE type, seen as their list. An alternative that is
 /// itself a CHOICE without a tag of its own counts by its smallest tag (X.680, section 8.6).
 #[derive(Debug, Drop)]
 pub struct Variants {
@@ -24,10 +24,12 @@ impl Model for Variants {
 }
 
 impl Variants {
-    /// The smallest tag of each alternative in order, the added ones after those of the base. Each
-    /// of them has to have a tag.
+    /// Lists the smallest tag of each alternative in order, extension additions after those of the
+    /// base. Each of them has to have a tag.
     ///
-    /// Its only error is want of memory.
+    /// # Errors
+    ///
+    /// `OutOfMemory` alone.
     pub fn from_parts(
         alloc: Global,
         base: &'static [TagTree],
@@ -57,7 +59,7 @@ impl Variants {
         Ok(())
     }
 
-    /// The tags, in order.
+    /// Returns the tags, in order.
     pub fn tags(&self) -> &[Tag]
         ensures { result.now ≡ self.now }
     {

@@ -1,21 +1,23 @@
-// Whole numbers of any sign.
+//! Defines whole numbers of any sign, of up to 128 bits.
 ghost use Rattle.asn_base.specs.Texts.{whole_number_text};
 ghost use Rattle.std.specs.Prelude.{Some};
 
 use std::fmt;
 
-/// The widest signed whole number.
+/// Is the widest signed whole number.
 pub type Integer = i128;
 
-/// A whole number by its sign and its magnitude, as an error names it.
+/// Holds a whole number by its sign and its magnitude, as an error names it.
 /// It covers every number of `i128` and of `u128`. A negative zero is zero.
 #[derive(Clone, Copy, Debug, PartialEq, Eq)]
 pub struct WholeNumber {
+    /// Whether the number is below zero; of no effect where the magnitude is zero.
     pub negative: bool,
+    /// The number without its sign.
     pub magnitude: u128,
 }
 
-/// `-` where the number is below zero, then its digits in decimal.
+/// Prints `-` where the number is below zero, then its digits in decimal.
 impl fmt::Display for WholeNumber {
     ghost output = { λ n. Some (whole_number_text n) };
 

@@ -76,7 +76,7 @@ pub fn choice_of(alloc: Global, identifier: &str, payload: Value) -> Result<Valu
 /// # Errors
 ///
 /// `OutOfMemory` alone.
-fn insert(
+pub fn insert(
     alloc: Global,
     members: &mut Map<String, Value>,
     name: &str,

@@ -4,13 +4,18 @@ ghost use Rattle.std.proofs.Common.{rules};
 ghost use Rattle.std.specs.Bool.{beq};
 ghost use Rattle.std.specs.Cmp.Rules.{comparing};
 ghost use Rattle.std.specs.Cmp.Lexicographic.{pointwise};
+ghost use Rattle.std.specs.Cmp.{booleans_Decides};
+ghost use Rattle.std.specs.Hash as fed;
+ghost use Rattle.std.specs.Hash.{same_Alike};
+ghost use Rattle.std.proofs.lemmas.Slice.Eq.{slice_eq-Decides};
 ghost use Rattle.std.specs.Int.{div_ceil};
 ghost use Rattle.std.specs.Option.{SomeIff};
 ghost use Rattle.std.specs.Prelude.{◌≡◌, ◌≢◌, ◌↔◌, ◌+◌, ◌-◌, ◌/◌, ◌%◌, ◌<◌, ◌^◌, [], ◌∷◌, ◌++◌};
-ghost use Rattle.std.specs.Prelude.{IsTrue, MatchOption, OnErr, OnOk, length, slice_get, vec_len};
+ghost use Rattle.std.specs.Prelude.{IsTrue, MatchOption, OnErr, OnOk, length, refl, slice_get, vec_len};
 
 use crate::OutOfMemory;
 use std::alloc::{AllocError, Global};
+use std::hash::{Hash, Hasher};
 use std::marker::Model;
 
 /// A bit string (X.680, section 22), seen as the list of its bits. It is held as octets: the first
@@ -153,6 +158,17 @@ impl PartialEq for Bits {
 
 impl Eq for Bits {
     ghost laws = { Prim.search (comparing, rules) };
+}
+
+impl Hash for Bits {
+    ghost hash_input = { λ bits. fed.slice fed.u8 (padded bits) };
+
+    ghost respects_eq = { (same_Alike (λ bits. fed.slice fed.u8 (padded bits)) (λ one other.
+        slice_eq-Decides booleans_Decides one other (pointwise beq one other) refl)).fed };
+
+    fn hash<H: Hasher>(&self, state: &mut H) {
+        self.octets.hash(state);
+    }
 }
 
 /// Returns the bit of the octets at the place.

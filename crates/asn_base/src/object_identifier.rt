@@ -2,10 +2,14 @@
 ghost use Rattle.asn_base.specs.ObjectIdentifiers.{is_object_identifier};
 ghost use Rattle.std.specs.Cmp.Lexicographic.{nat_list_eq_equiv};
 ghost use Rattle.std.specs.Cmp.{partial_equiv_from_equiv};
+ghost use Rattle.std.specs.Hash as fed;
+ghost use Rattle.std.specs.Hash.{same_Alike};
+ghost use Rattle.std.proofs.lemmas.Slice.Eq.{bytes_eq-Decides};
 ghost use Rattle.std.specs.Prelude.{◌≡◌, IfOk, IsTrue, SomeIff, bytes_eq};
 
 use crate::OutOfMemory;
 use std::alloc::Global;
+use std::hash::{Hash, Hasher};
 use std::marker::Model;
 
 /// The arcs of an object identifier (X.680, section 32) that stand elsewhere, seen as their list.
@@ -116,6 +120,16 @@ impl PartialEq for ObjectIdentifier {
 
 impl Eq for ObjectIdentifier {
     ghost laws = { nat_list_eq_equiv };
+}
+
+impl Hash for ObjectIdentifier {
+    ghost hash_input = { λ arcs. fed.slice fed.u32 arcs };
+
+    ghost respects_eq = { (same_Alike (fed.slice fed.u32) bytes_eq-Decides).fed };
+
+    fn hash<H: Hasher>(&self, state: &mut H) {
+        self.arcs.hash(state);
+    }
 }
 
 /// Returns whether the arcs are those of an object identifier.

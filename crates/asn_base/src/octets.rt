@@ -1,8 +1,12 @@
 // OCTET STRING, and values of types that aren't known.
 ghost use Rattle.std.specs.Cmp.Lexicographic.{nat_list_eq_equiv};
 ghost use Rattle.std.specs.Cmp.{partial_equiv_from_equiv};
+ghost use Rattle.std.specs.Hash as fed;
+ghost use Rattle.std.specs.Hash.{same_Alike};
+ghost use Rattle.std.proofs.lemmas.Slice.Eq.{bytes_eq-Decides};
 ghost use Rattle.std.specs.Prelude.{◌≡◌, bytes_eq};
 
+use std::hash::{Hash, Hasher};
 use std::marker::Model;
 
 /// An octet string (X.680, section 23), seen as the list of its octets.
@@ -57,9 +61,19 @@ impl Eq for OctetString {
     ghost laws = { nat_list_eq_equiv };
 }
 
+impl Hash for OctetString {
+    ghost hash_input = { λ octets. fed.slice fed.u8 octets };
+
+    ghost respects_eq = { (same_Alike (fed.slice fed.u8) bytes_eq-Decides).fed };
+
+    fn hash<H: Hasher>(&self, state: &mut H) {
+        self.octets.hash(state);
+    }
+}
+
 /// A value of a type that isn't known, as an open type has it (X.681, section 14), seen as the list
 /// of the octets of its encoding.
-#[derive(Debug, Drop, PartialEq, Eq)]
+#[derive(Debug, Drop, PartialEq, Eq, Hash)]
 pub struct Any {
     octets: OctetString,
 }

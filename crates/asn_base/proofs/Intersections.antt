@@ -1,5 +1,5 @@
 -- The bounds of the numbers that two bounds admit.
-use Rattle.std.proofs.Common.{◌≡◌, ℤ, Bool, true, false, cond, ◌&&◌, not, Option, Some, None, IfSome, refl, sym, ap, subst, ◌∙◌, arith}
+use Rattle.std.proofs.Common.{◌≡◌, ℤ, Bool, true, false, cond, ◌&&◌, not, Option, Some, None, IfSome, IfNone, refl, sym, ap, subst, ◌∙◌, arith}
 use Rattle.std.specs.Prelude.{int_lt}
 use Rattle.std.specs.Ordering.{int_eq}
 use Rattle.std.proofs.lemmas.Bool.Decides.{Decides-int_eq}
@@ -29,9 +29,17 @@ module _ {T : Type 0} (number : T → ℤ) where
   abbrev pub IsBoundsOf : (ℤ → Bool) → Option (Bounded T) → Type 0
   IsBoundsOf test answer = IfSome answer (λ bounds. (n : ℤ) → is_admitted number bounds n ≡ test n)
 
+  -- No number passes the test where there is no answer.
+  abbrev pub IsNoneOf : (ℤ → Bool) → Option (Bounded T) → Type 0
+  IsNoneOf test answer = IfNone answer ((n : ℤ) → test n ≡ false)
+
   bounds-along : (test test' : ℤ → Bool) → ((n : ℤ) → test n ≡ test' n) → (answer : Option (Bounded T)) → IsBoundsOf test answer → IsBoundsOf test' answer
   bounds-along test test' e None h = tt
   bounds-along test test' e (Some bounds) h = λ n. h n ∙ e n
+
+  none-along : (test test' : ℤ → Bool) → ((n : ℤ) → test n ≡ test' n) → (answer : Option (Bounded T)) → IsNoneOf test answer → IsNoneOf test' answer
+  none-along test test' e None h = λ n. sym (e n) ∙ h n
+  none-along test test' e (Some bounds) h = tt
 
   from-larger : (s t : Option T) (n : ℤ) → is_from number (larger number s t) n ≡ (is_from number s n && is_from number t n)
   from-larger None t n = refl
@@ -62,6 +70,15 @@ module _ {T : Type 0} (number : T → ℤ) where
   range-bounds (Some a) None = λ n. refl
   range-bounds (Some a) (Some b) = elim (int_lt (number b) (number a)) as (λ x. IsBoundsOf (is_admitted number (Range (Some a) (Some b))) (cond x None (Some (Range (Some a) (Some b))))) [ true ↦ tt | false ↦ λ n. refl ]
 
+  range-none : (s e : Option T) → IsNoneOf (is_admitted number (Range s e)) (range_if_any number s e)
+  range-none None e = tt
+  range-none (Some a) None = tt
+  range-none (Some a) (Some b) =
+      elim (int_lt (number b) (number a)) as (λ x. int_lt (number b) (number a) ≡ x → IsNoneOf (is_admitted number (Range (Some a) (Some b))) (cond x None (Some (Range (Some a) (Some b))))) [
+        | true ↦ λ h n. grind (arith, ints)
+        | false ↦ λ h. tt
+      ] refl
+
   single-bounds : (m : T) (test : ℤ → Bool) → IsBoundsOf (λ n. int_eq (number m) n && test n) (cond (test (number m)) (Some (Single m)) None)
   single-bounds m test =
       elim (test (number m)) as (λ x. test (number m) ≡ x → IsBoundsOf (λ n. int_eq (number m) n && test n) (cond x (Some (Single m)) None)) [
@@ -69,11 +86,18 @@ module _ {T : Type 0} (number : T → ℤ) where
         | false ↦ λ h. tt
       ] refl
 
+  single-none : (m : T) (test : ℤ → Bool) → IsNoneOf (λ n. int_eq (number m) n && test n) (cond (test (number m)) (Some (Single m)) None)
+  single-none m test =
+      elim (test (number m)) as (λ x. test (number m) ≡ x → IsNoneOf (λ n. int_eq (number m) n && test n) (cond x (Some (Single m)) None)) [
+        | true ↦ λ h. tt
+        | false ↦ λ h n. elim (int_eq (number m) n) as (λ x. int_eq (number m) n ≡ x → (x && test n) ≡ false) [ true ↦ λ e. sym (ap test ((Decides-int_eq (number m) n).0 e)) ∙ h | false ↦ λ e. refl ] refl
+      ] refl
+
   -- The numbers that both admit.
   abbrev pub in_both : Bounded T → Bounded T → ℤ → Bool
   in_both x y n = is_admitted number x n && is_admitted number y n
 
-  pub intersection-bounds : (x y : Bounded T) → IsBoundsOf (in_both x y) (intersection number x y)
+  intersection-bounds : (x y : Bounded T) → IsBoundsOf (in_both x y) (intersection number x y)
   intersection-bounds Every y = λ n. refl
   intersection-bounds (Single m) Every = λ n. and-true _
   intersection-bounds (Single m) (Single k) = single-bounds m (is_admitted number (Single k))
@@ -84,5 +108,19 @@ module _ {T : Type 0} (number : T → ℤ) where
   intersection-bounds (Range s e) (Range t f) =
       bounds-along (is_admitted number (Range (larger number s t) (smaller number e f))) (in_both (Range s e) (Range t f)) (range-both s t e f) (range_if_any number (larger number s t) (smaller number e f)) (range-bounds (larger number s t) (smaller number e f))
 
+  intersection-none : (x y : Bounded T) → IsNoneOf (in_both x y) (intersection number x y)
+  intersection-none Every y = tt
+  intersection-none (Single m) Every = tt
+  intersection-none (Single m) (Single k) = single-none m (is_admitted number (Single k))
+  intersection-none (Single m) (Range s e) = single-none m (is_admitted number (Range s e))
+  intersection-none (Range s e) Every = tt
+  intersection-none (Range s e) (Single k) =
+      none-along (in_both (Single k) (Range s e)) (in_both (Range s e) (Single k)) (λ n. and-comm (is_admitted number (Single k) n) (is_admitted number (Range s e) n)) (intersection number (Range s e) (Single k)) (single-none k (is_admitted number (Range s e)))
+  intersection-none (Range s e) (Range t f) =
+      none-along (is_admitted number (Range (larger number s t) (smaller number e f))) (in_both (Range s e) (Range t f)) (range-both s t e f) (range_if_any number (larger number s t) (smaller number e f)) (range-none (larger number s t) (smaller number e f))
+
   pub bounds-of : (x y : Bounded T) (answer : Option (Bounded T)) → answer ≡ intersection number x y → IsBoundsOf (in_both x y) answer
   bounds-of x y answer e = subst (IsBoundsOf (in_both x y)) (sym e) (intersection-bounds x y)
+
+  pub none-of : (x y : Bounded T) (answer : Option (Bounded T)) → answer ≡ intersection number x y → IsNoneOf (in_both x y) answer
+  none-of x y answer e = subst (IsNoneOf (in_both x y)) (sym e) (intersection-none x y)

@@ -24,7 +24,7 @@ pub trait Bound: Copy + Ord + fmt::Display {
     ghost greatest: { ℤ };
 
     /// Returns how many numbers there are from this one to the last, or none where the last is
-    /// below this one or the type hasn't that many.
+    /// below this one or the type has no such number.
     fn count_to(self, last: Self) -> Option<Self>
         ensures { IsCount number greatest (number self) (number last) result };
 
@@ -134,8 +134,8 @@ impl<T: Bound> Bounded<T> {
         matches!(self, Bounded::Single(_))
     }
 
-    /// Returns the single number, or the start of the range. There is none where every number is
-    /// admitted or the range has no start.
+    /// Returns the single number or the start of the range, or none where every number is admitted
+    /// or the range has no start.
     pub fn as_start(&self) -> Option<&T>
         ensures { option_copied result ≡ start_of self.now }
     {
@@ -157,9 +157,9 @@ impl<T: Bound> Bounded<T> {
         }
     }
 
-    /// Returns how many numbers are admitted: one where a single one is, and those from the start to
-    /// the end of a range that has both. There is none where the end is below the start or the type
-    /// hasn't that many numbers, and none for other bounds.
+    /// Returns how many numbers are admitted: one where a single one is, and for a range with both
+    /// ends those from the start to the end. It returns none for other bounds, where the end is
+    /// below the start, and where the type has no such number.
     pub fn range(&self) -> Option<T>
         ensures { HasCount T.number T.greatest self.now result }
     {
@@ -170,9 +170,10 @@ impl<T: Bound> Bounded<T> {
         }
     }
 
-    /// Returns the bounds of the numbers that both admit. Bounds of every number leave the others as
-    /// they are, a single number that the others admit stays single, and two ranges give a range. There
-    /// is none exactly where neither are bounds of every number and no number is in both.
+    /// Returns the bounds of the numbers that both admit. Bounds of every number leave the others
+    /// as they are, a single number that the others admit stays single, and two ranges give a
+    /// range. It returns none exactly where neither are bounds of every number and no number is in
+    /// both.
     pub fn intersect(&self, other: &Bounded<T>) -> Option<Bounded<T>>
         ensures is { result ≡ intersection T.number self.now other.now }
         ensures both { IfSome result (λ bounds. (n : ℤ) → is_admitted T.number bounds n

@@ -92,9 +92,19 @@ module _ {X : Type 0} (eq : X → X → Bool) where
         counted true false e n c h r s t a b = absurd (true≢false (sym e))
         counted false true e n c h r s t a b = absurd (true≢false e)
 
-    -- One more of k is the multiset with k.
-    pub IsSameMultiset-insert : IsEquivalence eq → (entries : List (X × ℕ)) (count : ℕ) → count ≡ unwrap_or (lookup (eq k) entries) 0 → IsSameMultiset eq (k ∷ expanded entries) (expanded (insert_entry eq entries k (count + 1)))
-    IsSameMultiset-insert laws es c e = record { each = λ x. sym (multiplicity-expanded-insert laws x es c e) }
+-- The entries after one more k.
+module _ {X : Type 0} (eq : X → X → Bool) (laws : IsEquivalence eq) (k : X) (entries new : List (X × ℕ)) (count : ℕ) (found : count ≡ unwrap_or (lookup (eq k) entries) 0) (is : new ≡ insert_entry eq entries k (count + 1)) where
+  pub inserted-length : length (expanded new) ≡ length (expanded entries) + 1
+  inserted-length = ap (λ es. length (expanded es)) is ∙ length-expanded-insert eq k entries count found
+
+  pub inserted-positive : AllPositive entries → AllPositive new
+  inserted-positive p = subst AllPositive (sym is) (AllPositive-insert eq k entries count p)
+
+  pub inserted-same : (xs : List X) → expanded entries ≡ xs → IsSameMultiset eq (k ∷ xs) (expanded new)
+  inserted-same xs seen = record {
+    each = λ x.
+        ap (λ l. multiplicity eq x (k ∷ l)) (sym seen) ∙ sym (multiplicity-expanded-insert eq k laws x entries count found) ∙ ap (λ es. multiplicity eq x (expanded es)) (sym is);
+  }
 
 module _ {X : Type 0} (eq : X → X → Bool) (laws : IsEquivalence eq) where
   -- An element that is apart from every key isn't there.

@@ -1,4 +1,6 @@
-// Reading and writing a value of a type as text of the value notation.
+//! Encodes a value of a type as text of the value notation, and decodes one from it. `enc` and
+//! `de` have the two halves of the codec: each is a few primitive calls on AVN values, over which
+//! the traits of `asn_traits` encode and decode every type.
 ghost use Rattle.asn_fault.specs.Stop.{error_stop};
 ghost use Rattle.asn_fault.specs.declared.encode.EncodeErrorKind.TheVariants.{OutOfMemory};
 ghost use Rattle.asn_traits.specs.Canonical.{canonical_text};
@@ -25,17 +27,22 @@ use asn_fault::{DecodeError, EncodeError};
 use asn_traits::{Decode, Encode};
 use std::alloc::Global;
 
-/// Writes a value as text of the value notation, with a line for each element and each field.
+/// Encodes a value as text of the value notation, with a line for each element and each field.
 ///
-/// Errors: `OutOfMemory`; else the kind of the first part that AVN cannot write.
+/// # Errors
+///
+/// `OutOfMemory`; else the kind of the first part that AVN cannot encode.
 pub fn encode<T: Encode>(alloc: Global, value: &T) -> Result<String, EncodeError>
+    // The text is the canonical one of the value, of the type's shape, and decodes to the value
+    // again unless it nests beyond the limit.
     ensures text { IfOk result (λ s. string_bytes s
         ≡ canonical_text Notation.avn (T.value_of value.now)) }
     ensures reads_back { IfOk result (λ s. ReadsBack (T.value_of value.now) (string_bytes s)) }
     ensures fits { OnOk result (Fits T.shape_of (T.value_of value.now)) }
     ensures writable { OnOk result (Writable Notation.avn (T.value_of value.now)) }
+    // An error is that of the first part that can't be encoded.
     ensures refused { IfErr result (CannotWrite Notation.avn (T.value_of value.now)) }
-    // What can be written is written, unless memory runs out.
+    // What can be encoded is encoded, unless memory runs out.
     ensures complete { Writable Notation.avn (T.value_of value.now)
         → IfErr result (λ e. e.kind ≡ OutOfMemory) }
 {
@@ -44,16 +51,21 @@ pub fn encode<T: Encode>(alloc: Global, value: &T) -> Result<String, EncodeError
     encoder.to_string()
 }
 
-/// Reads the value that a text of the value notation says.
+/// Returns the value that a text of the value notation decodes to.
 ///
-/// Errors: `OutOfMemory`; `UnexpectedToken` where the text is no value; `ExceedsMaxParseDepth`
-/// where it is deeper than 64 levels; else why the value of the notation is no value of the type,
-/// within a `FieldError` for each field on the way.
+/// # Errors
+///
+/// `OutOfMemory`; `UnexpectedToken` where the text is no value; `ExceedsMaxParseDepth` where it is
+/// deeper than 64 levels; else why the value of the notation is no value of the type, within a
+/// `FieldError` for each field on the way.
 pub fn decode<T: Decode>(alloc: Global, input: &str) -> Result<T, DecodeError>
+    // The text is a value of the notation that decodes to the value of the result.
     ensures value { IfOk result (λ x. (t : AvnTree) × IsAvn input.now t
         × Says Notation.avn T.shape_of (Some (Tree.avn t)) (T.value_of x)) }
+    // An error is why the text is no value of the notation, or where and why its value decodes to
+    // none of the type.
     ensures refused { IfErr result (λ e. RefusesText T.shape_of input.now (error_stop e)) }
-    // A text that says a value is read as that value, unless memory runs out.
+    // A text that decodes to a value is read as that value, unless memory runs out.
     ensures complete { (t : AvnTree) (v : Value) → IsAvn input.now t
         → Says Notation.avn T.shape_of (Some (Tree.avn t)) v → Reads T.value_of v result }
 {

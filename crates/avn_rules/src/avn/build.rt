@@ -1,4 +1,5 @@
-// AVN values made of slots.
+//! Makes AVN values of the slots that an encoder has collected. Values are moved in; names are
+//! copied, since an AVN value owns its names.
 ghost use Rattle.asn_traits.specs.Tables.{names_of};
 ghost use Rattle.avn_grammar.specs.Tree.{integer, choice};
 ghost use Rattle.asn_slots.specs.Trees.{trees_of};
@@ -13,7 +14,12 @@ use asn_traits::{Field, field_name};
 use avn_value::AvnValue;
 use std::alloc::Global;
 
-/// The value of a whole number. Memory may run out.
+/// Returns the value of a whole number: its sign and decimal digits as a text. AVN has numbers of
+/// any size, so each is one.
+///
+/// # Errors
+///
+/// `OutOfMemory` alone.
 pub fn integer_of(alloc: Global, number: WholeNumber) -> Result<AvnValue, OutOfMemory>
     ensures { IfOk result (λ v. tree_of v
         ≡ integer (signed_decimal (signed number.negative number.magnitude))) }
@@ -22,8 +28,12 @@ pub fn integer_of(alloc: Global, number: WholeNumber) -> Result<AvnValue, OutOfM
     Ok(AvnValue::Integer(text))
 }
 
-/// The fields of the slots, each with the name of the field at its place, where extension
-/// additions come last. Memory may run out.
+/// Returns the fields of the slots, each with the name of the field at its place, where extension
+/// additions come last. An absent field keeps its name and has no value, which is not printed.
+///
+/// # Errors
+///
+/// `OutOfMemory` alone.
 pub fn fields_of(
     alloc: Global,
     slots: Vec<Option<AvnValue>>,
@@ -35,13 +45,18 @@ pub fn fields_of(
 {
     let mut named = Vec::new(alloc);
     for slot in slots {
+        // The number of fields so far is the place of this one.
         let name = String::from_str(alloc, field_name(root, additions, named.len()))?;
         named.push((name, slot))?;
     }
     Ok(named)
 }
 
-/// The choice of this alternative and payload. Memory may run out.
+/// Returns the choice of this alternative and payload, which is boxed.
+///
+/// # Errors
+///
+/// `OutOfMemory` alone.
 pub fn choice_of(
     alloc: Global,
     identifier: &str,

@@ -1,4 +1,5 @@
-// Reading an AVN value as a value of a type.
+//! Decodes an AVN value as a value of a type. The decoder holds the pending slots, of which each
+//! call takes the first, and takes the AVN value apart by moves as it goes.
 ghost use Rattle.asn_base.specs.declared.codec.Codec.TheVariants.{Avn};
 ghost use Rattle.asn_fault.specs.Stop.{Why, error_stop, at_root};
 ghost use Rattle.asn_traits.specs.Answer.{Refuses};
@@ -19,21 +20,26 @@ use asn_traits::{Field, LeafKind, OwnedLeaf, place_of};
 use avn_value::{AvnValue, parse_avn};
 use std::alloc::Global;
 
-/// A reader of one AVN value, which it takes apart as it reads.
+/// Decodes one AVN value. Contracts see the list of its pending slots.
 #[derive(Drop)]
 pub struct Decoder {
+    /// Allocates texts and the room for slots.
     alloc: Global,
+    /// Holds the AVN values that are still to be decoded.
     pending: Pending<AvnValue>,
 }
 
+/// Makes decoders of a text or of an AVN value.
 impl Decoder {
     ghost use Rattle.avn_rules.specs.Pending.{tree_of, pending_of};
     ghost use Rattle.avn_rules.specs.Text.{IsAvn, NoTree};
 
-    /// A reader of a text.
+    /// Makes a decoder of a text.
     ///
-    /// Errors: `UnexpectedToken` where the text is no value of the notation; `ExceedsMaxParseDepth`
-    /// where it is deeper than 64 levels; `OutOfMemory`.
+    /// # Errors
+    ///
+    /// `UnexpectedToken` where the text is no value of the notation; `ExceedsMaxParseDepth` where
+    /// it is deeper than 64 levels; `OutOfMemory`.
     pub fn new(alloc: Global, input: &str) -> Result<Decoder, DecodeError>
         ensures tree { IfOk result (λ d. (t : AvnTree) × IsAvn input.now t
             × (pending_of d ≡ Some (Tree.avn t) ∷ [])) }
@@ -43,9 +49,11 @@ impl Decoder {
         Decoder::from_value(alloc, value)
     }
 
-    /// A reader of an AVN value.
+    /// Makes a decoder of an AVN value.
     ///
-    /// Errors: `OutOfMemory`.
+    /// # Errors
+    ///
+    /// `OutOfMemory` alone.
     pub fn from_value(alloc: Global, value: AvnValue) -> Result<Decoder, DecodeError>
         ensures tree { IfOk result (λ d. pending_of d ≡ Some (tree_of value) ∷ []) }
         ensures refused { IfErr result (λ e. error_stop e ≡ at_root Why.out_of_memory Avn) }
@@ -57,7 +65,11 @@ impl Decoder {
         }
     }
 
-    // Takes the first pending slot, if it is present.
+    /// Takes the first pending slot and returns its value.
+    ///
+    /// # Errors
+    ///
+    /// The end of input where the slot is absent, or none is pending.
     fn take(&mut self) -> Result<AvnValue, DecodeError>
         ensures { MatchResult result (λ v. pending_of self.old ≡ Some (tree_of v)
             ∷ pending_of self.new) (λ e. (s : Shape)
@@ -71,7 +83,11 @@ impl Decoder {
         }
     }
 
-    // Puts a slot before the pending ones.
+    /// Puts a slot before the pending ones.
+    ///
+    /// # Errors
+    ///
+    /// `OutOfMemory` alone.
     fn put(&mut self, slot: Option<AvnValue>) -> Result<(), DecodeError>
         ensures { MatchResult result (λ _. pending_of self.new ≡ option_map tree_of slot
             ∷ pending_of self.old) (λ e. error_stop e ≡ at_root Why.out_of_memory Avn) }
@@ -83,6 +99,7 @@ impl Decoder {
     }
 }
 
+/// Opens AVN values and takes leaves out of them.
 impl asn_traits::Decoder for Decoder {
     ghost use Rattle.avn_rules.specs.Pending.{pending_of};
 
@@ -98,6 +115,7 @@ impl asn_traits::Decoder for Decoder {
         self.alloc
     }
 
+    // The slot is gone in any case: a value of another kind is named in the error and dropped.
     #[inline(always)]
     fn take_leaf(&mut self, kind: LeafKind) -> Result<OwnedLeaf, DecodeError> {
         match leaf_of_avn(self.take()?, kind) {
@@ -119,6 +137,7 @@ impl asn_traits::Decoder for Decoder {
         }
     }
 
+    // The list's vector goes into the pending slots as it is, without a copy.
     fn open_list(&mut self) -> Result<usize, DecodeError> {
         match into_items(self.alloc, self.take()?) {
             Ok(items) => {
@@ -132,6 +151,7 @@ impl asn_traits::Decoder for Decoder {
         }
     }
 
+    // The slots of all fields are found first, extension additions last, and put at once.
     fn open_members(&mut self, root: &[Field], additions: &[Field]) -> Result<(), DecodeError> {
         let members = match into_fields(self.alloc, self.take()?) {
             Ok(members) => members,
@@ -146,6 +166,8 @@ impl asn_traits::Decoder for Decoder {
         }
     }
 
+    // Where the identifier is none of the type's, an absent slot stands for the payload, and the
+    // caller refuses by the type's name.
     fn open_choice(&mut self, identifiers: &[&'static str]) -> Result<Option<usize>, DecodeError> {
         let (name, payload) = match into_choice(self.take()?) {
             Ok(choice) => choice,

@@ -1,4 +1,5 @@
-// Writing a value of a type as an AVN value.
+//! Encodes a value of a type as an AVN value. The encoder holds the open frames, each the AVN
+//! values of the slots that were added to it; closing a frame makes one AVN value of them.
 ghost use Rattle.asn_base.specs.declared.codec.Codec.TheVariants.{Avn};
 ghost use Rattle.asn_fault.specs.Unwritten.{WhyUnwritten, encode_why};
 ghost use Rattle.asn_slots.specs.Frames.{push};
@@ -18,17 +19,21 @@ use asn_traits::{Field, Leaf};
 use avn_value::AvnValue;
 use std::alloc::Global;
 
-/// A writer of one AVN value.
+/// Encodes one AVN value. Contracts see the frames that it may hold as a relation, since an AVN
+/// value doesn't determine the value that it was made of.
 #[derive(Drop)]
 pub struct Encoder {
+    /// Allocates texts, boxes and the room for slots.
     alloc: Global,
+    /// Holds the AVN values of the open frames.
     frames: Frames<AvnValue>,
 }
 
+/// Makes encoders, and hands over what one holds at its root.
 impl Encoder {
     ghost use Rattle.avn_rules.specs.Holding.{Holds};
 
-    /// A writer that holds nothing at its root.
+    /// Makes an encoder that holds nothing at its root. It takes no memory.
     pub fn new(alloc: Global) -> Encoder
         ensures { Holds result ([] ∷ []) }
     {
@@ -38,10 +43,13 @@ impl Encoder {
         }
     }
 
-    /// The AVN value of the last value that was written at the root.
+    /// Returns the AVN value of the last value that was encoded at the root. It takes no memory.
     ///
-    /// Errors: `AvnNoRootValueFound` where none was.
+    /// # Errors
+    ///
+    /// `AvnNoRootValueFound` where none was.
     pub fn to_avn(self) -> Result<AvnValue, EncodeError>
+        // Whatever slots the root has, the AVN value is that of the last one that is present.
         ensures tree { IfOk result (λ t. (f : Frame) → Holds self (f ∷ [])
             → option_map avn_tree (last_present f) ≡ Some (tree_of t)) }
         ensures kind { IfErr result (λ e. encode_why e.kind ≡ WhyUnwritten.no_root_value Avn) }
@@ -56,9 +64,11 @@ impl Encoder {
         }
     }
 
-    /// The text of that AVN value.
+    /// Returns the text of that AVN value.
     ///
-    /// Errors: `AvnNoRootValueFound` where there is none; `OutOfMemory`.
+    /// # Errors
+    ///
+    /// `AvnNoRootValueFound` where there is none; `OutOfMemory`.
     pub fn to_string(self) -> Result<String, EncodeError>
         ensures text { IfOk result (λ s. (f : Frame) → Holds self (f ∷ [])
             → option_map (canonical_text Notation.avn) (last_present f) ≡ Some (string_bytes s)) }
@@ -75,7 +85,11 @@ impl Encoder {
         }
     }
 
-    // Puts a slot into the last frame.
+    /// Puts a slot into the last frame.
+    ///
+    /// # Errors
+    ///
+    /// `OutOfMemory` alone.
     fn put(&mut self, slot: Option<AvnValue>) -> Result<(), EncodeError>
         ensures added { OnOk result (self.new.frames ≡ push slot self.old.frames) }
         ensures refused { IfErr result (λ e. e.kind ≡ EncodeErrorKind.OutOfMemory) }
@@ -87,7 +101,7 @@ impl Encoder {
     }
 }
 
-// Nothing was written at the root.
+/// Returns the error that nothing was encoded at the root.
 fn no_root_value() -> EncodeError
     ensures kind { encode_why result.kind ≡ WhyUnwritten.no_root_value Avn }
     ensures codec { result.codec ≡ Avn }
@@ -100,6 +114,7 @@ fn no_root_value() -> EncodeError
     )
 }
 
+/// Adds leaves to the last frame, and closes frames as lists, sequences and choices.
 impl asn_traits::Encoder for Encoder {
     ghost use Rattle.avn_rules.specs.Holding.{Holds};
 
@@ -132,6 +147,7 @@ impl asn_traits::Encoder for Encoder {
         }
     }
 
+    // The values are moved into the list, which keeps the vector.
     fn close_list(&mut self) -> Result<(), EncodeError> {
         match self.frames.close_list() {
             Ok(items) => self.put(Some(AvnValue::SequenceOf(items))),
@@ -139,6 +155,7 @@ impl asn_traits::Encoder for Encoder {
         }
     }
 
+    // The slots get their names from the fields' table, in order; absent ones stay, by name.
     fn close_members(&mut self, root: &[Field], additions: &[Field]) -> Result<(), EncodeError> {
         let Ok(slots) = self.frames.close() else {
             return Err(EncodeError::out_of_memory(Codec::Avn));
@@ -149,6 +166,7 @@ impl asn_traits::Encoder for Encoder {
         }
     }
 
+    // A frame without a payload leaves an absent slot, as a scope that added nothing does.
     fn close_choice(&mut self, identifier: &'static str) -> Result<(), EncodeError> {
         let Some(payload) = self.frames.close_first() else {
             return self.put(None);

@@ -1,4 +1,5 @@
-// Whole numbers as texts.
+//! Reads whole numbers from their texts. A parsed AVN value keeps a number as its text, of any
+//! length; a type has numbers of at most 128 bits.
 ghost use Rattle.asn_base.specs.Numbers.{signed};
 ghost use Rattle.asn_traits.specs.Digits.{digits, signed_number};
 ghost use Rattle.avn_rules.specs.Numbers.{Counts, ReadsDigits, ReadsNumber};
@@ -6,8 +7,9 @@ ghost use Rattle.std.specs.Prelude.{◌≡◌, option_map, ℕ, ◌+◌, ◌*◌
 
 use asn_base::WholeNumber;
 
-/// The whole number of a text: an optional `-` and digits, none inside where it has more than 128
-/// bits. Each character is looked at once.
+/// Returns the whole number of a text, which is an optional `-` and digits: `Some(None)` where it
+/// has more than 128 bits, and `None` where the text is no number. Each character is looked at
+/// once.
 pub fn whole_number(text: &str) -> Option<Option<WholeNumber>>
     ensures { ReadsNumber text.now result }
 {
@@ -22,7 +24,7 @@ pub fn whole_number(text: &str) -> Option<Option<WholeNumber>>
     }
 }
 
-// Whether the text begins with `-`, and what follows it.
+/// Returns whether the text begins with `-`, and what follows it.
 fn split_sign(text: &[u8]) -> (bool, &[u8])
     ensures { signed_number text.now ≡ option_map (signed result.0) (digits result.1.now) }
 {
@@ -36,14 +38,15 @@ fn split_sign(text: &[u8]) -> (bool, &[u8])
     }
 }
 
-// The number of one or more digits, none inside where it has more than 128 bits. None exactly where
-// the text is not of digits.
+/// Returns the number of one or more digits: `Some(None)` where it has more than 128 bits, and
+/// `None` exactly where the text is not of digits.
 fn magnitude_of(digits: &[u8]) -> Option<Option<u128>>
     ensures { ReadsDigits digits.now result }
 {
     if digits.is_empty() {
         return None;
     }
+    // A number that is too large stays so, but the digits after it are still looked at.
     let mut magnitude = Some(0);
     for &digit in digits {
         if digit < b'0' || digit > b'9' {
@@ -54,7 +57,7 @@ fn magnitude_of(digits: &[u8]) -> Option<Option<u128>>
     Some(magnitude)
 }
 
-// The number with a digit after it, none where it has more than 128 bits.
+/// Returns the number with a digit after it, or `None` where it has more than 128 bits.
 fn with_digit(magnitude: Option<u128>, digit: u8) -> Option<u128>
     ensures { (n : ℕ) → Counts n magnitude → Counts (n * 10 + digit) result }
 {

@@ -1,4 +1,5 @@
-// The parts of an AVN value, taken out of it.
+//! Takes parts out of an AVN value by moves. A value of another kind comes back as it was, so that
+//! an error can name it.
 ghost use Rattle.asn_slots.specs.Trees.{trees_of};
 ghost use Rattle.asn_traits.specs.Notation.{Notation};
 ghost use Rattle.asn_traits.specs.Shape.{are_distinct};
@@ -13,7 +14,12 @@ use asn_traits::{Field, place_of_field};
 use avn_value::AvnValue;
 use std::alloc::Global;
 
-/// The elements, or the value where it is no list. A Sequence without entries is an empty list.
+/// Returns the elements of a list. A Sequence without entries is an empty list, since the text
+/// `{}` stands for both. It takes no memory.
+///
+/// # Errors
+///
+/// The value itself where it is no list.
 pub fn into_items(alloc: Global, value: AvnValue) -> Result<Vec<AvnValue>, AvnValue>
     ensures { MatchResult result (λ items. as_list Notation.avn (tree_of value)
         ≡ Some (tree_slots (list_trees items.items)))
@@ -32,7 +38,12 @@ pub fn into_items(alloc: Global, value: AvnValue) -> Result<Vec<AvnValue>, AvnVa
     }
 }
 
-/// The fields, or the value where it has none. A SequenceOf without elements has no fields.
+/// Returns the fields of a Sequence. A SequenceOf without elements has no fields, since the text
+/// `{}` stands for both. It takes no memory.
+///
+/// # Errors
+///
+/// The value itself where it has no fields.
 pub fn into_fields(
     alloc: Global,
     value: AvnValue,
@@ -54,7 +65,11 @@ pub fn into_fields(
     }
 }
 
-/// The identifier and the payload, or the value where it is no choice.
+/// Returns the identifier and the payload of a choice.
+///
+/// # Errors
+///
+/// The value itself where it is no choice.
 pub fn into_choice(value: AvnValue) -> Result<(String, AvnValue), AvnValue>
     ensures { MatchResult result (λ c. as_choice Notation.avn (tree_of value)
         ≡ Some (Some (string_bytes c.0, tree_of c.1)))
@@ -66,8 +81,12 @@ pub fn into_choice(value: AvnValue) -> Result<(String, AvnValue), AvnValue>
     }
 }
 
-/// The slot of each field, extension additions last: the value of the last present entry of its
-/// name. Entries of other names are passed over. Memory may run out.
+/// Returns the slot of each field, extension additions last: the value of the last present entry
+/// of its name. Entries of other names are passed over.
+///
+/// # Errors
+///
+/// `OutOfMemory` alone.
 pub fn slots_of(
     alloc: Global,
     entries: Vec<(String, Option<AvnValue>)>,
@@ -79,6 +98,7 @@ pub fn slots_of(
         (field_slot (fields_trees entries.items)) (names_of root.now ++ names_of additions.now)) }
 {
     let mut slots = absent_slots(alloc, root.len() + additions.len())?;
+    // Each entry is looked at once, in order, so a later one of the same name takes the place.
     for (name, entry) in entries {
         let Some(value) = entry else {
             continue;
@@ -86,12 +106,17 @@ pub fn slots_of(
         let Some(place) = place_of_field(root, additions, name.as_str()) else {
             continue;
         };
+        // The place is one of a field, and there is a slot for each.
         slots[place] = Some(value);
     }
     Ok(slots)
 }
 
-// So many absent slots. Memory may run out.
+/// Returns a number of absent slots.
+///
+/// # Errors
+///
+/// `OutOfMemory` alone.
 fn absent_slots(alloc: Global, count: usize) -> Result<Vec<Option<AvnValue>>, OutOfMemory>
     ensures { IfOk result (λ slots. slots.items ≡ replicate count None) }
 {

@@ -8,6 +8,11 @@ abbrev pub slots_of : {V : Type 0} → List (Run V) → List (Option V)
 slots_of [] = []
 slots_of (r ∷ rs) = r.first ∷ (map Some (into_iter_items r.later) ++ slots_of rs)
 
+-- The runs, of which the next one may stand apart.
+abbrev pub next_before : {V : Type 0} → Option (Run V) → List (Run V) → List (Run V)
+next_before None rs = rs
+next_before (Some r) rs = r ∷ rs
+
 -- An absent first slot is taken, a present one stays, and no answer comes where no slot is left.
 abbrev pub TakesAbsent : {V : Type 0} → List (Option V) → Option Bool → List (Option V) → Type 0
 TakesAbsent before (Some true) after = before ≡ None ∷ after

@@ -1,11 +1,12 @@
 //! Holds the pending slots of a decoder: those that are still to be read, the next one first.
 //! Opening a SEQUENCE puts a slot for each of its fields, and reading a field takes one.
-ghost use Rattle.asn_slots.specs.Pending.{TakesAbsent};
+ghost use Rattle.asn_slots.specs.Pending.{TakesAbsent, slots_of};
 ghost use Rattle.std.specs.Prelude.{◌≡◌, ◌∷◌, [], ◌++◌, Some, map, MatchOption, OnOk, OnErr};
 
 use asn_base::OutOfMemory;
 use std::alloc::Global;
 use std::marker::Model;
+use std::mem;
 use std::vec::IntoIter;
 
 /// Holds a slot, and the values after it, each of which is a present slot too.
@@ -23,18 +24,20 @@ struct Run<V> {
 pub struct Pending<V> {
     /// Allocates the runs and the vectors that hold no later value.
     alloc: Global,
-    /// Holds the runs of slots, the one to be read next at the end.
+    /// Holds the run that is read next. It stands apart, so that one slot takes no memory.
+    next: Option<Run<V>>,
+    /// Holds the runs after it, the first of them at the end.
     runs: Vec<Run<V>>,
 }
 
 /// Lets contracts see the slots as one list, whatever runs they are kept in.
 impl<V> Model for Pending<V> {
-    ghost use Rattle.asn_slots.specs.Pending.{slots_of};
+    ghost use Rattle.asn_slots.specs.Pending.{slots_of, next_before};
     ghost use Rattle.std.specs.Prelude.{List, Option, reverse};
 
     ghost Value = { List (Option V) };
 
-    ghost view = { λ p. slots_of (reverse p.runs.items) };
+    ghost view = { λ p. slots_of (next_before p.next (reverse p.runs.items)) };
 }
 
 /// Puts slots before the others, and takes the next one.
@@ -45,6 +48,21 @@ impl<V: Drop> Pending<V> {
     {
         Pending {
             alloc,
+            next: None,
+            runs: Vec::new(alloc),
+        }
+    }
+
+    /// Returns a list of one slot. It takes no memory.
+    pub fn of(alloc: Global, slot: Option<V>) -> Pending<V>
+        ensures { result ≡ slot ∷ [] }
+    {
+        Pending {
+            alloc,
+            next: Some(Run {
+                first: slot,
+                later: Vec::new(alloc).into_iter(),
+            }),
             runs: Vec::new(alloc),
         }
     }
@@ -58,10 +76,24 @@ impl<V: Drop> Pending<V> {
         ensures put { OnOk result (self.new ≡ slot ∷ self.old) }
         ensures kept { OnErr result (self.new ≡ self.old) }
     {
-        self.runs.push(Run {
-            first: slot,
-            later: Vec::new(self.alloc).into_iter(),
-        })?;
+        let later = Vec::new(self.alloc).into_iter();
+        self.put_run(Run { first: slot, later })
+    }
+
+    /// Puts a run before the slots.
+    ///
+    /// # Errors
+    ///
+    /// `OutOfMemory` alone, and then nothing is put.
+    fn put_run(&mut self, run: Run<V>) -> Result<(), OutOfMemory>
+        ensures put { OnOk result (self.new ≡ slots_of (run ∷ []) ++ self.old) }
+        ensures kept { OnErr result (self.new ≡ self.old) }
+    {
+        // Room for the run that was next is made first, since it is moved among the others.
+        self.runs.reserve(1)?;
+        if let Some(before) = mem::replace(&mut self.next, Some(run)) {
+            self.runs.push_reserved(before);
+        }
         Ok(())
     }
 
@@ -75,8 +107,12 @@ impl<V: Drop> Pending<V> {
         ensures kept { OnErr result (self.new ≡ self.old) }
     {
         let mut slots = slots;
-        // Room for all of them is made first: either every slot is put, or none.
-        self.runs.reserve(slots.len())?;
+        // Room for all of them, and for the run that was next, is made first: either every slot is
+        // put, or none.
+        self.runs.reserve(slots.len() + 1)?;
+        if let Some(before) = self.next.take() {
+            self.runs.push_reserved(before);
+        }
         // The last slot goes in first, since the end of `runs` is read first.
         while let Some(slot) = slots.pop() {
             self.runs.push_reserved(Run {
@@ -99,13 +135,13 @@ impl<V: Drop> Pending<V> {
     {
         // An empty vector is no run at all.
         let mut later = values.into_iter();
-        if let Some(value) = later.next() {
-            self.runs.push(Run {
+        match later.next() {
+            Some(value) => self.put_run(Run {
                 first: Some(value),
                 later,
-            })?;
+            }),
+            None => Ok(()),
         }
-        Ok(())
     }
 
     /// Takes the next slot and returns it: `Some(None)` is an absent one, and `None` comes exactly
@@ -114,10 +150,14 @@ impl<V: Drop> Pending<V> {
         ensures { MatchOption result ((self.old ≡ []) × (self.new ≡ self.old))
             (λ slot. self.old ≡ slot ∷ self.new) }
     {
-        let Run { first, mut later } = self.runs.pop()?;
-        // Popping the run left room for one, so what is left of it goes back without memory.
+        let run = match self.next.take() {
+            Some(run) => run,
+            None => self.runs.pop()?,
+        };
+        let Run { first, mut later } = run;
+        // What is left of the run is read next.
         if let Some(value) = later.next() {
-            self.runs.push_reserved(Run {
+            self.next = Some(Run {
                 first: Some(value),
                 later,
             });
@@ -130,7 +170,11 @@ impl<V: Drop> Pending<V> {
     pub fn take_absent(&mut self) -> Option<bool>
         ensures { TakesAbsent self.old result self.new }
     {
-        if self.runs.last()?.first.is_some() {
+        let is_present = match &self.next {
+            Some(run) => run.first.is_some(),
+            None => self.runs.last()?.first.is_some(),
+        };
+        if is_present {
             return Some(false);
         }
         let _absent = self.take();

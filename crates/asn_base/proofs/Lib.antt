@@ -4,3 +4,4 @@ pub mod Padding
 pub mod Cutting
 pub mod Appending
 pub mod HeldBits
+pub mod Intersections

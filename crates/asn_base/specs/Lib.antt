@@ -1,4 +1,6 @@
 pub mod BitStrings
+pub mod Bounds
+pub mod Constraints
 pub mod Numbers
 pub mod ObjectIdentifiers
 pub mod Tags

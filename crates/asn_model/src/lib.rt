@@ -3,6 +3,7 @@
 #![tactic(auto)]
 
 mod arcs;
+mod fixed;
 pub mod laws;
 mod leaves;
 mod named;
@@ -11,6 +12,7 @@ mod shape_type;
 mod tags;
 
 pub use arcs::{arc_of, joined_arcs};
+pub use fixed::fixed_size;
 pub use leaves::{Leaf, LeafKind, OwnedLeaf, are_arcs, are_octets};
 pub use readable::is_readable;
 pub use shape_type::{

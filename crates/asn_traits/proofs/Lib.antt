@@ -3,6 +3,10 @@ pub use Rattle.asn_model.proofs.Readables
 pub use Rattle.asn_model.proofs.Written
 pub use Rattle.asn_model.proofs.Viewing
 pub use Rattle.asn_model.proofs.Numerals
+pub use Rattle.asn_model.proofs.ArcTexts
+pub use Rattle.asn_model.proofs.ArcsParsed
+pub use Rattle.asn_model.proofs.Elements
+pub use Rattle.asn_model.proofs.BitsRead
 pub use Rattle.asn_model.proofs.WrittenAvn
 pub use Rattle.asn_model.proofs.JerTexts
 pub use Rattle.asn_model.proofs.Nesting

@@ -1,10 +1,11 @@
 -- A whole tree's answer, and completeness of reading and writing.
-use Rattle.std.proofs.Common.{◌≡◌, sym, ◌∙◌, subst, List, ◌∷◌, Some, Result, Ok, Err, true, inl, inr}
+use Rattle.std.proofs.Common.{◌≡◌, sym, ◌∙◌, subst, ℕ, List, ◌∷◌, length, Option, Some, None, Result, Ok, Err, true, inl, inr}
 use Rattle.asn_fault.specs.Stop.{Stop, is_memory}
 use Rattle.asn_fault.specs.Unwritten.{WhyUnwritten}
 use Rattle.asn_fault.specs.declared.decode.DecodeError.{DecodeError}
 use Rattle.asn_fault.specs.declared.encode.EncodeError.{EncodeError}
 use Rattle.asn_fault.specs.declared.encode.EncodeErrorKind.TheVariants.{OutOfMemory}
+use Rattle.asn_model.specs.BitLeaves.{LengthStands, LengthBlocks}
 use Rattle.asn_model.specs.Notation.{Notation, IsText}
 use Rattle.asn_model.specs.Shape.{Shape}
 use Rattle.asn_model.specs.Tree.{Tree, Slot}
@@ -34,10 +35,17 @@ pub root_complete : {A : Type 0} (n : Notation) (s : Shape) (value : A → Value
 root_complete n s value t (Ok x) text h v says = one text h says
 root_complete n s value t (Err e) text h v says = read_complete text h v says
 
+length_not_blocked : (n : Notation) (size : Option ℕ) (k : ℕ) (why : WhyUnwritten) → LengthStands n size k → LengthBlocks n size k why → ⊥
+length_not_blocked Notation.jer (Some m) k why stands blocks = blocks.0 stands
+length_not_blocked Notation.jer None k why stands blocks = blocks
+length_not_blocked Notation.avn size k why stands blocks = blocks
+length_not_blocked Notation.other size k why stands blocks = blocks
+
 mutual
   -- What can be written has no part that cannot.
   pub not_blocked : (n : Notation) (v : Value) (why : WhyUnwritten) → Writable n v → Blocks n v why → ⊥
   not_blocked n (Value.int k) why w b = b.0 w
+  not_blocked n (Value.bits bits size) why w b = length_not_blocked n size (length bits) why w b
   not_blocked n (Value.members ms) why w b = slots_not_blocked n ms why w b
   not_blocked n (Value.list vs) why w b = each_not_blocked n vs why w b
   not_blocked n (Value.choice i v) why w b = not_blocked n v why w b

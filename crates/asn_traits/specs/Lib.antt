@@ -7,6 +7,8 @@ pub use Rattle.asn_model.specs.CharacterStrings
 pub use Rattle.asn_model.specs.Value
 pub use Rattle.asn_model.specs.Digits
 pub use Rattle.asn_model.specs.Tree
+pub use Rattle.asn_model.specs.Arcs
+pub use Rattle.asn_model.specs.BitLeaves
 pub use Rattle.asn_model.specs.Leaf
 pub use Rattle.asn_model.specs.Says
 pub use Rattle.asn_model.specs.Stops

@@ -13,13 +13,14 @@ ghost use Rattle.asn_traits.specs.Answer.{Answer, AnswerBy, AnswerUnder, TakesAb
 ghost use Rattle.asn_traits.specs.Opening.{TakesLeaf, OpensList, OpensMembers, OpensChoice, OpensAlternative, AllBelow};
 ghost use Rattle.asn_traits.specs.Scopes.{ScopeAnswer, TagAnswer};
 ghost use Rattle.asn_traits.specs.Tables.{names_of};
-ghost use Rattle.std.specs.Prelude.{true, ◌≡◌, ℕ, pos, List, ◌∷◌, ◌++◌, ◌<◌, map, length, string_bytes};
+ghost use Rattle.std.specs.Prelude.{None, true, ◌≡◌, ℕ, pos, List, ◌∷◌, ◌++◌, ◌<◌, map, length, string_bytes};
 
 use crate::integer_type::beyond_128_bits;
 use crate::tables::{listed, listed_fields, tag_at};
 use crate::{AsnType, Choice, Constructed, Enumerated, Field, IntegerType, LeafKind, OwnedLeaf};
-use asn_base::{Codec, Constraints, Tag};
+use asn_base::{Any, Bits, Codec, Constraints, ObjectIdentifier, Tag};
 use asn_fault::{DecodeError, Refusal};
+use asn_model::fixed_size;
 use std::alloc::Global;
 
 /// A reader of one notation. It is seen as a list of pending slots: a tree or absent.
@@ -161,6 +162,43 @@ pub trait Decoder {
     {
         match self.take_leaf(LeafKind::Octets)? {
             OwnedLeaf::Octets(octets) => Ok(octets),
+            _ => unreachable!(),
+        }
+    }
+
+    /// Reads a value of any type, as the octets of its encoding.
+    final fn decode_any(&mut self, tag: Tag) -> Result<Any, DecodeError>
+        ensures { Answer notation Shape.any Value.octets (pending self.old) result
+            (pending self.new) }
+    {
+        match self.take_leaf(LeafKind::Any)? {
+            OwnedLeaf::Any(octets) => Ok(Any::new(octets)),
+            _ => unreachable!(),
+        }
+    }
+
+    /// Reads an OBJECT IDENTIFIER.
+    final fn decode_object_identifier(&mut self, tag: Tag) -> Result<ObjectIdentifier, DecodeError>
+        ensures { Answer notation Shape.oid Value.arcs (pending self.old) result
+            (pending self.new) }
+    {
+        match self.take_leaf(LeafKind::Oid)? {
+            OwnedLeaf::Oid(identifier) => Ok(identifier),
+            _ => unreachable!(),
+        }
+    }
+
+    /// Reads a BIT STRING, of a fixed size where the constraints fix one.
+    final fn decode_bit_string(
+        &mut self,
+        tag: Tag,
+        constraints: &Constraints,
+    ) -> Result<Bits, DecodeError>
+        ensures { AnswerUnder notation (fixed_size constraints.now) (Shape.bits None)
+            (λ bits. Value.bits bits None) (pending self.old) result (pending self.new) }
+    {
+        match self.take_leaf(LeafKind::Bits(fixed_size(constraints)))? {
+            OwnedLeaf::Bits(bits, _) => Ok(bits),
             _ => unreachable!(),
         }
     }

@@ -2,6 +2,7 @@
 //
 // A codec writes the calls without a body. The calls that have a bound of this crate's are final,
 // and are proved here once for every codec.
+ghost use Rattle.asn_base.specs.ObjectIdentifiers.{is_object_identifier};
 ghost use Rattle.asn_model.specs.Fixed.{fixed_size};
 ghost use Rattle.asn_model.specs.Leaf.{leaf_value};
 ghost use Rattle.asn_model.specs.Notation.{Notation, notation_of};
@@ -10,13 +11,13 @@ ghost use Rattle.asn_traits.specs.Tables.{names_of};
 ghost use Rattle.asn_model.specs.Value.{Value, values};
 ghost use Rattle.asn_traits.specs.Writing.{Frame, push, close, as_list, as_members, as_choice, Written, WrittenUnder, CannotWrite, CannotWriteUnder, ScopeRan, Turns, Puts};
 ghost use Rattle.std.specs.Fn.{FnOnceReturnsAtMut};
-ghost use Rattle.std.specs.Prelude.{◌≡◌, ◌⊎◌, pos, ◌∷◌, ◌++◌, [], ℕ, List, Option, Some, None, Ok, Err, map, option_map, OnOk, IfErr, IfSome, IsOk, IsSome, ⊤};
+ghost use Rattle.std.specs.Prelude.{◌≡◌, ◌⊎◌, pos, ◌∷◌, ◌++◌, [], ℕ, List, Option, Some, None, Ok, Err, true, map, option_map, OnOk, IfErr, IfSome, IsOk, IsSome, ⊤};
 
 use crate::tables::{identifier_of, listed, listed_fields};
 use crate::{AsnType, Choice, Constructed, Enumerated, Field, IntegerType, Leaf};
-use asn_base::{Codec, Constraints, Identifier, Tag, WholeNumber};
+use asn_base::{Any, Bits, Codec, Constraints, Identifier, Tag, WholeNumber};
 use asn_fault::{EncodeError, EncodeErrorKind};
-use asn_model::are_octets;
+use asn_model::{are_arcs, are_octets, fixed_size};
 use std::alloc::Global;
 
 /// A writer of one notation. It is seen as a list of open frames, each a list of slots: a value or
@@ -161,6 +162,55 @@ pub trait Encoder {
     {
         are_octets(value);
         self.put_leaf(Leaf::Octets(value))
+    }
+
+    /// Writes a value of any type, by the octets of its encoding.
+    final fn encode_any(
+        &mut self,
+        tag: Tag,
+        value: &Any,
+        identifier: Identifier,
+    ) -> Result<(), EncodeError>
+        ensures written { OnOk result (Written holds notation Shape.any
+            (Value.octets value.now) self.old self.new) }
+        ensures refused { IfErr result (CannotWrite notation (Value.octets value.now)) }
+    {
+        let octets = value.as_bytes();
+        are_octets(octets);
+        self.put_leaf(Leaf::Octets(octets))
+    }
+
+    /// Writes an OBJECT IDENTIFIER, by its arcs, which are written even where they are those of
+    /// none.
+    final fn encode_object_identifier(
+        &mut self,
+        tag: Tag,
+        value: &[u32],
+        identifier: Identifier,
+    ) -> Result<(), EncodeError>
+        ensures put { OnOk result (Puts holds notation (Value.arcs value.now) self.old self.new) }
+        ensures written { is_object_identifier value.now ≡ true → OnOk result
+            (Written holds notation Shape.oid (Value.arcs value.now) self.old self.new) }
+        ensures refused { IfErr result (CannotWrite notation (Value.arcs value.now)) }
+    {
+        are_arcs(value);
+        self.put_leaf(Leaf::Arcs(value))
+    }
+
+    /// Writes a BIT STRING, of a fixed size where the constraints fix one.
+    final fn encode_bit_string(
+        &mut self,
+        tag: Tag,
+        constraints: &Constraints,
+        value: &Bits,
+        identifier: Identifier,
+    ) -> Result<(), EncodeError>
+        ensures written { OnOk result (WrittenUnder holds notation (fixed_size constraints.now)
+            (Shape.bits None) (Value.bits value.now None) self.old self.new) }
+        ensures refused { IfErr result (CannotWriteUnder notation (fixed_size constraints.now)
+            (Shape.bits None) (Value.bits value.now None)) }
+    {
+        self.put_leaf(Leaf::Bits(value, fixed_size(constraints)))
     }
 
     /// Writes the value of an optional field.

@@ -2,6 +2,7 @@
 #![tactic(auto)]
 
 mod alternative;
+mod bit_string;
 mod decoder;
 mod encoder;
 mod field_names;
@@ -9,6 +10,8 @@ mod fields;
 mod group;
 mod integer_type;
 mod kinds;
+mod object_identifier;
+mod octet_string;
 mod plain;
 mod sequence;
 mod shape_parts;
@@ -31,7 +34,6 @@ pub use kinds::{
     ChoiceKind, DecodeKind, DescribeKind, EncodeKind, EnumeratedKind, IntegerKind, OfKind,
     SequenceKind,
 };
-pub use plain::OctetString;
 pub use sequence::{SequenceFields, read_sequence, write_sequence};
 pub use shape_parts::{AlternativeShapes, FieldShapes, enumerated_shape};
 pub use tables::{field_name, place_of, place_of_field};

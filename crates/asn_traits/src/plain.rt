@@ -157,61 +157,6 @@ impl Decode for String {
     }
 }
 
-/// OCTET STRING (X.680, section 23).
-#[derive(Drop)]
-pub struct OctetString {
-    pub octets: Vec<u8>,
-}
-
-impl AsnType for OctetString {
-    const TAG: Tag = Tag::OCTET_STRING;
-
-    const TAG_TREE: TagTree = TagTree::Leaf(Tag::OCTET_STRING);
-
-    const IS_CHOICE: bool = false;
-
-    ghost shape_of = { AbstractShape.octets };
-
-    ghost value_of = { λ s. Value.octets s.octets.items };
-
-    fn tag_table() -> (Tag, TagTree, bool) {
-        (Self::TAG, Self::TAG_TREE, Self::IS_CHOICE)
-    }
-
-    fn constraint_table() -> Constraints {
-        Self::CONSTRAINTS
-    }
-
-    fn shape(_alloc: Global) -> Result<Shape, OutOfMemory> {
-        Ok(Shape::Octets)
-    }
-
-    ghost readable = { refl };
-}
-
-impl Encode for OctetString {
-    fn encode_with_tag_and_constraints<E: Encoder>(
-        &self,
-        encoder: &mut E,
-        tag: Tag,
-        constraints: &Constraints,
-        identifier: Identifier,
-    ) -> Result<(), EncodeError> {
-        encoder.encode_octet_string(tag, constraints, self.octets.as_slice(), identifier)
-    }
-}
-
-impl Decode for OctetString {
-    fn decode_with_tag_and_constraints<D: Decoder>(
-        decoder: &mut D,
-        tag: Tag,
-        constraints: &Constraints,
-    ) -> Result<OctetString, DecodeError> {
-        let octets = decoder.decode_octet_string(tag, constraints)?;
-        Ok(OctetString { octets })
-    }
-}
-
 /// SEQUENCE OF (X.680, section 26).
 impl<T: AsnType> AsnType for Vec<T> {
     const TAG: Tag = Tag::SEQUENCE;

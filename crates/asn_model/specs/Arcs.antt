@@ -48,7 +48,7 @@ dotted_text arcs = join_by decimal (codes ".") arcs
 
 -- The arcs as an error lists them, as `[0, 40]`.
 abbrev pub listed_text : List ℕ → List ℕ
-listed_text arcs = codes "[" ++ join_by decimal (codes ", ") arcs ++ codes "]"
+listed_text arcs = codes "[" ++ (join_by decimal (codes ", ") arcs ++ codes "]")
 
 -- The arc, or what is wrong with a text that is none.
 abbrev pub arc_or : List ℕ → Option ℕ → Result ℕ Why

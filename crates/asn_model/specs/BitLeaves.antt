@@ -20,7 +20,7 @@ held_bits octets size = 8 * octets - (8 - size % 8) % 8
 
 -- What is wrong with so many octets for a length.
 abbrev pub another_length : ℕ → ℕ → Why
-another_length octets size = Why.custom (codes "Failed to create BitString from bytes: invalid value length (was: " ++ decimal (held_bits octets size) ++ codes ", expected: " ++ decimal size ++ codes ")")
+another_length octets size = Why.custom (codes "Failed to create BitString from bytes: invalid value length (was: " ++ (decimal (held_bits octets size) ++ (codes ", expected: " ++ (decimal size ++ codes ")"))))
 
 -- The first bits of the octets that digits say, or what is wrong where they say none, or not as many as these bits take.
 abbrev pub sized_bits : Option ℕ → ℕ → Why → Result (List ℕ) FromHexError → Result Value Why

@@ -35,6 +35,8 @@ mutual
   -- The JSON value that is written holds no float.
   pub written-false : (v : Value) → has_float (jer_data v) ≡ false
   written-false (Value.int n) = integer-false n
+  written-false (Value.bits bits None) = refl
+  written-false (Value.bits bits (Some size)) = refl
   written-false (Value.members ms) = members-false ms
   written-false (Value.list vs) = items-false vs
   written-false (Value.choice i v) = or_from (has_float (jer_data v)) false (written-false v) refl

@@ -4,3 +4,4 @@ pub mod Choosing
 pub mod Building
 pub mod Floats
 pub mod Roots
+pub mod ArcsTaken

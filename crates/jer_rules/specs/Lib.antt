@@ -4,3 +4,5 @@ pub mod Numbers
 pub mod Payload
 pub mod Pending
 pub mod Text
+pub mod BitTexts
+pub mod Identifiers

@@ -13,11 +13,13 @@ ghost use Rattle.jer_rules.specs.Text.{IsJer, ReadsBack, RefusesText};
 ghost use Rattle.serde_json.specs.Data.{Data};
 ghost use Rattle.std.specs.Prelude.{◌≡◌, Some, IfOk, IfErr, OnOk, string_bytes};
 
+mod bits;
 mod build;
 pub mod de;
 pub mod enc;
 mod faults;
 mod floats;
+mod identifiers;
 mod leaves;
 mod parts;
 

@@ -64,8 +64,8 @@ pub fn choice_of(alloc: Global, identifier: &str, payload: Value) -> Result<Valu
     Ok(Value::Object(members))
 }
 
-// Puts a member into an object. Its one error is that memory ran out.
-fn insert(
+/// Puts a member into an object. Its one error is that memory ran out.
+pub fn insert(
     alloc: Global,
     members: &mut Map<String, Value>,
     name: &str,

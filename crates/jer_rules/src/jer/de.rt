@@ -11,7 +11,9 @@ ghost use Rattle.serde_json.specs.Data.{Data};
 ghost use Rattle.serde_json.specs.View.{members_view};
 ghost use Rattle.std.specs.Prelude.{◌≡◌, ◌∷◌, [], Some, true, IfOk, IfErr, OnOk, MatchResult, option_map};
 
-use super::faults::{end_of_input, mismatch, no_item, no_json, no_object, no_octets};
+use super::faults::{
+    end_of_input, mismatch, no_digits, no_item, no_json, no_object, no_octets, no_oid, other_length,
+};
 use super::floats::holds_float;
 use super::leaves::{NoLeaf, leaf_of_json};
 use super::parts::{into_items, into_members, into_payload};
@@ -135,6 +137,10 @@ impl asn_traits::Decoder for Decoder {
             Ok(leaf) => Ok(leaf),
             Err(NoLeaf::Kind(other)) => Err(mismatch(self.alloc, kind.needed(Codec::Jer), &other)),
             Err(NoLeaf::Octets) => Err(no_octets()),
+            Err(NoLeaf::Object) => Err(no_object(self.alloc)),
+            Err(NoLeaf::Digits) => Err(no_digits(self.alloc)),
+            Err(NoLeaf::Count { octets, size }) => Err(other_length(self.alloc, octets, size)),
+            Err(NoLeaf::Arcs(text)) => Err(no_oid(self.alloc, text)),
             Err(NoLeaf::OutOfMemory) => Err(DecodeError::out_of_memory(Codec::Jer)),
         }
     }
@@ -166,7 +172,7 @@ impl asn_traits::Decoder for Decoder {
     fn open_members(&mut self, root: &[Field], additions: &[Field]) -> Result<(), DecodeError> {
         let mut members = match into_members(self.take()?) {
             Ok(members) => members,
-            Err(other) => return Err(no_object(self.alloc, &other)),
+            Err(_) => return Err(no_object(self.alloc)),
         };
         self.take_fields(&mut members, additions)?;
         self.take_fields(&mut members, root)?;

@@ -2,9 +2,11 @@
 ghost use Rattle.asn_base.specs.declared.codec.Codec.TheVariants.{Jer};
 ghost use Rattle.asn_fault.specs.Stop.{Why, error_stop, at_root, codec_why};
 ghost use Rattle.asn_traits.specs.Answer.{TellsBlame};
-ghost use Rattle.asn_traits.specs.Leaf.{Blame, needs_members};
+ghost use Rattle.asn_traits.specs.BitLeaves.{another_length, held_bits, no_bits};
+ghost use Rattle.asn_traits.specs.Leaf.{Blame};
 ghost use Rattle.asn_traits.specs.Notation.{Notation};
 ghost use Rattle.asn_traits.specs.Tree.{Tree};
+ghost use Rattle.jer_rules.specs.Identifiers.{no_identifier};
 ghost use Rattle.serde_json.specs.View.{view};
 ghost use Rattle.std.specs.Prelude.{◌≡◌, ◌⊎◌, codes, string_bytes};
 
@@ -40,9 +42,10 @@ pub fn mismatch(alloc: Global, needed: &'static str, value: &Value) -> DecodeErr
 }
 
 /// The JSON value is no object where members are needed. Memory may run out.
-pub fn no_object(alloc: Global, value: &Value) -> DecodeError
-    ensures { TellsBlame Notation.jer (Tree.json (view value.now)) (needs_members Notation.jer)
-        (error_stop result) }
+pub fn no_object(alloc: Global) -> DecodeError
+    ensures { (error_stop result
+        ≡ at_root (Why.type_mismatch Jer (codes "object") (codes "unknown")) Jer)
+        ⊎ (error_stop result ≡ at_root Why.out_of_memory Jer) }
 {
     match String::from_str(alloc, "unknown") {
         Ok(found) => jer_error(JerDecodeErrorKind::TypeMismatch {
@@ -66,6 +69,50 @@ pub fn no_octets() -> DecodeError
     ensures { error_stop result ≡ at_root Why.invalid_jer_octet_string Jer }
 {
     jer_error(JerDecodeErrorKind::InvalidJerOctetString {})
+}
+
+/// The digits beside a length are no hexadecimal of whole octets. Memory may run out.
+pub fn no_digits(alloc: Global) -> DecodeError
+    ensures { (error_stop result ≡ at_root no_bits Jer)
+        ⊎ (error_stop result ≡ at_root Why.out_of_memory Jer) }
+{
+    match String::from_str(alloc, "Failed to create BitString from bytes") {
+        Ok(msg) => DecodeError::custom(msg, Codec::Jer),
+        Err(_) => DecodeError::out_of_memory(Codec::Jer),
+    }
+}
+
+/// The octets are not as many as a length takes. Memory may run out.
+pub fn other_length(alloc: Global, octets: usize, size: usize) -> DecodeError
+    ensures { (error_stop result ≡ at_root (another_length octets size) Jer)
+        ⊎ (error_stop result ≡ at_root Why.out_of_memory Jer) }
+{
+    let held = bits_held(octets, size);
+    match format!(in alloc;
+        "Failed to create BitString from bytes: invalid value length (was: {held}, expected: {size})"
+    ) {
+        Ok(msg) => DecodeError::custom(msg, Codec::Jer),
+        Err(_) => DecodeError::out_of_memory(Codec::Jer),
+    }
+}
+
+// How many bits so many octets hold, less those of the last octet that a length leaves unused.
+fn bits_held(octets: usize, size: usize) -> u128
+    ensures { result ≡ held_bits octets size }
+{
+    let unused = (8 - size % 8) % 8;
+    (octets as u128 * 8).saturating_sub(unused as u128)
+}
+
+/// The text is no object identifier. Memory may run out.
+pub fn no_oid(alloc: Global, text: String) -> DecodeError
+    ensures { (error_stop result ≡ at_root (no_identifier (string_bytes text)) Jer)
+        ⊎ (error_stop result ≡ at_root Why.out_of_memory Jer) }
+{
+    match Value::String(text).to_string(alloc) {
+        Ok(value) => jer_error(JerDecodeErrorKind::InvalidOIDString { value }),
+        Err(_) => DecodeError::out_of_memory(Codec::Jer),
+    }
 }
 
 /// The text is no JSON. Memory may run out.

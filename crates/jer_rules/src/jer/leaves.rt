@@ -13,18 +13,22 @@ ghost use Rattle.serde_json.specs.View.{view};
 ghost use Rattle.std.specs.Str.{is_utf8};
 ghost use Rattle.std.specs.Prelude.{◌≡◌, true, OnOk, IfOk, IfErr, MatchResult};
 
+use super::bits::{counted_bits, fixed_bits, json_of_bits};
 use super::build::integer_of;
 use super::faults::encode_error;
+use super::identifiers::identifier_of_json;
 use super::parts::whole_number;
 use asn_base::Codec;
 use asn_fault::{EncodeError, JerEncodeErrorKind};
+use asn_model::joined_arcs;
 use asn_traits::{Leaf, LeafKind, OwnedLeaf};
 use serde_json::Value;
 use std::alloc::Global;
 
 /// The JSON value that is written for a value without parts.
 ///
-/// Errors: `ExceedsSupportedIntSize` where JSON doesn't have the number; `OutOfMemory`.
+/// Errors: `ExceedsSupportedIntSize` where JSON doesn't have the number;
+/// `SizeConstraintNotSatisfied` where bits are not as many as their fixed size; `OutOfMemory`.
 #[inline(always)]
 pub fn json_of_leaf(alloc: Global, leaf: Leaf<'_>) -> Result<Value, EncodeError>
     ensures json { IfOk result (λ v. view v ≡ jer_data (leaf_value leaf.entry)) }
@@ -44,6 +48,11 @@ pub fn json_of_leaf(alloc: Global, leaf: Leaf<'_>) -> Result<Value, EncodeError>
             Ok(text) => Ok(Value::String(text)),
             Err(_) => Err(EncodeError::out_of_memory(Codec::Jer)),
         },
+        Leaf::Arcs(arcs) => match joined_arcs(alloc, arcs, ".") {
+            Ok(text) => Ok(Value::String(text)),
+            Err(_) => Err(EncodeError::out_of_memory(Codec::Jer)),
+        },
+        Leaf::Bits(bits, size) => json_of_bits(alloc, bits, size),
     }
 }
 
@@ -66,6 +75,15 @@ pub enum NoLeaf {
     Kind(Value),
     /// Its text is no hexadecimal of whole octets.
     Octets,
+    /// It is no object.
+    Object,
+    /// The digits of its bits are no hexadecimal of whole octets.
+    Digits,
+    /// Its bits are so many octets, and their size takes another number.
+    Count { octets: usize, size: usize },
+    /// Its text is no object identifier.
+    Arcs(String),
+    /// Memory ran out.
     OutOfMemory,
 }
 
@@ -107,5 +125,16 @@ pub fn leaf_of_json(alloc: Global, value: Value, kind: LeafKind) -> Result<Owned
             },
             other => Err(NoLeaf::Kind(other)),
         },
+        LeafKind::Any => match value {
+            Value::String(text) => match hex::decode(alloc, text.as_bytes()) {
+                Ok(octets) => Ok(OwnedLeaf::Any(octets)),
+                Err(hex::FromHexError::OutOfMemory) => Err(NoLeaf::OutOfMemory),
+                Err(_error) => Err(NoLeaf::Octets),
+            },
+            other => Err(NoLeaf::Kind(other)),
+        },
+        LeafKind::Oid => identifier_of_json(alloc, value),
+        LeafKind::Bits(Some(size)) => fixed_bits(alloc, value, size),
+        LeafKind::Bits(None) => counted_bits(alloc, value),
     }
 }

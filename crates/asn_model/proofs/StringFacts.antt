@@ -40,6 +40,10 @@ none_outside Alphabet.graphic t u e = none_of_graphic t u e
 pub string_kept : (c : Codec) (a : Alphabet) (t : List ℕ) → is_utf8 t ≡ true → is_string_of a t ≡ true → refine c (Shape.text a) (Value.text t) ≡ Ok (Value.text t)
 string_kept c a t u e = ap (within_alphabet (universal_tag (alphabet_number a)) (Value.text t)) (none_outside a t u e)
 
+-- Every text is a UTF8String.
+pub utf8_kept : (c : Codec) (t : List ℕ) → refine c (Shape.text Alphabet.utf8) (Value.text t) ≡ Ok (Value.text t)
+utf8_kept c t = ap (within_alphabet (universal_tag (alphabet_number Alphabet.utf8)) (Value.text t)) (none_of_any t)
+
 -- The text of units is a value with these units.
 pub units_kept : (c : Codec) (us : List ℕ) → has_text us ≡ true → all_within is_bmp us ≡ true → refine c Shape.bmp (Value.text (text_of_units us)) ≡ Ok (Value.units us)
 units_kept c us can e =

@@ -1,6 +1,6 @@
 //! States laws of the strings, each as the contract of a function that does nothing. They state
 //! what the words of the other contracts mean, such as the place of a character outside.
-ghost use Rattle.asn_strings.specs.Alphabets.{all_within, place_outside};
+ghost use Rattle.asn_strings.specs.Alphabets.{all_within, is_bmp, place_outside};
 ghost use Rattle.asn_strings.specs.Units.{has_text, text_of_units};
 ghost use Rattle.std.specs.Prelude.{◌≡◌, ◌≤◌, ◌<◌, ◌↔◌, ℕ, Bool, List, IsTrue, IsUtf8, None, Some};
 ghost use Rattle.std.specs.Prelude.{bytes_eq, chars, false, length, slice_index, true};
@@ -53,6 +53,13 @@ pub fn units_have_their_text()
     ensures { (text : List ℕ) → IsUtf8 text
         → IsTrue (has_text (chars text)) × (text_of_units (chars text) ≡ text) }
 {}
+
+/// Units are characters of the Basic Multilingual Plane or surrogates, which lie within it.
+pub fn units_are_within(units: &[u16])
+    ensures { IsTrue (all_within is_bmp units.now) }
+{
+    let _units = units;
+}
 
 /// Two strings are equal exactly where what contracts see of them is the same list.
 pub fn equal_is_same()

@@ -16,6 +16,7 @@ pub use Rattle.asn_model.proofs.Ranges
 pub mod Steps
 pub mod Refusing
 pub mod LeafValues
+pub mod TextLeaves
 pub mod Taking
 pub mod Reading
 pub mod Choices

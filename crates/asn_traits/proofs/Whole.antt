@@ -1,5 +1,5 @@
 -- A whole tree's answer, and completeness of reading and writing.
-use Rattle.std.proofs.Common.{◌≡◌, sym, ◌∙◌, subst, ℕ, List, ◌∷◌, length, Option, Some, None, Result, Ok, Err, true, inl, inr}
+use Rattle.std.proofs.Common.{◌≡◌, sym, ◌∙◌, subst, ℕ, List, ◌∷◌, length, Option, Some, None, Result, Ok, Err, true, true≢false, inl, inr}
 use Rattle.asn_fault.specs.Stop.{Stop, is_memory}
 use Rattle.asn_fault.specs.Unwritten.{WhyUnwritten}
 use Rattle.asn_fault.specs.declared.decode.DecodeError.{DecodeError}
@@ -45,6 +45,11 @@ mutual
   -- What can be written has no part that cannot.
   pub not_blocked : (n : Notation) (v : Value) (why : WhyUnwritten) → Writable n v → Blocks n v why → ⊥
   not_blocked n (Value.int k) why w b = b.0 w
+  not_blocked n (Value.text t) why w b = true≢false (sym w ∙ b.0)
+  not_blocked n (Value.units us) why w b = true≢false (sym w ∙ b.0)
+  not_blocked n (Value.utc k) why w b = b.0 w
+  not_blocked n (Value.gen k) why w b = b.0 w
+  not_blocked n (Value.day k) why w b = b.0 w
   not_blocked n (Value.bits bits size) why w b = length_not_blocked n size (length bits) why w b
   not_blocked n (Value.members ms) why w b = slots_not_blocked n ms why w b
   not_blocked n (Value.list vs) why w b = each_not_blocked n vs why w b

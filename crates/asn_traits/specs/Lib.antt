@@ -27,4 +27,5 @@ pub mod OwnTag
 pub mod Root
 pub mod Chosen
 pub mod Passing
+pub mod TextTypes
 pub mod Terms

@@ -3,7 +3,7 @@ use Rattle.std.specs.Prelude.{◌≡◌, ℕ, ◌<◌, List, [], ◌∷◌, ◌+
 use Rattle.asn_fault.specs.Stop.{error_stop}
 use Rattle.asn_fault.specs.declared.decode.DecodeError.{DecodeError}
 use Rattle.asn_base.specs.declared.tag.Tag.{Tag}
-use Rattle.asn_model.specs.Leaf.{as_leaf, kind_of, kind_of_owned, IsOwned}
+use Rattle.asn_model.specs.Leaf.{answer_kind, as_leaf, kind_of, kind_of_owned, IsOwned}
 use Rattle.asn_model.specs.Notation.{Notation}
 use Rattle.asn_model.specs.Shape.{Shape, SeqKind, Fields, FieldAdditions, Alternatives, AlternativeAdditions, place_named, alternative_named, alternative_tagged, all_alternatives}
 use Rattle.asn_model.specs.Tree.{Tree, Slot, slot_nodes, head_slot, as_list, as_members, as_choice, same_identifier}
@@ -40,7 +40,7 @@ pub record IsTaken (n : Notation) (k : LeafKind) (t : Tree) (x : OwnedLeaf) : Ty
   pub value : Value
   pub reads : as_leaf n k t ≡ Ok value
   pub is : IsOwned value x
-  pub kind : kind_of_owned x ≡ k
+  pub kind : kind_of_owned x ≡ answer_kind k
 
 -- The slot is a value of this kind, and the answer is that value.
 pub data IsLeaf (n : Notation) (k : LeafKind) : Slot → OwnedLeaf → Type 0 where
@@ -49,7 +49,7 @@ pub data IsLeaf (n : Notation) (k : LeafKind) : Slot → OwnedLeaf → Type 0 wh
 
 -- The first pending slot, a value of this kind, is gone, or it is none.
 abbrev pub TakesLeaf : Notation → LeafKind → List Slot → Result OwnedLeaf DecodeError → List Slot → Type 0
-TakesLeaf n k before (Ok x) after = (slot : Slot) × (before ≡ slot ∷ after) × (kind_of_owned x ≡ k) × IsLeaf n k slot x
+TakesLeaf n k before (Ok x) after = (slot : Slot) × (before ≡ slot ∷ after) × (kind_of_owned x ≡ answer_kind k) × IsLeaf n k slot x
 TakesLeaf n k before (Err e) after = (s : Shape) → kind_of s ≡ Some k → Refuses n (Stops n s (head_slot before)) (error_stop e)
 
 -- The elements of the first pending slot stand in its place, each with fewer nodes, or it is no list.

@@ -10,18 +10,27 @@ ghost use Rattle.asn_model.specs.Notation.{Notation, notation_of};
 ghost use Rattle.asn_model.specs.Shape.{are_distinct, Shape, Alphabet, all_alternatives, all_fields, field_names};
 ghost use Rattle.asn_model.specs.Tree.{Slot, head_nodes, slot_nodes};
 ghost use Rattle.asn_model.specs.Value.{Value, values};
-ghost use Rattle.asn_traits.specs.Answer.{Answer, AnswerBy, AnswerUnder, TakesAbsent, OptionalAnswer};
+ghost use Rattle.asn_traits.specs.Answer.{Answer, AnswerBy, AnswerUnder, AtRoot, Refuses, TakesAbsent, OptionalAnswer};
 ghost use Rattle.asn_traits.specs.Opening.{TakesLeaf, OpensList, OpensMembers, OpensChoice, OpensAlternative, AllBelow};
 ghost use Rattle.asn_traits.specs.Scopes.{ScopeAnswer, TagAnswer};
 ghost use Rattle.asn_traits.specs.Tables.{names_of};
-ghost use Rattle.std.specs.Prelude.{None, true, ◌≡◌, ℕ, pos, List, ◌∷◌, ◌++◌, ◌<◌, map, length, string_bytes};
+ghost use Rattle.asn_traits.specs.TextTypes.{no_teletex};
+ghost use Rattle.std.specs.Prelude.{None, true, ◌≡◌, ℕ, pos, List, ◌∷◌, ◌++◌, ◌<◌, map, length, string_bytes, IfErr, IsErr};
 
 use crate::integer_type::beyond_128_bits;
 use crate::tables::{listed, listed_fields, tag_at};
-use crate::{AsnType, Choice, Constructed, Enumerated, Field, IntegerType, LeafKind, OwnedLeaf};
+use crate::texts::NO_TELETEX;
+use crate::{
+    AsnType, Choice, Constructed, Enumerated, Field, IntegerType, LeafKind, OwnedLeaf, TextType,
+};
 use asn_base::{Any, Bits, Codec, Constraints, ObjectIdentifier, Tag};
 use asn_fault::{DecodeError, Refusal};
 use asn_model::fixed_size;
+use asn_strings::{
+    BmpString, GeneralString, GraphicString, Ia5String, NumericString, PrintableString,
+    TeletexString, VisibleString,
+};
+use asn_times::{Date, GeneralizedTime, UtcTime};
 use std::alloc::Global;
 
 /// Decodes one notation. Contracts see a decoder as a list of pending slots: a tree or absent.
@@ -222,6 +231,154 @@ pub trait Decoder {
             OwnedLeaf::Bits(bits, _) => Ok(bits),
             _ => unreachable!(),
         }
+    }
+
+    /// Reads a value that is a text: a character string or a time.
+    final fn decode_text<T: TextType>(
+        &mut self,
+        tag: Tag,
+        constraints: &Constraints,
+    ) -> Result<T, DecodeError>
+        ensures { Answer notation T.shape T.value (pending self.old) result (pending self.new) }
+    {
+        match self.take_leaf(T::text_kind())? {
+            OwnedLeaf::Text(text) => T::of_text(self.allocator(), text, self.codec()),
+            _ => unreachable!(),
+        }
+    }
+
+    /// Reads a NumericString.
+    final fn decode_numeric_string(
+        &mut self,
+        tag: Tag,
+        constraints: &Constraints,
+    ) -> Result<NumericString, DecodeError>
+        ensures { Answer notation (Shape.text Alphabet.numeric) Value.text (pending self.old) result
+            (pending self.new) }
+    {
+        self.decode_text::<NumericString>(tag, constraints)
+    }
+
+    /// Reads a PrintableString.
+    final fn decode_printable_string(
+        &mut self,
+        tag: Tag,
+        constraints: &Constraints,
+    ) -> Result<PrintableString, DecodeError>
+        ensures { Answer notation (Shape.text Alphabet.printable) Value.text (pending self.old) result
+            (pending self.new) }
+    {
+        self.decode_text::<PrintableString>(tag, constraints)
+    }
+
+    /// Reads a VisibleString.
+    final fn decode_visible_string(
+        &mut self,
+        tag: Tag,
+        constraints: &Constraints,
+    ) -> Result<VisibleString, DecodeError>
+        ensures { Answer notation (Shape.text Alphabet.visible) Value.text (pending self.old) result
+            (pending self.new) }
+    {
+        self.decode_text::<VisibleString>(tag, constraints)
+    }
+
+    /// Reads an IA5String.
+    final fn decode_ia5_string(
+        &mut self,
+        tag: Tag,
+        constraints: &Constraints,
+    ) -> Result<Ia5String, DecodeError>
+        ensures { Answer notation (Shape.text Alphabet.ia5) Value.text (pending self.old) result
+            (pending self.new) }
+    {
+        self.decode_text::<Ia5String>(tag, constraints)
+    }
+
+    /// Reads a GeneralString.
+    final fn decode_general_string(
+        &mut self,
+        tag: Tag,
+        constraints: &Constraints,
+    ) -> Result<GeneralString, DecodeError>
+        ensures { Answer notation (Shape.text Alphabet.general) Value.text (pending self.old) result
+            (pending self.new) }
+    {
+        self.decode_text::<GeneralString>(tag, constraints)
+    }
+
+    /// Reads a GraphicString.
+    final fn decode_graphic_string(
+        &mut self,
+        tag: Tag,
+        constraints: &Constraints,
+    ) -> Result<GraphicString, DecodeError>
+        ensures { Answer notation (Shape.text Alphabet.graphic) Value.text (pending self.old) result
+            (pending self.new) }
+    {
+        self.decode_text::<GraphicString>(tag, constraints)
+    }
+
+    /// Reads a BMPString.
+    final fn decode_bmp_string(
+        &mut self,
+        tag: Tag,
+        constraints: &Constraints,
+    ) -> Result<BmpString, DecodeError>
+        ensures { Answer notation Shape.bmp Value.units (pending self.old) result
+            (pending self.new) }
+    {
+        self.decode_text::<BmpString>(tag, constraints)
+    }
+
+    /// Reads a UTCTime.
+    final fn decode_utc_time(&mut self, tag: Tag) -> Result<UtcTime, DecodeError>
+        ensures { Answer notation Shape.utc Value.utc (pending self.old) result
+            (pending self.new) }
+    {
+        self.decode_text::<UtcTime>(tag, &Constraints::NONE)
+    }
+
+    /// Reads a GeneralizedTime.
+    final fn decode_generalized_time(&mut self, tag: Tag) -> Result<GeneralizedTime, DecodeError>
+        ensures { Answer notation Shape.gen Value.gen (pending self.old) result
+            (pending self.new) }
+    {
+        self.decode_text::<GeneralizedTime>(tag, &Constraints::NONE)
+    }
+
+    /// Reads a DATE.
+    final fn decode_date(&mut self, tag: Tag) -> Result<Date, DecodeError>
+        ensures { Answer notation Shape.day Value.day (pending self.old) result
+            (pending self.new) }
+    {
+        self.decode_text::<Date>(tag, &Constraints::NONE)
+    }
+
+    /// Refuses a TeletexString with `Custom`, always, and where nothing is pending too.
+    final fn decode_teletex_string(
+        &mut self,
+        tag: Tag,
+        constraints: &Constraints,
+    ) -> Result<TeletexString, DecodeError>
+        ensures never { IsErr result }
+        ensures refused { IfErr result (λ e. Refuses notation
+            (AtRoot (λ why. why ≡ Why.custom no_teletex)) (error_stop e)) }
+    {
+        match String::from_str(self.allocator(), NO_TELETEX) {
+            Ok(msg) => Err(DecodeError::custom(msg, self.codec())),
+            Err(_) => Err(DecodeError::out_of_memory(self.codec())),
+        }
+    }
+
+    /// Refuses a REAL with `RealNotSupported`, always, and where nothing is pending too.
+    final fn decode_real(&mut self, tag: Tag, constraints: &Constraints) -> Result<(), DecodeError>
+        ensures never { IsErr result }
+        ensures refused { IfErr result (λ e. error_stop e
+            ≡ at_root Why.real_not_supported e.codec) }
+        ensures codec { IfErr result (λ e. notation_of e.codec ≡ notation) }
+    {
+        Err(DecodeError::real_not_supported(self.codec()))
     }
 
     /// Reads a SEQUENCE OF.

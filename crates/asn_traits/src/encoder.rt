@@ -8,17 +8,26 @@ ghost use Rattle.asn_model.specs.Fixed.{fixed_size};
 ghost use Rattle.asn_model.specs.Leaf.{leaf_value};
 ghost use Rattle.asn_model.specs.Notation.{Notation, notation_of};
 ghost use Rattle.asn_model.specs.Shape.{Shape, Alphabet, all_alternatives, all_fields, field_names, alternative_tagged};
+ghost use Rattle.asn_fault.specs.Unwritten.{WhyUnwritten};
+ghost use Rattle.asn_model.specs.Writable.{no_unicode};
 ghost use Rattle.asn_traits.specs.Tables.{names_of};
+ghost use Rattle.asn_traits.specs.TextTypes.{TellsUnwritten, no_teletex};
 ghost use Rattle.asn_model.specs.Value.{Value, values};
 ghost use Rattle.asn_traits.specs.Writing.{Frame, push, close, as_list, as_members, as_choice, Written, WrittenUnder, CannotWrite, CannotWriteUnder, ScopeRan, Turns, Puts};
 ghost use Rattle.std.specs.Fn.{FnOnceReturnsAtMut};
-ghost use Rattle.std.specs.Prelude.{◌≡◌, ◌⊎◌, pos, ◌∷◌, ◌++◌, [], ℕ, List, Option, Some, None, Ok, Err, true, map, option_map, OnOk, IfErr, IfSome, IsOk, IsSome, ⊤};
+ghost use Rattle.std.specs.Prelude.{◌≡◌, ◌⊎◌, pos, ◌∷◌, ◌++◌, [], ℕ, List, Option, Some, None, Ok, Err, true, map, option_map, OnOk, IfErr, IfSome, IsErr, IsOk, IsSome, ⊤};
 
 use crate::tables::{identifier_of, listed, listed_fields};
-use crate::{AsnType, Choice, Constructed, Enumerated, Field, IntegerType, Leaf};
+use crate::texts::NO_TELETEX;
+use crate::{AsnType, Choice, Constructed, Enumerated, Field, IntegerType, Leaf, TextType};
 use asn_base::{Any, Bits, Codec, Constraints, Identifier, Tag, WholeNumber};
 use asn_fault::{EncodeError, EncodeErrorKind};
 use asn_model::{are_arcs, are_octets, fixed_size};
+use asn_strings::{
+    BmpString, GeneralString, GraphicString, Ia5String, NumericString, PrintableString,
+    TeletexString, VisibleString,
+};
+use asn_times::{Date, GeneralizedTime, UtcTime};
 use std::alloc::Global;
 
 /// Encodes in one notation. Contracts see an encoder as a list of open frames, each a list of
@@ -49,6 +58,11 @@ pub trait Encoder {
     fn put_leaf(&mut self, leaf: Leaf<'_>) -> Result<(), EncodeError>
         ensures put { OnOk result (Puts holds notation (leaf_value leaf.entry) self.old self.new) }
         ensures refused { IfErr result (CannotWrite notation (leaf_value leaf.entry)) };
+
+    /// Returns the refusal of a text that stops being Unicode after so many octets or 16-bit units.
+    /// Memory may run out.
+    fn no_unicode(&self, place: usize) -> EncodeError
+        ensures { TellsUnwritten notation (no_unicode notation place) result };
 
     /// Puts an absent slot into the last frame.
     ///
@@ -235,6 +249,185 @@ pub trait Encoder {
             (Shape.bits None) (Value.bits value.now None)) }
     {
         self.put_leaf(Leaf::Bits(value, fixed_size(constraints)))
+    }
+
+    /// Writes a NumericString.
+    final fn encode_numeric_string(
+        &mut self,
+        tag: Tag,
+        constraints: &Constraints,
+        value: &NumericString,
+        identifier: Identifier,
+    ) -> Result<(), EncodeError>
+        ensures written { OnOk result (Written holds notation (Shape.text Alphabet.numeric)
+            (Value.text value.now) self.old self.new) }
+        ensures refused { IfErr result (CannotWrite notation (Value.text value.now)) }
+    {
+        value.put_text(self)
+    }
+
+    /// Writes a PrintableString.
+    final fn encode_printable_string(
+        &mut self,
+        tag: Tag,
+        constraints: &Constraints,
+        value: &PrintableString,
+        identifier: Identifier,
+    ) -> Result<(), EncodeError>
+        ensures written { OnOk result (Written holds notation (Shape.text Alphabet.printable)
+            (Value.text value.now) self.old self.new) }
+        ensures refused { IfErr result (CannotWrite notation (Value.text value.now)) }
+    {
+        value.put_text(self)
+    }
+
+    /// Writes a VisibleString.
+    final fn encode_visible_string(
+        &mut self,
+        tag: Tag,
+        constraints: &Constraints,
+        value: &VisibleString,
+        identifier: Identifier,
+    ) -> Result<(), EncodeError>
+        ensures written { OnOk result (Written holds notation (Shape.text Alphabet.visible)
+            (Value.text value.now) self.old self.new) }
+        ensures refused { IfErr result (CannotWrite notation (Value.text value.now)) }
+    {
+        value.put_text(self)
+    }
+
+    /// Writes an IA5String.
+    final fn encode_ia5_string(
+        &mut self,
+        tag: Tag,
+        constraints: &Constraints,
+        value: &Ia5String,
+        identifier: Identifier,
+    ) -> Result<(), EncodeError>
+        ensures written { OnOk result (Written holds notation (Shape.text Alphabet.ia5)
+            (Value.text value.now) self.old self.new) }
+        ensures refused { IfErr result (CannotWrite notation (Value.text value.now)) }
+    {
+        value.put_text(self)
+    }
+
+    /// Writes a GeneralString. One that isn't UTF-8 is refused.
+    final fn encode_general_string(
+        &mut self,
+        tag: Tag,
+        constraints: &Constraints,
+        value: &GeneralString,
+        identifier: Identifier,
+    ) -> Result<(), EncodeError>
+        ensures written { OnOk result (Written holds notation (Shape.text Alphabet.general)
+            (Value.text value.now) self.old self.new) }
+        ensures refused { IfErr result (CannotWrite notation (Value.text value.now)) }
+    {
+        value.put_text(self)
+    }
+
+    /// Writes a GraphicString. One that isn't UTF-8 is refused.
+    final fn encode_graphic_string(
+        &mut self,
+        tag: Tag,
+        constraints: &Constraints,
+        value: &GraphicString,
+        identifier: Identifier,
+    ) -> Result<(), EncodeError>
+        ensures written { OnOk result (Written holds notation (Shape.text Alphabet.graphic)
+            (Value.text value.now) self.old self.new) }
+        ensures refused { IfErr result (CannotWrite notation (Value.text value.now)) }
+    {
+        value.put_text(self)
+    }
+
+    /// Writes a BMPString. One with a surrogate is refused.
+    final fn encode_bmp_string(
+        &mut self,
+        tag: Tag,
+        constraints: &Constraints,
+        value: &BmpString,
+        identifier: Identifier,
+    ) -> Result<(), EncodeError>
+        ensures written { OnOk result (Written holds notation Shape.bmp
+            (Value.units value.now) self.old self.new) }
+        ensures refused { IfErr result (CannotWrite notation (Value.units value.now)) }
+    {
+        value.put_text(self)
+    }
+
+    /// Writes a UTCTime. One outside the years 1950 to 2049 is refused.
+    final fn encode_utc_time(
+        &mut self,
+        tag: Tag,
+        value: &UtcTime,
+        identifier: Identifier,
+    ) -> Result<(), EncodeError>
+        ensures written { OnOk result (Written holds notation Shape.utc (Value.utc value.now)
+            self.old self.new) }
+        ensures refused { IfErr result (CannotWrite notation (Value.utc value.now)) }
+    {
+        value.put_text(self)
+    }
+
+    /// Writes a GeneralizedTime. One outside the years 0 to 9999 is refused.
+    final fn encode_generalized_time(
+        &mut self,
+        tag: Tag,
+        value: &GeneralizedTime,
+        identifier: Identifier,
+    ) -> Result<(), EncodeError>
+        ensures written { OnOk result (Written holds notation Shape.gen (Value.gen value.now)
+            self.old self.new) }
+        ensures refused { IfErr result (CannotWrite notation (Value.gen value.now)) }
+    {
+        value.put_text(self)
+    }
+
+    /// Writes a DATE. One outside the years 0 to 9999 is refused.
+    final fn encode_date(
+        &mut self,
+        tag: Tag,
+        value: &Date,
+        identifier: Identifier,
+    ) -> Result<(), EncodeError>
+        ensures written { OnOk result (Written holds notation Shape.day (Value.day value.now)
+            self.old self.new) }
+        ensures refused { IfErr result (CannotWrite notation (Value.day value.now)) }
+    {
+        value.put_text(self)
+    }
+
+    /// Refuses a TeletexString with `Custom`, always.
+    final fn encode_teletex_string(
+        &mut self,
+        tag: Tag,
+        constraints: &Constraints,
+        value: &TeletexString,
+        identifier: Identifier,
+    ) -> Result<(), EncodeError>
+        ensures never { IsErr result }
+        ensures refused { IfErr result (TellsUnwritten notation
+            (WhyUnwritten.custom no_teletex)) }
+    {
+        match String::from_str(self.allocator(), NO_TELETEX) {
+            Ok(msg) => Err(EncodeError::custom(msg, self.codec())),
+            Err(_) => Err(EncodeError::out_of_memory(self.codec())),
+        }
+    }
+
+    /// Refuses a REAL with `RealNotSuppored`, always.
+    final fn encode_real(
+        &mut self,
+        tag: Tag,
+        constraints: &Constraints,
+        identifier: Identifier,
+    ) -> Result<(), EncodeError>
+        ensures never { IsErr result }
+        ensures kind { IfErr result (λ e. e.kind ≡ EncodeErrorKind.RealNotSuppored) }
+        ensures codec { IfErr result (λ e. notation_of e.codec ≡ notation) }
+    {
+        Err(EncodeError::real_not_supported(self.codec()))
     }
 
     /// Encodes the value of an optional field.

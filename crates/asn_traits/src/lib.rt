@@ -19,7 +19,10 @@ mod octet_string;
 mod plain;
 mod sequence;
 mod shape_parts;
+mod strings;
 mod tables;
+mod texts;
+mod times;
 mod types;
 
 pub use alternative::{ChoicePayload, write_choice};
@@ -40,5 +43,7 @@ pub use kinds::{
 };
 pub use sequence::{SequenceFields, read_sequence, write_sequence};
 pub use shape_parts::{AlternativeShapes, FieldShapes, enumerated_shape};
+pub use strings::{NamedSet, OctetsSet, TextSet};
 pub use tables::{field_name, place_of, place_of_field};
+pub use texts::{TextKind, TextType};
 pub use types::{AsnType, Choice, Constructed, Enumerated, Field, Fields, Presence};

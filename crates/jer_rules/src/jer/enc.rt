@@ -15,7 +15,7 @@ use super::build::{choice_of, members_of};
 use super::faults::encode_error;
 use super::leaves::json_of_leaf;
 use asn_base::Codec;
-use asn_fault::{EncodeError, EncodeErrorKind, JerEncodeErrorKind};
+use asn_fault::{EncodeError, EncodeErrorKind, JerEncodeErrorKind, Utf8Fault};
 use asn_slots::Frames;
 use asn_traits::{Field, Leaf};
 use serde_json::Value;
@@ -126,6 +126,12 @@ impl asn_traits::Encoder for Encoder {
     fn put_leaf(&mut self, leaf: Leaf<'_>) -> Result<(), EncodeError> {
         let value = json_of_leaf(self.alloc, leaf)?;
         self.put(Some(value))
+    }
+
+    fn no_unicode(&self, place: usize) -> EncodeError {
+        encode_error(JerEncodeErrorKind::InvalidCharacter {
+            error: Utf8Fault { valid_up_to: place },
+        })
     }
 
     fn encode_absent(&mut self) -> Result<(), EncodeError> {

@@ -109,7 +109,7 @@ pub fn leaf_of_json(alloc: Global, value: Value, kind: LeafKind) -> Result<Owned
             },
             other => Err(NoLeaf::Kind(other)),
         },
-        LeafKind::Text => match value {
+        LeafKind::Text | LeafKind::Time | LeafKind::Date => match value {
             Value::String(text) => Ok(OwnedLeaf::Text(text)),
             other => Err(NoLeaf::Kind(other)),
         },

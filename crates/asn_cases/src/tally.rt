@@ -1,18 +1,21 @@
-// How many rows there are, and how many come out otherwise.
+//! Counts rows, and those that come out otherwise than expected.
 ghost use Rattle.std.specs.Prelude.{◌≡◌, ◌↔◌, IsTrue, IsFalse};
 ghost use Rattle.asn_cases.specs.Tally.{counted};
 
 use std::fmt;
 
-/// How many rows there are, and how many of them come out otherwise.
+/// Counts the rows that were run, and those of them that came out otherwise.
 #[derive(Clone, Copy, Debug, PartialEq, Eq)]
 pub struct Tally {
+    /// Counts all rows.
     pub rows: u64,
+    /// Counts the rows that came out otherwise.
     pub differing: u64,
 }
 
+/// Counts rows one by one.
 impl Tally {
-    /// No row so far.
+    /// Returns a count of no row.
     pub fn new() -> Tally
         ensures { result ≡ record { rows = 0; differing = 0 } }
     {
@@ -22,7 +25,7 @@ impl Tally {
         }
     }
 
-    /// Counts a row.
+    /// Counts a row. A count that is at the end of its type stays there.
     pub fn add(&mut self, is_expected: bool)
         ensures rows { self.new.rows ≡ counted self.old.rows }
         ensures as_expected { IsTrue is_expected → self.new.differing ≡ self.old.differing }
@@ -42,6 +45,7 @@ impl Tally {
     }
 }
 
+/// Prints both counts, as `12 rows, 0 differ`.
 impl fmt::Display for Tally {
     fn fmt<W: fmt::Write>(&self, f: &mut fmt::Formatter<W>) -> fmt::Result {
         let (rows, differing) = (self.rows, self.differing);

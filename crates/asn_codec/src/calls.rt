@@ -1,4 +1,4 @@
-// Reading and writing by the name of a codec.
+//! Encodes and decodes texts by the name of a codec.
 ghost use Rattle.asn_base.specs.declared.codec.Codec.{Codec as CodecName};
 ghost use Rattle.asn_fault.specs.Stop.{Why, at_root, error_stop, is_memory};
 ghost use Rattle.asn_fault.specs.Unwritten.{WhyUnwritten, encode_why, is_unwritten_memory};
@@ -17,47 +17,59 @@ use avn_rules::avn;
 use jer_rules::jer;
 use std::alloc::{AllocError, Global};
 
-/// The text calls of a codec. JER and AVN are read and written; any other codec is refused.
+/// Provides the text calls of a codec. JER and AVN encode and decode; any other codec returns an
+/// error that names the call to make in its place.
 pub trait CodecCalls: Copy {
+    // The codec's name, by which the clauses choose the notation.
     ghost codec_of: { Self → CodecName };
 
-    /// Writes a value as its canonical text.
+    /// Encodes a value, and returns its canonical text.
     ///
-    /// Errors: `OutOfMemory`; `Custom` where the codec is no text notation; else the kind of the
-    /// first part of the value that the notation cannot write.
+    /// # Errors
+    ///
+    /// `OutOfMemory`; `Custom` where the codec is no text notation; else the kind of the first part
+    /// of the value that the notation cannot encode.
     fn encode_to_string<T: Encode>(self, alloc: Global, value: &T) -> Result<String, EncodeError>
+        // The text is the canonical one, of the value that `value` stands for.
         ensures text { IfOk result (λ s. string_bytes s
             ≡ canonical_text (notation_of (codec_of self)) (T.value_of value.now)) }
-        // The text says the value again, unless it nests deeper than texts are read.
+        // The text decodes to the value again, unless it nests deeper than texts are read.
         ensures reads_back { IfOk result (λ s. ReadsBack (notation_of (codec_of self))
             (T.value_of value.now) (string_bytes s)) }
+        // A text comes from a text notation alone, of a value of the shape that it can encode.
         ensures notation { OnOk result (IsText (notation_of (codec_of self))) }
         ensures fits { OnOk result (Fits T.shape_of (T.value_of value.now)) }
         ensures writable { OnOk result
             (Writable (notation_of (codec_of self)) (T.value_of value.now)) }
+        // An error states the first part that cannot be encoded, and names this codec.
         ensures refused { IfErr result (λ e. (is_unwritten_memory (encode_why e.kind) ≡ true)
             ⊎ (IsUnwritten (codec_of self) (T.value_of value.now) (encode_why e.kind)
             × (e.codec ≡ codec_of self))) }
-        // What can be written is written, unless memory runs out.
+        // What can be encoded is encoded, unless memory runs out.
         ensures complete { IsText (notation_of (codec_of self))
             → Writable (notation_of (codec_of self)) (T.value_of value.now)
             → IfErr result (λ e. is_unwritten_memory (encode_why e.kind) ≡ true) };
 
-    /// Reads the value that a text says as a T.
+    /// Returns the value that a text decodes to as a T.
     ///
-    /// Errors: `OutOfMemory`; `Custom` where the codec is no text notation; else why the text has
-    /// no tree in the notation, or why its tree says no value.
+    /// # Errors
+    ///
+    /// `OutOfMemory`; `Custom` where the codec is no text notation; else why the text has no tree
+    /// in the notation, or why its tree decodes to no value.
     fn decode_from_str<T: Decode>(&self, alloc: Global, input: &str) -> Result<T, DecodeError>
+        // The text decodes to the value that the result stands for.
         ensures value { IfOk result (λ x. SaysValue (notation_of (codec_of self.now))
             T.shape_of input.now (T.value_of x)) }
+        // An error states where and why decoding stops, by the definition of the notation.
         ensures refused { IfErr result (λ e. (is_memory (error_stop e) ≡ true)
             ⊎ IsUnread (codec_of self.now) T.shape_of input.now (error_stop e)) }
-        // A text that says a value is read as that value, unless memory runs out.
+        // A text that decodes to a value is read as that value, unless memory runs out.
         ensures complete { (v : Value)
             → SaysValue (notation_of (codec_of self.now)) T.shape_of input.now v
             → Reads T.value_of v result };
 }
 
+/// Sends each call to the module of the notation.
 impl CodecCalls for Codec {
     ghost codec_of = { λ c. c };
 
@@ -78,7 +90,7 @@ impl CodecCalls for Codec {
     }
 }
 
-/// That no text is written by the codec.
+/// Returns the error that the codec encodes no text, or that there is no memory to state it.
 fn not_written(alloc: Global, codec: Codec) -> EncodeError
     ensures why { (is_unwritten_memory (encode_why result.kind) ≡ true)
         ⊎ (encode_why result.kind
@@ -91,7 +103,7 @@ fn not_written(alloc: Global, codec: Codec) -> EncodeError
     }
 }
 
-/// That no text is read by the codec.
+/// Returns the error that the codec decodes no text, or that there is no memory to state it.
 fn not_read(alloc: Global, codec: Codec) -> DecodeError
     ensures { (is_memory (error_stop result) ≡ true)
         ⊎ (error_stop result
@@ -103,7 +115,12 @@ fn not_read(alloc: Global, codec: Codec) -> DecodeError
     }
 }
 
-/// What to call in place of a text call.
+/// Returns the words that name the call to make in place of a text call. XER has text, but is not
+/// built, so it names none.
+///
+/// # Errors
+///
+/// `AllocError` alone.
 fn other_call(alloc: Global, codec: Codec, call: &str) -> Result<String, AllocError>
     ensures { IfOk result (λ s. string_bytes s ≡ no_text codec call.now) }
 {

@@ -1,4 +1,5 @@
-// A text converted by way of a type's value.
+//! Converts a text from one notation to another by way of a value of a Rust type. This is the
+//! call that the library is for, and its contract joins those of all crates below.
 ghost use Rattle.asn_codec.specs.Conversion.{Converts, IsConvertible, Refuses, refusal_of, is_want_of_memory, error_text};
 ghost use Rattle.asn_codec.specs.Texts.{SaysValue, SaysAlone, IsShallow};
 ghost use Rattle.asn_base.specs.declared.codec.Codec.TheVariants.{Avn};
@@ -18,15 +19,18 @@ use asn_traits::{Decode, Encode};
 use std::alloc::Global;
 use std::fmt;
 
-/// Why a text is not converted: it was not read, or its value was not written.
+/// States why a text is not converted: it was not decoded, or its value was not encoded.
 #[derive(Debug, Drop)]
 pub enum TranscodeError {
+    /// The text was not decoded under the codec that it is in.
     Decode(DecodeError),
+    /// The text was decoded, and its value is not encoded under the other codec.
     Encode(EncodeError),
 }
 
+/// Finds out what an error is of, whichever step it comes from.
 impl TranscodeError {
-    /// Whether memory ran out.
+    /// Returns whether memory ran out.
     pub fn is_out_of_memory(&self) -> bool
         ensures { result ≡ is_want_of_memory (refusal_of self.now) }
     {
@@ -37,7 +41,7 @@ impl TranscodeError {
     }
 }
 
-/// The text of the inner error.
+/// Prints the text of the inner error.
 impl fmt::Display for TranscodeError {
     ghost output = { λ e. Some (error_text e) };
 
@@ -49,19 +53,24 @@ impl fmt::Display for TranscodeError {
     }
 }
 
-/// The canonical text under `to` of the value that a text says under `from` as a T.
+/// Returns the canonical text under `to` of the value that a text decodes to under `from` as a T.
+/// The two codecs may be the same: then it makes the text canonical.
 ///
-/// Errors: want of memory; else why the text is not read, or why its value is not written.
+/// # Errors
+///
+/// `Decode` with why the text is not decoded, `Encode` with why its value is not encoded. Either
+/// may hold `OutOfMemory`.
 pub fn transcode<T: Encode + Decode>(
     alloc: Global,
     from: Codec,
     to: Codec,
     input: &str,
 ) -> Result<String, TranscodeError>
+    // The result is the canonical text of the value that the input decodes to.
     ensures converted { IfOk result (λ s. Converts from to T.shape_of input.now (string_bytes s)) }
-    // Read again, the answer gives the value and no other, unless it nests deeper than texts are
-    // read; in AVN it is refused for depth exactly there, and what was read from JSON never is in
-    // JSON.
+    // Read again, the result decodes to that value and no other, unless it nests deeper than texts
+    // are read. In AVN it is refused for depth exactly there (`too_deep`), and what was read from
+    // JSON is never too deep in JSON.
     ensures read_again { IfOk result (λ s. (v : Value)
         → SaysValue (notation_of from) T.shape_of input.now v
         → IsShallow (notation_of from) (notation_of to) v
@@ -70,16 +79,20 @@ pub fn transcode<T: Encode + Decode>(
         → SaysValue (notation_of from) T.shape_of input.now v
         → to ≡ Avn → LEVEL_LIMIT < deepest 0 (avn_tree v)
         → Deep LEVEL_LIMIT 0 (chars (string_bytes s))) }
-    // Two values have the same canonical text exactly if they are equal.
+    // Of the values that can be encoded under `to`, the result is the canonical text of that value
+    // alone.
     ensures equal { IfOk result (λ s. (v w : Value)
         → SaysValue (notation_of from) T.shape_of input.now v
         → Fits T.shape_of w → Writable (notation_of to) w
         → (canonical_text (notation_of to) w ≡ string_bytes s) ↔ (w ≡ v)) }
+    // Each error is one that the definition of refusing gives for this input.
     ensures refused { IfErr result (λ e. (is_want_of_memory (refusal_of e) ≡ true)
         ⊎ Refuses from to T.shape_of input.now (refusal_of e)) }
+    // An input that decodes to a value which can be encoded gives a result, unless memory runs out.
     ensures complete { IsConvertible from to T.shape_of input.now
         → IfErr result (λ e. is_want_of_memory (refusal_of e) ≡ true) }
 {
+    // No tree of the input is left when the value is encoded: decoding takes it apart by moves.
     match from.decode_from_str::<T>(alloc, input) {
         Ok(value) => match to.encode_to_string(alloc, &value) {
             Ok(text) => Ok(text),

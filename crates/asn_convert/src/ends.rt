@@ -1,41 +1,55 @@
-// Where bytes come from and where they go.
+//! Defines where bytes come from and where they go. Both traits count their faults, so that a
+//! contract can state that an error comes only where a read or a write failed. The
+//! implementations are in `memory` and in `standard`.
 ghost use Rattle.std.specs.Prelude.{◌≡◌, ◌<◌, ℕ, List, Option, length, IfOk};
 ghost use Rattle.std.specs.Io.{ReadsAtMost, WritesAtMost};
 ghost use Rattle.std.specs.Io.KnownBytes.{ReadConsumes, WriteAppends};
 ghost use Rattle.asn_convert.specs.Faults.{Rose, HasCause};
 
-/// A read or a write failed.
+/// Reports that a read or a write failed. Why it did is not kept.
 #[derive(Clone, Copy, Debug, PartialEq, Eq, Drop)]
 pub struct Failed;
 
-/// Where bytes come from. It counts its faults, and tells the bytes that it has left where it can.
+/// Gives bytes in pieces. A source counts its faults, and lets contracts see the bytes that it has
+/// left where it can: a file or a pipe cannot, and its contracts then hold of whatever it gives.
 pub trait Source {
-    /// The bytes that are left, where the source tells them.
+    /// The bytes that are left, or `None` where the source doesn't let contracts see them.
     ghost left: { Self → Option (List ℕ) };
 
-    /// How many reads have failed. It never falls, and stands still at 2^64 - 1.
+    /// The number of reads that have failed. It never falls, and stands still at 2^64 - 1.
     ghost faults: { Self → ℕ };
 
-    /// Puts bytes into the front of the slice, and answers how many. `Ok(0)` for a slice that is
-    /// not empty is the end. `Failed` comes only where the count of faults rose, and takes nothing.
+    /// Puts bytes into the front of the slice, and returns their number. `Ok(0)` is the end of the
+    /// input, unless the slice is empty.
+    ///
+    /// # Errors
+    ///
+    /// `Failed` only where the count of faults rose, and then no byte is taken from the source.
     fn read(&mut self, into: &mut [u8]) -> Result<usize, Failed>
+        // At most the length of the slice, the bytes next in order, and no error without a fault.
         ensures bound { ReadsAtMost result into.new }
         ensures bytes { ReadConsumes (left self.old) (left self.new) result into.new }
         ensures cause { HasCause (faults self.old) (faults self.new) result };
 }
 
-/// Where bytes go. It counts its faults, and tells the bytes that it was given where it can.
+/// Takes bytes in pieces. A sink counts its faults, and lets contracts see the bytes that it was
+/// given where it can.
 pub trait Sink {
-    /// The bytes written, where the sink tells them.
+    /// The bytes that were written, or `None` where the sink doesn't let contracts see them.
     ghost written: { Self → Option (List ℕ) };
 
-    /// How many writes have failed. It never falls, and stands still at 2^64 - 1.
+    /// The number of writes that have failed. It never falls, and stands still at 2^64 - 1.
     ghost faults: { Self → ℕ };
 
-    /// Takes bytes from the front of the slice, and answers how many. `Failed` comes only where the
-    /// count of faults rose, and writes nothing. To take none of a slice that is not empty is a
-    /// fault too.
+    /// Takes bytes from the front of the slice, and returns their number. To take none of a slice
+    /// that is not empty counts as a fault too, so a loop that writes the rest ends.
+    ///
+    /// # Errors
+    ///
+    /// `Failed` only where the count of faults rose, and then nothing is written.
     fn write(&mut self, from: &[u8]) -> Result<usize, Failed>
+        // At most the slice's length is taken, in order after the bytes before, and no error comes
+        // without a fault.
         ensures bound { WritesAtMost result from.now }
         ensures bytes { WriteAppends (written self.old) (written self.new) result from.now }
         ensures stuck { IfOk result (λ n. n ≡ 0 → 0 < length from.now

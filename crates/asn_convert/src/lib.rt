@@ -1,5 +1,7 @@
-//! The program's work: a request line and a text in, the text's value in canonical form or its
-//! refusal out.
+//! Does the work of the program `asn_convert`: a request line and a text go in, and the text's
+//! value in canonical form comes out, or the line of the error. All of it is generic in where
+//! bytes come from and where they go, so tests run it over memory, and the program
+//! (`asn_convert_main`) over standard input and output.
 #![tactic(auto)]
 
 mod ends;

@@ -1,4 +1,6 @@
-// Sources and sinks in memory, which fail at the calls that a list names.
+//! Implements sources and sinks in memory: two that never fail, and two that fail at the calls
+//! that a list names, give and take small pieces, and run out of room. Tests run the whole
+//! program over them, and contracts state exactly which call fails.
 ghost use Rattle.std.specs.Prelude.{◌≡◌, ◌≤◌, ◌<◌, ◌+◌, ◌-◌, ◌^◌, ◌↔◌, ◌⊎◌, [], length, min, Some, None, vec_len, vec_capacity, IfOk, IsErr, IsTrue, Contains};
 ghost use Rattle.std.specs.Io.{ReadsAtMost, WritesAtMost};
 ghost use Rattle.std.specs.Io.KnownBytes.{ReadConsumes, WriteAppends};
@@ -11,15 +13,19 @@ use std::alloc::Global;
 /// Gives its bytes, as many as the slice takes, and never fails.
 #[derive(Drop)]
 pub struct SteadySource {
+    /// Holds all bytes, those given included.
     bytes: Vec<u8>,
+    /// Counts the bytes that were given.
     at: usize,
+    /// No more bytes were given than there are.
     ghost within: { at ≤ vec_len bytes },
 }
 
+/// Makes a source of bytes.
 impl SteadySource {
     ghost use Rattle.asn_convert.specs.Memory.{bytes_left};
 
-    /// All of the bytes are left.
+    /// Returns a source that has all of the bytes left.
     pub fn new(bytes: Vec<u8>) -> SteadySource
         ensures { bytes_left result ≡ bytes.items }
     {
@@ -27,6 +33,7 @@ impl SteadySource {
     }
 }
 
+/// Copies bytes from `at` on, and lets contracts see those that are left.
 impl Source for SteadySource {
     ghost use Rattle.asn_convert.specs.Memory.{bytes_left};
 
@@ -35,6 +42,7 @@ impl Source for SteadySource {
     ghost faults = { λ _. 0 };
 
     fn read(&mut self, into: &mut [u8]) -> Result<usize, Failed> {
+        // The copy is as long as the shorter of the two, and 0 at the end or for an empty slice.
         let left = &self.bytes[self.at..];
         let count = into.len().min(left.len());
         into[..count].copy_from_slice(&left[..count]);
@@ -43,14 +51,15 @@ impl Source for SteadySource {
     }
 }
 
-/// Takes every piece whole, tells no bytes and never fails.
+/// Takes every piece whole and forgets it, lets contracts see no bytes, and never fails.
 #[derive(Drop)]
 pub struct SteadySink;
 
+/// Makes such a sink.
 impl SteadySink {
     ghost use Rattle.asn_convert.specs.declared.memory.SteadySink.{SteadySink};
 
-    /// A sink that has one state alone, which no write changes.
+    /// Returns a sink that has one state alone, which no write changes.
     pub fn new() -> SteadySink
         ensures { (sink : SteadySink) → result ≡ sink }
     {
@@ -58,6 +67,7 @@ impl SteadySink {
     }
 }
 
+/// Takes the length of each slice.
 impl Sink for SteadySink {
     ghost written = { λ _. None };
 
@@ -68,17 +78,22 @@ impl Sink for SteadySink {
     }
 }
 
-/// How many calls were made and how many have failed, with the numbers of those that are to fail.
+/// Counts calls and faults, and lists the numbers of the calls that are to fail.
 #[derive(Drop)]
 struct Calls {
+    /// Counts the calls that were made, up to 2^64 - 1.
     made: u64,
+    /// Counts those that failed, up to 2^64 - 1.
     faults: u64,
+    /// Lists the numbers of the calls that are to fail, counted from 1, in any order.
     failing: Vec<u64>,
 }
 
+/// Counts the calls of a source or a sink.
 impl Calls {
     ghost use Rattle.asn_convert.specs.Calls.{IsToFail, next_number};
 
+    /// Returns the state before the first call.
     fn new(failing: Vec<u64>) -> Calls
         ensures { result ≡ record { made = 0; faults = 0; failing = failing } }
     {
@@ -89,7 +104,7 @@ impl Calls {
         }
     }
 
-    /// Counts a call, and tells whether it is to fail.
+    /// Counts a call, and returns whether it is to fail.
     fn next_fails(&mut self) -> bool
         ensures made { self.new ≡ record self.old { made = next_number self.old } }
         ensures value { IsTrue result ↔ IsToFail self.old }
@@ -98,7 +113,7 @@ impl Calls {
         self.failing.contains(&self.made)
     }
 
-    /// Counts a fault.
+    /// Counts a fault, and returns the error for it.
     fn fail(&mut self) -> Failed
         ensures counted { self.new ≡ record self.old { faults = next_count self.old.faults } }
         ensures later { self.old.faults ≤ self.new.faults }
@@ -112,16 +127,21 @@ impl Calls {
 /// counted from 1, is listed.
 #[derive(Drop)]
 pub struct MemorySource {
+    /// Holds the bytes and the place among them.
     bytes: SteadySource,
+    /// Limits the bytes of one call.
     piece: usize,
+    /// Counts calls, and lists those that are to fail.
     calls: Calls,
+    /// A call that doesn't fail gives a byte, if one is left.
     ghost gives: { 0 < piece },
 }
 
+/// Makes a source of bytes that fails at the listed calls.
 impl MemorySource {
     ghost use Rattle.asn_convert.specs.Memory.{bytes_left};
 
-    /// All of the bytes are left, and no call was made.
+    /// Returns a source that has all of the bytes left, and of which no call was made.
     pub fn new(bytes: Vec<u8>, piece: usize, failing: Vec<u64>) -> MemorySource
         requires { 0 < piece }
         ensures left { bytes_left result.bytes ≡ bytes.items }
@@ -136,6 +156,8 @@ impl MemorySource {
     }
 }
 
+/// Gives bytes as `SteadySource` does, in pieces, unless the call is to fail. The clauses after
+/// the trait's three state exactly when a call fails (`fails`) and how much it gives (`piece`).
 impl Source for MemorySource {
     ghost use Rattle.asn_convert.specs.Memory.{bytes_left};
     ghost use Rattle.asn_convert.specs.Calls.{IsToFail};
@@ -152,6 +174,7 @@ impl Source for MemorySource {
         ensures fails { IsErr result ↔ IsToFail self.old.calls }
         ensures piece { IfOk result (λ n. n ≤ self.old.piece) }
     {
+        // A call that fails takes nothing, so the next one goes on at the same byte.
         if self.calls.next_fails() {
             return Err(self.calls.fail());
         }
@@ -165,18 +188,30 @@ impl Source for MemorySource {
 /// left.
 #[derive(Drop)]
 pub struct MemorySink {
+    /// Holds what was written.
     bytes: Vec<u8>,
+    /// Limits the bytes that are ever taken.
     room: usize,
+    /// Limits the bytes of one call.
     piece: usize,
+    /// Counts calls, and lists those that are to fail.
     calls: Calls,
+    /// No more was written than there is room for.
     ghost within: { vec_len bytes ≤ room },
+    /// Memory for all of the room is there from the start.
     ghost reserved: { room ≤ vec_capacity bytes },
+    /// A call that doesn't fail takes a byte, if one is given and there is room.
     ghost takes: { 0 < piece },
 }
 
+/// Makes a sink with room for a number of bytes, and shows what it was given.
 impl MemorySink {
-    /// Nothing is written, and no call was made. Memory for `room` bytes is taken here and none
-    /// later. Its one error is want of memory.
+    /// Returns a sink to which nothing is written, and of which no call was made. Memory for `room`
+    /// bytes is taken here and none later.
+    ///
+    /// # Errors
+    ///
+    /// `OutOfMemory` alone.
     pub fn new(
         alloc: Global,
         room: usize,
@@ -199,7 +234,7 @@ impl MemorySink {
         })
     }
 
-    /// What was written.
+    /// Returns what was written.
     pub fn bytes(&self) -> &[u8]
         ensures { result.now ≡ self.now.bytes.items }
     {
@@ -207,6 +242,8 @@ impl MemorySink {
     }
 }
 
+/// Takes bytes into the room that is left, unless the call is to fail. The clauses after the
+/// trait's four state exactly when a call fails (`fails`) and how much it takes (`takes`).
 impl Sink for MemorySink {
     ghost use Rattle.asn_convert.specs.Calls.{IsToFail};
 
@@ -226,12 +263,14 @@ impl Sink for MemorySink {
         ensures takes { IfOk result (λ n. n ≡ min (min (length from.now) self.old.piece)
             (self.old.room - vec_len self.old.bytes)) }
     {
+        // Without room a write fails, and doesn't take 0 bytes, which a caller might try for ever.
         let room = self.room - self.bytes.len();
         let full = room == 0 && !from.is_empty();
         if self.calls.next_fails() || full {
             return Err(self.calls.fail());
         }
         let count = from.len().min(self.piece).min(room);
+        // `count` is at most the room that is left, for which there is memory by `reserved`.
         match self.bytes.extend_from_slice(&from[..count]) {
             Ok(()) => Ok(count),
             Err(_) => unreachable!(),

@@ -1,4 +1,6 @@
-// All that the program does.
+//! Runs the program: reads an input, decides what it asks for, converts the text at the Rust type
+//! of the sample that it names, and writes the result. Each step below `run` is one function, and
+//! returns a `Status`.
 ghost use Rattle.std.specs.Prelude.{◌≡◌, ◌≢◌, ◌<◌, ◌⊎◌, ◌++◌, ◌∷◌, [], ℕ, List, length, IsUtf8, Some, None, true, string_bytes};
 ghost use Rattle.std.specs.Io.KnownBytes.{Keeps};
 ghost use Rattle.asn_convert.specs.Faults.{Rose};
@@ -22,58 +24,74 @@ use asn_samples::SampleVisitor;
 use asn_traits::{Decode, Encode};
 use std::alloc::Global;
 
-/// Reads the whole input, and writes the canonical text of the value that its text says, or the
-/// line of the refusal. Statuses are decided in the order ReadFault, TooLong, NotText, BadRequest,
-/// Refused, WriteFault; WantOfMemory may come anywhere, and then nothing was written.
+/// Reads the whole input, and writes the canonical text of the value that its text decodes to, or
+/// the line of the error. It looks for a request only in an input that was read to its end.
+///
+/// Statuses are decided in the order `ReadFault`, `TooLong`, `NotText`, `BadRequest`, `Refused`,
+/// `WriteFault`; `WantOfMemory` may come anywhere, and then nothing was written.
 pub fn run<S: Source, K: Sink>(alloc: Global, source: &mut S, sink: &mut K) -> Status
+    // Each status comes only under its cause. `Done` means that the input is a request, and that
+    // the canonical text and a line feed were written.
     ensures done { result ≡ Done
         → ReadWhole (transfer_of S.left S.faults source.old source.new)
         (Answered (transfer_of K.written K.faults sink.old sink.new) IsAnswer) }
+    // The input is a request, and the line of an error by which its text is refused was written.
     ensures refused { result ≡ Refused
         → ReadWhole (transfer_of S.left S.faults source.old source.new)
         (Answered (transfer_of K.written K.faults sink.old sink.new) IsRefusal) }
+    // The input is text, and its first line is no request.
     ensures bad_request { result ≡ BadRequest
         → ReadWhole (transfer_of S.left S.faults source.old source.new)
         (λ input. IsUtf8 input × (asked input ≡ None)) }
+    // A read failed.
     ensures read_fault { result ≡ ReadFault → Rose (S.faults source.old) (S.faults source.new) }
+    // A write failed, and what was written is a front part of the text or of the error's line.
     ensures write_fault { result ≡ WriteFault → Rose (K.faults sink.old) (K.faults sink.new) }
     ensures cut { result ≡ WriteFault
         → ReadWhole (transfer_of S.left S.faults source.old source.new)
         (CutShort (transfer_of K.written K.faults sink.old sink.new)) }
+    // One byte more than the limit was read, and none after it.
     ensures too_long { result ≡ TooLong
         → ReadPastLimit (transfer_of S.left S.faults source.old source.new) }
+    // The input was read to its end, and is not UTF-8.
     ensures not_text { result ≡ NotText
         → ReadWhole (transfer_of S.left S.faults source.old source.new) (λ input. ¬ IsUtf8 input) }
+    // Under these statuses nothing was written.
     ensures silent { (result ≡ BadRequest) ⊎ (result ≡ ReadFault) ⊎ (result ≡ WantOfMemory)
         ⊎ (result ≡ TooLong) ⊎ (result ≡ NotText)
         → Keeps (K.written sink.old) (K.written sink.new) }
 
-    // Where the source tells its bytes and neither count of faults rises, each input has its
-    // status, or memory runs out.
+    // Where contracts see the source's bytes and neither count of faults rises, each input has its
+    // status, or memory runs out: a request is done or refused.
     ensures answers { (input : List ℕ)
         → IsRead (transfer_of S.left S.faults source.old source.new) input
         → IsUtf8 input → asked input ≢ None → ¬ Rose (K.faults sink.old) (K.faults sink.new)
         → (result ≡ Done) ⊎ (result ≡ Refused) ⊎ (result ≡ WantOfMemory) }
+    // A request whose text decodes to a value that can be encoded is done.
     ensures answers_values { (input : List ℕ)
         → IsRead (transfer_of S.left S.faults source.old source.new) input
         → IsUtf8 input → AsksValue input → ¬ Rose (K.faults sink.old) (K.faults sink.new)
         → (result ≡ Done) ⊎ (result ≡ WantOfMemory) }
+    // Text that is no request is a bad one, and an input that isn't UTF-8 is no text.
     ensures rejects { (input : List ℕ)
         → IsRead (transfer_of S.left S.faults source.old source.new) input
         → IsUtf8 input → asked input ≡ None → (result ≡ BadRequest) ⊎ (result ≡ WantOfMemory) }
     ensures rejects_bytes { (input : List ℕ)
         → IsRead (transfer_of S.left S.faults source.old source.new) input
         → ¬ IsUtf8 input → (result ≡ NotText) ⊎ (result ≡ WantOfMemory) }
+    // An input that has more bytes than the limit is too long, whatever it holds.
     ensures stops { (input : List ℕ) → S.left source.old ≡ Some input → input_limit < length input
         → ¬ Rose (S.faults source.old) (S.faults source.new)
         → (result ≡ TooLong) ⊎ (result ≡ WantOfMemory) }
 {
+    // The first three statuses are those of reading.
     let input = match read_to_end(alloc, source) {
         Ok(bytes) => bytes,
         Err(Stopped::Fault) => return Status::ReadFault,
         Err(Stopped::TooLong) => return Status::TooLong,
         Err(Stopped::OutOfMemory) => return Status::WantOfMemory,
     };
+    // The text borrows from the input, and so do the line and the text after it.
     let Ok(text) = str::from_utf8(&input) else {
         return Status::NotText;
     };
@@ -84,7 +102,8 @@ pub fn run<S: Source, K: Sink>(alloc: Global, source: &mut S, sink: &mut K) -> S
     }
 }
 
-/// The answer to a text as a value of the request's sample type.
+/// Converts a text as a value of the request's sample type: runs `convert_as` at the Rust type of
+/// that sample. A text that can be converted is not refused (`complete`).
 fn convert<K: Sink>(alloc: Global, request: Request, text: &str, sink: &mut K) -> Status
     ensures answer { Answers request.from request.to (sample_shape request.sample) text.now
         (transfer_of K.written K.faults sink.old sink.new) result }
@@ -103,15 +122,20 @@ fn convert<K: Sink>(alloc: Global, request: Request, text: &str, sink: &mut K) -
     )
 }
 
-/// The conversion of a text, as a visitor that writes to a sink.
+/// Holds a conversion as a visitor of sample types, which writes to a sink.
 #[derive(Drop)]
 struct Conversion<'a> {
+    /// Allocates the values and texts on the way.
     alloc: Global,
+    /// Names the notation of the text.
     from: Codec,
+    /// Names the notation of the text that is written.
     to: Codec,
+    /// Holds the text to convert, without the request line.
     text: &'a str,
 }
 
+/// Converts the text at each sample type in the same way.
 impl<K: Sink> SampleVisitor<K> for Conversion<'_> {
     type Output = Status;
 
@@ -124,8 +148,8 @@ impl<K: Sink> SampleVisitor<K> for Conversion<'_> {
     }
 }
 
-/// Writes the canonical text under `to` of the value that a text says under `from` as a T, or the
-/// line of its refusal: `Done`, `Refused`, `WriteFault` or `WantOfMemory`.
+/// Writes the canonical text under `to` of the value that a text decodes to under `from` as a T,
+/// or the line of its error. The status is `Done`, `Refused`, `WriteFault` or `WantOfMemory`.
 pub fn convert_as<T: Encode + Decode, K: Sink>(
     alloc: Global,
     from: Codec,
@@ -143,18 +167,20 @@ pub fn convert_as<T: Encode + Decode, K: Sink>(
     }
 }
 
-/// Writes the text and a line feed.
+/// Writes the text and a line feed after it, and returns `Done` where all of it is written.
 fn answer<K: Sink>(mut text: String, sink: &mut K) -> Status
     ensures { Puts (string_bytes text ++ 10 ∷ []) Done
         (transfer_of K.written K.faults sink.old sink.new) result }
 {
+    // The line feed goes into the text, so that a sink sees one piece.
     match text.push('\n') {
         Ok(()) => written(sink, text.as_bytes(), Status::Done),
         Err(_) => Status::WantOfMemory,
     }
 }
 
-/// Writes the line of a fault, unless it is want of memory.
+/// Writes the line of an error, and returns `Refused` where all of it is written. Where the error
+/// is that memory ran out, it writes nothing and returns `WantOfMemory`.
 fn refuse<K: Sink>(alloc: Global, fault: &TranscodeError, sink: &mut K) -> Status
     ensures line { Puts (refusal_line fault.now) Refused
         (transfer_of K.written K.faults sink.old sink.new) result }
@@ -169,7 +195,7 @@ fn refuse<K: Sink>(alloc: Global, fault: &TranscodeError, sink: &mut K) -> Statu
     }
 }
 
-/// Writes the bytes. The status where all of them are written, and else a write fault.
+/// Writes the bytes, and returns `status` where all of them are written, else `WriteFault`.
 fn written<K: Sink>(sink: &mut K, bytes: &[u8], status: Status) -> Status
     ensures { Puts bytes.now status (transfer_of K.written K.faults sink.old sink.new) result }
 {

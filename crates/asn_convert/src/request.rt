@@ -1,4 +1,5 @@
-// Which requests there are.
+//! Reads a request line: `<from> <to> <type>`, three words, of which the first two name a text
+//! notation and the third a sample type.
 ghost use Rattle.std.specs.Prelude.{◌≡◌};
 ghost use Rattle.asn_convert.specs.Lines.{words};
 ghost use Rattle.asn_convert.specs.Requests.{notation_named, request_of};
@@ -7,15 +8,18 @@ use crate::lines::next_word;
 use asn_base::Codec;
 use asn_samples::Sample;
 
-/// A request: convert a value of the sample type from one text notation to another.
+/// Asks to convert a value of the sample type from one text notation to another.
 #[derive(Clone, Copy, Debug, PartialEq, Eq, Drop)]
 pub struct Request {
+    /// Names the notation of the text that is read.
     pub from: Codec,
+    /// Names the notation of the text that is written.
     pub to: Codec,
+    /// Names the type that the value has.
     pub sample: Sample,
 }
 
-/// The text notation of that name. None where there is none.
+/// Returns the text notation of that name, `jer` or `avn`, and `None` for any other.
 fn notation(name: &str) -> Option<Codec>
     ensures { result ≡ notation_named name.now }
 {
@@ -26,7 +30,8 @@ fn notation(name: &str) -> Option<Codec>
     }
 }
 
-/// The request that a line is. None where it is none.
+/// Returns the request that a line makes, or `None` where it makes none: where it has more or
+/// fewer words than three, or one of them is no name.
 pub fn requested(line: &str) -> Option<Request>
     ensures { result ≡ request_of (words line.now) }
 {

@@ -1,20 +1,20 @@
-// How a run ended.
+//! Defines how a run of the program ends.
 ghost use Rattle.std.specs.Prelude.{◌≡◌};
 
-/// How a run ended. Its number is the exit status of the program.
+/// States how a run ended. Its number is the exit status of the program.
 #[derive(Clone, Copy, Debug, PartialEq, Eq, Drop)]
 pub enum Status {
-    /// The result was written whole.
+    /// The canonical text was written whole.
     Done,
-    /// The text was refused, and the line that says why was written whole.
+    /// The text was refused, and the line that states why was written whole.
     Refused,
     /// The first line is no request.
     BadRequest,
     /// Reading failed.
     ReadFault,
-    /// Writing failed.
+    /// Writing failed, and a front part of the line or of the text may be written.
     WriteFault,
-    /// Memory ran out.
+    /// Memory ran out, and nothing was written.
     WantOfMemory,
     /// The input has more than 16,777,216 bytes.
     TooLong,
@@ -22,10 +22,11 @@ pub enum Status {
     NotText,
 }
 
+/// Gives the statuses their numbers.
 impl Status {
     ghost use Rattle.asn_convert.specs.Status.{status_number};
 
-    /// The exit status, from 0 for `Done` to 7 for `NotText`.
+    /// Returns the exit status, from 0 for `Done` to 7 for `NotText`.
     pub fn number(&self) -> u8
         ensures { result ≡ status_number self.now }
     {

@@ -1,10 +1,12 @@
 //! Converts a value between the text notations: a request line and a text on standard input, the
-//! value's canonical text or its refusal on standard output, and the status as the exit status.
+//! value's canonical text or the line of its error on standard output, and the status as the exit
+//! status. All of the work, and its contract, is `asn_convert::run`.
 #![tactic(auto)]
 
 use asn_convert::{StdSink, StdSource, run};
 use std::process::ExitCode;
 
+/// Runs the program over standard input and output. Standard error stays silent.
 fn main(rt: HostRuntime) -> ExitCode {
     let mut source = StdSource::new(rt.stdin());
     let mut sink = StdSink::new(rt.stdout());

@@ -1,4 +1,5 @@
-// What is wrong with a value in the ASN.1 value notation (X.680) alone.
+//! Defines the kinds of errors that the value notation of X.680 (AVN) alone has, with their
+//! texts.
 ghost use Rattle.std.specs.Prelude.{◌≡◌, Some};
 ghost use Rattle.asn_fault.specs.Stop.{Why, codec_why};
 ghost use Rattle.asn_fault.specs.Texts.{avn_decode_text, avn_encode_text};
@@ -8,25 +9,27 @@ use crate::CodecDecodeError;
 use std::error::Error;
 use std::fmt;
 
-/// Why a text or a value in the value notation is no value of a type.
+/// States why a text or a value of the value notation is no value of a type.
 #[derive(Debug, Drop)]
 pub enum AvnDecodeErrorKind {
-    /// A value is due, and there is none.
+    /// A value is expected where none is: the slot is absent.
     AvnEndOfInput {},
-    /// The value is of another kind than the type.
+    /// The value is of another kind than the type. `needed` names the kind of the type, as
+    /// `boolean`, and `found` is the printed value.
     AvnTypeMismatch { needed: &'static str, found: String },
-    /// The arcs are no OBJECT IDENTIFIER.
+    /// The arcs in `value` are no OBJECT IDENTIFIER.
     InvalidOid { value: String },
-    /// The identifier names no item of the ENUMERATED type.
+    /// The identifier `discriminant` is that of no item of the ENUMERATED type.
     AvnInvalidEnumDiscriminant { discriminant: String },
-    /// The text is not in the notation from here on.
+    /// The text is not in the notation. `found` is an excerpt of the text from there on.
     UnexpectedToken { found: String },
-    /// The text of a number is not one. The text is given.
+    /// The text of a number, in `msg`, is no number.
     IntegerParseError { msg: String },
 }
 
+/// Makes errors of AVN by the names that the codecs call.
 impl AvnDecodeErrorKind {
-    /// A value is due, and there is none.
+    /// Returns the error that a value is expected where none is.
     pub fn eoi() -> CodecDecodeError
         ensures { codec_why result ≡ Why.end_of_input Avn }
     {
@@ -34,6 +37,7 @@ impl AvnDecodeErrorKind {
     }
 }
 
+/// Prints what is wrong, without the codec's name.
 impl fmt::Display for AvnDecodeErrorKind {
     ghost output = { λ kind. Some (avn_decode_text kind) };
 
@@ -57,17 +61,19 @@ impl fmt::Display for AvnDecodeErrorKind {
     }
 }
 
+/// Has no source, since no other error lies beneath a kind.
 impl Error for AvnDecodeErrorKind {}
 
-/// Why a value is not written in the value notation.
+/// States why a value is not written in the value notation.
 #[derive(Debug, Drop)]
 pub enum AvnEncodeErrorKind {
-    /// No value was written at the root.
+    /// The encoder was given no value at its root.
     AvnNoRootValueFound,
-    /// The value has no text in the notation.
+    /// The value has no text in the notation, for the reason in `msg`.
     AvnEncoder { msg: String },
 }
 
+/// Prints what is wrong, without the codec's name.
 impl fmt::Display for AvnEncodeErrorKind {
     ghost output = { λ kind. Some (avn_encode_text kind) };
 
@@ -81,4 +87,5 @@ impl fmt::Display for AvnEncodeErrorKind {
     }
 }
 
+/// Has no source, since no other error lies beneath a kind.
 impl Error for AvnEncodeErrorKind {}

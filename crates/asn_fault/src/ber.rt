@@ -1,4 +1,5 @@
-// What is wrong with a value by the rules that both text notations share with BER.
+//! Defines the kinds of errors that both text notations share with BER: rules on the text of a
+//! value that is the same in each of them.
 ghost use Rattle.std.specs.Prelude.{◌≡◌, Some, string_bytes};
 ghost use Rattle.asn_fault.specs.Stop.{Why, codec_why};
 ghost use Rattle.asn_fault.specs.Texts.{ber_decode_text};
@@ -7,15 +8,16 @@ use crate::CodecDecodeError;
 use std::error::Error;
 use std::fmt;
 
-/// Why a value is no value of a type, by a rule that BER has too.
+/// States why a value is no value of a type, by a rule that BER has too.
 #[derive(Debug, Drop)]
 pub enum BerDecodeErrorKind {
-    /// The text is no UTCTime, GeneralizedTime or DATE (X.680, sections 38, 46 and 47).
+    /// The text in `msg` is no UTCTime, GeneralizedTime or DATE (X.680, sections 38, 46 and 47).
     InvalidDate { msg: String },
 }
 
+/// Makes errors by the names that the codecs call.
 impl BerDecodeErrorKind {
-    /// The text is no time or date. The text is given.
+    /// Returns the error that a text is no time or date. `msg` is the text.
     pub fn invalid_date(msg: String) -> CodecDecodeError
         ensures { codec_why result ≡ Why.invalid_date (string_bytes msg) }
     {
@@ -23,6 +25,7 @@ impl BerDecodeErrorKind {
     }
 }
 
+/// Prints what is wrong, without the codec's name.
 impl fmt::Display for BerDecodeErrorKind {
     ghost output = { λ kind. Some (ber_decode_text kind) };
 
@@ -33,4 +36,5 @@ impl fmt::Display for BerDecodeErrorKind {
     }
 }
 
+/// Has no source, since no other error lies beneath a kind.
 impl Error for BerDecodeErrorKind {}

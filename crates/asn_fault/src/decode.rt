@@ -1,4 +1,6 @@
-// Why a value is not read.
+//! Defines `DecodeError`: why a value is not decoded, within which fields, and by which codec.
+//! An error within fields holds boxes, so contracts don't compare errors as they are: they
+//! compare what `error_stop` gives of them, the path of fields, the cause and the codec.
 ghost use Rattle.std.specs.Prelude.{◌≡◌, ◌⊎◌, Some, string_bytes};
 ghost use Rattle.std.specs.Fn.{FnReturnsAt};
 ghost use Rattle.asn_fault.specs.Stop.{Why, at_root, codec_stop, error_stop, is_memory, root_kind, wrapped};
@@ -11,14 +13,18 @@ use std::alloc::Global;
 use std::error::Error;
 use std::fmt;
 
-/// A kind of refusal that one set of encoding rules has.
+/// Groups the kinds of errors of decoding by the encoding rules that have them.
 #[derive(Debug, Drop)]
 pub enum CodecDecodeError {
+    /// The value breaks a rule that BER has too.
     Ber(BerDecodeErrorKind),
+    /// The JSON value breaks a rule of JER.
     Jer(JerDecodeErrorKind),
+    /// The text, or the value of the notation, breaks a rule of AVN.
     Avn(AvnDecodeErrorKind),
 }
 
+/// Prints the name of the codec in capitals, and then the kind.
 impl fmt::Display for CodecDecodeError {
     ghost output = { λ error. Some (codec_decode_text error) };
 
@@ -31,90 +37,104 @@ impl fmt::Display for CodecDecodeError {
     }
 }
 
-/// Why a value is not read.
+/// States why a value is not decoded.
 #[cycle(decode_error)]
 #[derive(Debug, Drop)]
 pub enum DecodeErrorKind {
-    /// A kind that one set of encoding rules has.
+    /// The kind is one that a single set of encoding rules has.
     CodecSpecific {
+        /// Holds the kind, and names the encoding rules that have it.
         inner: CodecDecodeError,
     },
-    /// A cause told in words of its own.
+    /// The cause has words of its own, such as that the library does not have the codec.
     Custom {
+        /// Holds the words.
         msg: String,
     },
-    /// The value of the field of this name is refused.
+    /// The value of a field is not decoded. Errors of fields within fields make a chain of these.
     FieldError {
+        /// Names the field.
         name: &'static str,
+        /// States why its value is not decoded.
         nested: Box<DecodeError>,
     },
-    /// The number is outside the range of its type, which has this many bits.
+    /// The number is outside the range of its type.
     IntegerOverflow {
+        /// Counts the bits of the type.
         max_width: u32,
     },
     /// A required extension addition is absent.
     MissingField {
+        /// Names the addition.
         name: &'static str,
     },
-    /// A REAL is due or is there.
+    /// A REAL is expected, or the value holds one.
     RealNotSupported,
     /// The text is no JSON.
     Parser {
+        /// Holds what the JSON parser states.
         msg: String,
     },
-    /// The string has a character that its type lacks. The tag is the type's universal one.
+    /// The string has a character that its type lacks.
     StringConversionFailed {
+        /// Holds the universal tag of the type.
         tag: Tag,
+        /// States which character it is, and where.
         msg: String,
     },
-    /// The value names no alternative of the CHOICE type of this name.
+    /// The value names no alternative of a CHOICE type.
     NoValidChoice {
+        /// Names the CHOICE type.
         name: &'static str,
     },
-    /// Braces stand in one another too deep.
+    /// Braces of AVN are nested beyond the limit of 64 levels.
     ExceedsMaxParseDepth,
     /// Memory ran out.
     OutOfMemory,
 }
 
-/// A refusal to read: why, and by which encoding rules.
+/// Reports that a value is not decoded: why, and by which encoding rules.
 #[cycle(decode_error)]
 #[derive(Debug, Drop)]
 pub struct DecodeError {
+    /// States why the value is not decoded.
     pub kind: DecodeErrorKind,
+    /// Names the encoding rules by which it is not.
     pub codec: Codec,
 }
 
+/// Makes errors, one constructor for each kind, and finds the cause within fields.
 impl DecodeError {
-    /// The refusal of this kind.
+    /// Returns the error of this kind. All other constructors go through it.
     pub fn from_kind(kind: DecodeErrorKind, codec: Codec) -> DecodeError
         ensures { result ≡ record { kind = kind; codec = codec } }
     {
         DecodeError { kind, codec }
     }
 
-    /// The number is outside the range of its type, which has `max_width` bits.
+    /// Returns the error that a number is outside the range of its type, which has this many bits.
     pub fn integer_overflow(max_width: u32, codec: Codec) -> DecodeError
         ensures { error_stop result ≡ at_root (Why.integer_overflow max_width) codec }
     {
         DecodeError::from_kind(DecodeErrorKind::IntegerOverflow { max_width }, codec)
     }
 
-    /// The text is no JSON.
+    /// Returns the error that a text is no JSON. `msg` is what the JSON parser states.
     pub fn parser_fail(msg: String, codec: Codec) -> DecodeError
         ensures { error_stop result ≡ at_root (Why.parser (string_bytes msg)) codec }
     {
         DecodeError::from_kind(DecodeErrorKind::Parser { msg }, codec)
     }
 
-    /// A REAL is due or is there.
+    /// Returns the error that a REAL is expected, or that the value holds one.
     pub fn real_not_supported(codec: Codec) -> DecodeError
         ensures { error_stop result ≡ at_root Why.real_not_supported codec }
     {
         DecodeError::from_kind(DecodeErrorKind::RealNotSupported, codec)
     }
 
-    /// The string has a character that its type, of this universal tag, lacks.
+    /// Returns the error that a string has a character that its type lacks. `tag` is the type's
+    /// universal tag, and `msg` states the character and its place.
     pub fn string_conversion_failed(tag: Tag, msg: String, codec: Codec) -> DecodeError
         ensures { error_stop result
             ≡ at_root (Why.string_conversion_failed tag (string_bytes msg)) codec }
@@ -122,36 +142,36 @@ impl DecodeError {
         DecodeError::from_kind(DecodeErrorKind::StringConversionFailed { tag, msg }, codec)
     }
 
-    /// A cause told in words of its own.
+    /// Returns an error in words of its own.
     pub fn custom(msg: String, codec: Codec) -> DecodeError
         ensures { error_stop result ≡ at_root (Why.custom (string_bytes msg)) codec }
     {
         DecodeError::from_kind(DecodeErrorKind::Custom { msg }, codec)
     }
 
-    /// The required extension addition of this name is absent.
+    /// Returns the error that the required extension addition of this name is absent.
     pub fn missing_field(name: &'static str, codec: Codec) -> DecodeError
         ensures { error_stop result ≡ at_root (Why.missing_field name.now) codec }
     {
         DecodeError::from_kind(DecodeErrorKind::MissingField { name }, codec)
     }
 
-    /// The value names no alternative of the CHOICE type of this name.
+    /// Returns the error that a value names no alternative of the CHOICE type of this name.
     pub fn no_valid_choice(name: &'static str, codec: Codec) -> DecodeError
         ensures { error_stop result ≡ at_root (Why.no_valid_choice name.now) codec }
     {
         DecodeError::from_kind(DecodeErrorKind::NoValidChoice { name }, codec)
     }
 
-    /// Memory ran out.
+    /// Returns the error that memory ran out.
     pub fn out_of_memory(codec: Codec) -> DecodeError
         ensures { error_stop result ≡ at_root Why.out_of_memory codec }
     {
         DecodeError::from_kind(DecodeErrorKind::OutOfMemory, codec)
     }
 
-    /// The predicate's answer on the kind at the end of the chain of `FieldError`s.
-    /// `K` stands for `DecodeErrorKind`, as `Cause` says: a caller writes
+    /// Returns what the predicate returns for the kind at the end of the chain of `FieldError`s.
+    /// `K` stands for `DecodeErrorKind`, as `Cause` states: a caller writes
     /// `|kind: &DecodeErrorKind| ..`.
     pub fn matches_root_cause<K: Cause, F: Fn(&K) -> bool + Drop>(&self, predicate: F) -> bool
         requires { F.IsAlwaysCallable predicate }
@@ -161,7 +181,7 @@ impl DecodeError {
         predicate(K::of(self.root_cause()))
     }
 
-    /// The kind at the end of the chain of `FieldError`s.
+    /// Returns the kind at the end of the chain of `FieldError`s: of another kind, itself.
     fn root_cause(&self) -> &DecodeErrorKind
         ensures { result.now ≡ root_kind self.now.kind }
     {
@@ -171,7 +191,7 @@ impl DecodeError {
         }
     }
 
-    /// Whether memory ran out, within no field.
+    /// Returns whether memory ran out, and not within a field.
     pub fn is_out_of_memory(&self) -> bool
         ensures { result ≡ is_memory (error_stop self.now) }
     {
@@ -181,9 +201,9 @@ impl DecodeError {
         }
     }
 
-    /// The refusal `nested` of the value of the field `name`.
-    /// Where `nested` is `OutOfMemory`, or there is no memory to box it, the answer is
-    /// `OutOfMemory` at no field.
+    /// Returns the error that the value of the field `name` is not decoded, because of `nested`.
+    /// Where `nested` is `OutOfMemory`, or there is no memory to box it, the error is `OutOfMemory`
+    /// without a field: so a caller finds it without going through fields.
     pub fn field_error(
         alloc: Global,
         name: &'static str,
@@ -205,6 +225,7 @@ impl DecodeError {
     }
 }
 
+/// Wraps a kind of one set of encoding rules in an error of its codec.
 impl From<CodecDecodeError> for DecodeError {
     ghost from_gives = { λ inner error. error_stop error ≡ codec_stop inner };
 
@@ -218,6 +239,7 @@ impl From<CodecDecodeError> for DecodeError {
     }
 }
 
+/// Wraps a kind of BER in an error of the codec BER.
 impl From<BerDecodeErrorKind> for DecodeError {
     ghost from_gives = { λ kind error. error_stop error ≡ codec_stop (Ber kind) };
 
@@ -226,6 +248,7 @@ impl From<BerDecodeErrorKind> for DecodeError {
     }
 }
 
+/// Wraps a kind of JER in an error of the codec JER, so that `?` and `into` take it.
 impl From<JerDecodeErrorKind> for DecodeError {
     ghost from_gives = { λ kind error. error_stop error ≡ codec_stop (Jer kind) };
 
@@ -234,6 +257,7 @@ impl From<JerDecodeErrorKind> for DecodeError {
     }
 }
 
+/// Wraps a kind of AVN in an error of the codec AVN, so that `?` and `into` take it.
 impl From<AvnDecodeErrorKind> for DecodeError {
     ghost from_gives = { λ kind error. error_stop error ≡ codec_stop (Avn kind) };
 
@@ -242,6 +266,7 @@ impl From<AvnDecodeErrorKind> for DecodeError {
     }
 }
 
+/// Prints why the value is not decoded. Nested errors are printed in full, each with its codec.
 impl fmt::Display for DecodeErrorKind {
     ghost output = { λ kind. Some (decode_kind_text kind) };
 
@@ -275,9 +300,10 @@ impl fmt::Display for DecodeErrorKind {
     }
 }
 
+/// Has no source: a nested error is printed as part of its field's error.
 impl Error for DecodeErrorKind {}
 
-/// The text of the kind, and the codec.
+/// Prints the kind, and then the codec in parentheses.
 impl fmt::Display for DecodeError {
     ghost output = { λ error. Some (decode_error_text error) };
 
@@ -289,4 +315,5 @@ impl fmt::Display for DecodeError {
     }
 }
 
+/// Has no source: a nested error is printed as part of its field's error.
 impl Error for DecodeError {}

@@ -1,4 +1,5 @@
-// Why a value is not written.
+//! Defines `EncodeError`: why a value is not encoded, and by which codec. Unlike an error of
+//! decoding it names no fields, so contracts compare it as it is.
 ghost use Rattle.std.specs.Prelude.{◌≡◌, Some};
 ghost use Rattle.asn_fault.specs.Texts.{codec_encode_text, encode_kind_text, encode_error_text};
 ghost use Rattle.asn_fault.specs.Unwritten.{codec_refusal, encode_why, is_unwritten_memory};
@@ -9,13 +10,16 @@ use asn_base::{Bounded, Codec, Size};
 use std::error::Error;
 use std::fmt;
 
-/// A kind of refusal that one set of encoding rules has.
+/// Groups the kinds of errors of encoding by the encoding rules that have them.
 #[derive(Debug, Drop)]
 pub enum CodecEncodeError {
+    /// The value is beyond what JER writes.
     Jer(JerEncodeErrorKind),
+    /// The value is beyond what AVN writes.
     Avn(AvnEncodeErrorKind),
 }
 
+/// Prints the name of the codec in capitals, and then the kind.
 impl fmt::Display for CodecEncodeError {
     ghost output = { λ error. Some (codec_encode_text error) };
 
@@ -27,46 +31,54 @@ impl fmt::Display for CodecEncodeError {
     }
 }
 
-/// Why a value is not written.
+/// States why a value is not encoded.
 #[derive(Debug, Drop)]
 pub enum EncodeErrorKind {
-    /// A cause told in words of its own.
+    /// The cause has words of its own, such as that the library does not have the codec.
     Custom {
+        /// Holds the words.
         msg: String,
     },
-    /// A kind that one set of encoding rules has.
+    /// The kind is one that a single set of encoding rules has.
     CodecSpecific {
+        /// Holds the kind, and names the encoding rules that have it.
         inner: CodecEncodeError,
     },
     /// The value's size is not one that its type has.
     SizeConstraintNotSatisfied {
+        /// Holds the size of the value.
         size: usize,
+        /// Holds the bounds of the sizes that the type has.
         expected: Bounded<usize>,
     },
     /// The tag of the value is that of no alternative of its CHOICE type.
     VariantNotInChoice,
-    /// A REAL is to be written.
+    /// A REAL is to be encoded, which neither notation of this library does.
     RealNotSuppored,
     /// Memory ran out.
     OutOfMemory,
 }
 
-/// A refusal to write: why, and by which encoding rules.
+/// Reports that a value is not encoded: why, and by which encoding rules.
 #[derive(Debug, Drop)]
 pub struct EncodeError {
+    /// States why the value is not encoded.
     pub kind: EncodeErrorKind,
+    /// Names the encoding rules by which it is not.
     pub codec: Codec,
 }
 
+/// Makes errors, one constructor for each kind.
 impl EncodeError {
-    /// The refusal of this kind.
+    /// Returns the error of this kind. All other constructors go through it.
     pub fn from_kind(kind: EncodeErrorKind, codec: Codec) -> EncodeError
         ensures { result ≡ record { kind = kind; codec = codec } }
     {
         EncodeError { kind, codec }
     }
 
-    /// The size of a value is not one of `expected`.
+    /// Returns the error that the size of a value is none of `expected`, of which the bounds are
+    /// kept.
     pub fn size_constraint_not_satisfied(size: usize, expected: &Size, codec: Codec) -> EncodeError
         ensures { result ≡ record {
           kind = EncodeErrorKind.SizeConstraintNotSatisfied size expected.now.bounds;
@@ -82,35 +94,35 @@ impl EncodeError {
         )
     }
 
-    /// The tag of the value is that of no alternative of its CHOICE type.
+    /// Returns the error that the tag of a value is that of no alternative of its CHOICE type.
     pub fn variant_not_in_choice(codec: Codec) -> EncodeError
         ensures { result ≡ record { kind = EncodeErrorKind.VariantNotInChoice; codec = codec } }
     {
         EncodeError::from_kind(EncodeErrorKind::VariantNotInChoice, codec)
     }
 
-    /// A REAL is to be written.
+    /// Returns the error that a REAL is to be encoded.
     pub fn real_not_supported(codec: Codec) -> EncodeError
         ensures { result ≡ record { kind = EncodeErrorKind.RealNotSuppored; codec = codec } }
     {
         EncodeError::from_kind(EncodeErrorKind::RealNotSuppored, codec)
     }
 
-    /// A cause told in words of its own.
+    /// Returns an error in words of its own.
     pub fn custom(msg: String, codec: Codec) -> EncodeError
         ensures { result ≡ record { kind = EncodeErrorKind.Custom msg; codec = codec } }
     {
         EncodeError::from_kind(EncodeErrorKind::Custom { msg }, codec)
     }
 
-    /// Memory ran out.
+    /// Returns the error that memory ran out.
     pub fn out_of_memory(codec: Codec) -> EncodeError
         ensures { result ≡ record { kind = EncodeErrorKind.OutOfMemory; codec = codec } }
     {
         EncodeError::from_kind(EncodeErrorKind::OutOfMemory, codec)
     }
 
-    /// Whether memory ran out.
+    /// Returns whether memory ran out.
     pub fn is_out_of_memory(&self) -> bool
         ensures { result ≡ is_unwritten_memory (encode_why self.now.kind) }
     {
@@ -121,6 +133,7 @@ impl EncodeError {
     }
 }
 
+/// Wraps a kind of one set of encoding rules in an error of its codec.
 impl From<CodecEncodeError> for EncodeError {
     ghost from_gives = { λ inner error. error ≡ codec_refusal inner };
 
@@ -133,6 +146,7 @@ impl From<CodecEncodeError> for EncodeError {
     }
 }
 
+/// Wraps a kind of JER in an error of the codec JER, so that `?` and `into` take it.
 impl From<JerEncodeErrorKind> for EncodeError {
     ghost from_gives = { λ kind error. error ≡ codec_refusal (Jer kind) };
 
@@ -141,6 +155,7 @@ impl From<JerEncodeErrorKind> for EncodeError {
     }
 }
 
+/// Wraps a kind of AVN in an error of the codec AVN, so that `?` and `into` take it.
 impl From<AvnEncodeErrorKind> for EncodeError {
     ghost from_gives = { λ kind error. error ≡ codec_refusal (Avn kind) };
 
@@ -149,6 +164,7 @@ impl From<AvnEncodeErrorKind> for EncodeError {
     }
 }
 
+/// Prints why the value is not encoded.
 impl fmt::Display for EncodeErrorKind {
     ghost output = { λ kind. Some (encode_kind_text kind) };
 
@@ -169,9 +185,10 @@ impl fmt::Display for EncodeErrorKind {
     }
 }
 
+/// Has no source: the kind of one set of encoding rules is printed as it is.
 impl Error for EncodeErrorKind {}
 
-/// The text of the kind, and the codec.
+/// Prints the kind, and then the codec in parentheses.
 impl fmt::Display for EncodeError {
     ghost output = { λ error. Some (encode_error_text error) };
 
@@ -182,4 +199,5 @@ impl fmt::Display for EncodeError {
     }
 }
 
+/// Has no source: its kind is printed as part of it.
 impl Error for EncodeError {}

@@ -1,4 +1,5 @@
-// What is wrong with a value in JER (X.697) alone.
+//! Defines the kinds of errors that the JSON Encoding Rules of X.697 (JER) alone have, with their
+//! texts.
 ghost use Rattle.std.specs.Prelude.{◌≡◌, Some, decimal};
 ghost use Rattle.asn_fault.specs.Stop.{Why, codec_why};
 ghost use Rattle.asn_fault.specs.Texts.{jer_decode_text, jer_encode_text};
@@ -9,23 +10,25 @@ use asn_base::WholeNumber;
 use std::error::Error;
 use std::fmt;
 
-/// Why a JSON value is no value of a type in JER.
+/// States why a JSON value is no value of a type in JER.
 #[derive(Debug, Drop)]
 pub enum JerDecodeErrorKind {
-    /// A value is due, and there is none.
+    /// A value is expected where none is: the slot is absent.
     EndOfInput {},
-    /// The JSON value is of another kind than the type.
+    /// The JSON value is of another kind than the type. `needed` names the kind of the type, as
+    /// `hex string`, and `found` is the value as compact JSON.
     TypeMismatch { needed: &'static str, found: String },
-    /// The text is no hexadecimal of whole octets.
+    /// The string is no hexadecimal text of whole octets.
     InvalidJerOctetString {},
-    /// The value is no OBJECT IDENTIFIER. It is given as compact JSON.
+    /// The JSON value is no OBJECT IDENTIFIER. `value` is its compact text.
     InvalidOIDString { value: String },
-    /// The text names no item of the ENUMERATED type.
+    /// The string `discriminant` is the identifier of no item of the ENUMERATED type.
     InvalidEnumDiscriminant { discriminant: String },
 }
 
+/// Makes errors of JER by the names that the codecs call.
 impl JerDecodeErrorKind {
-    /// A value is due, and there is none.
+    /// Returns the error that a value is expected where none is.
     pub fn eoi() -> CodecDecodeError
         ensures { codec_why result ≡ Why.end_of_input Jer }
     {
@@ -33,6 +36,7 @@ impl JerDecodeErrorKind {
     }
 }
 
+/// Prints what is wrong, without the codec's name.
 impl fmt::Display for JerDecodeErrorKind {
     ghost output = { λ kind. Some (jer_decode_text kind) };
 
@@ -58,19 +62,22 @@ impl fmt::Display for JerDecodeErrorKind {
     }
 }
 
+/// Has no source, since no other error lies beneath a kind.
 impl Error for JerDecodeErrorKind {}
 
-/// Why a value has no JER.
+/// States why a value has no encoding in JER.
 #[derive(Debug, Drop)]
 pub enum JerEncodeErrorKind {
-    /// No value was written at the root.
+    /// The encoder was given no value at its root.
     NoRootValueFound,
-    /// The number is below -2^63 or not below 2^64.
+    /// The number in `value` is below -2^63 or not below 2^64, which are the numbers that are
+    /// written.
     ExceedsSupportedIntSize { value: WholeNumber },
-    /// The string holds what is no character.
+    /// The string has octets or units that are no character, and `error` states where.
     InvalidCharacter { error: Utf8Fault },
 }
 
+/// Prints what is wrong, without the codec's name.
 impl fmt::Display for JerEncodeErrorKind {
     ghost output = { λ kind. Some (jer_encode_text kind) };
 
@@ -89,17 +96,18 @@ impl fmt::Display for JerEncodeErrorKind {
     }
 }
 
+/// Has no source, since no other error lies beneath a kind.
 impl Error for JerEncodeErrorKind {}
 
-/// Where a string stops being text.
+/// States where a string stops being text.
 #[derive(Clone, Copy, Debug, PartialEq, Eq)]
 pub struct Utf8Fault {
-    /// The number of octets before the first one that begins no UTF-8 character,
-    /// or of 16-bit units before the first surrogate.
+    /// Counts the octets before the first one that begins no UTF-8 character, or the 16-bit units
+    /// before the first surrogate.
     pub valid_up_to: usize,
 }
 
-/// The number of octets or units before the fault.
+/// Prints the number of octets or units before the fault, in decimal.
 impl fmt::Display for Utf8Fault {
     ghost output = { λ fault. Some (decimal fault.valid_up_to) };
 

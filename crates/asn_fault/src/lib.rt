@@ -1,4 +1,7 @@
-//! Why a value is not read from a text, and why it is not written.
+//! Defines the two error types of the library: `DecodeError` for a value that is not decoded, and
+//! `EncodeError` for one that is not encoded. Each has a kind and the codec that it comes from,
+//! and prints a text that is exact by its contract (`specs/Texts.antt`). A kind that one set of
+//! encoding rules alone has stands in the module of those rules: `ber`, `jer` and `avn`.
 #![tactic(auto)]
 
 mod avn;

@@ -1,24 +1,25 @@
-// What closures are handed and answer in place of an error of reading.
-//
-// The checker does not cover a closure whose bound names a type that holds a `&'static str`, as
-// `DecodeError` does. So the bound names a type parameter, and these traits tie it to the type.
+//! Ties the type parameters of closures to the error of decoding.
+//!
+//! The checker does not cover a closure whose bound names a type that holds a `&'static str`, as
+//! `DecodeError` does. So the bound names a type parameter, and these traits tie it to the type.
 ghost use Rattle.asn_fault.specs.declared.decode.DecodeErrorKind.{DecodeErrorKind};
 ghost use Rattle.std.specs.Prelude.{◌≡◌};
 ghost use Rattle.asn_fault.specs.Stop.{Stop, error_stop};
 
 use crate::{DecodeError, DecodeErrorKind};
 
-/// What the reading of a type's fields refuses by: an error that says where it stopped and why.
-/// It is `DecodeError`, which is inferred at each call.
+/// The error that the closure of `decode_sequence` returns: it states where decoding stopped and
+/// why. `DecodeError` alone implements it, and is inferred at each call.
 pub trait Refusal: Sized + Drop {
-    // Where the reading stopped and why.
+    // The fields that lead to the place, and what is wrong there.
     ghost stop: { Self → Stop };
 
-    /// The same refusal.
+    /// Returns the same error, as the type that the closure has.
     fn of(error: DecodeError) -> Self
         ensures { stop result ≡ error_stop error };
 }
 
+/// Passes the error on as it is.
 impl Refusal for DecodeError {
     ghost stop = { error_stop };
 
@@ -27,17 +28,18 @@ impl Refusal for DecodeError {
     }
 }
 
-/// What a predicate on root causes is asked of. It is `DecodeErrorKind`, which is inferred from the
-/// predicate.
+/// The argument of a predicate on root causes. `DecodeErrorKind` alone implements it, and is
+/// inferred where the closure's argument is annotated.
 pub trait Cause: Sized {
     // The kind that it is.
     ghost kind: { Self → DecodeErrorKind };
 
-    /// The same kind.
+    /// Returns the same kind, as the type that the closure takes.
     fn of(cause: &DecodeErrorKind) -> &Self
         ensures { kind result.now ≡ cause.now };
 }
 
+/// Passes the kind on as it is.
 impl Cause for DecodeErrorKind {
     ghost kind = { λ kind. kind };
 

@@ -1,4 +1,5 @@
-//! Laws of the definitions, each the contract of a call that does nothing.
+//! States the laws of the definitions, each as the contract of a function that does nothing. They
+//! hold for every shape, recursive ones too, and the contracts of the codecs stand on them.
 ghost use Rattle.asn_model.specs.Canonical.{jer_data, avn_tree, canonical_text};
 ghost use Rattle.asn_model.specs.Notation.{Notation, IsText};
 ghost use Rattle.asn_model.specs.Readable.{is_readable};
@@ -16,20 +17,20 @@ ghost use Rattle.serde_json.specs.Data.{Data, depth};
 ghost use Rattle.std.specs.Prelude.{◌≡◌, ℕ, ◌≤◌, ◌<◌, Some, true};
 ghost use Rattle.std.specs.Str.{chars};
 
-/// A slot says at most one value by a shape.
+/// A slot decodes to at most one value by a shape.
 pub fn one_value()
     ensures { (n : Notation) (s : Shape) (slot : Slot) (v w : Value) → IsText n → Says n s slot v
         → Says n s slot w → v ≡ w }
 {}
 
-/// A slot that says a value by a shape has no reason to say none.
+/// A slot that decodes to a value by a shape has no reason to decode to none.
 pub fn no_reason()
     ensures { (n : Notation) (s : Shape) (slot : Slot) (v : Value) (p : Path) (w : Why) → IsText n
         → Says n s slot v → Stops n s slot p w → ⊥ }
 {}
 
-/// What is written for a value of a shape that can be read says that value: in JER the JSON value
-/// that is written, and in AVN the normal form of what is written, which its text is read as.
+/// What is written for a value of a shape that can be read decodes to that value: in JER the JSON
+/// value that is written, and in AVN the normal form of what is written, which its text is read as.
 pub fn written_is_said()
     ensures jer { (s : Shape) (v : Value) → is_readable s ≡ true → Fits s v
         → Says Notation.jer s (Some (Tree.json (jer_data v))) v }
@@ -38,7 +39,8 @@ pub fn written_is_said()
 {}
 
 /// The text that AVN writes for a value of a shape that can be read is read as the normal form of
-/// its tree where that is no deeper than the limit, and else a value in it is looked for too deep.
+/// its tree where that is no deeper than the limit, and else a value in it is nested beyond the
+/// limit.
 pub fn written_avn_is_read()
     ensures reads { (limit : ℕ) (s : Shape) (v : Value) → is_readable s ≡ true → Fits s v
         → deepest 0 (avn_tree v) ≤ limit
@@ -47,7 +49,7 @@ pub fn written_avn_is_read()
         → limit < deepest 0 (avn_tree v) → Deep limit 0 (chars (canonical_text Notation.avn v)) }
 {}
 
-/// The JSON value that is written for a value nests no deeper than one that says the value.
+/// The JSON value that is written for a value nests no deeper than one that decodes to the value.
 pub fn written_json_nests_no_deeper()
     ensures { (s : Shape) (d : Data) (v : Value) → Says Notation.jer s (Some (Tree.json d)) v
         → depth (jer_data v) ≤ depth d }

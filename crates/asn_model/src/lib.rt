@@ -1,5 +1,7 @@
-//! What ASN.1 types and their values are, what a tree of either notation says by a type, the tree
-//! and the text that are canonical for a value, and the laws on all of these.
+//! Defines what ASN.1 types and their values are, what a tree of either notation decodes to by a
+//! type, the tree and the text that are canonical for a value, and the laws on all of these. Most
+//! of it is in `specs/`; the code here is what a program holds of it: shapes as values
+//! (`shape_type`), the test of shapes (`readable`) and values without parts (`leaves`).
 #![tactic(auto)]
 
 pub mod laws;

@@ -1,4 +1,6 @@
-// The names of the parts of shapes.
+//! Tests the names of the parts of shapes. Each test goes over two lists, the names of the root
+//! and those of the extension additions, as over one: no list of both is made, and no memory is
+//! taken. The cost of a test that compares names is the square of their number.
 ghost use Rattle.avn_grammar.specs.WellFormed.{is_identifier};
 ghost use Rattle.asn_model.specs.Readable.{are_apart, are_identifiers, are_words, has_identifier};
 ghost use Rattle.asn_model.specs.Shape.{are_distinct, is_item};
@@ -7,16 +9,17 @@ ghost use Rattle.std.specs.Prelude.{◌≡◌, ◌++◌, ℕ, List, map};
 use crate::{AlternativeShape, FieldShape};
 use avn_grammar::names::{is_identifier, is_keyword};
 
-/// What has a name.
+/// Is a part of a shape that has a name.
 pub trait Named {
+    // The bytes of the name.
     ghost name_of: { Self → List ℕ };
 
-    /// The name.
+    /// Returns the name.
     fn name(&self) -> &str
         ensures { result.now ≡ name_of self.now };
 }
 
-/// An item of an ENUMERATED type, by its identifier.
+/// Is an item of an ENUMERATED type, which is its identifier.
 impl Named for String {
     ghost use Rattle.std.specs.Prelude.{string_bytes};
 
@@ -27,6 +30,7 @@ impl Named for String {
     }
 }
 
+/// Is a field of a SEQUENCE or SET, by its name.
 impl Named for FieldShape {
     ghost use Rattle.std.specs.Prelude.{string_bytes};
 
@@ -37,6 +41,7 @@ impl Named for FieldShape {
     }
 }
 
+/// Is an alternative of a CHOICE, by its identifier.
 impl Named for AlternativeShape {
     ghost use Rattle.std.specs.Prelude.{string_bytes};
 
@@ -47,17 +52,18 @@ impl Named for AlternativeShape {
     }
 }
 
-/// Whether the name is one of those of both lists.
+/// Returns whether the name is one of those of both lists.
 pub fn has_name<T: Named>(list: &[T], more: &[T], name: &str) -> bool
     ensures { result ≡ is_item (map T.name_of list.now ++ map T.name_of more.now) name.now }
 {
     match list.split_first() {
         Some((first, rest)) => name == first.name() || has_name(rest, more, name),
+        // The second list takes the place of the first one, and no list that of the second.
         None => !more.is_empty() && has_name(more, &[], name),
     }
 }
 
-/// Whether no name stands twice in both lists.
+/// Returns whether no name stands twice in both lists.
 pub fn are_distinct<T: Named>(list: &[T], more: &[T]) -> bool
     ensures { result ≡ are_distinct (map T.name_of list.now ++ map T.name_of more.now) }
 {
@@ -67,7 +73,7 @@ pub fn are_distinct<T: Named>(list: &[T], more: &[T]) -> bool
     }
 }
 
-/// Whether the name is one of those of both lists but for the case of ASCII letters.
+/// Returns whether the name is one of those of both lists but for the case of ASCII letters.
 fn has_identifier<T: Named>(list: &[T], more: &[T], name: &str) -> bool
     ensures { result ≡ has_identifier (map T.name_of list.now ++ map T.name_of more.now) name.now }
 {
@@ -79,7 +85,7 @@ fn has_identifier<T: Named>(list: &[T], more: &[T], name: &str) -> bool
     }
 }
 
-/// Whether no two names of both lists are the same but for the case of ASCII letters.
+/// Returns whether no two names of both lists are the same but for the case of ASCII letters.
 pub fn are_apart<T: Named>(list: &[T], more: &[T]) -> bool
     ensures { result ≡ are_apart (map T.name_of list.now ++ map T.name_of more.now) }
 {
@@ -89,7 +95,7 @@ pub fn are_apart<T: Named>(list: &[T], more: &[T]) -> bool
     }
 }
 
-/// Whether each name of both lists is an identifier of AVN.
+/// Returns whether each name of both lists is an identifier of AVN.
 pub fn are_identifiers<T: Named>(list: &[T], more: &[T]) -> bool
     ensures { result ≡ are_identifiers (map T.name_of list.now ++ map T.name_of more.now) }
 {
@@ -99,7 +105,8 @@ pub fn are_identifiers<T: Named>(list: &[T], more: &[T]) -> bool
     }
 }
 
-/// Whether each name of both lists is an identifier of AVN and none of its keywords.
+/// Returns whether each name of both lists is an identifier of AVN and none of its keywords, so
+/// that a bare word in a text means the item of that name.
 pub fn are_words<T: Named>(list: &[T], more: &[T]) -> bool
     ensures { result ≡ are_words (map T.name_of list.now ++ map T.name_of more.now) }
 {

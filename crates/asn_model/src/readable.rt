@@ -1,4 +1,5 @@
-// Whether a shape can be read.
+//! Tests whether a shape can be read. By such a shape, what is written for a value decodes to that
+//! value (`laws::written_is_said`), so every `AsnType` has one by a law of the trait.
 ghost use Rattle.asn_model.specs.Around.{loops_of, bare_of, entries_of};
 ghost use Rattle.asn_model.specs.Readable.{is_readable, is_readable_in, are_fields_readable, are_alternatives_readable, has_128_bits, is_of_shape, suits, has_alternative, are_told_apart};
 ghost use Rattle.asn_model.specs.Shape.{has_tag, tags_distinct, join_alternatives};
@@ -11,36 +12,39 @@ use crate::tags::same_tag;
 use crate::{Alphabet, AlternativeShape, FieldShape, Plain, PresenceShape, Shape};
 use asn_base::Tag;
 
-/// What stands around a part of a shape, the innermost first, as a chain of references: no number
-/// of loops can overflow, and none takes memory.
+/// Holds what stands around a part of a shape, the innermost first, as a chain of references on
+/// the stack: no count of loops can overflow, and none takes memory.
 #[derive(Drop)]
 pub enum Around<'a> {
+    /// The part is the whole shape.
     Nothing,
-    /// A type that its own parts name.
+    /// The part is the body of a type that its own parts name.
     Loop(&'a Around<'a>),
-    /// A list, sequence, set, table or choice.
+    /// The part stands in a list, sequence, set, table or choice.
     Part(&'a Around<'a>),
 }
 
-/// Whether a shape can be read, by what its names, tags and loops are.
+/// Returns whether a shape can be read, by what its names, tags and loops are. It takes no memory.
 ///
 /// Names are identifiers of AVN and distinct in a SEQUENCE, SET or ENUMERATED. No item is a keyword
 /// of AVN. A CHOICE has an alternative; its identifiers differ in more than case, and its tags are
 /// distinct and none is that of the end of contents. A default is a value of its field's shape.
-/// Each `Back` means a `Loop` around it, with a list, sequence, set, table or choice between.
+/// Each `Back` means a `Loop` around it, with a list, sequence, set, table or choice between, so
+/// that each level of a value takes up a part of its text.
 pub fn is_readable(shape: &Shape) -> bool
     ensures { result ≡ is_readable (shape_view shape.now) }
 {
     is_readable_in(shape, &Around::Nothing)
 }
 
-/// Whether a part of a shape can be read within what stands around it.
+/// Returns whether a part of a shape can be read within what stands around it.
 #[cycle(readable)]
 #[tactic(auto, using(crate::proofs::ShapeNames::sequence_readable, crate::proofs::ShapeNames::choice_readable))]
 fn is_readable_in(shape: &Shape, around: &Around<'_>) -> bool
     ensures { result ≡ is_readable_in (loops_of around.now) (bare_of around.now)
         (shape_view shape.now) }
 {
+    // What a kind has to meet stands at its arm; most shapes without parts meet it as they are.
     match shape {
         Shape::Int {
             least,
@@ -57,6 +61,7 @@ fn is_readable_in(shape: &Shape, around: &Around<'_>) -> bool
             added,
         } => {
             let added = entries(added);
+            // Names first, which are cheap beside the shapes of the fields.
             are_identifiers(fields, added)
                 && are_distinct(fields, added)
                 && are_fields_readable(fields, &*around)
@@ -92,7 +97,7 @@ fn is_readable_in(shape: &Shape, around: &Around<'_>) -> bool
     }
 }
 
-/// Whether the shapes of the fields can be read, and their defaults are values of them.
+/// Returns whether the shapes of the fields can be read, and their defaults are values of them.
 #[cycle(readable)]
 fn are_fields_readable(fields: &[FieldShape], around: &Around<'_>) -> bool
     ensures { result ≡ are_fields_readable (loops_of around.now) (field_views fields.now) }
@@ -108,7 +113,7 @@ fn are_fields_readable(fields: &[FieldShape], around: &Around<'_>) -> bool
     true
 }
 
-/// Whether the shapes of the alternatives can be read.
+/// Returns whether the shapes of the alternatives can be read.
 #[cycle(readable)]
 fn are_alternatives_readable(alternatives: &[AlternativeShape], around: &Around<'_>) -> bool
     ensures { result ≡ are_alternatives_readable (loops_of around.now)
@@ -122,14 +127,15 @@ fn are_alternatives_readable(alternatives: &[AlternativeShape], around: &Around<
     true
 }
 
-/// That the numbers from the least to the greatest have at most 128 bits, as their types say.
+/// Returns that the numbers from the least to the greatest have at most 128 bits, as the types of
+/// the two arguments state. The definition has any integers, so this is a fact to prove.
 fn has_128_bits(least: i128, greatest: u128) -> bool
     ensures { result ≡ has_128_bits least (pos greatest) }
 {
     true
 }
 
-/// The entries after an extension marker, and none where there is none.
+/// Returns the entries after an extension marker, and none where there is no marker.
 fn entries<T>(added: &Option<Vec<T>>) -> &[T]
     ensures { result.now ≡ entries_of added.now }
 {
@@ -139,19 +145,20 @@ fn entries<T>(added: &Option<Vec<T>>) -> &[T]
     }
 }
 
-/// Whether the number is that of a loop around, with a list, sequence, set, table or choice
-/// between.
+/// Returns whether the number is that of a loop around, with a list, sequence, set, table or
+/// choice between.
 fn means_loop(around: &Around<'_>, number: u32) -> bool
     ensures { result ≡ (nat_le (bare_of around.now) number && nat_lt number (loops_of around.now)) }
 {
     match around {
         Around::Nothing => false,
+        // A loop with nothing between is not meant, whatever its number; those further out may be.
         Around::Loop(outer) => number > 0 && means_loop(outer, number - 1),
         Around::Part(outer) => has_loop(outer, number),
     }
 }
 
-/// Whether the number is that of a loop around.
+/// Returns whether the number is that of a loop around, where 0 is the innermost.
 fn has_loop(around: &Around<'_>, number: u32) -> bool
     ensures { result ≡ nat_lt number (loops_of around.now) }
 {
@@ -162,7 +169,7 @@ fn has_loop(around: &Around<'_>, number: u32) -> bool
     }
 }
 
-/// Whether the field's default, if it has one, is a value of its shape.
+/// Returns whether the field's default, if it has one, is a value of its shape.
 fn suits(presence: &PresenceShape, shape: &Shape) -> bool
     ensures { result ≡ suits (presence_view presence.now) (shape_view shape.now) }
 {
@@ -172,12 +179,14 @@ fn suits(presence: &PresenceShape, shape: &Shape) -> bool
     }
 }
 
-/// Whether the value of a DEFAULT is one of the shape.
+/// Returns whether the value of a DEFAULT is one of the shape. Defaults are of BOOLEAN, INTEGER,
+/// UTF8String and ENUMERATED alone.
 fn is_of_shape(shape: &Shape, plain: &Plain) -> bool
     ensures { result ≡ is_of_shape (shape_view shape.now) (plain_view plain.now) }
 {
     match (shape, plain) {
         (Shape::Bool, Plain::Bool(_)) => true,
+        // From 0 on, numbers are compared as `u128`: the greatest may be above `i128`.
         (
             Shape::Int {
                 least,
@@ -199,7 +208,7 @@ fn is_of_shape(shape: &Shape, plain: &Plain) -> bool
     }
 }
 
-/// That the bytes of the text are UTF-8, as its type says.
+/// Returns that the bytes of the text are UTF-8, as its type states.
 fn is_utf8(text: &str) -> bool
     ensures { result ≡ is_utf8 text.now }
 {
@@ -207,7 +216,7 @@ fn is_utf8(text: &str) -> bool
     true
 }
 
-/// Whether there is an alternative.
+/// Returns whether there is an alternative.
 fn has_alternative(alternatives: &[AlternativeShape]) -> bool
     ensures { result ≡ has_alternative (alternative_views alternatives.now) }
 {
@@ -217,7 +226,7 @@ fn has_alternative(alternatives: &[AlternativeShape]) -> bool
     }
 }
 
-/// Whether the alternatives of both lists are told apart by identifiers and tags.
+/// Returns whether the alternatives of both lists are distinguishable by identifiers and by tags.
 #[tactic(auto, using(crate::proofs::ShapeNames::identifiers_viewed, crate::proofs::ShapeNames::tags_viewed))]
 fn are_told_apart(alternatives: &[AlternativeShape], added: &[AlternativeShape]) -> bool
     ensures { result ≡ are_told_apart
@@ -229,7 +238,7 @@ fn are_told_apart(alternatives: &[AlternativeShape], added: &[AlternativeShape])
         && !has_tag(alternatives, added, Tag::EOC)
 }
 
-/// Whether the tag is one of those of both lists.
+/// Returns whether the tag is one of those of both lists.
 fn has_tag(list: &[AlternativeShape], more: &[AlternativeShape], tag: Tag) -> bool
     ensures { result ≡ has_tag (map (λ a. a.tag) list.now ++ map (λ a. a.tag) more.now) tag }
 {
@@ -239,7 +248,7 @@ fn has_tag(list: &[AlternativeShape], more: &[AlternativeShape], tag: Tag) -> bo
     }
 }
 
-/// Whether no tag stands twice in both lists.
+/// Returns whether no tag stands twice in both lists.
 fn are_tags_distinct(list: &[AlternativeShape], more: &[AlternativeShape]) -> bool
     ensures { result ≡ tags_distinct (map (λ a. a.tag) list.now ++ map (λ a. a.tag) more.now) }
 {

@@ -1,128 +1,163 @@
-// The shape of a type, as a value that a program holds.
+//! Defines the shape of a type as a value that a program holds: what ASN.1 states of the type's
+//! values. Contracts see it as the `Shape` of `specs/Shape.antt` (`shape_view`).
 use asn_base::Tag;
 
-/// The characters of a string type (X.680, section 41).
+/// Names the characters of a string type (X.680, section 41).
 #[derive(Clone, Copy)]
 pub enum Alphabet {
+    /// NumericString has digits and space.
     Numeric,
+    /// PrintableString has letters, digits, space and eleven signs.
     Printable,
+    /// VisibleString has the printing characters of ASCII, and space.
     Visible,
+    /// IA5String has the characters of ASCII.
     Ia5,
+    /// UTF8String has every character.
     Utf8,
+    /// UniversalString has every character.
     Universal,
+    /// GeneralString has every character.
     General,
+    /// GraphicString has all but the control characters of ASCII.
     Graphic,
 }
 
-/// Whether fields come in their order or by their tags (X.680, sections 25 and 27).
+/// States whether fields come in their order or by their tags (X.680, sections 25 and 27).
 #[derive(Clone, Copy)]
 pub enum SeqKind {
+    /// A SEQUENCE has its fields in their order.
     Sequence,
+    /// A SET has its fields by their tags.
     Set,
 }
 
-/// The value that a DEFAULT names.
+/// Holds the value that a DEFAULT names.
 #[derive(Drop)]
 pub enum Plain {
+    /// Is of BOOLEAN.
     Bool(bool),
+    /// Is of INTEGER.
     Int(i128),
-    /// A character string.
+    /// Is of a character string type.
     Text(String),
-    /// The identifier of an enumeration's item.
+    /// Is the identifier of an ENUMERATED type's item.
     Item(String),
 }
 
-/// Whether a field may be absent, and what then stands for it.
+/// States whether a field may be absent, and what then stands for it.
 #[derive(Drop)]
 pub enum PresenceShape {
+    /// The field has to be present.
     Required,
+    /// The field may be absent, and nothing stands for it.
     Optional,
-    /// It stands for this value.
+    /// The field may be absent, and this value stands for it.
     Default(Plain),
 }
 
-/// A field of a SEQUENCE or SET.
+/// Describes a field of a SEQUENCE or SET.
 #[cycle(shape)]
 #[derive(Drop)]
 pub struct FieldShape {
+    /// Holds the field's name, an identifier.
     pub name: String,
-    /// The smallest tag that its value may begin with.
+    /// Holds the smallest tag that its value may begin with.
     pub tag: Tag,
+    /// States whether it may be absent.
     pub presence: PresenceShape,
+    /// Describes the type of its value.
     pub shape: Shape,
 }
 
-/// An alternative of a CHOICE.
+/// Describes an alternative of a CHOICE.
 #[cycle(shape)]
 #[derive(Drop)]
 pub struct AlternativeShape {
+    /// Holds the identifier that stands before the payload.
     pub identifier: String,
-    /// The smallest tag that its value may begin with.
+    /// Holds the smallest tag that its value may begin with.
     pub tag: Tag,
+    /// Describes the type of its payload.
     pub shape: Shape,
 }
 
-/// The kind of a type, with its parts. Each `added` has what stands after the extension marker, and
-/// is None where there is no marker.
+/// Describes a type by its kind, with its parts. Each `added` has what stands after the extension
+/// marker, and is `None` where there is no marker. It owns its parts, and dropping it frees them.
 #[cycle(shape)]
 #[derive(Drop)]
 pub enum Shape {
+    /// Is NULL.
     Null,
+    /// Is BOOLEAN.
     Bool,
-    /// INTEGER, from the least to the greatest number, in so many bits.
+    /// Is INTEGER, from the least to the greatest number, in a number of bits.
     Int {
+        /// Holds the least number.
         least: i128,
+        /// Holds the greatest number.
         greatest: u128,
+        /// Counts the bits of the Rust type, which an overflow states.
         width: u32,
     },
-    /// BIT STRING, of a fixed number of bits or of any.
+    /// Is BIT STRING.
     Bits {
+        /// Holds the number of bits, where the type fixes it.
         fixed: Option<usize>,
     },
-    /// OCTET STRING.
+    /// Is OCTET STRING.
     Octets,
-    /// A value of any type.
+    /// Is a value of any type, which is held as octets.
     Any,
-    /// OBJECT IDENTIFIER.
+    /// Is OBJECT IDENTIFIER.
     Oid,
-    /// A character string other than BMPString.
+    /// Is a character string type other than BMPString.
     Str {
+        /// Names its characters.
         alphabet: Alphabet,
     },
-    /// BMPString.
+    /// Is BMPString.
     Bmp,
-    /// UTCTime.
+    /// Is UTCTime.
     Utc,
-    /// GeneralizedTime.
+    /// Is GeneralizedTime.
     Gen,
-    /// DATE.
+    /// Is DATE.
     Day,
-    /// A number from 2^63 to 2^64-1, as its digits.
+    /// Is a number from 2^63 to 2^64-1, as its digits.
     Decimal,
-    /// ENUMERATED, with the identifiers of its items.
+    /// Is ENUMERATED.
     Enum {
+        /// Lists the identifiers of its items.
         items: Vec<String>,
+        /// Lists those after the extension marker.
         added: Option<Vec<String>>,
     },
-    /// SEQUENCE or SET.
+    /// Is SEQUENCE or SET.
     Seq {
+        /// States which of the two it is.
         kind: SeqKind,
+        /// Lists the fields of the root, in order.
         fields: Vec<FieldShape>,
+        /// Lists the extension additions, in order.
         added: Option<Vec<FieldShape>>,
     },
-    /// SEQUENCE OF.
+    /// Is SEQUENCE OF.
     ListOf(Box<Shape>),
-    /// SET OF.
+    /// Is SET OF.
     SetOf(Box<Shape>),
-    /// A list of entries in which the last one of a key counts.
+    /// Is a list of entries in which the last one of a key counts.
     Table(Box<Shape>),
-    /// CHOICE.
+    /// Is CHOICE.
     Choice {
+        /// Lists the alternatives of the root, in order.
         alternatives: Vec<AlternativeShape>,
+        /// Lists those after the extension marker.
         added: Option<Vec<AlternativeShape>>,
     },
-    /// A type that its own parts name by `Back`.
+    /// Is a type that its own parts name by `Back`: SEQUENCE OF itself is
+    /// `Loop(ListOf(Back(0)))`.
     Loop(Box<Shape>),
-    /// The loop around it with this number, where 0 is the innermost.
+    /// Is the loop around it with this number, where 0 is the innermost.
     Back(u32),
 }

@@ -1,4 +1,4 @@
-// A CHOICE of one alternative.
+//! Describes a CHOICE of one alternative, as `simple_choice` does one of two.
 ghost use Rattle.asn_samples.specs.Inner.{inner_alternatives, inner_chosen};
 ghost use Rattle.asn_samples.specs.declared.inner.Inner.TheVariants.{Wine};
 ghost use Rattle.asn_traits.specs.Shape.{AlternativeAdditions};
@@ -11,20 +11,26 @@ use asn_traits::{
 };
 use std::alloc::Global;
 
-/// `Inner ::= CHOICE { Wine INTEGER (0..3) }`
+/// Is `Inner ::= CHOICE { Wine INTEGER (0..3) }`. Neither notation checks the range, so the shape
+/// has every `u8`.
 #[derive(Debug, PartialEq, Eq, Drop)]
 pub enum Inner {
+    /// Chooses `Wine`, a number.
     Wine(u8),
 }
 
+/// Is the tag of `Wine`.
 const WINE: Tag = Tag::CONTEXT_0;
 
+/// Lists the tag of the one alternative.
 const INNER_VARIANTS: &'static [TagTree] = &[TagTree::Leaf(WINE)];
 
+/// Is a CHOICE.
 impl OfKind for Inner {
     type Kind = ChoiceKind;
 }
 
+/// Describes the alternative, and encodes and decodes its payload.
 impl ChoicePayload for Inner {
     const ROOT: &'static [TagTree] = INNER_VARIANTS;
 

@@ -1,5 +1,7 @@
-//! Types that show how an ASN.1 type is described, each with its laws proved, and the names by
-//! which the program knows them.
+//! Describes sample types by hand, as a user of the library describes a type of one's own, each
+//! with the laws of the traits, and gives the names by which the program knows them.
+//! `docs/YOUR-OWN-TYPE.md` goes through the files to copy. What contracts cite of a type stands in
+//! its file of `specs/`: its fields, items or alternatives, and the value of each Rust value.
 #![tactic(auto, using(asn_traits::proofs::Passing::field_steps))]
 
 mod ext_choice;

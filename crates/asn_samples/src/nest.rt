@@ -1,4 +1,6 @@
-// A SEQUENCE OF itself.
+//! Describes a SEQUENCE OF itself, the sample of a type that its own parts name. It has no kind,
+//! so it implements the three traits itself, over the primitive calls of the coders; its proofs
+//! are in `proofs/`.
 ghost use Rattle.asn_samples.specs.Nest.{nest_shape, nest_value};
 ghost use Rattle.std.specs.Prelude.{refl};
 
@@ -7,10 +9,11 @@ use asn_fault::{DecodeError, EncodeError};
 use asn_traits::{AsnType, Decode, Decoder, Encode, Encoder, Shape};
 use std::alloc::Global;
 
-/// `Nest ::= SEQUENCE OF Nest`
+/// Is `Nest ::= SEQUENCE OF Nest`: a list of lists, of any depth, without anything else in them.
 #[derive(Drop)]
 pub struct Nest(pub Vec<Nest>);
 
+/// States the tag, the shape and the values of the type.
 impl AsnType for Nest {
     const TAG: Tag = Tag::SEQUENCE;
 
@@ -22,6 +25,7 @@ impl AsnType for Nest {
 
     ghost value_of = { nest_value };
 
+    // The tags of the shape are those of a SEQUENCE OF; a wrong one is refused here.
     fn tag_table() -> (Tag, TagTree, bool) {
         (Self::TAG, Self::TAG_TREE, Self::IS_CHOICE)
     }
@@ -30,16 +34,20 @@ impl AsnType for Nest {
         Self::CONSTRAINTS
     }
 
+    // A loop round a list, whose elements are what the loop is: `Back(0)` is the nearest loop.
     fn shape(alloc: Global) -> Result<Shape, OutOfMemory> {
         let element = Box::new(alloc, Shape::Back(0))?;
         let list = Box::new(alloc, Shape::ListOf(element))?;
         Ok(Shape::Loop(list))
     }
 
+    // The loop has a list between itself and its `Back`, so reading it ends.
     ghost readable = { refl };
 }
 
+/// Encodes a list: opens a frame, encodes each element into it, and closes the frame as a list.
 impl Encode for Nest {
+    // The mark names the recursion: the method calls itself for each element.
     #[cycle(nest_encode)]
     fn encode_with_tag_and_constraints<E: Encoder>(
         &self,
@@ -49,6 +57,7 @@ impl Encode for Nest {
         identifier: Identifier,
     ) -> Result<(), EncodeError> {
         encoder.open_frame()?;
+        // Each element adds one slot to the frame, as every value does.
         for item in &self.0 {
             item.encode_with_tag_and_constraints(encoder, tag, constraints, identifier)?;
         }
@@ -56,8 +65,9 @@ impl Encode for Nest {
     }
 }
 
-// The reader goes over the primitives, since a call through a bound can't lead back to a type's own
-// reader.
+/// Decodes a list: opens it, which puts a slot for each element before the pending ones, and
+/// decodes the elements. It goes over the primitives, since a call through a bound can't lead back
+/// to a type's own `Decode`.
 impl Decode for Nest {
     #[cycle(nest_decode)]
     fn decode_with_tag_and_constraints<D: Decoder>(
@@ -65,12 +75,14 @@ impl Decode for Nest {
         tag: Tag,
         constraints: &Constraints,
     ) -> Result<Nest, DecodeError> {
+        // Each element has fewer nodes than the list, which is why the recursion ends.
         let count = decoder.open_list()?;
         let Ok(mut items) = Vec::with_capacity(decoder.allocator(), count) else {
             return Err(DecodeError::out_of_memory(decoder.codec()));
         };
         for i in 0..count {
             let item = Self::decode_with_tag_and_constraints(decoder, tag, constraints)?;
+            // There is room for the element already, so this takes no memory.
             let Ok(()) = items.push(item) else {
                 return Err(DecodeError::out_of_memory(decoder.codec()));
             };

@@ -1,4 +1,4 @@
-// A SEQUENCE within a SEQUENCE.
+//! Describes a SEQUENCE that holds another, both of its fields OPTIONAL.
 ghost use Rattle.asn_samples.specs.Nested.{nested_fields, nested_slots};
 ghost use Rattle.std.specs.Prelude.{refl};
 
@@ -11,22 +11,27 @@ use asn_traits::{
 };
 use std::alloc::Global;
 
-/// `Nested ::= SEQUENCE { very Struct OPTIONAL, nested BOOLEAN OPTIONAL }`
+/// Is `Nested ::= SEQUENCE { very Struct OPTIONAL, nested BOOLEAN OPTIONAL }`.
 #[derive(Debug, PartialEq, Eq, Drop)]
 pub struct Nested {
+    /// Holds another SEQUENCE, if it is present.
     pub very: Option<Struct>,
+    /// Holds a BOOLEAN, if it is present.
     pub nested: Option<bool>,
 }
 
+/// Lists the fields for code that runs. A field whose type is a SEQUENCE has a row like any other.
 const NESTED_FIELDS: &'static [Field] = &[
     optional!(0, Tag::CONTEXT_0, "very"),
     optional!(1, Tag::CONTEXT_1, "nested"),
 ];
 
+/// Is a SEQUENCE.
 impl OfKind for Nested {
     type Kind = SequenceKind;
 }
 
+/// Describes the fields. The encoding of `very` is that of its own type, within this one's slot.
 impl SequenceFields for Nested {
     const ROWS: &'static [Field] = NESTED_FIELDS;
 

@@ -1,4 +1,5 @@
-// A SEQUENCE whose fields have other names than the Rust fields.
+//! Describes a SEQUENCE whose fields have other names than the Rust fields, as a hyphen can't
+//! stand in a name of Rust.
 ghost use Rattle.asn_samples.specs.Renamed.{renamed_fields, renamed_slots};
 ghost use Rattle.std.specs.Prelude.{refl};
 
@@ -10,22 +11,28 @@ use asn_traits::{
 };
 use std::alloc::Global;
 
-/// `Renamed ::= SEQUENCE { so-very INTEGER, re_named BOOLEAN OPTIONAL }`
+/// Is `Renamed ::= SEQUENCE { so-very INTEGER, re_named BOOLEAN OPTIONAL }`.
 #[derive(Debug, PartialEq, Eq, Drop)]
 pub struct Renamed {
+    /// Holds the field `so-very`.
     pub so_very: Integer,
+    /// Holds the field `re_named`, if it is present.
     pub re_named: Option<bool>,
 }
 
+/// Lists the fields by their names in ASN.1, which texts have and errors print.
 const RENAMED_FIELDS: &'static [Field] = &[
     required!(0, Tag::CONTEXT_0, "so-very"),
     optional!(1, Tag::CONTEXT_1, "re_named"),
 ];
 
+/// Is a SEQUENCE.
 impl OfKind for Renamed {
     type Kind = SequenceKind;
 }
 
+/// Describes the fields. Names stand in the table, the shape and the definitions alone: reading
+/// and writing go by the order of the fields.
 impl SequenceFields for Renamed {
     const ROWS: &'static [Field] = RENAMED_FIELDS;
 

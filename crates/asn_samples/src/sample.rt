@@ -1,4 +1,6 @@
-// The sample types, by their names.
+//! Lists the sample types by their names. `Sample::accept` is the one place that joins a name, a
+//! Rust type and a shape, so a new sample is a row in each of the three lists here and one in
+//! `specs/Samples.antt`.
 ghost use Rattle.asn_samples.specs.Samples.{sample_named, sample_shape};
 ghost use Rattle.asn_traits.specs.ShapeView.{shape_view};
 ghost use Rattle.std.specs.Prelude.{◌≡◌, IfOk, is_some};
@@ -8,35 +10,59 @@ use asn_base::{Integer, OutOfMemory};
 use asn_traits::{Decode, Encode, Shape};
 use std::alloc::Global;
 
-/// A sample type. `SequenceOf<T>` is `Vec<T>`, and `Null` is `()`.
+/// Lists the sample types, each a Rust type with the traits of an ASN.1 type.
 #[derive(Clone, Copy, Debug, PartialEq, Eq, Drop)]
 pub enum Sample {
+    /// Is BOOLEAN, as `bool`.
     Bool,
+    /// Is NULL, as `()`.
     Null,
+    /// Is INTEGER (0..255), as `u8`.
     U8,
+    /// Is INTEGER (-2^63..2^63-1), as `i64`.
     I64,
+    /// Is INTEGER (0..2^64-1), as `u64`.
     U64,
+    /// Is INTEGER (0..2^128-1), as `u128`.
     U128,
+    /// Is INTEGER, as far as `i128` goes.
     Integer,
+    /// Is UTF8String, as `String`.
     Utf8String,
+    /// Is SEQUENCE OF INTEGER (0..255), as `Vec<u8>`.
     SequenceOfU8,
+    /// Is SEQUENCE OF INTEGER (-2^63..2^63-1), as `Vec<i64>`.
     SequenceOfI64,
+    /// Is SEQUENCE OF BOOLEAN, as `Vec<bool>`.
     SequenceOfBool,
+    /// Is SEQUENCE OF SimpleChoice, as `Vec<SimpleChoice>`.
     SequenceOfSimpleChoice,
+    /// Is a SEQUENCE whose fields have other names than in Rust.
     Renamed,
+    /// Is a CHOICE of one alternative.
     Inner,
+    /// Is an ENUMERATED type.
     SimpleEnum,
+    /// Is an ENUMERATED type with an extension marker.
     ExtEnum,
+    /// Is a CHOICE.
     SimpleChoice,
+    /// Is a CHOICE with an extension marker.
     ExtChoice,
+    /// Is a SEQUENCE that holds another.
     Nested,
+    /// Is a SEQUENCE of one field that may be absent.
     Struct,
+    /// Is a SEQUENCE with a NULL that may be absent.
     WithNullOpt,
+    /// Is a SEQUENCE OF itself.
     Nest,
 }
 
+/// Finds sample types by their names, and runs computations at their Rust types.
 impl Sample {
-    /// The sample type of that name. None where there is none.
+    /// Returns the sample type of that name, or `None` where there is none. Names are those of the
+    /// program's request line, as `SequenceOf<u8>`; case counts.
     pub fn named(name: &str) -> Option<Sample>
         ensures { result ≡ sample_named name.now }
     {
@@ -67,7 +93,8 @@ impl Sample {
         }
     }
 
-    /// Runs the visitor at the Rust type of the sample.
+    /// Runs the visitor at the Rust type of the sample, and returns what it returns. The clause is
+    /// what the visitor promises, at the shape of this sample.
     pub fn accept<S, V: SampleVisitor<S>>(self, visitor: V, state: &mut S) -> V::Output
         ensures { V.visits visitor (sample_shape self) state.old state.new result }
     {
@@ -97,7 +124,11 @@ impl Sample {
         }
     }
 
-    /// The shape of the type. Its one error is want of memory.
+    /// Returns the shape of the type, as a value that a program holds.
+    ///
+    /// # Errors
+    ///
+    /// `OutOfMemory` alone.
     pub fn shape(self, alloc: Global) -> Result<Shape, OutOfMemory>
         ensures { IfOk result (λ s. shape_view s ≡ sample_shape self) }
     {
@@ -105,12 +136,14 @@ impl Sample {
     }
 }
 
-/// The shape of a type, as a visitor.
+/// Asks a type for its shape, as a visitor that changes nothing.
 #[derive(Drop)]
 struct ShapeOf {
+    /// Allocates the parts of the shape.
     alloc: Global,
 }
 
+/// Returns the shape of each type that it is run at.
 impl SampleVisitor<()> for ShapeOf {
     type Output = Result<Shape, OutOfMemory>;
 
@@ -121,7 +154,7 @@ impl SampleVisitor<()> for ShapeOf {
     }
 }
 
-/// Whether a sample type has that name.
+/// Returns whether a sample type has that name.
 pub fn is_sample_name(name: &str) -> bool
     ensures { result ≡ is_some (sample_named name.now) }
 {

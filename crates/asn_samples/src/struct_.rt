@@ -1,4 +1,5 @@
-// A SEQUENCE of one field that may be absent.
+//! Describes a SEQUENCE of one field that may be absent. `Nested` holds it, so its definitions
+//! name its shape and its value too.
 ghost use Rattle.asn_samples.specs.Struct.{struct_fields, struct_slots};
 ghost use Rattle.std.specs.Prelude.{refl};
 
@@ -10,18 +11,22 @@ use asn_traits::{
 };
 use std::alloc::Global;
 
-/// `Struct ::= SEQUENCE { strct INTEGER (0..255) OPTIONAL }`
+/// Is `Struct ::= SEQUENCE { strct INTEGER (0..255) OPTIONAL }`.
 #[derive(Debug, PartialEq, Eq, Drop)]
 pub struct Struct {
+    /// Holds a number, if it is present.
     pub strct: Option<u8>,
 }
 
+/// Lists the one field for code that runs.
 const STRUCT_FIELDS: &'static [Field] = &[optional!(0, Tag::CONTEXT_0, "strct")];
 
+/// Is a SEQUENCE.
 impl OfKind for Struct {
     type Kind = SequenceKind;
 }
 
+/// Describes the field. Where it is absent, the encoding has no field at all.
 impl SequenceFields for Struct {
     const ROWS: &'static [Field] = STRUCT_FIELDS;
 

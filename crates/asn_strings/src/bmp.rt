@@ -1,4 +1,5 @@
-// BMPString: 16-bit units.
+//! Defines BMPString, which holds 16-bit units: the characters of the Basic Multilingual Plane in
+//! two octets each.
 ghost use Rattle.asn_strings.specs.Alphabets.{all_within, is_bmp, place_outside};
 ghost use Rattle.asn_strings.specs.Refusals.{refused_place};
 ghost use Rattle.std.specs.Cmp.Lexicographic.{nat_list_eq_equiv};
@@ -10,12 +11,15 @@ use crate::character_sets::{Bmp, first_outside};
 use std::alloc::{AllocError, Global};
 use std::marker::Model;
 
-/// A BMPString, seen as its 16-bit units. A unit needn't be a character.
+/// Holds a BMPString. Contracts see its 16-bit units. A unit needn't be a character: binary
+/// encodings may have surrogates.
 #[derive(Drop)]
 pub struct BmpString {
+    /// Holds the units, in order.
     units: Vec<u16>,
 }
 
+/// Lets contracts see the units.
 impl Model for BmpString {
     ghost use Rattle.std.specs.Prelude.{List, ℕ};
 
@@ -24,6 +28,7 @@ impl Model for BmpString {
     ghost view = { λ s. s.units.items };
 }
 
+/// Makes strings of a text or of units, and shows the units.
 impl BmpString {
     /// Returns the string that has the characters of the text as its units.
     ///
@@ -59,19 +64,24 @@ impl BmpString {
     }
 }
 
-/// Returns the characters of a text as units.
+/// Returns the characters of a text as units, one each, none of them above U+FFFF.
+///
+/// # Errors
+///
+/// `AllocError` alone.
 fn units_of(alloc: Global, text: &str) -> Result<Vec<u16>, AllocError>
     requires { IsTrue (all_within is_bmp (chars text.now)) }
     ensures { IfOk result (λ units. units.items ≡ chars text.now) }
 {
     let mut units = Vec::new(alloc);
+    // The cast loses nothing, since each character is in the plane.
     for character in text.chars() {
         units.push(character as u16)?;
     }
     Ok(units)
 }
 
-/// Two strings are equal where their units are.
+/// Compares two strings: they are equal where their units are.
 impl PartialEq for BmpString {
     ghost eq = { bytes_eq };
 
@@ -82,6 +92,7 @@ impl PartialEq for BmpString {
     }
 }
 
+/// States that the comparison is an equivalence.
 impl Eq for BmpString {
     ghost laws = { nat_list_eq_equiv };
 }

@@ -1,10 +1,12 @@
-// The character sets of the restricted character string types.
+//! Defines the character sets of the restricted character string types, each as a type without
+//! values to hold, which a string type has as its parameter.
 ghost use Rattle.asn_strings.specs.Alphabets.{all_within, is_any, is_bmp, is_graphic, is_ia5};
 ghost use Rattle.asn_strings.specs.Alphabets.{is_numeric, is_printable, is_visible, place_outside};
 ghost use Rattle.std.specs.Prelude.{◌≡◌, ℕ, Bool, IfNone, IsTrue, chars};
 
-/// The characters of a restricted character string type.
+/// States which characters a restricted character string type has.
 pub trait CharacterSet: Drop {
+    // The alphabet, as a test of code points or of octets.
     ghost alphabet: { ℕ → Bool };
 
     /// Returns whether the character is in the alphabet.
@@ -12,7 +14,8 @@ pub trait CharacterSet: Drop {
         ensures { result ≡ alphabet character };
 }
 
-/// Returns the number of characters before the first one outside the alphabet of `C`.
+/// Returns the place of the first character outside the alphabet of `C`, counted in characters,
+/// or `None` where there is none.
 pub fn first_outside<C: CharacterSet>(text: &str) -> Option<usize>
     ensures place { result ≡ place_outside C.alphabet (chars text.now) }
     ensures within { IfNone result (IsTrue (all_within C.alphabet (chars text.now))) }
@@ -20,10 +23,11 @@ pub fn first_outside<C: CharacterSet>(text: &str) -> Option<usize>
     text.chars().position(|character| !C::contains(character))
 }
 
-/// NumericString: the digits and space.
+/// Is the set of NumericString: the digits and space.
 #[derive(Clone, Copy)]
 pub struct Numeric;
 
+/// Tests by a pattern.
 impl CharacterSet for Numeric {
     ghost alphabet = { is_numeric };
 
@@ -32,10 +36,12 @@ impl CharacterSet for Numeric {
     }
 }
 
-/// PrintableString: the Latin letters, the digits, space and the signs `'()+,-./:=?`.
+/// Is the set of PrintableString: the Latin letters, the digits, space and the signs
+/// `'()+,-./:=?`.
 #[derive(Clone, Copy)]
 pub struct Printable;
 
+/// Tests by a pattern. `*` and `@` are not in the set.
 impl CharacterSet for Printable {
     ghost alphabet = { is_printable };
 
@@ -48,10 +54,11 @@ impl CharacterSet for Printable {
     }
 }
 
-/// VisibleString: the printing characters of ASCII, and space.
+/// Is the set of VisibleString: the printing characters of ASCII, and space.
 #[derive(Clone, Copy)]
 pub struct Visible;
 
+/// Tests by the range from space to `~`.
 impl CharacterSet for Visible {
     ghost alphabet = { is_visible };
 
@@ -60,10 +67,11 @@ impl CharacterSet for Visible {
     }
 }
 
-/// IA5String: the characters of ASCII.
+/// Is the set of IA5String: the characters of ASCII, control characters included.
 #[derive(Clone, Copy)]
 pub struct Ia5;
 
+/// Tests by the first 128 code points.
 impl CharacterSet for Ia5 {
     ghost alphabet = { is_ia5 };
 
@@ -72,10 +80,11 @@ impl CharacterSet for Ia5 {
     }
 }
 
-/// GraphicString: all but the control characters of ASCII.
+/// Is the set of GraphicString: all but the control characters of ASCII.
 #[derive(Clone, Copy)]
 pub struct Graphic;
 
+/// Tests by the code points that it lacks.
 impl CharacterSet for Graphic {
     ghost alphabet = { is_graphic };
 
@@ -84,10 +93,11 @@ impl CharacterSet for Graphic {
     }
 }
 
-/// BMPString: the characters of the Basic Multilingual Plane.
+/// Is the set of BMPString: the characters of the Basic Multilingual Plane.
 #[derive(Clone, Copy)]
 pub struct Bmp;
 
+/// Tests by the last code point of the plane.
 impl CharacterSet for Bmp {
     ghost alphabet = { is_bmp };
 
@@ -96,10 +106,11 @@ impl CharacterSet for Bmp {
     }
 }
 
-/// UniversalString: every character.
+/// Is the set of UniversalString: every character.
 #[derive(Clone, Copy)]
 pub struct Universal;
 
+/// Has every character.
 impl CharacterSet for Universal {
     ghost alphabet = { is_any };
 
@@ -108,10 +119,11 @@ impl CharacterSet for Universal {
     }
 }
 
-/// GeneralString: every character or octet.
+/// Is the set of GeneralString: every character or octet.
 #[derive(Clone, Copy)]
 pub struct General;
 
+/// Has every character.
 impl CharacterSet for General {
     ghost alphabet = { is_any };
 
@@ -120,10 +132,12 @@ impl CharacterSet for General {
     }
 }
 
-/// TeletexString: every octet.
+/// Is the set of TeletexString: every octet. Its characters have no code points of their own
+/// here.
 #[derive(Clone, Copy)]
 pub struct Teletex;
 
+/// Has every octet, taken as the character of its number.
 impl CharacterSet for Teletex {
     ghost alphabet = { is_any };
 

@@ -1,4 +1,5 @@
-//! Laws of the strings, each the contract of a function that does nothing.
+//! States laws of the strings, each as the contract of a function that does nothing. They state
+//! what the words of the other contracts mean, such as the place of a character outside.
 ghost use Rattle.asn_strings.specs.Alphabets.{all_within, place_outside};
 ghost use Rattle.asn_strings.specs.Units.{has_text, text_of_units};
 ghost use Rattle.std.specs.Prelude.{◌≡◌, ◌≤◌, ◌<◌, ◌↔◌, ℕ, Bool, List, IsTrue, IsUtf8, None, Some};
@@ -6,15 +7,15 @@ ghost use Rattle.std.specs.Prelude.{bytes_eq, chars, false, length, slice_index,
 
 use crate::{CharacterSet, RestrictedString};
 
-/// What a text string is seen as is UTF-8.
+/// A text string is seen as a list of bytes that is UTF-8.
 pub fn text_is_utf8<C: CharacterSet>(string: &RestrictedString<C>)
     ensures { IsUtf8 string.now }
 {
     let _text = string.as_str();
 }
 
-/// The place outside is that of a character, which is outside the alphabet, and those before it
-/// are not.
+/// The place outside is that of a character, which is outside the alphabet, and all before it are
+/// in the alphabet.
 pub fn place_is_of_first_outside()
     ensures { (alphabet : ℕ → Bool) (characters : List ℕ) (place : ℕ)
         → place_outside alphabet characters ≡ Some place

@@ -1,6 +1,7 @@
-//! The restricted character string types of ASN.1 (X.680, section 41): text within an alphabet,
-//! octets within an alphabet, and 16-bit units. Contracts see each as the list of its bytes or of
-//! its units.
+//! Defines the restricted character string types of ASN.1 (X.680, section 41): text within an
+//! alphabet (`text`), octets within an alphabet (`octets`), and 16-bit units (`bmp`). Contracts
+//! see each as the list of its bytes or of its units. A value of such a type is within its
+//! alphabet by an invariant, so it is tested once, where it is made.
 #![tactic(auto)]
 
 pub mod bmp;

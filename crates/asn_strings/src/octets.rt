@@ -1,4 +1,5 @@
-// The restricted character strings that are held as octets.
+//! Defines the restricted character strings that are held as octets: GeneralString, GraphicString
+//! and TeletexString, whose octets needn't be UTF-8.
 ghost use Rattle.asn_strings.specs.Alphabets.{all_within, is_graphic, past_ascii_is_graphic};
 ghost use Rattle.asn_strings.specs.Alphabets.{place_outside};
 ghost use Rattle.asn_strings.specs.Refusals.{refused_place};
@@ -12,50 +13,63 @@ use crate::{CharacterSet, StringFault};
 use std::alloc::Global;
 use std::marker::{Model, PhantomData};
 
-/// A character set that has every octet past ASCII, and so the UTF-8 octets of its characters.
+/// Is a character set that has every octet past ASCII, and so the UTF-8 octets of its characters.
 pub trait OctetSet: CharacterSet {
+    // Octets from 0x80 on are in the alphabet.
     ghost past_ascii: { (octet : ℕ) → 128 ≤ octet → Self.alphabet octet ≡ true };
 }
 
+/// Lacks control characters of ASCII alone.
 impl OctetSet for Graphic {
     ghost past_ascii = { past_ascii_is_graphic };
 }
 
+/// Has every octet.
 impl OctetSet for General {
     ghost past_ascii = { λ _ _. refl };
 }
 
+/// Has every octet.
 impl OctetSet for Teletex {
     ghost past_ascii = { λ _ _. refl };
 }
 
-/// A character set that has every octet.
+/// Is a character set that has every octet, so that any octets make a string.
 pub trait EveryOctet: OctetSet {
+    // All octets are in the alphabet.
     ghost every_octet: { (octet : ℕ) → Self.alphabet octet ≡ true };
 }
 
+/// Has every octet.
 impl EveryOctet for General {
     ghost every_octet = { λ _. refl };
 }
 
+/// Has every octet.
 impl EveryOctet for Teletex {
     ghost every_octet = { λ _. refl };
 }
 
-/// A character set whose strings are made of a text as its UTF-8 octets.
+/// Is a character set whose strings are made of a text as its UTF-8 octets. TeletexString is none:
+/// its octets have another character code.
 pub trait Utf8Octets: OctetSet {}
 
+/// Takes a text as its UTF-8 octets.
 impl Utf8Octets for General {}
 
+/// Takes a text as its UTF-8 octets.
 impl Utf8Octets for Graphic {}
 
-/// Octets in the alphabet of `C`, seen as their list.
+/// Holds octets in the alphabet of `C`. Contracts see their list.
 #[derive(Drop)]
 pub struct RestrictedOctets<C: OctetSet> {
+    /// Holds the octets, in order.
     octets: Vec<u8>,
+    /// Names the alphabet, and takes no memory.
     character_set: PhantomData<C>,
 }
 
+/// Lets contracts see the octets. The invariant is that each is in the alphabet.
 impl<C: OctetSet> Model for RestrictedOctets<C> {
     ghost use Rattle.asn_strings.specs.Alphabets.{all_within};
     ghost use Rattle.std.specs.Prelude.{ℕ, List, IsTrue};
@@ -67,24 +81,25 @@ impl<C: OctetSet> Model for RestrictedOctets<C> {
     ghost invariant = { λ s. IsTrue (all_within C.alphabet s.octets.items) };
 }
 
-/// Returns whether each octet is in the alphabet of `C`.
+/// Returns whether each octet is in the alphabet of `C`, taken as the character of its number.
 fn are_within<C: OctetSet>(octets: &[u8]) -> bool
     ensures { result ≡ all_within C.alphabet octets.now }
 {
     octets.iter().all(|octet| C::contains(char::from(*octet)))
 }
 
-/// A GeneralString.
+/// Is a GeneralString: any octets.
 pub type GeneralString = RestrictedOctets<General>;
 
-/// A GraphicString.
+/// Is a GraphicString: octets without control characters of ASCII.
 pub type GraphicString = RestrictedOctets<Graphic>;
 
-/// A TeletexString.
+/// Is a TeletexString: any octets.
 pub type TeletexString = RestrictedOctets<Teletex>;
 
+/// Shows the octets.
 impl<C: OctetSet> RestrictedOctets<C> {
-    /// Returns the octets.
+    /// Returns the octets, each of which is in the alphabet.
     pub fn octets(&self) -> &[u8]
         ensures octets { result.now ≡ self.now }
         ensures within { IsTrue (all_within C.alphabet self.now) }
@@ -93,8 +108,9 @@ impl<C: OctetSet> RestrictedOctets<C> {
     }
 }
 
+/// Makes strings of texts.
 impl<C: Utf8Octets> RestrictedOctets<C> {
-    /// Returns the UTF-8 octets of the text.
+    /// Returns the string of the UTF-8 octets of the text, which is copied.
     ///
     /// # Errors
     ///
@@ -105,6 +121,7 @@ impl<C: Utf8Octets> RestrictedOctets<C> {
         ensures within { OnOk result (IsTrue (all_within C.alphabet (chars text.now))) }
         ensures outside { refused_place result ≡ place_outside C.alphabet (chars text.now) }
     {
+        // The characters are tested, and not the octets, whose place would be another one.
         if let Some(place) = first_outside::<C>(text) {
             return Err(StringFault::Alphabet { place });
         }
@@ -114,7 +131,7 @@ impl<C: Utf8Octets> RestrictedOctets<C> {
         })
     }
 
-    /// Returns the UTF-8 octets of an owned text, which isn't copied.
+    /// Returns the string of the UTF-8 octets of an owned text, which isn't copied.
     ///
     /// # Errors
     ///
@@ -137,8 +154,9 @@ impl<C: Utf8Octets> RestrictedOctets<C> {
     }
 }
 
+/// Makes strings of octets, for sets that have all of them.
 impl<C: EveryOctet> RestrictedOctets<C> {
-    /// Returns the string of any octets.
+    /// Returns the string of any octets. They are not copied.
     pub fn from_octets(octets: Vec<u8>) -> Self
         ensures { result ≡ octets.items }
     {
@@ -149,8 +167,9 @@ impl<C: EveryOctet> RestrictedOctets<C> {
     }
 }
 
+/// Makes strings of octets, which are tested.
 impl RestrictedOctets<Graphic> {
-    /// Returns the string of the octets, or none where one of them is a control character of
+    /// Returns the string of the octets, or `None` where one of them is a control character of
     /// ASCII: 0x00 to 0x1F, or 0x7F.
     pub fn from_octets(octets: Vec<u8>) -> Option<GraphicString>
         ensures { SomeIff result (IsTrue (all_within is_graphic octets.items)) octets.items }
@@ -165,7 +184,7 @@ impl RestrictedOctets<Graphic> {
     }
 }
 
-/// Two strings are equal where their octets are.
+/// Compares two strings: they are equal where their octets are.
 impl<C: OctetSet> PartialEq for RestrictedOctets<C> {
     ghost eq = { bytes_eq };
 
@@ -176,6 +195,7 @@ impl<C: OctetSet> PartialEq for RestrictedOctets<C> {
     }
 }
 
+/// States that the comparison is an equivalence.
 impl<C: OctetSet> Eq for RestrictedOctets<C> {
     ghost laws = { nat_list_eq_equiv };
 }

@@ -1,3 +1,5 @@
+//! Tests the strings on the edges of their alphabets. The expected values come from the alphabets
+//! of X.680, section 41.
 use crate::{
     BmpString, GeneralString, GraphicString, Ia5String, NumericString, PrintableString,
     StringFault, TeletexString, UniversalString, VisibleString,
@@ -5,7 +7,7 @@ use crate::{
 use std::alloc::{AllocError, Global};
 use std::test::Fail;
 
-/// A type, a text, and the place of the first character outside the alphabet.
+/// Lists a type, a text, and the place of the first character outside the alphabet.
 const CASES: [(&str, &str, Option<usize>); 17] = [
     ("NumericString", "1 2", None),
     ("PrintableString", "1 2", None),
@@ -26,7 +28,7 @@ const CASES: [(&str, &str, Option<usize>); 17] = [
     ("UniversalString", "\u{1F600}", None),
 ];
 
-/// Returns the place that an answer names.
+/// Returns the place that a result names. The string itself is dropped.
 fn place_of<T: Drop>(answer: Result<T, StringFault>) -> Result<Option<usize>, AllocError> {
     match answer {
         Ok(_) => Ok(None),
@@ -49,8 +51,10 @@ fn place_outside(alloc: Global, name: &str, text: &str) -> Result<Option<usize>,
     }
 }
 
+/// Each type takes the characters of its alphabet, and names the place of the first other one.
 #[test]
 fn alphabets(rt: HostRuntime) -> Result<(), Fail> {
+    // Each row names its type, so one loop tries all of them.
     for (name, text, place) in CASES {
         assert_eq!(rt;
             place_outside(rt.alloc(), name, text)?,
@@ -61,6 +65,8 @@ fn alphabets(rt: HostRuntime) -> Result<(), Fail> {
     Ok(())
 }
 
+/// A string has the content that it was made of, is equal to one of the same content, and is made
+/// of octets where its set has them.
 #[test]
 fn contents(rt: HostRuntime) -> Result<(), Fail> {
     let alloc = rt.alloc();
@@ -68,13 +74,16 @@ fn contents(rt: HostRuntime) -> Result<(), Fail> {
     assert_eq!(rt; numeric.as_str(), "1 2");
     assert!(rt; numeric == NumericString::from_string("1 2".to_string(alloc)?)?);
     assert!(rt; numeric != NumericString::try_from_text(alloc, "1 3")?);
+    // `é` is one unit, and two octets in UTF-8.
     let bmp = BmpString::try_from_text(alloc, "é")?;
     assert_eq!(rt; bmp.units(), [0xE9].as_slice());
     assert!(rt; bmp == BmpString::from_units(vec![in alloc; 0xE9]?));
     let graphic = GraphicString::from_string("é".to_string(alloc)?)?;
     assert_eq!(rt; graphic.octets(), b"\xC3\xA9".as_slice());
+    // Octets past ASCII are in the set of GraphicString, and control characters are not.
     assert!(rt; GraphicString::from_octets(vec![in alloc; 0xFF]?).is_some());
     assert!(rt; GraphicString::from_octets(vec![in alloc; 0x20, 0x1F]?).is_none());
+    // These two sets have every octet.
     let general = GeneralString::from_octets(vec![in alloc; 0, 0xFF]?);
     assert_eq!(rt; general.octets(), b"\0\xFF".as_slice());
     let teletex = TeletexString::from_octets(vec![in alloc; 0, 0xFF]?);
@@ -82,6 +91,7 @@ fn contents(rt: HostRuntime) -> Result<(), Fail> {
     Ok(())
 }
 
+/// The texts of both faults are exact, which no contract states.
 #[test]
 fn fault_texts(rt: HostRuntime) -> Result<(), Fail> {
     let fault = StringFault::Alphabet { place: 16 };

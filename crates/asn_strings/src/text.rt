@@ -1,4 +1,5 @@
-// The restricted character strings that are text.
+//! Defines the restricted character strings that are text: those whose alphabet is one of Unicode
+//! characters. They are held as UTF-8.
 ghost use Rattle.asn_strings.specs.Alphabets.{all_within, place_outside};
 ghost use Rattle.asn_strings.specs.Refusals.{refused_place};
 ghost use Rattle.std.specs.Cmp.Lexicographic.{nat_list_eq_equiv};
@@ -11,31 +12,34 @@ use crate::{CharacterSet, StringFault};
 use std::alloc::Global;
 use std::marker::{Model, PhantomData};
 
-/// A UTF8String.
+/// Is a UTF8String, which every text is.
 pub type Utf8String = String;
 
-/// A NumericString.
+/// Is a NumericString: digits and spaces.
 pub type NumericString = RestrictedString<Numeric>;
 
-/// A PrintableString.
+/// Is a PrintableString: letters, digits, space and eleven signs.
 pub type PrintableString = RestrictedString<Printable>;
 
-/// A VisibleString.
+/// Is a VisibleString: the printing characters of ASCII, and space.
 pub type VisibleString = RestrictedString<Visible>;
 
-/// An IA5String.
+/// Is an IA5String: the characters of ASCII.
 pub type Ia5String = RestrictedString<Ia5>;
 
-/// A UniversalString.
+/// Is a UniversalString: every character.
 pub type UniversalString = RestrictedString<Universal>;
 
-/// A text whose characters are in the alphabet of `C`, seen as its UTF-8 bytes.
+/// Holds a text whose characters are in the alphabet of `C`. Contracts see its UTF-8 bytes.
 #[derive(Drop)]
 pub struct RestrictedString<C: CharacterSet> {
+    /// Holds the text.
     text: String,
+    /// Names the alphabet, and takes no memory.
     character_set: PhantomData<C>,
 }
 
+/// Lets contracts see the bytes. The invariant is that each character is in the alphabet.
 impl<C: CharacterSet> Model for RestrictedString<C> {
     ghost use Rattle.asn_strings.specs.Alphabets.{all_within};
     ghost use Rattle.std.specs.Prelude.{IsTrue, List, chars, string_bytes, ℕ};
@@ -47,8 +51,9 @@ impl<C: CharacterSet> Model for RestrictedString<C> {
     ghost invariant = { λ s. IsTrue (all_within C.alphabet (chars (string_bytes s.text))) };
 }
 
+/// Makes strings of texts, and shows the text.
 impl<C: CharacterSet> RestrictedString<C> {
-    /// Returns the string of the text.
+    /// Returns the string of the text, which is copied.
     ///
     /// # Errors
     ///
@@ -59,6 +64,7 @@ impl<C: CharacterSet> RestrictedString<C> {
         ensures within { OnOk result (IsTrue (all_within C.alphabet (chars text.now))) }
         ensures outside { refused_place result ≡ place_outside C.alphabet (chars text.now) }
     {
+        // The text is tested before it is copied, so a refused text takes no memory.
         if let Some(place) = first_outside::<C>(text) {
             return Err(StringFault::Alphabet { place });
         }
@@ -90,7 +96,7 @@ impl<C: CharacterSet> RestrictedString<C> {
         })
     }
 
-    /// Returns the text.
+    /// Returns the text, each character of which is in the alphabet.
     pub fn as_str(&self) -> &str
         ensures text { result.now ≡ self.now }
         ensures within { IsTrue (all_within C.alphabet (chars self.now)) }
@@ -99,7 +105,7 @@ impl<C: CharacterSet> RestrictedString<C> {
     }
 }
 
-/// Two strings are equal where their texts are.
+/// Compares two strings: they are equal where their texts are.
 impl<C: CharacterSet> PartialEq for RestrictedString<C> {
     ghost eq = { bytes_eq };
 
@@ -110,6 +116,7 @@ impl<C: CharacterSet> PartialEq for RestrictedString<C> {
     }
 }
 
+/// States that the comparison is an equivalence.
 impl<C: CharacterSet> Eq for RestrictedString<C> {
     ghost laws = { nat_list_eq_equiv };
 }

@@ -1,4 +1,5 @@
-// Values of each kind as the text that they have in the value notation, both ways.
+//! Encodes values of each kind as the text that they have in the value notation, and decodes them
+//! from it. The texts are written by the rules of X.680, in the layout of the crate `rasn`.
 use asn_traits::{Decode, Encode};
 use avn_rules::avn;
 use std::alloc::{AllocError, Global};
@@ -6,6 +7,7 @@ use std::fmt::Debug;
 use std::process::Abort;
 use std::test::Fail;
 
+/// Checks that the value is encoded as the text, and decoded from it.
 fn is_text_of<T: Encode + Decode + PartialEq + Debug>(
     rt: &impl Abort,
     alloc: Global,
@@ -19,14 +21,18 @@ fn is_text_of<T: Encode + Decode + PartialEq + Debug>(
     Ok(())
 }
 
+/// Each kind of value has its text, both ways: at the edges of its range, with quotes in a text,
+/// and with none and two elements in a list.
 #[test]
 fn values_are_their_texts(rt: HostRuntime) -> Result<(), Fail> {
     let alloc = rt.alloc();
     is_text_of(&rt, alloc, true, "TRUE")?;
     is_text_of(&rt, alloc, false, "FALSE")?;
     is_text_of(&rt, alloc, (), "NULL")?;
+    // Numbers are written in decimal, and the widest ones whole.
     is_text_of(&rt, alloc, -5i8, "-5")?;
     is_text_of(&rt, alloc, i64::MIN, "-9223372036854775808")?;
+    // A quote in a text is written twice.
     is_text_of(
         &rt,
         alloc,
@@ -39,12 +45,13 @@ fn values_are_their_texts(rt: HostRuntime) -> Result<(), Fail> {
         String::from_str(alloc, "say \"hi\"")?,
         "\"say \"\"hi\"\"\"",
     )?;
+    // An empty list is written on one line, and others with a line for each element.
     let none: Vec<u8> = Vec::new(alloc);
     is_text_of(&rt, alloc, none, "{}")?;
     is_text_of(&rt, alloc, [1u8, 2].to_vec(alloc)?, "{\n  1,\n  2\n}")
 }
 
-/// So many letters, and what stands after them.
+/// Returns a number of letters, with these texts before and after them.
 fn letters(alloc: Global, count: usize, before: &str, after: &str) -> Result<String, AllocError> {
     let mut text = String::from_str(alloc, before)?;
     for _ in 0..count {
@@ -54,10 +61,14 @@ fn letters(alloc: Global, count: usize, before: &str, after: &str) -> Result<Str
     Ok(text)
 }
 
+/// A text is read in pieces of 256 characters. Around that length, an open quote, a doubled one
+/// and a character of two bytes after 250 to 259 letters are read as in any other place.
+/// The texts follow from the rule of doubled quotes (X.680, section 12).
 #[test]
 fn long_texts_are_read_whole(rt: HostRuntime) -> Result<(), Fail> {
     let alloc = rt.alloc();
     for count in 250..260 {
+        // Two quotes at the end are one quote of the text, so the text isn't closed.
         let open = letters(alloc, count, "\"", "\"\"")?;
         assert!(rt; avn::decode::<String>(alloc, open.as_str()).is_err());
         let text = letters(alloc, count, "\"", "\"\"\u{e9}b\"\"\"")?;
@@ -71,7 +82,7 @@ fn long_texts_are_read_whole(rt: HostRuntime) -> Result<(), Fail> {
     Ok(())
 }
 
-// Texts that say no `u8`.
+/// Lists texts that decode to no `u8`.
 const NO_OCTETS: [&str; 4] = [
     "256",
     "-1",
@@ -79,6 +90,8 @@ const NO_OCTETS: [&str; 4] = [
     "TRUE",
 ];
 
+/// A number on either side of the range, one of more than 128 bits, and a value of another kind
+/// are refused.
 #[test]
 fn other_values_are_refused(rt: HostRuntime) -> Result<(), Fail> {
     for &text in &NO_OCTETS {

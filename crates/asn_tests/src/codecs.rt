@@ -1,4 +1,5 @@
-// Calls by a codec's name, and direct calls of the encoder and the decoder of AVN.
+//! Calls the codecs by name, and the encoder and the decoder of AVN directly, where a text can't
+//! lead: to a codec without text, to a root without a value, to a number that is none.
 use asn_base::{Codec, Constraints, Identifier, Tag};
 use asn_codec::CodecCalls;
 use asn_traits::{Decoder, Encoder};
@@ -6,7 +7,8 @@ use avn_rules::avn::{de, enc};
 use avn_value::AvnValue;
 use std::test::Fail;
 
-// The codec, and the error of writing a value as text by it.
+/// Lists codecs, each with the error of encoding a value as text by it. The texts are those of the
+/// crate `rasn`.
 const REFUSED: [(Codec, &'static str); 3] = [
     (
         Codec::Ber,
@@ -22,14 +24,18 @@ const REFUSED: [(Codec, &'static str); 3] = [
     ),
 ];
 
+/// A binary codec returns an error that names the call to make instead, and XER that it is not
+/// supported.
 #[test]
 fn other_codecs_have_no_text(rt: HostRuntime) -> Result<(), Fail> {
+    // The value plays no part: the codec is looked at first.
     for row in REFUSED.iter() {
         match row.0.encode_to_string(rt.alloc(), &true) {
             Ok(_) => return Err(Fail::from("written")),
             Err(error) => assert_eq!(rt; format!(in rt.alloc(); "{error}")?.as_str(), row.1),
         }
     }
+    // Decoding names the other call.
     match Codec::Uper.decode_from_str::<bool>(rt.alloc(), "TRUE") {
         Ok(_) => return Err(Fail::from("read")),
         Err(error) => assert_eq!(rt;
@@ -40,6 +46,9 @@ fn other_codecs_have_no_text(rt: HostRuntime) -> Result<(), Fail> {
     Ok(())
 }
 
+/// An encoder of AVN that was given nothing has no text, and one that was given a value has its
+/// text.
+/// The error's text is that of the crate `rasn`.
 #[test]
 fn tells_what_stands_at_the_root_in_avn(rt: HostRuntime) -> Result<(), Fail> {
     match enc::Encoder::new(rt.alloc()).to_string() {
@@ -55,10 +64,15 @@ fn tells_what_stands_at_the_root_in_avn(rt: HostRuntime) -> Result<(), Fail> {
     Ok(())
 }
 
+/// An AVN value of a program's own may hold an integer whose text is no number. The parser makes
+/// none, so a test makes it by hand.
+/// The error's text is that of the crate `rasn`, with the integer's own text in it.
 #[test]
 fn an_integer_value_may_be_no_number(rt: HostRuntime) -> Result<(), Fail> {
     let value = AvnValue::Integer(String::from_str(rt.alloc(), "x")?);
+    // `from_value` takes a value as it is, whether it is well formed or not.
     let mut decoder = de::Decoder::from_value(rt.alloc(), value)?;
+    // A number is looked for in the text only when a type asks for one.
     match decoder.decode_integer::<u8>(Tag::INTEGER, &Constraints::NONE) {
         Ok(_) => return Err(Fail::from("a number")),
         Err(error) => assert_eq!(rt;

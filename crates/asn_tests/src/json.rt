@@ -1,9 +1,12 @@
-// Direct calls of JER.
+//! Calls JER directly: the edges of its numbers, shapes of types, and an encoder without a value.
 use asn_base::{Identifier, Tag};
 use asn_traits::{AsnType, Encoder, Shape};
 use jer_rules::jer::{enc, encode};
 use std::test::Fail;
 
+/// The least number that JER has is encoded, and the one below it is refused by its own text:
+/// JER has the numbers of `i64` and of `u64`.
+/// The error's text is that of the crate `rasn`.
 #[test]
 fn refuses_numbers_that_json_lacks(rt: HostRuntime) -> Result<(), Fail> {
     let least: i128 = -9_223_372_036_854_775_808;
@@ -11,6 +14,7 @@ fn refuses_numbers_that_json_lacks(rt: HostRuntime) -> Result<(), Fail> {
         Ok(text) => assert_eq!(rt; text.as_str(), "-9223372036854775808"),
         Err(_) => return Err(Fail::from("refused")),
     }
+    // -2^63 - 1, which needs the wider type of the value.
     match encode(rt.alloc(), &(least - 1)) {
         Ok(_) => return Err(Fail::from("written")),
         Err(error) => {
@@ -24,6 +28,7 @@ fn refuses_numbers_that_json_lacks(rt: HostRuntime) -> Result<(), Fail> {
     Ok(())
 }
 
+/// The call `shape` gives the shape of BOOLEAN and of a list of it as a value.
 #[test]
 fn tells_the_shapes_of_types(rt: HostRuntime) -> Result<(), Fail> {
     match bool::shape(rt.alloc()) {
@@ -40,6 +45,9 @@ fn tells_the_shapes_of_types(rt: HostRuntime) -> Result<(), Fail> {
     Ok(())
 }
 
+/// An encoder of JER that was given nothing has no text and no JSON value, and one that was given
+/// a value has both.
+/// The error's text is that of the crate `rasn`.
 #[test]
 fn tells_what_stands_at_the_root(rt: HostRuntime) -> Result<(), Fail> {
     let none = "JER encoding error: No encoded JSON root value found (Codec: JER)";
@@ -51,6 +59,7 @@ fn tells_what_stands_at_the_root(rt: HostRuntime) -> Result<(), Fail> {
         Ok(_) => return Err(Fail::from("a value of nothing")),
         Err(error) => assert_eq!(rt; format!(in rt.alloc(); "{error}")?.as_str(), none),
     }
+    // Both calls consume the encoder, so each has one of its own.
     let mut encoder = enc::Encoder::new(rt.alloc());
     encoder.encode_bool(Tag::BOOL, true, Identifier::EMPTY)?;
     assert_eq!(rt; encoder.to_string()?.as_str(), "true");

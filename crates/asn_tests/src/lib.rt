@@ -1,4 +1,6 @@
-//! Tests that cross crates. There is nothing here but tests.
+//! Tests what crosses crates, and what no contract states: that calls succeed where there is
+//! memory. There is nothing here but tests, a file for each part of the library. Contracts are
+//! proved for every input, so a test has one input of a kind, or one at each edge.
 #![tactic(auto)]
 
 #[cfg(test)]

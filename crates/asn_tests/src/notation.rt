@@ -1,4 +1,6 @@
-// Printed texts, normal forms, copies and readings, with ample memory.
+//! Prints, copies, normalizes and reads values of the notation with ample memory. The texts are
+//! written by the rules of X.680, as far as the crate `rasn` 0.30.0 reads them, and in its layout:
+//! a line for each field and item, indented by two spaces a level.
 use asn_base::Scan;
 use asn_fault::{AvnDecodeErrorKind, CodecDecodeError, DecodeError, DecodeErrorKind};
 use avn_value::{AvnValue, parse_avn, parse_scan};
@@ -6,7 +8,7 @@ use std::alloc::{AllocError, Global};
 use std::process::Abort;
 use std::test::Fail;
 
-/// The name of the value's variant, which its printed text does not always show.
+/// Returns the name of the value's variant, which its printed text does not always show.
 fn kind(value: &AvnValue) -> &'static str {
     match value {
         AvnValue::Boolean(_) => "Boolean",
@@ -24,11 +26,12 @@ fn kind(value: &AvnValue) -> &'static str {
     }
 }
 
+/// Returns an owned text.
 fn string(alloc: Global, text: &str) -> Result<String, AllocError> {
     String::from_str(alloc, text)
 }
 
-/// The name of the value's variant, and of those of its items, fields or payload.
+/// Returns the name of the value's variant, and those of its items, fields or payload.
 fn kinds(alloc: Global, value: &AvnValue) -> Result<String, AllocError> {
     let mut names = string(alloc, kind(value))?;
     match value {
@@ -39,6 +42,7 @@ fn kinds(alloc: Global, value: &AvnValue) -> Result<String, AllocError> {
             }
         }
         AvnValue::Sequence(fields) => {
+            // A field without a value is named `absent`.
             for (_, field) in fields {
                 names.push(' ')?;
                 names.push_str(field.as_ref().map_or("absent", kind))?;
@@ -53,6 +57,7 @@ fn kinds(alloc: Global, value: &AvnValue) -> Result<String, AllocError> {
     Ok(names)
 }
 
+/// Returns a bit string of these octets, of which a number of bits counts.
 fn bits(alloc: Global, octets: &[u8], bit_length: usize) -> Result<AvnValue, AllocError> {
     Ok(AvnValue::BitString {
         bytes: Vec::from_slice(alloc, octets)?,
@@ -60,6 +65,7 @@ fn bits(alloc: Global, octets: &[u8], bit_length: usize) -> Result<AvnValue, All
     })
 }
 
+/// Returns fields: one of this name, if it has a value, and an absent one.
 fn sequence(
     alloc: Global,
     name: &str,
@@ -74,6 +80,7 @@ fn sequence(
     Ok(AvnValue::Sequence(fields))
 }
 
+/// Returns a choice of this identifier and payload.
 fn choice(alloc: Global, identifier: &str, value: AvnValue) -> Result<AvnValue, AllocError> {
     Ok(AvnValue::Choice {
         identifier: string(alloc, identifier)?,
@@ -81,39 +88,47 @@ fn choice(alloc: Global, identifier: &str, value: AvnValue) -> Result<AvnValue, 
     })
 }
 
-/// A value, its printed text, and the variants and the printed text of its normal form.
+/// Holds a value, its printed text, and the variants and the printed text of its normal form.
 type Row = (AvnValue, &'static str, &'static str, &'static str);
 
+/// Returns values without braces. A number that is held as a real without a fraction is read as an
+/// integer, and all others as they are.
 fn plain_rows(alloc: Global) -> Result<[Row; 9], AllocError> {
     Ok([
         (AvnValue::Boolean(true), "TRUE", "Boolean", "TRUE"),
         (AvnValue::Boolean(false), "FALSE", "Boolean", "FALSE"),
         (AvnValue::Null, "NULL", "Null", "NULL"),
+        // A number is its text, with no limit on digits.
         (
             AvnValue::Integer(string(alloc, "-12")?),
             "-12",
             "Integer",
             "-12",
         ),
+        // The one of these whose normal form is of another variant.
         (AvnValue::Real(string(alloc, "5")?), "5", "Integer", "5"),
+        // A keyword needs no fraction to stay a real.
         (
             AvnValue::Real(string(alloc, "NOT-A-NUMBER")?),
             "NOT-A-NUMBER",
             "Real",
             "NOT-A-NUMBER",
         ),
+        // A word that is no keyword is an item of an enumeration.
         (
             AvnValue::Enumerated(string(alloc, "red")?),
             "red",
             "Enumerated",
             "red",
         ),
+        // A quote in the text is printed twice, and read as one.
         (
             AvnValue::CharString(string(alloc, "say \"hi\"")?),
             "\"say \"\"hi\"\"\"",
             "CharString",
             "\"say \"\"hi\"\"\"",
         ),
+        // A choice is printed on one line, with blanks round its colon.
         (
             choice(alloc, "test1", AvnValue::Integer(string(alloc, "5")?))?,
             "test1 : 5",
@@ -123,28 +138,39 @@ fn plain_rows(alloc: Global) -> Result<[Row; 9], AllocError> {
     ])
 }
 
+/// Returns octets, bits and arcs. Bits of whole octets are printed in hexadecimal and read as
+/// octets, and arcs are read as a list of integers.
 fn octet_rows(alloc: Global) -> Result<[Row; 6], AllocError> {
     Ok([
+        // Octets are printed in capitals.
         (
             AvnValue::OctetString(Vec::from_slice(alloc, &[1, 255])?),
             "'01FF'H",
             "OctetString",
             "'01FF'H",
         ),
+        // No bits and no octets have the same text.
         (bits(alloc, &[], 0)?, "''H", "OctetString", "''H"),
+        // Eight bits are printed as an octet.
         (bits(alloc, &[0xA0], 8)?, "'A0'H", "OctetString", "'A0'H"),
+        // Five bits past the length are not printed.
         (bits(alloc, &[0xFF], 3)?, "'111'B", "BitString", "'111'B"),
+        // Arcs are printed on one line, and the list that is read from it on several.
         (
             AvnValue::Oid(Vec::from_slice(alloc, &[2, 5])?),
             "{ 2 5 }",
             "SequenceOf Integer Integer",
             "{\n  2,\n  5\n}",
         ),
+        // Without arcs the braces are those of an empty list.
         (AvnValue::Oid(Vec::new(alloc)), "{ }", "SequenceOf", "{}"),
     ])
 }
 
+/// Returns fields and lists. Absent fields are not printed, and braces without any entry are read
+/// as a list.
 fn brace_rows(alloc: Global) -> Result<[Row; 4], AllocError> {
+    // Fields within a field, the first of them without any that is present.
     let mut very = Vec::new(alloc);
     very.push((
         string(alloc, "very")?,
@@ -153,24 +179,28 @@ fn brace_rows(alloc: Global) -> Result<[Row; 4], AllocError> {
     very.push((string(alloc, "nested")?, Some(AvnValue::Boolean(false))))?;
     let very = AvnValue::Sequence(very);
     Ok([
+        // An absent field leaves no line.
         (
             sequence(alloc, "field1", Some(AvnValue::Boolean(true)), "field2")?,
             "{\n  field1 TRUE\n}",
             "Sequence Boolean",
             "{\n  field1 TRUE\n}",
         ),
+        // Where no field is present, the braces are those of an empty list.
         (
             sequence(alloc, "", None, "absent")?,
             "{}",
             "SequenceOf",
             "{}",
         ),
+        // An empty list is read as itself.
         (
             AvnValue::SequenceOf(Vec::new(alloc)),
             "{}",
             "SequenceOf",
             "{}",
         ),
+        // Each level is indented by two more blanks, and its closing brace stands under its name.
         (
             sequence(alloc, "a", Some(very), "b")?,
             "{\n  a {\n    very {},\n    nested FALSE\n  }\n}",
@@ -180,13 +210,15 @@ fn brace_rows(alloc: Global) -> Result<[Row; 4], AllocError> {
     ])
 }
 
-/// The row's texts, a copy's variants and text, and that what is printed is read as the normal form.
+/// Checks the row's text, a copy's variants and text, and that what is printed is read as the
+/// normal form.
 fn check_row(rt: &impl Abort, alloc: Global, row: &Row) -> Result<(), Fail> {
     let (value, printed, variants, normal_text) = row;
     let text = format!(in alloc; "{value}")?;
     assert_eq!(rt; text.as_str(), *printed);
     assert!(rt; value.is_well_formed());
 
+    // A copy is the same in variants and text, before any normal form.
     let copy = value.try_clone(alloc)?;
     assert_eq!(rt;
         kinds(alloc, &copy)?.as_str(),
@@ -194,6 +226,7 @@ fn check_row(rt: &impl Abort, alloc: Global, row: &Row) -> Result<(), Fail> {
     );
     assert_eq!(rt; format!(in alloc; "{copy}")?.as_str(), *printed);
 
+    // The normal form as it is computed, and as it is read from the printed text.
     let normal = value.normal(alloc)?;
     assert_eq!(rt; kinds(alloc, &normal)?.as_str(), *variants);
     assert_eq!(rt; format!(in alloc; "{normal}")?.as_str(), *normal_text);
@@ -204,6 +237,8 @@ fn check_row(rt: &impl Abort, alloc: Global, row: &Row) -> Result<(), Fail> {
     Ok(())
 }
 
+/// Values of each kind are printed as their text and are well formed, a copy is the same value,
+/// and their printed text is read as their normal form.
 #[test]
 fn values_are_printed_copied_and_read_as_their_normal_form(rt: HostRuntime) -> Result<(), Fail> {
     let alloc = rt.alloc();
@@ -219,6 +254,8 @@ fn values_are_printed_copied_and_read_as_their_normal_form(rt: HostRuntime) -> R
     Ok(())
 }
 
+/// The bits past the length are set to 0 by the normal form, which its printed text can't show.
+/// Of 0xFF, three bits are left: 0xE0.
 #[test]
 fn bits_past_the_length_are_zero_in_a_normal_form(rt: HostRuntime) -> Result<(), Fail> {
     match bits(rt.alloc(), &[0xFF], 3)?.normal(rt.alloc())? {
@@ -231,16 +268,24 @@ fn bits_past_the_length_are_zero_in_a_normal_form(rt: HostRuntime) -> Result<(),
     Ok(())
 }
 
+/// Values that no text gives are not well formed: a number without digits, a real without a
+/// fraction, a keyword as an item, more or fewer octets than the bits need, and names that are no
+/// identifiers.
 #[test]
 fn values_that_cannot_be_read_again_are_not_well_formed(rt: HostRuntime) -> Result<(), Fail> {
     let alloc = rt.alloc();
     let rows = [
+        // A text that is no number, and a number that ends with its point.
         AvnValue::Integer(string(alloc, "x")?),
         AvnValue::Real(string(alloc, "1.")?),
+        // A word that means NULL.
         AvnValue::Enumerated(string(alloc, "NULL")?),
+        // Three bits need one octet.
         bits(alloc, &[], 3)?,
         bits(alloc, &[0, 0], 3)?,
+        // An absent field has a name too, which is no identifier here.
         sequence(alloc, "", None, "1")?,
+        // A blank would end the identifier.
         choice(alloc, "a b", AvnValue::Null)?,
     ];
     for value in &rows {
@@ -249,7 +294,7 @@ fn values_that_cannot_be_read_again_are_not_well_formed(rt: HostRuntime) -> Resu
     Ok(())
 }
 
-/// Each text is read as a value of these variants and this printed text.
+/// Checks that each text is read as a value of these variants and this printed text.
 fn assert_read(
     rt: &impl Abort,
     alloc: Global,
@@ -263,70 +308,94 @@ fn assert_read(
     Ok(())
 }
 
+/// Each token is read as its value: keywords, identifiers, numbers of any length, octets and bits
+/// with white space between digits, and strings with doubled quotes.
+/// The rows have the expected variants and texts, by the tokens of X.680, section 12.
 #[test]
 fn tokens_that_are_read(rt: HostRuntime) -> Result<(), Fail> {
     const ROWS: [(&str, &str, &str); 22] = [
+        // The six keywords mean a value of their own.
         ("TRUE", "Boolean", "TRUE"),
         ("FALSE", "Boolean", "FALSE"),
         ("NULL", "Null", "NULL"),
         ("PLUS-INFINITY", "Real", "PLUS-INFINITY"),
         ("MINUS-INFINITY", "Real", "MINUS-INFINITY"),
         ("NOT-A-NUMBER", "Real", "NOT-A-NUMBER"),
+        // Any other name is an identifier, as a keyword with more characters is.
         ("z", "Enumerated", "z"),
         ("TRUE-9_Z", "Enumerated", "TRUE-9_Z"),
+        // The digits of a number are kept as they stand.
         ("0", "Integer", "0"),
         ("-0", "Integer", "-0"),
         ("007", "Integer", "007"),
+        // A number may have more digits than any type takes.
         (
             "1111111111111111111111111111111111111111",
             "Integer",
             "1111111111111111111111111111111111111111",
         ),
+        // A point and a digit make it a real, whose digits are kept too.
         ("1.5", "Real", "1.5"),
         ("-00.50", "Real", "-00.50"),
+        // White space of Unicode may stand between digits, and capitals are printed.
         ("''H", "OctetString", "''H"),
         ("' 01 fF 'H", "OctetString", "'01FF'H"),
         ("'01\u{A0}FF'H", "OctetString", "'01FF'H"),
+        // No bits are printed as no octets.
         ("''B", "BitString", "''H"),
+        // Bits that are no whole octets stay bits.
         ("'1'B", "BitString", "'1'B"),
         ("'10\n101'B", "BitString", "'10101'B"),
+        // A doubled quote is one quote of the string.
         ("\"\"", "CharString", "\"\""),
         ("\"a\"\"b\"", "CharString", "\"a\"\"b\""),
     ];
     assert_read(&rt, rt.alloc(), &ROWS)
 }
 
+/// Braces and choices are read as fields or lists. Commas between integers may be left out, names
+/// may stand twice, and choices within choices need no braces.
+/// The rows have the expected variants and texts, by the forms that the crate `rasn` reads.
 #[test]
 fn texts_that_are_read(rt: HostRuntime) -> Result<(), Fail> {
     const ROWS: [(&str, &str, &str); 10] = [
+        // Braces without an entry are a list.
         ("{}", "SequenceOf", "{}"),
+        // Between integers a comma may stand or be left out.
         (
             "{1 2, 3}",
             "SequenceOf Integer Integer Integer",
             "{\n  1,\n  2,\n  3\n}",
         ),
+        // A minus begins the next number, and no comma is needed before it.
         ("{1-2}", "SequenceOf Integer Integer", "{\n  1,\n  -2\n}"),
+        // The comma may be left out after integers alone, whatever number follows.
         ("{ 1 2.5 }", "SequenceOf Integer Real", "{\n  1,\n  2.5\n}"),
+        // Words need a comma between them, or the first would be a field's name.
         (
             "{TRUE, FALSE}",
             "SequenceOf Boolean Boolean",
             "{\n  TRUE,\n  FALSE\n}",
         ),
+        // A word before a comma or a brace is a value, and before another value a field's name.
         (
             "{ a, NULL }",
             "SequenceOf Enumerated Null",
             "{\n  a,\n  NULL\n}",
         ),
+        // A name may stand twice: which one counts is for a type to decide.
         (
             "{ so-very 1, so-very 2 }",
             "Sequence Integer Integer",
             "{\n  so-very 1,\n  so-very 2\n}",
         ),
+        // An item of braces may be a choice, whose payload ends at the comma.
         (
             "{ Test1 : 3, test2 : \"x\" }",
             "SequenceOf Choice Choice",
             "{\n  Test1 : 3,\n  test2 : \"x\"\n}",
         ),
+        // A choice as the payload of a choice.
         ("a : b : 1", "Choice Choice", "a : b : 1"),
         // Any Unicode white space may follow the whole value.
         ("\tTRUE\u{2003}\u{A0}\n", "Boolean", "TRUE"),
@@ -334,7 +403,7 @@ fn texts_that_are_read(rt: HostRuntime) -> Result<(), Fail> {
     assert_read(&rt, rt.alloc(), &ROWS)
 }
 
-/// The error is that a token is unexpected.
+/// Returns whether the error is that a token is unexpected.
 fn is_unexpected_token(error: &DecodeError) -> bool {
     matches!(
         error.kind,
@@ -344,28 +413,41 @@ fn is_unexpected_token(error: &DecodeError) -> bool {
     )
 }
 
+/// Texts that are not in the notation are refused, and the error has an excerpt of at most 20
+/// characters from where a value is expected, or all that follows a whole value.
 #[test]
 fn texts_that_are_refused(rt: HostRuntime) -> Result<(), Fail> {
     const ROWS: [(&str, &str); 19] = [
+        // An empty text has nothing to show.
         ("", ""),
+        // A whole value is read, and what follows it is more than white space.
         ("TRUE x", " x"),
         ("1 2", " 2"),
+        // A digit has to follow a minus, and a point.
         ("-", "-"),
         ("- 1", "- 1"),
+        // What comes before the fault is a whole value, so the error has what follows it.
         ("1.", "."),
         ("1.2.3", ".3"),
+        // A comma stands between two items, and fields don't mix with values.
         ("{1,}", "{1,}"),
         ("{,1}", "{,1}"),
+        // An item with a name and one without don't stand in one pair of braces.
         ("{ a 1, 2 }", "{ a 1, 2 }"),
+        // After a real, a comma has to stand.
         ("{ 1 2.5 3 }", "{ 1 2.5 3 }"),
+        // Octets are pairs of digits, bits are 0 and 1, and the letter is a capital.
         ("'0'H", "'0'H"),
         ("'2'B", "'2'B"),
+        // Without a letter there is no token.
         ("'01'", "'01'"),
         ("'01'h", "'01'h"),
+        // No quote ends the string.
         ("\"a", "\"a"),
         // Between tokens other Unicode white space may not stand.
         ("{\u{A0}1}", "{\u{A0}1}"),
         ("\u{2003}TRUE", "\u{2003}TRUE"),
+        // An excerpt begins past the identifiers of choices, and is cut after 20 characters.
         (
             "  a : b :c : {1,} and more than twenty characters",
             "{1,} and more than t",
@@ -375,6 +457,7 @@ fn texts_that_are_refused(rt: HostRuntime) -> Result<(), Fail> {
         match parse_avn(rt.alloc(), text) {
             Ok(value) => assert!(rt; false, "{text} is read as {value}"),
             Err(error) => {
+                // The whole error is compared, so that the excerpt is neither longer nor shorter.
                 let said = format!(in rt.alloc(); "{error}")?;
                 let want = format!(in rt.alloc();
                     "AVN decoding error: Unexpected token in AVN: {found} (Codec: AVN)"
@@ -386,6 +469,8 @@ fn texts_that_are_refused(rt: HostRuntime) -> Result<(), Fail> {
     Ok(())
 }
 
+/// Each front part of a text that has all kinds of tokens is refused, and the whole is read.
+/// No front part is a value, since the text is one pair of braces.
 #[test]
 fn a_text_that_is_cut_short_is_refused(rt: HostRuntime) -> Result<(), Fail> {
     const WHOLE: &str =
@@ -398,6 +483,7 @@ fn a_text_that_is_cut_short_is_refused(rt: HostRuntime) -> Result<(), Fail> {
         }
         text.push(c)?;
     }
+    // Every character is there now.
     let value = parse_avn(rt.alloc(), text.as_str())?;
     assert_eq!(rt;
         kinds(rt.alloc(), &value)?.as_str(),
@@ -406,7 +492,7 @@ fn a_text_that_is_cut_short_is_refused(rt: HostRuntime) -> Result<(), Fail> {
     Ok(())
 }
 
-/// The text `before` so often, `within`, and `after` as often.
+/// Returns the text `before` a number of times, `within`, and `after` as often.
 fn nested(
     alloc: Global,
     depth: usize,
@@ -425,12 +511,16 @@ fn nested(
     Ok(text)
 }
 
+/// Values are read down to level 64 and refused for depth beyond it. 64 is the library's limit;
+/// levels are counted by the value that is read next, not by braces.
 #[test]
 fn values_are_looked_for_down_to_level_64(rt: HostRuntime) -> Result<(), Fail> {
     // How often which text is opened, what stands within, what closes, and whether it is read.
     const ROWS: [(usize, &str, &str, &str, bool); 10] = [
+        // The innermost of 65 braces is a value at level 64, and has no items.
         (65, "{", "", "}", true),
         (66, "{", "", "}", false),
+        // A number within braces is a value of its own, one level further in.
         (64, "{", "1", "}", true),
         (65, "{", "1", "}", false),
         // A bare identifier is not looked for as a value.
@@ -438,8 +528,10 @@ fn values_are_looked_for_down_to_level_64(rt: HostRuntime) -> Result<(), Fail> {
         // The payload of a choice directly in braces has the level of the items.
         (64, "{", "a : 1", "}", true),
         (64, "{", "f a : 1", "}", false),
+        // Each payload is one level further in.
         (64, "a : ", "1", "", true),
         (65, "a : ", "1", "", false),
+        // Deep texts are refused without deep recursion.
         (100_000, "{", "", "", false),
     ];
     for &(depth, before, within, after, is_read) in &ROWS {
@@ -455,8 +547,11 @@ fn values_are_looked_for_down_to_level_64(rt: HostRuntime) -> Result<(), Fail> {
     Ok(())
 }
 
+/// A scan is looked at no more than 16 times for each of its characters and for its end, in a list
+/// of 10,000 and of 1,000,000 numbers, and in an empty text.
 #[test]
 fn looks_are_bounded(rt: HostRuntime) -> Result<(), Fail> {
+    // Each item has two characters and the braces two: 16 times 2 n + 3.
     for (items, at_most) in [(10_000, 320_048), (1_000_000, 32_000_048)] {
         let text = nested(rt.alloc(), items, "1 ", "", "")?;
         let text = format!(in rt.alloc(); "{{{text}}}")?;
@@ -470,6 +565,7 @@ fn looks_are_bounded(rt: HostRuntime) -> Result<(), Fail> {
         }
         assert!(rt; scan.count() <= at_most);
     }
+    // The end of the text alone is looked at.
     let mut empty = Scan::new("");
     assert!(rt; parse_scan(rt.alloc(), &mut empty).is_err());
     assert!(rt; empty.count() <= 16);

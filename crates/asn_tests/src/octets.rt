@@ -1,4 +1,5 @@
-// Octet strings in both notations, and a SEQUENCE that has an extension addition.
+//! Encodes and decodes OCTET STRING in both notations, and makes the shape of a SEQUENCE that has
+//! an extension addition. The forms are those of X.697 and X.680, section 23.
 use asn_base::Tag;
 use asn_fault::DecodeError;
 use asn_traits::{FieldShapes, OctetString, Shape, is_readable};
@@ -7,7 +8,7 @@ use jer_rules::jer;
 use std::process::Abort;
 use std::test::Fail;
 
-/// Checks that the text was read as the octets 01 and FF.
+/// Checks that the text was decoded to the octets 01 and FF.
 fn assert_read(rt: &impl Abort, read: Result<OctetString, DecodeError>) {
     let is_read = match read {
         Ok(value) => value.octets.as_slice() == [0x01, 0xFF].as_slice(),
@@ -16,18 +17,25 @@ fn assert_read(rt: &impl Abort, read: Result<OctetString, DecodeError>) {
     assert!(rt; is_read);
 }
 
+/// Octets are written in capitals and without spaces. They are read in either case, and in AVN
+/// with white space between digits.
+/// The texts are those of X.697 and of X.680, section 23.
 #[test]
 fn octets_are_written_in_capitals_and_read_in_either_case(rt: HostRuntime) -> Result<(), Fail> {
     let alloc = rt.alloc();
+    // 01 shows that leading zeros stay, and FF the case of letters.
     let octets = Vec::from_slice(alloc, [0x01, 0xFF].as_slice())?;
     let value = OctetString { octets };
     assert_eq!(rt; jer::encode(alloc, &value)?.as_str(), "\"01FF\"");
     assert_eq!(rt; avn::encode(alloc, &value)?.as_str(), "'01FF'H");
     assert_read(&rt, jer::decode(alloc, "\"01fF\""));
+    // X.680, section 12, admits white space between the digits.
     assert_read(&rt, avn::decode(alloc, "' 01 fF 'H"));
     Ok(())
 }
 
+/// A value of another kind is a type mismatch in both notations, and a string that is no pairs of
+/// hexadecimal digits is an error of its own in JER. The texts are those of the crate `rasn`.
 #[test]
 fn what_is_no_octets_is_refused(rt: HostRuntime) -> Result<(), Fail> {
     let alloc = rt.alloc();
@@ -39,6 +47,7 @@ fn what_is_no_octets_is_refused(rt: HostRuntime) -> Result<(), Fail> {
              hex string. Found value: true (Codec: JER)"
         ),
     }
+    // A string, but `g` is no hexadecimal digit.
     match jer::decode::<OctetString>(alloc, "\"0g\"") {
         Ok(_) => assert!(rt; false),
         Err(error) => assert_eq!(rt;
@@ -46,6 +55,7 @@ fn what_is_no_octets_is_refused(rt: HostRuntime) -> Result<(), Fail> {
             "JER decoding error: Found invalid character in octet string (Codec: JER)"
         ),
     }
+    // AVN has octets by their form, so only another kind of value can be wrong.
     match avn::decode::<OctetString>(alloc, "TRUE") {
         Ok(_) => assert!(rt; false),
         Err(error) => assert_eq!(rt;
@@ -57,10 +67,13 @@ fn what_is_no_octets_is_refused(rt: HostRuntime) -> Result<(), Fail> {
     Ok(())
 }
 
+/// A shape with an extension addition can be put together and read: it has the fields of the root
+/// and those after the marker apart.
 #[test]
 fn a_sequence_with_an_extension_addition(rt: HostRuntime) -> Result<(), Fail> {
     let mut root = FieldShapes::new(rt.alloc());
     root.required::<u8>("id", Tag::CONTEXT_0)?;
+    // An addition's tag goes on from that of the last root field.
     let mut added = FieldShapes::new(rt.alloc());
     added.optional::<String>("note", Tag::CONTEXT_1)?;
     let shape = root.extensible_sequence(added);

@@ -1,4 +1,6 @@
-// Direct calls of both codecs, and the shapes of the sample types.
+//! Calls both codecs directly by each call that encodes or decodes a value, tests shapes that
+//! can't be read, and runs visitors at the sample types. The calls under a tag, constraints or a
+//! prefix give what the plain call gives, since neither notation writes tags.
 use asn_base::{Class, Constraints, Identifier, Tag};
 use asn_fault::{DecodeError, EncodeError};
 use asn_samples::{Sample, SampleVisitor, SimpleChoice, is_sample_name};
@@ -13,14 +15,16 @@ use serde_json::Value;
 use std::alloc::Global;
 use std::test::Fail;
 
+/// Is the tag `[9]`, which no sample type has.
 const NINE: Tag = Tag {
     class: Class::Context,
     value: 9,
 };
 
-// Puts the number 5 at the root by the call of that number.
+/// Encodes the number 5 at the root by the call of that number.
 fn write_five<E: Encoder>(encoder: &mut E, call: usize) -> Result<(), EncodeError> {
     let five: u8 = 5;
+    // Four calls of the type's own `Encode` or of the encoder, and two for an optional value.
     match call {
         0 => five.encode(encoder),
         1 => five.encode_with_tag(encoder, NINE),
@@ -36,6 +40,7 @@ fn write_five<E: Encoder>(encoder: &mut E, call: usize) -> Result<(), EncodeErro
     }
 }
 
+/// Each call that encodes a value gives the same text, in both notations.
 #[test]
 fn each_writing_call_puts_the_value(rt: HostRuntime) -> Result<(), Fail> {
     for call in 0..6 {
@@ -49,7 +54,7 @@ fn each_writing_call_puts_the_value(rt: HostRuntime) -> Result<(), Fail> {
     Ok(())
 }
 
-// Puts an absent slot at the root.
+/// Puts an absent slot at the root, under a tag or not.
 fn write_none<E: Encoder>(encoder: &mut E, tagged: bool) -> Result<(), EncodeError> {
     if tagged {
         encoder.encode_none_with_tag(NINE, Identifier::EMPTY)
@@ -58,6 +63,8 @@ fn write_none<E: Encoder>(encoder: &mut E, tagged: bool) -> Result<(), EncodeErr
     }
 }
 
+/// An absent slot at the root is no value: the encoder has no text, in either notation.
+/// The errors' texts are those of the crate `rasn`.
 #[test]
 fn an_absent_slot_leaves_no_value_at_the_root(rt: HostRuntime) -> Result<(), Fail> {
     for tagged in [false, true].iter() {
@@ -83,8 +90,10 @@ fn an_absent_slot_leaves_no_value_at_the_root(rt: HostRuntime) -> Result<(), Fai
     Ok(())
 }
 
-// Reads a number by the call of that number.
+/// Decodes a number by the call of that number. The calls of an optional value give `Some` where
+/// the slot is present.
 fn read_number<D: Decoder>(decoder: &mut D, call: usize) -> Result<Option<u8>, DecodeError> {
+    // Four calls of a value that has to be there, and five of one that may be absent.
     match call {
         0 => Ok(Some(u8::decode(decoder)?)),
         1 => Ok(Some(u8::decode_with_tag(decoder, NINE)?)),
@@ -98,6 +107,7 @@ fn read_number<D: Decoder>(decoder: &mut D, call: usize) -> Result<Option<u8>, D
     }
 }
 
+/// Each call that decodes a value takes it, in both notations.
 #[test]
 fn each_reading_call_takes_the_value(rt: HostRuntime) -> Result<(), Fail> {
     for call in 0..9 {
@@ -111,8 +121,12 @@ fn each_reading_call_takes_the_value(rt: HostRuntime) -> Result<(), Fail> {
     Ok(())
 }
 
+/// A JSON value that a program makes may hold a float, which is of no kind that a type needs. How
+/// the error prints it is unspecified, so its beginning alone is compared.
+/// The beginning is that of the crate `rasn`.
 #[test]
 fn a_float_is_of_another_kind(rt: HostRuntime) -> Result<(), Fail> {
+    // Not by a text: `Decoder::new` refuses one with a float as a REAL.
     let float = Value::from_str(rt.alloc(), "1.5")?;
     let mut decoder = jer::de::Decoder::from_value(rt.alloc(), float)?;
     match decoder.decode_integer::<u8>(Tag::INTEGER, &Constraints::NONE) {
@@ -121,13 +135,15 @@ fn a_float_is_of_another_kind(rt: HostRuntime) -> Result<(), Fail> {
             let text = format!(in rt.alloc(); "{error}")?;
             let kind =
                 "JER decoding error: Found mismatching JSON value. Expected type: number (supported range -2^63..2^64).";
+            // The words name the numbers that JER has, and not those of the type.
             assert!(rt; text.starts_with(kind));
             Ok(())
         }
     }
 }
 
-// Writes a choice under a tag that is none of its alternatives'.
+/// Encodes a CHOICE under a tag that is none of its alternatives'. A type's own `Encode` never
+/// does.
 fn write_other_choice<E: Encoder>(encoder: &mut E) -> Result<(), EncodeError> {
     encoder.encode_choice::<SimpleChoice, _>(
         &Constraints::NONE,
@@ -140,8 +156,11 @@ fn write_other_choice<E: Encoder>(encoder: &mut E) -> Result<(), EncodeError> {
     )
 }
 
+/// A CHOICE under a tag of no alternative is refused, in both notations.
+/// The texts are those of the crate `rasn`.
 #[test]
 fn a_tag_of_no_alternative_is_refused(rt: HostRuntime) -> Result<(), Fail> {
+    // Both codecs go over the same call of the trait.
     let answers = [
         write_other_choice(&mut jer::enc::Encoder::new(rt.alloc())),
         write_other_choice(&mut avn::enc::Encoder::new(rt.alloc())),
@@ -150,6 +169,7 @@ fn a_tag_of_no_alternative_is_refused(rt: HostRuntime) -> Result<(), Fail> {
         "Selected Variant not found in Choice (Codec: JER)",
         "Selected Variant not found in Choice (Codec: AVN)",
     ];
+    // What the encoder holds after an error is unspecified, so the errors alone are compared.
     for (answer, want) in answers.iter().zip(wanted.iter()) {
         match answer {
             Ok(()) => return Err(Fail::from("written")),
@@ -159,7 +179,7 @@ fn a_tag_of_no_alternative_is_refused(rt: HostRuntime) -> Result<(), Fail> {
     Ok(())
 }
 
-// A field of this name that has to be present.
+/// Returns a field of this name that has to be present.
 fn field(alloc: Global, name: &str) -> Result<FieldShape, Fail> {
     Ok(FieldShape {
         name: String::from_str(alloc, name)?,
@@ -169,7 +189,7 @@ fn field(alloc: Global, name: &str) -> Result<FieldShape, Fail> {
     })
 }
 
-// An alternative of this identifier, whose tag has this number.
+/// Returns an alternative of this identifier, whose tag has this class and number.
 fn alternative(
     alloc: Global,
     identifier: &str,
@@ -183,6 +203,7 @@ fn alternative(
     })
 }
 
+/// Returns the SEQUENCE of these fields.
 fn sequence(fields: Vec<FieldShape>) -> Shape {
     Shape::Seq {
         kind: SeqKind::Sequence,
@@ -191,6 +212,7 @@ fn sequence(fields: Vec<FieldShape>) -> Shape {
     }
 }
 
+/// Returns the CHOICE of these alternatives.
 fn choice(alternatives: Vec<AlternativeShape>) -> Shape {
     Shape::Choice {
         alternatives,
@@ -198,11 +220,15 @@ fn choice(alternatives: Vec<AlternativeShape>) -> Shape {
     }
 }
 
+/// A shape of each kind that can't be read is found: by its loops, its tags or its
+/// names. Each breaks one condition alone.
+/// The conditions are those that `is_readable` lists.
 #[test]
 fn shapes_that_cannot_be_read(rt: HostRuntime) -> Result<(), Fail> {
     let alloc = rt.alloc();
     // A loop with nothing between it and what names it.
     let mut shapes = Vec::new(alloc);
+    // A loop with nothing between it and what names it.
     shapes.push(Shape::Loop(Box::new(alloc, Shape::Back(0))?))?;
     // A number of no loop.
     shapes.push(Shape::Back(0))?;
@@ -230,10 +256,11 @@ fn shapes_that_cannot_be_read(rt: HostRuntime) -> Result<(), Fail> {
     Ok(())
 }
 
-/// The tag of the type that a visitor is handed.
+/// Gives the tag of the type that it is run at, and returns whether that is a CHOICE.
 #[derive(Drop)]
 struct TagOf {}
 
+/// Reads two constants of each type. It promises nothing, so a test compares what it finds.
 impl SampleVisitor<Tag> for TagOf {
     ghost use Rattle.std.specs.Prelude.{⊤};
 
@@ -247,7 +274,7 @@ impl SampleVisitor<Tag> for TagOf {
     }
 }
 
-// Names, each with the tag of its type.
+/// Lists names of sample types, each with the universal tag of its type; a CHOICE has none.
 const TAGS: [(&'static str, Tag); 5] = [
     ("bool", Tag::BOOL),
     ("SequenceOf<u8>", Tag::SEQUENCE),
@@ -256,6 +283,9 @@ const TAGS: [(&'static str, Tag); 5] = [
     ("Nest", Tag::SEQUENCE),
 ];
 
+/// A name leads to its own type: the visitor finds the tag of that type, whose shape can be read.
+/// Names of other case, with a blank, or of other types are none.
+/// The tags are the universal ones of X.680, section 8.
 #[test]
 fn a_visitor_is_run_at_the_type_of_the_name(rt: HostRuntime) -> Result<(), Fail> {
     for (name, tag) in TAGS.iter() {
@@ -263,6 +293,7 @@ fn a_visitor_is_run_at_the_type_of_the_name(rt: HostRuntime) -> Result<(), Fail>
         let Some(sample) = Sample::named(*name) else {
             return Err(Fail::from("no sample"));
         };
+        // A tag that none of the types has.
         let mut visited = Tag::NULL;
         assert_eq!(rt; sample.accept(TagOf {}, &mut visited), *tag == Tag::EOC);
         assert!(rt; visited == *tag);
@@ -274,6 +305,8 @@ fn a_visitor_is_run_at_the_type_of_the_name(rt: HostRuntime) -> Result<(), Fail>
     Ok(())
 }
 
+/// The shape of a CHOICE has the alternatives of the root and the extension additions apart, and
+/// the tags of these go on from those of the root.
 #[test]
 fn a_choice_tells_its_added_alternatives(rt: HostRuntime) -> Result<(), Fail> {
     match Sample::ExtChoice.shape(rt.alloc())? {

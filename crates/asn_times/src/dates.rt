@@ -1,4 +1,5 @@
-//! DATE: a day, and its text `YYYY-MM-DD`.
+//! Defines DATE (X.680, section 38): a day, and its text `YYYY-MM-DD`. Years go from 0000 to 9999.
+//! The readers of moments use its fields and its calendar too.
 ghost use Rattle.std.specs.Prelude.{◌≡◌, pos, ◌≤ℤ◌, IfOk, IfErr, IfSome, MatchOption, IsTrue, ◌↔◌};
 ghost use Rattle.std.specs.Option.{option_map};
 ghost use Rattle.std.specs.String.{string_bytes};
@@ -14,12 +15,14 @@ use jiff::civil;
 use std::alloc::Global;
 use std::marker::Model;
 
-/// A day, seen as the number of days since 1970-01-01.
+/// Holds a day. Contracts see the number of days since 1970-01-01.
 #[derive(Drop)]
 pub struct Date {
+    /// Holds the day as the calendar has it.
     day: civil::Date,
 }
 
+/// Lets contracts see the number of the day.
 impl Model for Date {
     ghost use Rattle.std.specs.Prelude.{ℤ};
     ghost use Rattle.jiff.specs.Words.{epoch_day};
@@ -29,8 +32,9 @@ impl Model for Date {
     ghost view = { λ a. epoch_day a.day };
 }
 
+/// Makes a date of a day of the calendar, and gives it back.
 impl Date {
-    /// Holds the day.
+    /// Returns the date of the day, which may lie in any year of the calendar.
     pub fn new(day: civil::Date) -> Date
         ensures { result ≡ epoch_day day }
     {
@@ -45,6 +49,7 @@ impl Date {
     }
 }
 
+/// Compares two dates: they are equal where they are the same day.
 impl PartialEq for Date {
     ghost use Rattle.std.specs.Ordering.{int_eq};
     ghost use Rattle.std.specs.Cmp.Rules.{comparing};
@@ -61,6 +66,7 @@ impl PartialEq for Date {
     }
 }
 
+/// States that the comparison is an equivalence.
 impl Eq for Date {
     ghost use Rattle.std.specs.Cmp.Rules.{comparing};
     ghost use Rattle.std.proofs.Common.{rules};
@@ -68,15 +74,18 @@ impl Eq for Date {
     ghost laws = { Prim.search (comparing, rules) };
 }
 
-/// What a text of DATE states.
+/// Holds the numbers of a text of DATE, which need not be those of a day.
 #[derive(Clone, Copy)]
 pub struct DayFields {
+    /// Counts years from 0000, in four digits.
     pub(crate) year: u16,
+    /// Counts months, in two digits: 01 is January.
     pub(crate) month: u8,
+    /// Counts the days of the month from 01, in two digits.
     pub(crate) day: u8,
 }
 
-/// Returns what follows a dash.
+/// Returns what follows a dash, or `None` where none stands in front.
 fn skip_dash(bytes: &[u8]) -> Option<&[u8]>
     ensures { option_map (λ rest. rest.now) result ≡ dash bytes.now }
 {
@@ -86,7 +95,8 @@ fn skip_dash(bytes: &[u8]) -> Option<&[u8]>
     }
 }
 
-/// Reads `YYYY-MM-DD`.
+/// Reads `YYYY-MM-DD` to the end of the text, or returns `None` where it has another form. The
+/// numbers fit their digits and no more is known of them (`small`).
 fn read_fields(bytes: &[u8]) -> Option<DayFields>
     ensures is { result ≡ day_fields bytes.now }
     ensures small { IfSome result IsSmallDay }
@@ -101,22 +111,28 @@ fn read_fields(bytes: &[u8]) -> Option<DayFields>
     }
 }
 
-/// Returns the day of the fields, if the calendar has it.
+/// Returns the day of the fields, or `None` where the calendar has none, as 2023-02-29.
 pub(crate) fn day_of(fields: DayFields) -> Option<civil::Date>
     requires { IsSmallDay fields }
     ensures { MatchOption result (IsRealDay fields → ⊥) (HasDay fields) }
 {
+    // The casts lose nothing: the fields have four and two digits.
     match civil::Date::new(fields.year as i16, fields.month as i8, fields.day as i8) {
         Ok(day) => Some(day),
         Err(_) => None,
     }
 }
 
-/// Returns the day that a text `YYYY-MM-DD` states.
+/// Returns the day that a text `YYYY-MM-DD` states. It takes no memory.
+///
+/// # Errors
+///
+/// `InvalidDate` where the text has another form, or states a day that the calendar lacks.
 pub fn read_date(text: &str) -> Result<Date, TimeFault>
     ensures reads { IfOk result (DayReads text.now) }
     ensures refuses { IfErr result (λ e. (e ≡ InvalidDate) × StatesNoDay text.now) }
 {
+    // The form comes first, then the calendar.
     let fields = match read_fields(text.as_bytes()) {
         Some(fields) => fields,
         None => return Err(TimeFault::InvalidDate),
@@ -127,7 +143,11 @@ pub fn read_date(text: &str) -> Result<Date, TimeFault>
     }
 }
 
-/// Writes `YYYY-MM-DD`.
+/// Writes `YYYY-MM-DD` of the fields.
+///
+/// # Errors
+///
+/// `OutOfMemory` alone.
 fn text_of(alloc: Global, fields: DayFields) -> Result<String, TimeFault>
     requires { IsSmallDay fields }
     ensures text { IfOk result
@@ -143,7 +163,8 @@ fn text_of(alloc: Global, fields: DayFields) -> Result<String, TimeFault>
     Ok(text)
 }
 
-/// Returns the fields of the day.
+/// Returns the fields of a day in a year from 0000 on. `jiff` has no year above 9999, so the
+/// year fits its digits.
 pub(crate) fn fields_of(day: civil::Date) -> DayFields
     requires { pos 0 ≤ℤ day.year }
     ensures has { HasDay result day }
@@ -156,7 +177,11 @@ pub(crate) fn fields_of(day: civil::Date) -> DayFields
     }
 }
 
-/// Writes the day as `YYYY-MM-DD`.
+/// Returns the day's one text, `YYYY-MM-DD`. Read again, it states the same day (`writes`).
+///
+/// # Errors
+///
+/// `OutOfYears` where the year is before 0000; `OutOfMemory`.
 pub fn write_date(alloc: Global, day: &Date) -> Result<String, TimeFault>
     ensures writes { IfOk result (λ text. DayReads (string_bytes text) day.now) }
     ensures text { IfOk result (λ text. string_bytes text ≡ day_text day.now) }

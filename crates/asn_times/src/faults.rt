@@ -1,16 +1,17 @@
-//! Why a text gives no time, or a time no text.
+//! Defines why a text gives no time, or a time no text.
 use thiserror::Error;
 
-/// Why a text gives no time, or a time no text.
+/// States why a text gives no time, or a time no text.
 #[derive(Debug, Drop, Error)]
 pub enum TimeFault {
-    /// The grammar gives the text no meaning.
+    /// The text has another form, or the calendar and the clock lack what it states, or the time
+    /// lies outside the years of its type.
     #[error("invalid date")]
     InvalidDate,
     /// The text of such a time has no room for its year.
     #[error("time outside the years of its text")]
     OutOfYears,
-    /// There was no memory for the text.
+    /// Memory ran out.
     #[error("Out of memory")]
     OutOfMemory,
 }

@@ -1,5 +1,6 @@
-//! GeneralizedTime: a moment, read as `YYYYMMDDhhmmss`, a fraction and a zone that may be left out,
-//! and written in UTC with `Z` and without trailing zeros of the fraction.
+//! Defines GeneralizedTime (X.680, section 46): a moment, read as `YYYYMMDDhhmmss`, a fraction and
+//! a zone that may be left out, and written in UTC with `Z` and without trailing zeros of the
+//! fraction. Years go from 0000 to 9999.
 ghost use Rattle.std.specs.Prelude.{◌≡◌, ◌<◌, ◌≤◌, ◌++◌, IfSome, IfOk, IfErr, OnOk, pos, neg_ℤ, IsTrue, ◌↔◌};
 ghost use Rattle.std.specs.Option.{option_map};
 ghost use Rattle.std.specs.String.{string_bytes};
@@ -20,12 +21,14 @@ use jiff::civil::DateTime;
 use std::alloc::Global;
 use std::marker::Model;
 
-/// A moment, seen as the nanoseconds since 1970-01-01T00:00:00 in UTC.
+/// Holds a moment. Contracts see the nanoseconds since 1970-01-01T00:00:00 in UTC.
 #[derive(Drop)]
 pub struct GeneralizedTime {
+    /// Holds the date and the time of day in UTC.
     moment: DateTime,
 }
 
+/// Lets contracts see the nanoseconds.
 impl Model for GeneralizedTime {
     ghost use Rattle.std.specs.Prelude.{ℤ};
     ghost use Rattle.jiff.specs.Words.{civil_nanos};
@@ -35,8 +38,9 @@ impl Model for GeneralizedTime {
     ghost view = { λ a. civil_nanos a.moment };
 }
 
+/// Makes a time of a moment, and gives it back.
 impl GeneralizedTime {
-    /// Holds the moment.
+    /// Returns the time of the moment, which is taken as one in UTC.
     pub fn new(moment: DateTime) -> GeneralizedTime
         ensures { result ≡ civil_nanos moment }
     {
@@ -51,6 +55,7 @@ impl GeneralizedTime {
     }
 }
 
+/// Compares two times: they are equal where they are the same moment.
 impl PartialEq for GeneralizedTime {
     ghost use Rattle.std.specs.Ordering.{int_eq};
     ghost use Rattle.std.specs.Cmp.Rules.{comparing};
@@ -67,6 +72,7 @@ impl PartialEq for GeneralizedTime {
     }
 }
 
+/// States that the comparison is an equivalence.
 impl Eq for GeneralizedTime {
     ghost use Rattle.std.specs.Cmp.Rules.{comparing};
     ghost use Rattle.std.proofs.Common.{rules};
@@ -74,15 +80,17 @@ impl Eq for GeneralizedTime {
     ghost laws = { Prim.search (comparing, rules) };
 }
 
-// The first and the last year of a text.
+/// Is the first year of a text.
 const FIRST: i16 = 0;
 
+/// Is the last year of a text: its year has four digits.
 const LAST: i16 = 9999;
 
-// How many digits a fraction has at most.
+/// Limits the digits of a fraction: nanoseconds are the smallest unit.
 const PLACES: u8 = 9;
 
-/// Reads so many digits of a fraction at most, and returns their nanoseconds with what follows.
+/// Reads at most `places` digits of a fraction, and returns their nanoseconds with what follows.
+/// A tenth digit is left in what follows, and the text is then refused.
 fn read_digits(places: u8, bytes: &[u8]) -> (u32, &[u8])
     ensures is { (result.0, result.1.now) ≡ digits places bytes.now }
     ensures small { result.0 < 1_000_000_000 }
@@ -92,6 +100,8 @@ fn read_digits(places: u8, bytes: &[u8]) -> (u32, &[u8])
     }
     match bytes {
         [digit @ b'0'..=b'9', rest @ ..] => {
+            // A digit after the first counts a tenth of what it would count as the first one, so
+            // what the digits behind it count is divided by 10. In nine places nothing is lost.
             let (nanoseconds, rest) = read_digits(places - 1, rest);
             let tenths = (*digit - b'0') as u32;
             (tenths * 100_000_000 + nanoseconds / 10, rest)
@@ -100,7 +110,8 @@ fn read_digits(places: u8, bytes: &[u8]) -> (u32, &[u8])
     }
 }
 
-/// Reads one to nine digits of a fraction, and returns their nanoseconds with what follows.
+/// Reads one to nine digits of a fraction, and returns their nanoseconds with what follows, or
+/// `None` where no digit is in front.
 fn read_some_digits(bytes: &[u8]) -> Option<(u32, &[u8])>
     ensures is { option_map (λ p. (p.0, p.1.now)) result ≡ some_digits bytes.now }
     ensures small { IfSome result (λ p. p.0 < 1_000_000_000) }
@@ -111,7 +122,8 @@ fn read_some_digits(bytes: &[u8]) -> Option<(u32, &[u8])>
     }
 }
 
-/// Reads a fraction, if it is there, and returns its nanoseconds with what follows it.
+/// Reads a fraction, if `.` or `,` is in front, and returns its nanoseconds with what follows it.
+/// Without a mark the nanoseconds are 0; a mark without a digit is `None`.
 fn read_fraction(bytes: &[u8]) -> Option<(u32, &[u8])>
     ensures is { option_map (λ p. (p.0, p.1.now)) result ≡ fraction bytes.now }
     ensures small { IfSome result (λ p. p.0 < 1_000_000_000) }
@@ -122,7 +134,8 @@ fn read_fraction(bytes: &[u8]) -> Option<(u32, &[u8])>
     }
 }
 
-/// Reads a zone to the end of the text, if it is there, and returns its seconds.
+/// Reads a zone to the end of the text, and returns the seconds that local time is ahead of UTC.
+/// No text is UTC.
 fn read_zone_or_utc(bytes: &[u8]) -> Option<i32>
     ensures is { result ≡ zone_or_utc bytes.now }
     ensures small { IfSome result (IsBetween (neg_ℤ (pos 86400)) (pos 86400)) }
@@ -134,12 +147,13 @@ fn read_zone_or_utc(bytes: &[u8]) -> Option<i32>
     }
 }
 
-/// Reads `YYYYMMDDhhmmss`, a fraction and a zone that may be left out.
+/// Reads `YYYYMMDDhhmmss`, a fraction and a zone that may be left out, to the end of the text.
 fn read_fields(bytes: &[u8]) -> Option<MomentFields>
     ensures is { result ≡ generalized_fields bytes.now }
     ensures small { IfSome result IsSmallMoment }
 {
     let (year, rest) = read_four(bytes)?;
+    // The minute comes with second 0 in UTC, and the rest of the text fills these in.
     let (fields, rest) = read_minute(year, rest)?;
     let (second, rest) = read_two(rest)?;
     let (nanosecond, rest) = read_fraction(rest)?;
@@ -156,11 +170,17 @@ fn read_fields(bytes: &[u8]) -> Option<MomentFields>
     })
 }
 
-/// Returns the moment that a text of GeneralizedTime means.
+/// Returns the moment that a text of GeneralizedTime means. It takes no memory.
+///
+/// # Errors
+///
+/// `InvalidDate` where the text has another form, states a day or a time of day that is none, or
+/// means a moment outside the years 0000 to 9999 in UTC.
 pub fn read_generalized(text: &str) -> Result<GeneralizedTime, TimeFault>
     ensures reads { IfOk result (GeneralizedReads text.now) }
     ensures refuses { IfErr result (λ e. (e ≡ InvalidDate) × StatesNoGeneralized text.now) }
 {
+    // The form comes first, then the calendar and the years.
     let fields = match read_fields(text.as_bytes()) {
         Some(fields) => fields,
         None => return Err(TimeFault::InvalidDate),
@@ -171,7 +191,11 @@ pub fn read_generalized(text: &str) -> Result<GeneralizedTime, TimeFault>
     }
 }
 
-/// Adds the digits of a fraction's nanoseconds up to the last that isn't 0, so many at most.
+/// Adds the digits of a fraction's nanoseconds up to the last that isn't 0, at most `places`.
+///
+/// # Errors
+///
+/// `OutOfMemory` alone, and then a part of the digits may be there.
 fn push_digits(text: &mut String, places: u8, nanoseconds: u32) -> Result<(), TimeFault>
     requires { nanoseconds < 1_000_000_000 }
     ensures written { OnOk result
@@ -181,11 +205,16 @@ fn push_digits(text: &mut String, places: u8, nanoseconds: u32) -> Result<(), Ti
     if places == 0 || nanoseconds == 0 {
         return Ok(());
     }
+    // The first digit counts 100,000,000 nanoseconds, and what remains moves up one place.
     push_char(text, (b'0' + (nanoseconds / 100_000_000) as u8) as char)?;
     push_digits(text, places - 1, nanoseconds % 100_000_000 * 10)
 }
 
-/// Adds a fraction's nanoseconds to the text, unless they are 0.
+/// Adds a point and a fraction's nanoseconds to the text, unless they are 0.
+///
+/// # Errors
+///
+/// `OutOfMemory` alone.
 fn push_fraction(text: &mut String, nanoseconds: u32) -> Result<(), TimeFault>
     requires { nanoseconds < 1_000_000_000 }
     ensures written { OnOk result
@@ -200,6 +229,10 @@ fn push_fraction(text: &mut String, nanoseconds: u32) -> Result<(), TimeFault>
 }
 
 /// Writes `YYYYMMDDhhmmss`, the fraction, if there is one, and `Z`.
+///
+/// # Errors
+///
+/// `OutOfMemory` alone.
 fn text_of(alloc: Global, fields: MomentFields) -> Result<String, TimeFault>
     requires { IsSmallMoment fields }
     ensures text { IfOk result (λ text. string_bytes text ≡ generalized_digits fields) }
@@ -214,7 +247,12 @@ fn text_of(alloc: Global, fields: MomentFields) -> Result<String, TimeFault>
     Ok(text)
 }
 
-/// Writes the moment in UTC with `Z`, without trailing zeros of the fraction.
+/// Returns the moment's one written text: in UTC with `Z`, without trailing zeros of the fraction.
+/// By `laws::written_generalized_reads`, it is read as the same moment.
+///
+/// # Errors
+///
+/// `OutOfYears` where the year is outside 0000 to 9999; `OutOfMemory`.
 pub fn write_generalized(alloc: Global, time: &GeneralizedTime) -> Result<String, TimeFault>
     ensures writes { IfOk result (λ text. GeneralizedWritten time.now (string_bytes text)) }
     ensures text { IfOk result (λ text. string_bytes text ≡ generalized_text time.now) }

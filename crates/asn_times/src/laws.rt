@@ -1,4 +1,6 @@
-//! The laws of the texts of times, each the contract of a function that does nothing.
+//! States the laws of the texts of times, each as the contract of a function that does nothing:
+//! what is written is read again, a text means one time, and a time has one written text. A text
+//! that was read may differ from the written one, as by a zone.
 ghost use Rattle.std.specs.Prelude.{◌≡◌, ℕ, List, ℤ};
 ghost use Rattle.asn_times.specs.Days.{DayReads, IsInDayYears};
 ghost use Rattle.asn_times.specs.Generalized.{GeneralizedReads, GeneralizedWritten, IsInGeneralizedYears};

@@ -1,5 +1,8 @@
-//! The time types of ASN.1, which hold civil values in UTC, and the texts that state them:
-//! UTCTime, GeneralizedTime and DATE.
+//! Defines the time types of ASN.1 (X.680, sections 38, 46 and 47), which hold civil values in
+//! UTC, and reads and writes the texts that state them: UTCTime, GeneralizedTime and DATE. Each
+//! type has a grammar in `specs/`, by which a text means at most one time; a reader goes through
+//! the text once from the left, and a writer writes the one canonical text. The calendar is
+//! `jiff`'s.
 #![tactic(auto)]
 
 pub mod dates;

@@ -1,4 +1,5 @@
-//! Texts as they are read and written again, and the printed texts of faults.
+//! Tests texts as they are read and written again, and the printed texts of faults. The expected
+//! texts follow from the forms of X.680 and the calendar.
 use crate::{
     Date, TimeFault, read_date, read_generalized, read_utc, write_date, write_generalized,
     write_utc,
@@ -7,15 +8,18 @@ use jiff::civil;
 use std::alloc::Global;
 use std::test::Fail;
 
-/// The grammar of a text.
+/// Names the grammar of a text.
 #[derive(Clone, Copy)]
 enum Form {
+    /// Is DATE.
     Day,
+    /// Is UTCTime.
     Utc,
+    /// Is GeneralizedTime.
     Generalized,
 }
 
-// Each row has a text and how it is written again: not at all, if the text is refused.
+/// Lists texts, each with its grammar and as it is written again: empty, if it is refused.
 const ROWS: [(Form, &str, &str); 26] = [
     (Form::Day, "2024-02-29", "2024-02-29"),
     (Form::Day, "2023-02-29", ""),
@@ -53,6 +57,11 @@ const ROWS: [(Form, &str, &str); 26] = [
     (Form::Generalized, "00000101000000+0001", ""),
 ];
 
+/// Reads a text and writes what it means.
+///
+/// # Errors
+///
+/// Those of the reader and the writer.
 fn rewritten(alloc: Global, form: Form, text: &str) -> Result<String, TimeFault> {
     match form {
         Form::Day => {
@@ -70,6 +79,8 @@ fn rewritten(alloc: Global, form: Form, text: &str) -> Result<String, TimeFault>
     }
 }
 
+/// Each text is read and written again, or is refused: days that the calendar lacks, times of day
+/// that the clock lacks, zones of a day and more, and moments that leave the years in UTC.
 #[test]
 fn texts_are_written_again(rt: HostRuntime) -> Result<(), Fail> {
     for (form, text, want) in ROWS {
@@ -81,6 +92,7 @@ fn texts_are_written_again(rt: HostRuntime) -> Result<(), Fail> {
     Ok(())
 }
 
+/// The texts of the three faults are exact, and a year before 0000 has no text.
 #[test]
 fn faults_are_printed(rt: HostRuntime) -> Result<(), Fail> {
     let alloc = rt.alloc();

@@ -1,5 +1,6 @@
-//! UTCTime: a moment of whole seconds, read as `YYMMDDhhmm`, seconds that may be left out and a
-//! zone, and written as `YYMMDDhhmmssZ`.
+//! Defines UTCTime (X.680, section 47): a moment of whole seconds, read as `YYMMDDhhmm`, seconds
+//! that may be left out and a zone, and written as `YYMMDDhhmmssZ`. Two digits state a year of
+//! 1950 to 2049.
 ghost use Rattle.std.specs.Prelude.{◌≡◌, ◌≢◌, ◌↔◌, ◌<◌, pos, ◌≤ℤ◌, IfSome, IsNone, IfOk, IfErr, IsTrue};
 ghost use Rattle.std.specs.String.{string_bytes};
 ghost use Rattle.jiff.specs.Words.{civil_seconds, IsBetween};
@@ -19,12 +20,14 @@ use jiff::civil::DateTime;
 use std::alloc::Global;
 use std::marker::Model;
 
-/// A moment of whole seconds, seen as the seconds since 1970-01-01T00:00:00 in UTC.
+/// Holds a moment of whole seconds. Contracts see the seconds since 1970-01-01T00:00:00 in UTC.
 #[derive(Drop)]
 pub struct UtcTime {
+    /// Holds the date and the time of day in UTC, without a fraction of a second.
     moment: DateTime,
 }
 
+/// Lets contracts see the seconds. The invariant is that there is no fraction.
 impl Model for UtcTime {
     ghost use Rattle.std.specs.Prelude.{◌≡◌, ℤ};
     ghost use Rattle.jiff.specs.Words.{civil_seconds};
@@ -36,8 +39,10 @@ impl Model for UtcTime {
     ghost invariant = { λ a. a.moment.time.subsec_nanosecond ≡ 0 };
 }
 
+/// Makes a time of a moment, and gives it back.
 impl UtcTime {
-    /// Holds the moment, if it has no fraction of a second.
+    /// Returns the time of the moment, which is taken as one in UTC, or `None` where it has a
+    /// fraction of a second.
     pub fn new(moment: DateTime) -> Option<UtcTime>
         ensures none { IsNone result ↔ (moment.time.subsec_nanosecond ≢ 0) }
         ensures value { IfSome result (λ time. time ≡ civil_seconds moment) }
@@ -49,7 +54,7 @@ impl UtcTime {
         }
     }
 
-    /// Returns the moment as a date and a time of day in UTC.
+    /// Returns the moment as a date and a time of day in UTC, without a fraction of a second.
     pub fn moment(&self) -> DateTime
         ensures value { civil_seconds result ≡ self.now }
         ensures whole { result.time.subsec_nanosecond ≡ 0 }
@@ -58,6 +63,7 @@ impl UtcTime {
     }
 }
 
+/// Compares two times: they are equal where they are the same moment.
 impl PartialEq for UtcTime {
     ghost use Rattle.std.specs.Ordering.{int_eq};
     ghost use Rattle.std.specs.Cmp.Rules.{comparing};
@@ -74,6 +80,7 @@ impl PartialEq for UtcTime {
     }
 }
 
+/// States that the comparison is an equivalence.
 impl Eq for UtcTime {
     ghost use Rattle.std.specs.Cmp.Rules.{comparing};
     ghost use Rattle.std.proofs.Common.{rules};
@@ -81,12 +88,13 @@ impl Eq for UtcTime {
     ghost laws = { Prim.search (comparing, rules) };
 }
 
-// The first and the last year of a text.
+/// Is the first year of a text, which is written `50`.
 const FIRST: i16 = 1950;
 
+/// Is the last year of a text, which is written `49`.
 const LAST: i16 = 2049;
 
-/// Returns the year that two digits stand for.
+/// Returns the year that two digits stand for: 2000 to 2049 below 50, else 1950 to 1999.
 fn full_year_of(short: u8) -> u16
     requires { short < 100 }
     ensures is { result ≡ full_year short }
@@ -99,7 +107,8 @@ fn full_year_of(short: u8) -> u16
     }
 }
 
-/// Reads `ss`, if it is there, and returns it with what follows it.
+/// Reads `ss`, if two digits are in front, and returns it with what follows it. Without digits the
+/// second is 0 and nothing is taken.
 fn read_seconds(bytes: &[u8]) -> (u8, &[u8])
     ensures is { (result.0, result.1.now) ≡ seconds_and_rest bytes.now }
     ensures small { result.0 < 100 }
@@ -110,7 +119,7 @@ fn read_seconds(bytes: &[u8]) -> (u8, &[u8])
     }
 }
 
-/// Reads `YYMMDDhhmm`, seconds that may be left out, and a zone.
+/// Reads `YYMMDDhhmm`, seconds that may be left out, and a zone, to the end of the text.
 fn read_fields(bytes: &[u8]) -> Option<MomentFields>
     ensures is { result ≡ utc_fields bytes.now }
     ensures small { IfSome result IsSmallMoment }
@@ -131,11 +140,17 @@ fn read_fields(bytes: &[u8]) -> Option<MomentFields>
     })
 }
 
-/// Returns the moment that a text of UTCTime means.
+/// Returns the moment that a text of UTCTime means. It takes no memory.
+///
+/// # Errors
+///
+/// `InvalidDate` where the text has another form, states a day or a time of day that is none, or
+/// means a moment outside the years 1950 to 2049 in UTC.
 pub fn read_utc(text: &str) -> Result<UtcTime, TimeFault>
     ensures reads { IfOk result (UtcReads text.now) }
     ensures refuses { IfErr result (λ e. (e ≡ InvalidDate) × StatesNoUtc text.now) }
 {
+    // The form comes first, then the calendar and the years.
     let fields = match read_fields(text.as_bytes()) {
         Some(fields) => fields,
         None => return Err(TimeFault::InvalidDate),
@@ -146,7 +161,11 @@ pub fn read_utc(text: &str) -> Result<UtcTime, TimeFault>
     }
 }
 
-/// Writes `YYMMDDhhmmssZ`.
+/// Writes `YYMMDDhhmmssZ` of the fields, which are in UTC.
+///
+/// # Errors
+///
+/// `OutOfMemory` alone.
 fn text_of(alloc: Global, fields: MomentFields) -> Result<String, TimeFault>
     requires { IsSmallMoment fields }
     ensures text { IfOk result (λ text. string_bytes text ≡ utc_digits fields) }
@@ -160,7 +179,12 @@ fn text_of(alloc: Global, fields: MomentFields) -> Result<String, TimeFault>
     Ok(text)
 }
 
-/// Writes the moment as `YYMMDDhhmmssZ`.
+/// Returns the moment's one written text, `YYMMDDhhmmssZ`. By `laws::written_utc_reads`, it is
+/// read as the same moment.
+///
+/// # Errors
+///
+/// `OutOfYears` where the year is outside 1950 to 2049; `OutOfMemory`.
 pub fn write_utc(alloc: Global, time: &UtcTime) -> Result<String, TimeFault>
     ensures writes { IfOk result (λ text. UtcWritten time.now (string_bytes text)) }
     ensures text { IfOk result (λ text. string_bytes text ≡ utc_text time.now) }

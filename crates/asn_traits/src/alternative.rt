@@ -1,4 +1,6 @@
-// A CHOICE by its alternatives: what a type writes is one call an alternative.
+//! Describes a CHOICE by its alternatives (X.680, section 29). A type implements `ChoicePayload`,
+//! which encodes and decodes the payload of each alternative by the payload's own type; what every
+//! CHOICE has (`Choice`, `DecodeChoice`, and by `kinds` the traits of a type) is given here once.
 ghost use Rattle.asn_traits.specs.Chosen.{Chosen, IsChosen, chosen_value};
 ghost use Rattle.asn_model.specs.Readable.{is_readable};
 ghost use Rattle.asn_traits.specs.Scopes.{TagAnswer};
@@ -13,66 +15,84 @@ use asn_base::{Constraints, Identifier, OutOfMemory, Tag, TagTree};
 use asn_fault::{DecodeError, EncodeError};
 use std::alloc::Global;
 
-/// A CHOICE that is written by the type of its alternative.
+/// Describes a CHOICE that is encoded by the type of its alternative.
 pub trait ChoicePayload: OfKind<Kind = ChoiceKind> {
-    /// The tags that the alternatives may begin with.
+    /// Lists the tags that the alternatives of the root may begin with, in their order.
     const ROOT: &'static [TagTree];
 
-    /// Those of the alternatives after the extension marker, if there is one.
+    /// Lists those of the alternatives after the extension marker, and is `None` exactly where
+    /// there is no marker.
     const ADDED: Option<&'static [TagTree]>;
 
-    /// The identifiers of all alternatives, added ones last.
+    /// Lists the identifiers of all alternatives, extension additions last.
     const NAMES: &'static [&'static str];
 
+    // The alternatives of the root, each with its identifier, its tag and the shape of its type.
     ghost alternatives: { Alternatives };
 
+    // The alternatives after the extension marker, if there is one.
     ghost additions: { AlternativeAdditions };
 
     // The alternative of a value, with the payload.
     ghost chosen: { Self → Chosen };
 
-    /// `ROOT`, whose smallest tags are those of the shape.
+    /// Returns `ROOT`, whose smallest tags are those of the shape.
     fn listed_root() -> &'static [TagTree]
         ensures { smallest_tags result.now ≡ root_tags alternatives };
 
-    /// `ADDED`, whose smallest tags are those of the shape's added alternatives.
+    /// Returns `ADDED`, whose smallest tags are those of the shape's extension additions.
     fn listed_added() -> Option<&'static [TagTree]>
         ensures { option_map (λ t. smallest_tags t.now) result ≡ added_tags additions };
 
-    /// `NAMES`, which are those of the shape.
+    /// Returns `NAMES`, which are those of the shape.
     fn listed_names() -> &'static [&'static str]
         ensures { map (λ s. s.now) result.now
             ≡ identifiers (all_alternatives alternatives additions) };
 
-    /// The shape of the type. Its one error is want of memory.
+    /// Returns the shape of the type, as a value.
+    ///
+    /// # Errors
+    ///
+    /// `OutOfMemory` alone.
     fn choice_shape(alloc: Global) -> Result<Shape, OutOfMemory>
         ensures { IfOk result (λ s. shape_view s ≡ AbstractShape.choice alternatives additions) };
 
-    /// The tag of the alternative.
+    /// Returns the tag of the value's alternative.
     fn alternative_tag(&self) -> Tag
         ensures { result ≡ (chosen self.now).tag };
 
-    /// Writes the payload by its own type.
+    /// Encodes the payload by its own type, as one slot.
+    ///
+    /// # Errors
+    ///
+    /// Those of the payload's type; after one, what the encoder holds is unspecified.
     fn write_alternative<E: Encoder>(&self, encoder: &mut E) -> Result<(), EncodeError>
         ensures written { OnOk result (Written E.holds E.notation (chosen self.now).shape
             (chosen self.now).payload encoder.old encoder.new) }
         ensures refused { IfErr result (CannotWrite E.notation (chosen self.now).payload) };
 
-    /// Reads the payload of the alternative of this tag from the first pending slot. Of any other
-    /// tag it takes no slot and refuses with `NoValidChoice`.
+    /// Decodes the payload of the alternative of this tag from the first pending slot.
+    ///
+    /// # Errors
+    ///
+    /// Those of the payload's type; `NoValidChoice` for any other tag, and then no slot is taken.
     fn read_alternative<D: Decoder>(decoder: &mut D, tag: Tag) -> Result<Self, DecodeError>
         ensures { TagAnswer D.notation (all_alternatives alternatives additions)
             (λ x. chosen_value (chosen x)) tag (D.pending decoder.old) result
             (D.pending decoder.new) };
 
-    // The alternative is one of the type's.
+    // The alternative of each value is one of the type's.
     ghost is_chosen: { (x : Self) → IsChosen (all_alternatives alternatives additions) (chosen x) };
 
     // The shape can be read.
     ghost readable: { is_readable (AbstractShape.choice alternatives additions) ≡ true };
 }
 
-/// Writes a CHOICE by its alternative.
+/// Encodes a CHOICE: its payload, under the identifier that stands beside the payload's tag.
+///
+/// # Errors
+///
+/// Those of the payload. That the tag is of no alternative can't come: `is_chosen` excludes it.
 pub fn write_choice<T: ChoicePayload, E: Encoder>(
     value: &T,
     encoder: &mut E,
@@ -84,6 +104,7 @@ pub fn write_choice<T: ChoicePayload, E: Encoder>(
         (chosen_value (T.chosen value.now)) encoder.old encoder.new) }
     ensures refused { IfErr result (CannotWrite E.notation (chosen_value (T.chosen value.now))) }
 {
+    // The tag is known before the payload is encoded, and the closure returns it again.
     let tag = value.alternative_tag();
     encoder.encode_choice::<T, _>(
         constraints,
@@ -102,6 +123,7 @@ pub fn write_choice<T: ChoicePayload, E: Encoder>(
     )
 }
 
+/// Takes the tables of a CHOICE from `ChoicePayload`.
 impl<T: ChoicePayload> Choice for T {
     const VARIANTS: &'static [TagTree] = T::ROOT;
 
@@ -128,6 +150,7 @@ impl<T: ChoicePayload> Choice for T {
     ghost of_alternatives = { refl };
 }
 
+/// Decodes a payload by the tag of its alternative.
 impl<T: ChoicePayload> DecodeChoice for T {
     fn from_tag<D: Decoder>(decoder: &mut D, tag: Tag) -> Result<T, DecodeError> {
         T::read_alternative(decoder, tag)

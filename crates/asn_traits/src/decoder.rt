@@ -1,7 +1,8 @@
-// Reading a value of a type from the slots that a decoder has pending.
-//
-// A codec writes the calls without a body. The calls that have a bound of this crate's are final,
-// and are proved here once for every codec.
+//! Defines decoding: `Decoder`, which a codec implements, and `Decode` and `DecodeChoice`, which a
+//! type implements. A value of a type is made of the first slot that a decoder has pending.
+//!
+//! A codec writes the calls without a body. The calls that have a bound of this crate's are final,
+//! and are proved here once for every codec.
 ghost use Rattle.asn_fault.specs.Stop.{Why, at_root, error_stop};
 ghost use Rattle.asn_model.specs.Fixed.{fixed_size};
 ghost use Rattle.asn_model.specs.Leaf.{codec_of};
@@ -22,70 +23,80 @@ use asn_base::{Codec, Constraints, Tag};
 use asn_fault::{DecodeError, Refusal};
 use std::alloc::Global;
 
-/// A reader of one notation. It is seen as a list of pending slots: a tree or absent.
+/// Decodes one notation. Contracts see a decoder as a list of pending slots: a tree or absent.
 ///
-/// Unless said otherwise a call takes the first pending slot and reads it. It refuses with the path
-/// and the kind by which the slot says no value of the type, and else memory alone. What is pending
-/// after a refusal isn't told.
+/// Unless stated otherwise a call takes the first pending slot and decodes it.
+///
+/// # Errors
+///
+/// Unless stated otherwise the path and the kind by which the slot decodes to no value of the type,
+/// and else `OutOfMemory` alone. What is pending after an error is unspecified.
 pub trait Decoder {
     // The notation that is read.
     ghost notation: { Notation };
 
-    // The slots that are still to be read, the first one first.
+    // The slots that are still to be decoded, the first one first.
     ghost pending: { Self → List Slot };
 
-    /// The codec of its errors.
+    /// Returns the codec of its errors.
     fn codec(&self) -> Codec
         ensures { notation_of result ≡ notation };
 
-    /// The allocator that it takes memory from.
+    /// Returns the allocator that it takes memory from.
     fn allocator(&self) -> Global;
 
-    /// Takes the first pending slot, a value of this kind.
+    /// Takes the first pending slot, a value of this kind, and returns the value. All calls for
+    /// values without parts go through it.
     fn take_leaf(&mut self, kind: LeafKind) -> Result<OwnedLeaf, DecodeError>
         ensures { TakesLeaf notation kind (pending self.old) result (pending self.new) };
 
-    /// The refusal of a text that names no item of a type.
+    /// Returns the error that a text names no item of a type.
     fn no_item(&self, text: String) -> DecodeError
         ensures { error_stop result ≡ at_root
             (Why.invalid_enum_discriminant (codec_of notation) (string_bytes text))
             (codec_of notation) };
 
-    /// Takes the first pending slot if it is absent, and tells whether it was. It refuses where
-    /// none is pending.
+    /// Takes the first pending slot if it is absent, and returns whether it was. A present one
+    /// stays.
+    ///
+    /// # Errors
+    ///
+    /// The end of input where no slot is pending.
     fn take_absent(&mut self) -> Result<bool, DecodeError>
         ensures { TakesAbsent notation (pending self.old) result (pending self.new) };
 
-    /// Puts the elements of the first pending slot, a list, in its place, and answers how many they
-    /// are.
+    /// Puts the elements of the first pending slot, a list, in its place, and returns their number.
     fn open_list(&mut self) -> Result<usize, DecodeError>
         ensures { OpensList notation (pending self.old) result (pending self.new) };
 
     /// Puts the slots of these fields of the first pending slot in its place: those of the root
-    /// fields, and then those of the extension additions.
+    /// fields, and then those of the extension additions. A field is found by its name, whatever
+    /// the order in the text, and members of other names are dropped.
     fn open_members(&mut self, root: &[Field], additions: &[Field]) -> Result<(), DecodeError>
         requires { are_distinct (names_of root.now ++ names_of additions.now) ≡ true }
         ensures { OpensMembers notation (names_of root.now ++ names_of additions.now)
             (pending self.old) result (pending self.new) };
 
-    /// Puts the payload of the first pending slot, a choice, in its place, and answers the place of
-    /// its identifier.
+    /// Puts the payload of the first pending slot, a choice, in its place, and returns the place of
+    /// its identifier. Where the identifier is none of these, it puts an absent slot and returns
+    /// `None`.
     fn open_choice(&mut self, identifiers: &[&'static str]) -> Result<Option<usize>, DecodeError>
         ensures { OpensChoice notation (map (λ s. s.now) identifiers.now) (pending self.old) result
             (pending self.new) };
 
-    /// Reads a BOOLEAN.
+    /// Decodes a BOOLEAN.
     final fn decode_bool(&mut self, tag: Tag) -> Result<bool, DecodeError>
         ensures { Answer notation Shape.boolean Value.boolean (pending self.old) result
             (pending self.new) }
     {
         match self.take_leaf(LeafKind::Boolean)? {
+            // By the contract of `take_leaf` a leaf is of the kind that was asked for.
             OwnedLeaf::Boolean(flag) => Ok(flag),
             _ => unreachable!(),
         }
     }
 
-    /// Reads a NULL.
+    /// Decodes a NULL.
     final fn decode_null(&mut self, tag: Tag) -> Result<(), DecodeError>
         ensures { Answer notation Shape.null (λ u. Value.null) (pending self.old) result
             (pending self.new) }
@@ -96,7 +107,12 @@ pub trait Decoder {
         }
     }
 
-    /// Reads an INTEGER of the type's range.
+    /// Decodes an INTEGER of the type's range.
+    ///
+    /// # Errors
+    ///
+    /// `IntegerOverflow` with the bits of the type where the number is outside its range; those of
+    /// `Decoder`.
     final fn decode_integer<I: IntegerType>(
         &mut self,
         tag: Tag,
@@ -114,6 +130,7 @@ pub trait Decoder {
                 None => Err(DecodeError::integer_overflow(I::WIDTH, self.codec())),
             },
             OwnedLeaf::Number(None) => {
+                // A law: such a number is outside the range of every type.
                 beyond_128_bits::<I>();
                 Err(DecodeError::integer_overflow(I::WIDTH, self.codec()))
             }
@@ -121,7 +138,7 @@ pub trait Decoder {
         }
     }
 
-    /// Reads a UTF8String.
+    /// Decodes a UTF8String.
     final fn decode_utf8_string(
         &mut self,
         tag: Tag,
@@ -136,7 +153,11 @@ pub trait Decoder {
         }
     }
 
-    /// Reads an item of an ENUMERATED type.
+    /// Decodes an item of an ENUMERATED type, from its identifier.
+    ///
+    /// # Errors
+    ///
+    /// That of `no_item` where the text is no identifier of the type; those of `Decoder`.
     final fn decode_enumerated<E: Enumerated>(&mut self, tag: Tag) -> Result<E, DecodeError>
         ensures { Answer notation (Shape.enum E.items E.added) (λ x. Value.item (E.item x))
             (pending self.old) result (pending self.new) }
@@ -150,7 +171,7 @@ pub trait Decoder {
         }
     }
 
-    /// Reads an OCTET STRING.
+    /// Decodes an OCTET STRING.
     final fn decode_octet_string(
         &mut self,
         tag: Tag,
@@ -166,6 +187,7 @@ pub trait Decoder {
     }
 
     /// Reads a SEQUENCE OF.
+    /// All room is made for the elements at once, since their number is known.
     final fn decode_sequence_of<T: Decode>(
         &mut self,
         tag: Tag,
@@ -180,6 +202,7 @@ pub trait Decoder {
             return Err(DecodeError::out_of_memory(self.codec()));
         };
         for i in 0..count {
+            // The elements are the first slots, in order, and each call takes one.
             let item = T::decode(self)?;
             let Ok(()) = items.push(item) else {
                 return Err(DecodeError::out_of_memory(self.codec()));
@@ -188,13 +211,15 @@ pub trait Decoder {
         Ok(items)
     }
 
-    /// Reads a SEQUENCE: `decode_fn` starts with one slot per field before the others, extension
+    /// Decodes a SEQUENCE: `decode_fn` starts with one slot per field before the others, extension
     /// additions last, and takes them all. Its error is a `DecodeError`.
     final fn decode_sequence<C: Constructed, E: Refusal, F: FnOnce(&mut Self) -> Result<C, E>>(
         &mut self,
         tag: Tag,
         decode_fn: F,
     ) -> Result<C, E>
+        // The closure may be called with these slots, each of fewer nodes than the opened one, and
+        // what it returns of them is a value or an error by the same definition (`reads`).
         requires callable { (p : _) (slot : Slot) (slots rest : List Slot)
             → pending self.old ≡ slot ∷ rest → pending p.now ≡ slots ++ rest
             → length slots ≡ length (field_names (all_fields C.fields C.added))
@@ -208,6 +233,7 @@ pub trait Decoder {
         ensures { AnswerBy E.stop notation (Shape.seq C.kind C.fields C.added) C.value_of
             (pending self.old) result (pending self.new) }
     {
+        // The fields are found by the names in the type's tables.
         let additions = listed_fields(C::extended_field_table());
         match self.open_members(C::field_table().items, additions) {
             Ok(()) => decode_fn(self),
@@ -215,10 +241,10 @@ pub trait Decoder {
         }
     }
 
-    /// Puts the payload of the first pending slot, a CHOICE, in its place, and answers the tag of
+    /// Puts the payload of the first pending slot, a CHOICE, in its place, and returns the tag of
     /// its alternative.
     ///
-    /// Where it names no alternative, it puts an absent slot there and answers `EOC`.
+    /// Where it names no alternative, it puts an absent slot there and returns `EOC`.
     final fn open_alternative<C: Choice>(
         &mut self,
         constraints: &Constraints,
@@ -236,7 +262,7 @@ pub trait Decoder {
         }
     }
 
-    /// Reads a CHOICE. Where no alternative is named, the type's `from_tag` refuses.
+    /// Decodes a CHOICE. Where no alternative is named, the type's `from_tag` returns the error.
     final fn decode_choice<C: DecodeChoice>(
         &mut self,
         constraints: &Constraints,
@@ -250,7 +276,7 @@ pub trait Decoder {
         }
     }
 
-    /// Reads an optional field: nothing where the slot is absent.
+    /// Decodes an optional field: `None` where the slot is absent.
     final fn decode_optional<T: Decode>(&mut self) -> Result<Option<T>, DecodeError>
         ensures { OptionalAnswer notation T.shape_of T.value_of (pending self.old) result
             (pending self.new) }
@@ -265,8 +291,8 @@ pub trait Decoder {
         }
     }
 
-    /// Reads an optional field under an explicit tag, which changes nothing: nothing where the slot
-    /// is absent.
+    /// Decodes an optional field under an explicit tag, which changes nothing: `None` where the
+    /// slot is absent.
     final fn decode_optional_with_explicit_prefix<T: Decode>(
         &mut self,
         tag: Tag,
@@ -277,7 +303,7 @@ pub trait Decoder {
         self.decode_optional()
     }
 
-    /// Reads an optional field under a tag, which changes nothing: nothing where the slot is
+    /// Decodes an optional field under a tag, which changes nothing: `None` where the slot is
     /// absent.
     final fn decode_optional_with_tag<T: Decode>(
         &mut self,
@@ -289,7 +315,7 @@ pub trait Decoder {
         self.decode_optional()
     }
 
-    /// Reads an optional field under constraints, which change nothing: nothing where the slot is
+    /// Decodes an optional field under constraints, which change nothing: `None` where the slot is
     /// absent.
     final fn decode_optional_with_constraints<T: Decode>(
         &mut self,
@@ -301,8 +327,8 @@ pub trait Decoder {
         self.decode_optional()
     }
 
-    /// Reads an optional field under a tag and constraints, which change nothing: nothing where the
-    /// slot is absent.
+    /// Decodes an optional field under a tag and constraints, which change nothing: `None` where
+    /// the slot is absent.
     final fn decode_optional_with_tag_and_constraints<T: Decode>(
         &mut self,
         tag: Tag,
@@ -314,7 +340,7 @@ pub trait Decoder {
         self.decode_optional()
     }
 
-    /// Reads a value under an explicit tag, which changes nothing in text.
+    /// Decodes a value under an explicit tag, which changes nothing in text.
     final fn decode_explicit_prefix<T: Decode>(&mut self, tag: Tag) -> Result<T, DecodeError>
         ensures { Answer notation T.shape_of T.value_of (pending self.old) result
             (pending self.new) }
@@ -323,12 +349,13 @@ pub trait Decoder {
     }
 }
 
-/// A type that is read. The last call is each type's own, and the others hand it the type's own tag
-/// or constraints.
+/// Is a type whose values are decoded. The last call is each type's own, and the others hand it the
+/// type's own tag or constraints.
 ///
 /// Tags change nothing in text, and constraints decide only whether a BIT STRING has a fixed size.
+/// The errors of each call are those that `Decoder` lists.
 pub trait Decode: AsnType + Sized + Drop {
-    /// Reads the first pending slot.
+    /// Decodes the first pending slot.
     fn decode<D: Decoder>(decoder: &mut D) -> Result<Self, DecodeError>
         ensures { Answer D.notation Self.shape_of Self.value_of (D.pending decoder.old) result
             (D.pending decoder.new) }
@@ -336,7 +363,7 @@ pub trait Decode: AsnType + Sized + Drop {
         Self::decode_with_tag(decoder, Self::TAG)
     }
 
-    /// Reads the first pending slot under another tag.
+    /// Decodes the first pending slot under another tag.
     fn decode_with_tag<D: Decoder>(decoder: &mut D, tag: Tag) -> Result<Self, DecodeError>
         ensures { Answer D.notation Self.shape_of Self.value_of (D.pending decoder.old) result
             (D.pending decoder.new) }
@@ -345,7 +372,7 @@ pub trait Decode: AsnType + Sized + Drop {
         Self::decode_with_tag_and_constraints(decoder, tag, &constraints)
     }
 
-    /// Reads the first pending slot under other constraints.
+    /// Decodes the first pending slot under other constraints.
     fn decode_with_constraints<D: Decoder>(
         decoder: &mut D,
         constraints: &Constraints,
@@ -356,7 +383,8 @@ pub trait Decode: AsnType + Sized + Drop {
         Self::decode_with_tag_and_constraints(decoder, Self::TAG, constraints)
     }
 
-    /// Reads the first pending slot under another tag and other constraints.
+    /// Decodes the first pending slot under another tag and other constraints. Each type writes
+    /// this call.
     fn decode_with_tag_and_constraints<D: Decoder>(
         decoder: &mut D,
         tag: Tag,
@@ -366,10 +394,13 @@ pub trait Decode: AsnType + Sized + Drop {
             (D.pending decoder.old) result (D.pending decoder.new) };
 }
 
-/// A choice that is read.
+/// Is a CHOICE whose values are decoded.
 pub trait DecodeChoice: Choice + Sized + Drop {
-    /// Reads the payload of the alternative of this tag from the first pending slot. Of any other
-    /// tag it takes no slot and refuses with `NoValidChoice`.
+    /// Decodes the payload of the alternative of this tag from the first pending slot.
+    ///
+    /// # Errors
+    ///
+    /// Those of the payload's type; `NoValidChoice` for any other tag, and then no slot is taken.
     fn from_tag<D: Decoder>(decoder: &mut D, tag: Tag) -> Result<Self, DecodeError>
         ensures { TagAnswer D.notation
             (all_alternatives Self.alternatives Self.added) Self.value_of tag

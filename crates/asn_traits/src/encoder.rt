@@ -1,7 +1,8 @@
-// Writing a value of a type as one slot more of what an encoder holds.
-//
-// A codec writes the calls without a body. The calls that have a bound of this crate's are final,
-// and are proved here once for every codec.
+//! Defines encoding: `Encoder`, which a codec implements, and `Encode`, which a type implements. A
+//! value of a type becomes one slot more of what an encoder holds.
+//!
+//! A codec writes the calls without a body. The calls that have a bound of this crate's are final,
+//! and are proved here once for every codec.
 ghost use Rattle.asn_model.specs.Fixed.{fixed_size};
 ghost use Rattle.asn_model.specs.Leaf.{leaf_value};
 ghost use Rattle.asn_model.specs.Notation.{Notation, notation_of};
@@ -19,63 +20,85 @@ use asn_fault::{EncodeError, EncodeErrorKind};
 use asn_model::are_octets;
 use std::alloc::Global;
 
-/// A writer of one notation. It is seen as a list of open frames, each a list of slots: a value or
-/// absent.
+/// Encodes in one notation. Contracts see an encoder as a list of open frames, each a list of
+/// slots: a value or absent.
 ///
-/// Unless said otherwise the last frame has one more slot after a call, the value. A call refuses a
-/// value that the notation cannot write, by the kind of the first part that it cannot write, and
-/// else memory alone. What it holds after a refusal isn't told.
+/// Unless stated otherwise the last frame has one more slot after a call, the value.
+///
+/// # Errors
+///
+/// Unless stated otherwise the kind of the first part of the value that the notation cannot encode,
+/// and else `OutOfMemory` alone. What an encoder holds after an error is unspecified.
 pub trait Encoder {
     // The notation that is written.
     ghost notation: { Notation };
 
-    // The encoder may have these open frames, the last one first. A codec's tree need not tell its
-    // value, so this is a relation.
+    // The encoder may have these open frames, the last one first. A codec's tree need not determine
+    // its value, so this is a relation.
     ghost holds: { Self → List Frame → Type 0 };
 
-    /// The codec of its errors.
+    /// Returns the codec of its errors.
     fn codec(&self) -> Codec
         ensures { notation_of result ≡ notation };
 
-    /// The allocator that it takes memory from.
+    /// Returns the allocator that it takes memory from.
     fn allocator(&self) -> Global;
 
-    /// Puts a value without parts into the last frame.
+    /// Puts a value without parts into the last frame. All calls for such values go through it.
     fn put_leaf(&mut self, leaf: Leaf<'_>) -> Result<(), EncodeError>
         ensures put { OnOk result (Puts holds notation (leaf_value leaf.entry) self.old self.new) }
         ensures refused { IfErr result (CannotWrite notation (leaf_value leaf.entry)) };
 
-    /// Puts an absent slot into the last frame. It refuses memory alone.
+    /// Puts an absent slot into the last frame.
+    ///
+    /// # Errors
+    ///
+    /// `OutOfMemory` alone.
     fn encode_absent(&mut self) -> Result<(), EncodeError>
         ensures written { OnOk result (Turns holds (push None) self.old self.new) }
         ensures refused { IfErr result (λ e. e.kind ≡ EncodeErrorKind.OutOfMemory) };
 
-    /// Opens a frame. It refuses memory alone.
+    /// Opens an empty frame, which takes the slots until it is closed.
+    ///
+    /// # Errors
+    ///
+    /// `OutOfMemory` alone.
     fn open_frame(&mut self) -> Result<(), EncodeError>
         ensures opened { OnOk result (Turns holds (λ fs. [] ∷ fs) self.old self.new) }
         ensures refused { IfErr result (λ e. e.kind ≡ EncodeErrorKind.OutOfMemory) };
 
-    /// Puts the last frame into the one before it as a list of its present values. It refuses
-    /// memory alone.
+    /// Closes the last frame, and puts it into the one before it as a list of its present values.
+    ///
+    /// # Errors
+    ///
+    /// `OutOfMemory` alone.
     fn close_list(&mut self) -> Result<(), EncodeError>
         ensures closed { OnOk result (Turns holds (close as_list) self.old self.new) }
         ensures refused { IfErr result (λ e. e.kind ≡ EncodeErrorKind.OutOfMemory) };
 
-    /// Puts the last frame into the one before it as members, by the names of these fields: the
-    /// root fields, and then the extension additions. It refuses memory alone.
+    /// Closes the last frame, and puts it into the one before it as members, by the names of these
+    /// fields: the root fields, and then the extension additions.
+    ///
+    /// # Errors
+    ///
+    /// `OutOfMemory` alone.
     fn close_members(&mut self, root: &[Field], additions: &[Field]) -> Result<(), EncodeError>
         ensures closed { OnOk result (Turns holds (close
             (as_members (names_of root.now ++ names_of additions.now))) self.old self.new) }
         ensures refused { IfErr result (λ e. e.kind ≡ EncodeErrorKind.OutOfMemory) };
 
-    /// Puts the first slot of the last frame into the one before it as the payload of a choice. It
-    /// refuses memory alone.
+    /// Closes the last frame, and puts its first slot into the one before it as the payload of a
+    /// choice with this identifier.
+    ///
+    /// # Errors
+    ///
+    /// `OutOfMemory` alone.
     fn close_choice(&mut self, identifier: &'static str) -> Result<(), EncodeError>
         ensures closed { OnOk result (Turns holds (close
             (as_choice identifier.now)) self.old self.new) }
         ensures refused { IfErr result (λ e. e.kind ≡ EncodeErrorKind.OutOfMemory) };
 
-    /// Writes a BOOLEAN.
+    /// Encodes a BOOLEAN.
     final fn encode_bool(
         &mut self,
         tag: Tag,
@@ -89,7 +112,7 @@ pub trait Encoder {
         self.put_leaf(Leaf::Boolean(value))
     }
 
-    /// Writes a NULL.
+    /// Encodes a NULL.
     final fn encode_null(&mut self, tag: Tag, identifier: Identifier) -> Result<(), EncodeError>
         ensures written { OnOk result
             (Written holds notation Shape.null Value.null self.old self.new) }
@@ -98,7 +121,7 @@ pub trait Encoder {
         self.put_leaf(Leaf::Null)
     }
 
-    /// Writes an INTEGER.
+    /// Encodes an INTEGER, whose constraints are not checked.
     final fn encode_integer<I: IntegerType>(
         &mut self,
         tag: Tag,
@@ -118,7 +141,7 @@ pub trait Encoder {
         }))
     }
 
-    /// Writes a UTF8String.
+    /// Encodes a UTF8String.
     final fn encode_utf8_string(
         &mut self,
         tag: Tag,
@@ -133,7 +156,7 @@ pub trait Encoder {
         self.put_leaf(Leaf::Text(value))
     }
 
-    /// Writes an item of an ENUMERATED type.
+    /// Encodes an item of an ENUMERATED type, by its identifier.
     final fn encode_enumerated<T: Enumerated>(
         &mut self,
         tag: Tag,
@@ -147,7 +170,7 @@ pub trait Encoder {
         self.put_leaf(Leaf::Item(value.identifier()))
     }
 
-    /// Writes an OCTET STRING.
+    /// Encodes an OCTET STRING.
     final fn encode_octet_string(
         &mut self,
         tag: Tag,
@@ -159,11 +182,12 @@ pub trait Encoder {
             (Value.octets value.now) self.old self.new) }
         ensures refused { IfErr result (CannotWrite notation (Value.octets value.now)) }
     {
+        // A law: the bytes of a slice are octets.
         are_octets(value);
         self.put_leaf(Leaf::Octets(value))
     }
 
-    /// Writes the value of an optional field.
+    /// Encodes the value of an optional field.
     final fn encode_some<T: Encode>(
         &mut self,
         value: &T,
@@ -178,8 +202,8 @@ pub trait Encoder {
         value.encode(self)
     }
 
-    /// Writes the value of an optional field under a tag and constraints, which change nothing: it
-    /// is written by its type's own.
+    /// Encodes the value of an optional field under a tag and constraints, which change nothing: it
+    /// is encoded by its type's own.
     final fn encode_some_with_tag_and_constraints<T: Encode>(
         &mut self,
         tag: Tag,
@@ -196,7 +220,11 @@ pub trait Encoder {
         value.encode(self)
     }
 
-    /// Leaves an optional field out under a tag, which changes nothing. It refuses memory alone.
+    /// Leaves an optional field out under a tag, which changes nothing.
+    ///
+    /// # Errors
+    ///
+    /// `OutOfMemory` alone.
     final fn encode_none_with_tag(
         &mut self,
         tag: Tag,
@@ -210,7 +238,11 @@ pub trait Encoder {
         self.encode_absent()
     }
 
-    /// Leaves an optional field out: puts an absent slot. It refuses memory alone.
+    /// Leaves an optional field out: puts an absent slot.
+    ///
+    /// # Errors
+    ///
+    /// `OutOfMemory` alone.
     final fn encode_none<T: Encode>(&mut self, identifier: Identifier) -> Result<(), EncodeError>
     where
         Self: Sized,
@@ -220,7 +252,7 @@ pub trait Encoder {
         self.encode_absent()
     }
 
-    /// Writes a value under an explicit tag, which changes nothing in text.
+    /// Encodes a value under an explicit tag, which changes nothing in text.
     final fn encode_explicit_prefix<T: Encode>(
         &mut self,
         tag: Tag,
@@ -236,7 +268,7 @@ pub trait Encoder {
         value.encode(self)
     }
 
-    /// Writes a SEQUENCE OF.
+    /// Encodes a SEQUENCE OF, element by element.
     final fn encode_sequence_of<T: Encode>(
         &mut self,
         tag: Tag,
@@ -252,14 +284,19 @@ pub trait Encoder {
             (Value.list (values T.value_of value.now))) }
     {
         self.open_frame()?;
+        // Each element adds one slot to the new frame.
         for item in value {
             item.encode(self)?;
         }
         self.close_list()
     }
 
-    /// Writes a SEQUENCE: the closure starts on a new frame and leaves one slot per field in it,
-    /// extension additions last. What it wrote is told by its own clauses.
+    /// Encodes a SEQUENCE: the closure starts on a new frame and leaves one slot per field in it,
+    /// extension additions last. What it added is stated by its own clauses.
+    ///
+    /// # Errors
+    ///
+    /// Those of the closure, as they are; `OutOfMemory`.
     final fn encode_sequence<C: Constructed, F: FnOnce(&mut Self) -> Result<(), EncodeError>>(
         &mut self,
         tag: Tag,
@@ -284,11 +321,13 @@ pub trait Encoder {
         )
     }
 
-    /// Writes a CHOICE: the closure starts on a new frame and leaves the payload's slot in it. What
-    /// it wrote is told by its own clauses.
+    /// Encodes a CHOICE: the closure starts on a new frame and leaves the payload's slot in it.
+    /// What it added is stated by its own clauses.
     ///
-    /// Errors besides: `VariantNotInChoice` where the tag is that of no alternative, before the
-    /// closure is called.
+    /// # Errors
+    ///
+    /// `VariantNotInChoice` where the tag is that of no alternative, before the closure is called;
+    /// those of the closure, as they are; `OutOfMemory`.
     final fn encode_choice<C: Choice, F: FnOnce(&mut Self) -> Result<Tag, EncodeError>>(
         &mut self,
         constraints: &Constraints,
@@ -311,23 +350,25 @@ pub trait Encoder {
             ⊎ ScopeRan holds (FnOnceReturnsAtMut F.FnOnce encode_fn) self.old (Err e)
             (λ left. ⊤))) }
     {
+        // The identifier is looked up first, so that no frame is opened for a tag that has none.
         let added = listed(C::extended_variant_table());
         let Some(name) = identifier_of(C::variant_table(), added, C::identifier_table(), tag) else {
             return Err(EncodeError::variant_not_in_choice(self.codec()));
         };
         self.open_frame()?;
+        // The tag that the closure returns is not looked at: `tag` names the alternative.
         let _answer = encode_fn(self)?;
         self.close_choice(name)
     }
 }
 
-/// A type that is written. The last call is each type's own, and the others hand it the type's own
-/// tag or constraints.
+/// Is a type whose values are encoded. The last call is each type's own, and the others hand it the
+/// type's own tag or constraints.
 ///
 /// Tag and identifier change nothing in text, and constraints decide only whether a BIT STRING has
-/// a fixed size.
+/// a fixed size. The errors of each call are those that `Encoder` lists.
 pub trait Encode: AsnType {
-    /// Writes the value as one slot more.
+    /// Encodes the value as one slot more.
     fn encode<E: Encoder>(&self, encoder: &mut E) -> Result<(), EncodeError>
         ensures written { OnOk result (Written E.holds E.notation Self.shape_of
             (Self.value_of self.now) encoder.old encoder.new) }
@@ -336,7 +377,7 @@ pub trait Encode: AsnType {
         self.encode_with_tag(encoder, Self::TAG)
     }
 
-    /// Writes the value under another tag.
+    /// Encodes the value under another tag.
     fn encode_with_tag<E: Encoder>(&self, encoder: &mut E, tag: Tag) -> Result<(), EncodeError>
         ensures written { OnOk result (Written E.holds E.notation Self.shape_of
             (Self.value_of self.now) encoder.old encoder.new) }
@@ -346,7 +387,7 @@ pub trait Encode: AsnType {
         self.encode_with_tag_and_constraints(encoder, tag, &constraints, Self::IDENTIFIER)
     }
 
-    /// Writes the value under other constraints.
+    /// Encodes the value under other constraints.
     fn encode_with_constraints<E: Encoder>(
         &self,
         encoder: &mut E,
@@ -361,7 +402,8 @@ pub trait Encode: AsnType {
         self.encode_with_tag_and_constraints(encoder, Self::TAG, constraints, Self::IDENTIFIER)
     }
 
-    /// Writes the value under another tag, other constraints and a name.
+    /// Encodes the value under another tag, other constraints and a name. Each type writes this
+    /// call.
     fn encode_with_tag_and_constraints<E: Encoder>(
         &self,
         encoder: &mut E,

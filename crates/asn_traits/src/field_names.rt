@@ -1,4 +1,5 @@
-// The names of the fields of a SEQUENCE, which its reader goes along.
+//! Holds the names of the fields of a SEQUENCE, along which its decoding goes. A field is decoded
+//! with no name in the source: each call takes the next one from here, to name it in an error.
 ghost use Rattle.asn_traits.specs.Writing.{head_name, tail_names};
 ghost use Rattle.asn_traits.specs.Tables.{names_of};
 ghost use Rattle.std.specs.Prelude.{◌≡◌, ◌++◌, ℕ, List};
@@ -6,21 +7,26 @@ ghost use Rattle.std.specs.Prelude.{◌≡◌, ◌++◌, ℕ, List};
 use crate::Field;
 use std::marker::Model;
 
-/// The names of the fields that are still to be read, in order, as the type's table has them.
+/// Holds the names of the fields that are still to be decoded, in order, as the type's tables have
+/// them. Contracts see the list of names.
 #[derive(Drop)]
 pub struct FieldNames {
+    /// Holds the rows of the root that are left.
     root: &'static [Field],
+    /// Holds the rows of the extension additions that are left.
     additions: &'static [Field],
 }
 
+/// Lets contracts see the names of both tables as one list.
 impl Model for FieldNames {
     ghost Value = { List (List ℕ) };
 
     ghost view = { λ names. names_of names.root.now ++ names_of names.additions.now };
 }
 
+/// Goes along the names. Nothing is copied: the tables are constants.
 impl FieldNames {
-    /// The names in the table of the root fields, and then those in that of the extension
+    /// Returns the names in the table of the root fields, and then those in that of the extension
     /// additions.
     pub fn new(root: &'static [Field], additions: &'static [Field]) -> FieldNames
         ensures { result ≡ names_of root.now ++ names_of additions.now }
@@ -28,7 +34,7 @@ impl FieldNames {
         FieldNames { root, additions }
     }
 
-    /// Takes the first name. It is empty where there is none.
+    /// Takes the first name and returns it. It is empty where there is none.
     pub(crate) fn take_first(&mut self) -> &'static str
         ensures name { result.now ≡ head_name self.old }
         ensures others { self.new ≡ tail_names self.old }

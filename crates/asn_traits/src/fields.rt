@@ -1,4 +1,6 @@
-// Reading and writing the fields of a SEQUENCE, one after another.
+//! Encodes and decodes the fields of a SEQUENCE, one after another. A decoder has put a slot for
+//! each field before, found by its name in the text; so a field is the first pending slot, present
+//! or absent, and its name is the next of `FieldNames`.
 ghost use Rattle.asn_base.specs.declared.codec.Codec.{Codec};
 ghost use Rattle.asn_fault.specs.Stop.{Why, at_root, error_stop, wrapped};
 ghost use Rattle.asn_traits.specs.Answer.{OptionalStops, Refuses};
@@ -14,7 +16,7 @@ use crate::{Decode, Decoder, Encode, Encoder, FieldNames};
 use asn_base::Identifier;
 use asn_fault::{DecodeError, EncodeError};
 
-/// The refusal within `FieldError` with the field's name, and by the decoder's codec. Want of
+/// Returns the error within `FieldError` with the field's name, and by the decoder's codec. Out of
 /// memory stays as it is.
 fn within_field<D: Decoder>(decoder: &D, name: &'static str, error: DecodeError) -> DecodeError
     ensures { (codec : Codec) × (notation_of codec ≡ D.notation)
@@ -24,9 +26,13 @@ fn within_field<D: Decoder>(decoder: &D, name: &'static str, error: DecodeError)
     DecodeError::field_error(decoder.allocator(), name, error, decoder.codec())
 }
 
-/// Reads the first pending slot as a field that has to be present, and takes its name from `names`.
+/// Decodes the first pending slot as a field that has to be present, and takes its name from
+/// `names`.
 ///
-/// It refuses as the type does, within `FieldError` with that name; want of memory stays as it is.
+/// # Errors
+///
+/// Those of the field's type within `FieldError` with that name; an absent slot is the end of
+/// input. `OutOfMemory` without the field.
 pub fn read_field<T: Decode, D: Decoder>(
     decoder: &mut D,
     names: &mut FieldNames,
@@ -37,6 +43,7 @@ pub fn read_field<T: Decode, D: Decoder>(
     ensures refused { IfErr result (λ e. Refuses D.notation (WithinField (head_name names.old)
         (Stops D.notation T.shape_of (head_slot (D.pending decoder.old)))) (error_stop e)) }
 {
+    // The name is taken first, since an error in the field names it too.
     let name = names.take_first();
     match T::decode(decoder) {
         Ok(value) => Ok(value),
@@ -44,10 +51,12 @@ pub fn read_field<T: Decode, D: Decoder>(
     }
 }
 
-/// Reads the first pending slot as a field that may be absent, nothing where it is, and takes its
+/// Decodes the first pending slot as a field that may be absent, `None` where it is, and takes its
 /// name from `names`.
 ///
-/// It refuses as the type does, within `FieldError` with that name; want of memory stays as it is.
+/// # Errors
+///
+/// Those of the field's type within `FieldError` with that name; `OutOfMemory` without the field.
 pub fn read_optional_field<T: Decode, D: Decoder>(
     decoder: &mut D,
     names: &mut FieldNames,
@@ -58,6 +67,7 @@ pub fn read_optional_field<T: Decode, D: Decoder>(
     ensures refused { IfErr result (λ e. Refuses D.notation (WithinField (head_name names.old)
         (OptionalStops D.notation T.shape_of (D.pending decoder.old))) (error_stop e)) }
 {
+    // The name is taken where the slot is absent, too: names and slots go along together.
     let name = names.take_first();
     match decoder.decode_optional::<T>() {
         Ok(value) => Ok(value),
@@ -65,7 +75,11 @@ pub fn read_optional_field<T: Decode, D: Decoder>(
     }
 }
 
-/// Writes a field that has to be present: puts its value's slot.
+/// Encodes a field that has to be present: adds its value's slot to the open frame.
+///
+/// # Errors
+///
+/// Those of the field's type, without a `FieldError`.
 pub fn write_field<T: Encode, E: Encoder>(encoder: &mut E, value: &T) -> Result<(), EncodeError>
     ensures written { OnOk result (AddsSlot E.holds E.notation T.shape_of encoder.old encoder.new
         (Some (T.value_of value.now))) }
@@ -74,8 +88,12 @@ pub fn write_field<T: Encode, E: Encoder>(encoder: &mut E, value: &T) -> Result<
     encoder.encode_some::<T>(value, Identifier::EMPTY)
 }
 
-/// Writes a field that may be absent: puts its value's slot, or an absent one where there is no
-/// value.
+/// Encodes a field that may be absent: adds its value's slot to the open frame, or an absent one
+/// where there is no value.
+///
+/// # Errors
+///
+/// Those of the field's type, without a `FieldError`.
 pub fn write_optional_field<T: Encode, E: Encoder>(
     encoder: &mut E,
     value: &Option<T>,

@@ -1,4 +1,5 @@
-// Groups of fields, for a SEQUENCE of more fields than one function is proved with.
+//! Describes groups of fields, for a SEQUENCE of more fields than one function is proved with: the
+//! tactics find the proof of about eight calls in a row.
 ghost use Rattle.asn_fault.specs.Stop.{error_stop};
 ghost use Rattle.asn_traits.specs.FieldAnswer.Ahead.{ahead};
 ghost use Rattle.asn_traits.specs.Passing.{AddsFields, RefusesAdding, RefusesFields, TakesFields};
@@ -9,17 +10,23 @@ ghost use Rattle.std.specs.Prelude.{◌++◌, IfErr, IfOk, OnOk};
 use crate::{Decoder, Encoder, FieldNames};
 use asn_fault::{DecodeError, EncodeError};
 
-/// Fields that stand one after another in a SEQUENCE, as ASN.1's COMPONENTS OF puts them there.
+/// Describes fields that stand one after another in a SEQUENCE, as COMPONENTS OF puts them
+/// there.
 ///
 /// A SEQUENCE of more than eight fields is a struct of two groups, and a group may be one too.
 pub trait FieldGroup: Sized + Drop {
+    // The fields, in order.
     ghost group: { AbstractFields };
 
     // The values of the fields, in order: one slot for each, absent where the field is.
     ghost group_slots: { Self → Frame };
 
-    /// Writes the fields, by one call of `write_field` or `write_optional_field` for each, in
+    /// Encodes the fields, by one call of `write_field` or `write_optional_field` for each, in
     /// order.
+    ///
+    /// # Errors
+    ///
+    /// Those of the first field that can't be encoded.
     fn write_group<E: Encoder>(&self, encoder: &mut E) -> Result<(), EncodeError>
         ensures written { OnOk result (AddsFields E.holds E.notation group (group_slots self.now)
             encoder.old encoder.new) }
@@ -27,8 +34,12 @@ pub trait FieldGroup: Sized + Drop {
             (RefusesAdding E.holds E.notation group (group_slots self.now)
             encoder.old) };
 
-    /// Reads the fields, by one call of `read_field` or `read_optional_field` for each, in order.
+    /// Decodes the fields, by one call of `read_field` or `read_optional_field` for each, in order.
     /// Each call takes the field's name from `names`.
+    ///
+    /// # Errors
+    ///
+    /// Those of the first field that can't be decoded, within its `FieldError`.
     fn read_group<D: Decoder>(decoder: &mut D, names: &mut FieldNames) -> Result<Self, DecodeError>
         ensures read { IfOk result (λ x. TakesFields D.notation group (group_slots x)
             (ahead names.old (D.pending decoder.old))
@@ -37,7 +48,12 @@ pub trait FieldGroup: Sized + Drop {
             (ahead names.old (D.pending decoder.old)) (error_stop e)) };
 }
 
-/// Writes the fields of two groups, one group after the other.
+/// Encodes the fields of two groups, one group after the other: the body of `write_fields` for a
+/// SEQUENCE of two groups.
+///
+/// # Errors
+///
+/// Those of the groups.
 #[tactic(auto, using(crate::proofs::Grouping::group_steps))]
 pub fn write_groups<A: FieldGroup, B: FieldGroup, E: Encoder>(
     encoder: &mut E,
@@ -54,7 +70,12 @@ pub fn write_groups<A: FieldGroup, B: FieldGroup, E: Encoder>(
     Ok(())
 }
 
-/// Reads the fields of two groups, one group after the other.
+/// Decodes the fields of two groups, one group after the other: the body of `read_fields` for a
+/// SEQUENCE of two groups.
+///
+/// # Errors
+///
+/// Those of the groups.
 #[tactic(auto, using(crate::proofs::Grouping::group_steps))]
 pub fn read_groups<A: FieldGroup, B: FieldGroup, D: Decoder>(
     decoder: &mut D,

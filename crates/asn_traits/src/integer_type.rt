@@ -1,19 +1,22 @@
-// The integer types of the language, as numbers of a range.
+//! Defines the integer types of the language as numbers of a range, by sign and magnitude. So the
+//! notations write and read one kind of number, and each type takes those of its range. INTEGER is
+//! X.680, section 19.
 ghost use Rattle.asn_base.specs.Numbers.{OfParts, signed, is_negative, magnitude};
 ghost use Rattle.asn_model.specs.Readable.{has_128_bits};
 ghost use Rattle.std.specs.Prelude.{◌≡◌, ◌⊎◌, Bool, ℕ, ℤ, pos, negsuc, ◌-◌, ◌^◌, ◌≤◌, ◌<◌, ◌<ℤ◌, ◌≤ℤ◌, IfSome, true, refl};
 
-/// An integer type: every whole number from `LEAST` to `GREATEST`, in `WIDTH` bits.
+/// Describes an integer type: every whole number from `LEAST` to `GREATEST`, in `WIDTH` bits.
 pub trait IntegerType: Copy {
-    /// The type's size in bits.
+    /// Counts the bits of the type, which an overflow states.
     const WIDTH: u32;
 
-    /// The least number of the type.
+    /// Holds the least number of the type.
     const LEAST: i128;
 
-    /// The greatest number of the type.
+    /// Holds the greatest number of the type.
     const GREATEST: u128;
 
+    // The same three for contracts, which see numbers without a type.
     ghost WIDTH: { ℕ };
 
     ghost LEAST: { ℤ };
@@ -23,12 +26,12 @@ pub trait IntegerType: Copy {
     // The number that a value is.
     ghost number: { Self → ℤ };
 
-    /// The value of the number with this sign and magnitude. None exactly where the number is
-    /// outside `LEAST` to `GREATEST`.
+    /// Returns the value of the number with this sign and magnitude, or `None` exactly where the
+    /// number is outside `LEAST` to `GREATEST`. A negative zero is zero.
     fn of_parts(negative: bool, magnitude: u128) -> Option<Self>
         ensures { OfParts number LEAST GREATEST (signed negative magnitude) result };
 
-    /// The sign and the magnitude. The sign is true exactly below zero.
+    /// Returns the sign and the magnitude. The sign is true exactly below zero.
     fn parts(&self) -> (bool, u128)
         ensures sign { result.0 ≡ is_negative (number self.now) }
         ensures size { result.1 ≡ magnitude (number self.now) }
@@ -39,16 +42,17 @@ pub trait IntegerType: Copy {
     ghost narrow: { has_128_bits LEAST (pos GREATEST) ≡ true };
 }
 
-/// Law: a number of more than 128 bits is none of an integer type.
+/// States a law: a number of more than 128 bits is none of an integer type.
 pub fn beyond_128_bits<I: IntegerType>()
     ensures { (negative : Bool) (n : ℕ) → 2 ^ 128 ≤ n
         → (signed negative n <ℤ I.LEAST) ⊎ (pos I.GREATEST <ℤ signed negative n) }
 {
+    // The constants are named, so that the proof has the facts of the type.
     let _least = I::LEAST;
     let _greatest = I::GREATEST;
 }
 
-/// The number of this sign and magnitude, if it is from zero to `greatest`.
+/// Returns the number of this sign and magnitude, if it is from zero to `greatest`.
 fn unsigned_from_parts(negative: bool, magnitude: u128, greatest: u128) -> Option<u128>
     ensures number { OfParts pos (pos 0) greatest (signed negative magnitude) result }
     ensures fits { IfSome result (λ n. n ≤ greatest) }
@@ -60,12 +64,13 @@ fn unsigned_from_parts(negative: bool, magnitude: u128, greatest: u128) -> Optio
     }
 }
 
-/// The number of this sign and magnitude, if it is from `-greatest - 1` to `greatest`.
+/// Returns the number of this sign and magnitude, if it is from `-greatest - 1` to `greatest`.
 fn signed_from_parts(negative: bool, magnitude: u128, greatest: u128) -> Option<i128>
     requires { greatest < 2 ^ 127 }
     ensures { OfParts (λ n. n) (negsuc greatest) greatest (signed negative magnitude) result }
 {
     if negative && magnitude > 0 {
+        // One less than the magnitude fits, even at the least number, whose magnitude doesn't.
         let below = magnitude - 1;
         if below > greatest {
             None
@@ -79,6 +84,7 @@ fn signed_from_parts(negative: bool, magnitude: u128, greatest: u128) -> Option<
     }
 }
 
+/// Has the numbers from 0 to 255.
 impl IntegerType for u8 {
     const WIDTH: u32 = u8::BITS;
 
@@ -94,6 +100,7 @@ impl IntegerType for u8 {
 
     ghost number = { pos };
 
+    // The cast loses nothing: the number is at most `GREATEST`.
     fn of_parts(negative: bool, magnitude: u128) -> Option<u8> {
         Some(unsigned_from_parts(negative, magnitude, Self::GREATEST)? as u8)
     }
@@ -105,6 +112,7 @@ impl IntegerType for u8 {
     ghost narrow = { refl };
 }
 
+/// Has the numbers from 0 to 2^16-1.
 impl IntegerType for u16 {
     const WIDTH: u32 = u16::BITS;
 
@@ -131,6 +139,7 @@ impl IntegerType for u16 {
     ghost narrow = { refl };
 }
 
+/// Has the numbers from 0 to 2^32-1.
 impl IntegerType for u32 {
     const WIDTH: u32 = u32::BITS;
 
@@ -157,6 +166,7 @@ impl IntegerType for u32 {
     ghost narrow = { refl };
 }
 
+/// Has the numbers from 0 to 2^64-1.
 impl IntegerType for u64 {
     const WIDTH: u32 = u64::BITS;
 
@@ -183,6 +193,7 @@ impl IntegerType for u64 {
     ghost narrow = { refl };
 }
 
+/// Has the numbers from 0 to 2^128-1.
 impl IntegerType for u128 {
     const WIDTH: u32 = u128::BITS;
 
@@ -209,6 +220,7 @@ impl IntegerType for u128 {
     ghost narrow = { refl };
 }
 
+/// Has the numbers of a machine word without a sign, which has 64 bits.
 impl IntegerType for usize {
     const WIDTH: u32 = usize::BITS;
 
@@ -235,6 +247,7 @@ impl IntegerType for usize {
     ghost narrow = { refl };
 }
 
+/// Has the numbers from -128 to 127.
 impl IntegerType for i8 {
     const WIDTH: u32 = i8::BITS;
 
@@ -250,10 +263,12 @@ impl IntegerType for i8 {
 
     ghost number = { λ n. n };
 
+    // The cast loses nothing: the number is from `LEAST` to `GREATEST`.
     fn of_parts(negative: bool, magnitude: u128) -> Option<i8> {
         Some(signed_from_parts(negative, magnitude, Self::GREATEST)? as i8)
     }
 
+    // The magnitude is taken in `i128`, where that of the least number fits.
     fn parts(&self) -> (bool, u128) {
         (*self < 0, (*self as i128).unsigned_abs())
     }
@@ -261,6 +276,7 @@ impl IntegerType for i8 {
     ghost narrow = { refl };
 }
 
+/// Has the numbers from -2^15 to 2^15-1.
 impl IntegerType for i16 {
     const WIDTH: u32 = i16::BITS;
 
@@ -287,6 +303,7 @@ impl IntegerType for i16 {
     ghost narrow = { refl };
 }
 
+/// Has the numbers from -2^31 to 2^31-1.
 impl IntegerType for i32 {
     const WIDTH: u32 = i32::BITS;
 
@@ -313,6 +330,7 @@ impl IntegerType for i32 {
     ghost narrow = { refl };
 }
 
+/// Has the numbers from -2^63 to 2^63-1.
 impl IntegerType for i64 {
     const WIDTH: u32 = i64::BITS;
 
@@ -339,6 +357,7 @@ impl IntegerType for i64 {
     ghost narrow = { refl };
 }
 
+/// Has the numbers from -2^127 to 2^127-1.
 impl IntegerType for i128 {
     const WIDTH: u32 = i128::BITS;
 
@@ -365,6 +384,7 @@ impl IntegerType for i128 {
     ghost narrow = { refl };
 }
 
+/// Has the numbers of a machine word with a sign, which has 64 bits.
 impl IntegerType for isize {
     const WIDTH: u32 = isize::BITS;
 

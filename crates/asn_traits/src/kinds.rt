@@ -1,4 +1,7 @@
-// How types of one kind are written and read.
+//! Gives each type of a kind the traits `AsnType`, `Encode` and `Decode`. A type states its kind
+//! once (`OfKind`) and implements the trait of that kind (`SequenceFields`, `ChoicePayload`,
+//! `Enumerated` or `IntegerType`); the impls here go over the kind, since blanket impls for the
+//! types of each of these traits would overlap.
 ghost use Rattle.asn_traits.specs.Answer.{AnswerUnder};
 ghost use Rattle.asn_traits.specs.Chosen.{chosen_value};
 ghost use Rattle.asn_model.specs.Fixed.{fixed_size};
@@ -18,33 +21,41 @@ use asn_base::{Constraints, Identifier, OutOfMemory, Tag, TagTree};
 use asn_fault::{DecodeError, EncodeError};
 use std::alloc::Global;
 
-/// A type that is described, written and read as all types of its kind are.
+/// Gives a type its kind, as all types of which it is described, encoded and decoded.
 pub trait OfKind: Sized + Drop {
-    /// `SequenceKind`, `ChoiceKind`, `EnumeratedKind` or `IntegerKind`.
+    /// Names the kind: `SequenceKind`, `ChoiceKind`, `EnumeratedKind` or `IntegerKind`.
     type Kind;
 }
 
-/// What a kind tells of each of its types.
+/// States what a kind has of each of its types: the members of `AsnType`.
 pub trait DescribeKind<T> {
+    /// Holds the universal tag, and `EOC` for a CHOICE.
     const TAG: Tag;
 
+    /// Holds the tags that a value may begin with.
     const TAG_TREE: TagTree = TagTree::Leaf(Self::TAG);
 
+    /// States whether the kind is that of CHOICE types.
     const IS_CHOICE: bool = false;
 
+    // The shape of a type, and the value that a Rust value of it stands for.
     ghost shape: { AbstractShape };
 
     ghost value: { T → Value };
 
-    /// The shape of the type. Its one error is want of memory.
+    /// Returns the shape of the type, as a value.
+    ///
+    /// # Errors
+    ///
+    /// `OutOfMemory` alone.
     fn shape_as(alloc: Global) -> Result<Shape, OutOfMemory>
         ensures { IfOk result (λ s. shape_view s ≡ shape) };
 
-    /// The values of `TAG`, `TAG_TREE` and `IS_CHOICE`, which are those of the shape.
+    /// Returns the values of `TAG`, `TAG_TREE` and `IS_CHOICE`, which are those of the shape.
     fn tags_as() -> (Tag, TagTree, bool)
         ensures { HasTags shape result };
 
-    // Constraints on sizes change nothing.
+    // Constraints on sizes change neither the shape nor the values.
     ghost any_size: { (n : Option ℕ) → shape_under n shape ≡ shape };
 
     ghost any_value: { (n : Option ℕ) (x : T) → value_under n shape (value x) ≡ value x };
@@ -53,6 +64,7 @@ pub trait DescribeKind<T> {
     ghost readable: { is_readable shape ≡ true };
 }
 
+/// Describes a type as its kind does.
 impl<T: OfKind> AsnType for T
 where
     T::Kind: DescribeKind<T>,
@@ -82,9 +94,13 @@ where
     ghost readable = { T.Kind.readable };
 }
 
-/// A kind of types that are written.
+/// Encodes the types of a kind.
 pub trait EncodeKind<T: AsnType> {
-    /// Writes a value of the type.
+    /// Encodes a value of the type: adds its slot to the open frame.
+    ///
+    /// # Errors
+    ///
+    /// `OutOfMemory`; else the kind of the first part that the notation can't encode.
     fn encode_as<E: Encoder>(
         value: &T,
         encoder: &mut E,
@@ -98,9 +114,13 @@ pub trait EncodeKind<T: AsnType> {
             T.shape_of (T.value_of value.now)) };
 }
 
-/// A kind of types that are read.
+/// Decodes the types of a kind.
 pub trait DecodeKind<T: AsnType> {
-    /// Reads a value of the type.
+    /// Decodes a value of the type from the first pending slot.
+    ///
+    /// # Errors
+    ///
+    /// `OutOfMemory`; else where and why the slot decodes to no value of the type.
     fn decode_as<D: Decoder>(
         decoder: &mut D,
         tag: Tag,
@@ -110,6 +130,7 @@ pub trait DecodeKind<T: AsnType> {
             (D.pending decoder.old) result (D.pending decoder.new) };
 }
 
+/// Encodes a type as its kind does.
 impl<T: OfKind + AsnType> Encode for T
 where
     T::Kind: EncodeKind<T>,
@@ -125,6 +146,7 @@ where
     }
 }
 
+/// Decodes a type as its kind does.
 impl<T: OfKind + AsnType> Decode for T
 where
     T::Kind: DecodeKind<T>,
@@ -138,13 +160,15 @@ where
     }
 }
 
-/// The integer types of the language.
+/// Names the kind of the integer types of the language.
 pub struct IntegerKind;
 
+/// Gives each integer type its kind.
 impl<I: IntegerType> OfKind for I {
     type Kind = IntegerKind;
 }
 
+/// Describes INTEGER of the range of the Rust type.
 impl<I: IntegerType> DescribeKind<I> for IntegerKind {
     const TAG: Tag = Tag::INTEGER;
 
@@ -171,6 +195,7 @@ impl<I: IntegerType> DescribeKind<I> for IntegerKind {
     ghost readable = { I.narrow };
 }
 
+/// Encodes a number, in the range of the type's constraints or not: neither notation checks them.
 impl<I: IntegerType> EncodeKind<I> for IntegerKind {
     fn encode_as<E: Encoder>(
         value: &I,
@@ -183,6 +208,7 @@ impl<I: IntegerType> EncodeKind<I> for IntegerKind {
     }
 }
 
+/// Decodes a number, which overflows where the type lacks it.
 impl<I: IntegerType> DecodeKind<I> for IntegerKind {
     fn decode_as<D: Decoder>(
         decoder: &mut D,
@@ -193,9 +219,10 @@ impl<I: IntegerType> DecodeKind<I> for IntegerKind {
     }
 }
 
-/// SEQUENCE types.
+/// Names the kind of SEQUENCE types.
 pub struct SequenceKind;
 
+/// Describes a SEQUENCE by its fields.
 impl<T: SequenceFields> DescribeKind<T> for SequenceKind {
     const TAG: Tag = Tag::SEQUENCE;
 
@@ -218,6 +245,7 @@ impl<T: SequenceFields> DescribeKind<T> for SequenceKind {
     ghost readable = { T.readable };
 }
 
+/// Encodes a SEQUENCE by its fields. Constraints on sizes mean nothing to it.
 impl<T: SequenceFields> EncodeKind<T> for SequenceKind {
     fn encode_as<E: Encoder>(
         value: &T,
@@ -230,6 +258,7 @@ impl<T: SequenceFields> EncodeKind<T> for SequenceKind {
     }
 }
 
+/// Decodes a SEQUENCE by its fields.
 impl<T: SequenceFields> DecodeKind<T> for SequenceKind {
     fn decode_as<D: Decoder>(
         decoder: &mut D,
@@ -240,9 +269,10 @@ impl<T: SequenceFields> DecodeKind<T> for SequenceKind {
     }
 }
 
-/// CHOICE types.
+/// Names the kind of CHOICE types.
 pub struct ChoiceKind;
 
+/// Describes a CHOICE by its alternatives. It has no tag of its own, but those of these.
 impl<T: ChoicePayload> DescribeKind<T> for ChoiceKind {
     const TAG: Tag = Tag::EOC;
 
@@ -269,6 +299,7 @@ impl<T: ChoicePayload> DescribeKind<T> for ChoiceKind {
     ghost readable = { T.readable };
 }
 
+/// Encodes a CHOICE by its alternative, whose tag takes the place of one of the type.
 impl<T: ChoicePayload> EncodeKind<T> for ChoiceKind {
     fn encode_as<E: Encoder>(
         value: &T,
@@ -281,6 +312,7 @@ impl<T: ChoicePayload> EncodeKind<T> for ChoiceKind {
     }
 }
 
+/// Decodes a CHOICE by the identifier in the text.
 impl<T: ChoicePayload> DecodeKind<T> for ChoiceKind {
     fn decode_as<D: Decoder>(
         decoder: &mut D,
@@ -291,9 +323,10 @@ impl<T: ChoicePayload> DecodeKind<T> for ChoiceKind {
     }
 }
 
-/// ENUMERATED types.
+/// Names the kind of ENUMERATED types.
 pub struct EnumeratedKind;
 
+/// Describes an ENUMERATED type by its items.
 impl<T: Enumerated> DescribeKind<T> for EnumeratedKind {
     const TAG: Tag = Tag::ENUMERATED;
 
@@ -316,6 +349,7 @@ impl<T: Enumerated> DescribeKind<T> for EnumeratedKind {
     ghost readable = { T.readable };
 }
 
+/// Encodes an item by its identifier.
 impl<T: Enumerated> EncodeKind<T> for EnumeratedKind {
     fn encode_as<E: Encoder>(
         value: &T,
@@ -328,6 +362,7 @@ impl<T: Enumerated> EncodeKind<T> for EnumeratedKind {
     }
 }
 
+/// Decodes an item from its identifier.
 impl<T: Enumerated> DecodeKind<T> for EnumeratedKind {
     fn decode_as<D: Decoder>(
         decoder: &mut D,

@@ -1,4 +1,5 @@
-// The types of the language that are ASN.1 types, but for the integers.
+//! Makes ASN.1 types of the language's own types, but for the integers: each states its tag, its
+//! shape and its values, and hands the coders' calls itself.
 ghost use Rattle.asn_model.specs.Shape.{Shape as AbstractShape, Alphabet as AbstractAlphabet};
 ghost use Rattle.asn_model.specs.Value.{Value, values};
 ghost use Rattle.std.specs.Prelude.{refl, string_bytes};
@@ -8,7 +9,7 @@ use asn_base::{Constraints, Identifier, OutOfMemory, Tag, TagTree};
 use asn_fault::{DecodeError, EncodeError};
 use std::alloc::Global;
 
-/// BOOLEAN (X.680, section 18).
+/// Describes BOOLEAN (X.680, section 18).
 impl AsnType for bool {
     const TAG: Tag = Tag::BOOL;
 
@@ -35,6 +36,7 @@ impl AsnType for bool {
     ghost readable = { refl };
 }
 
+/// Encodes BOOLEAN by the call of the encoder.
 impl Encode for bool {
     fn encode_with_tag_and_constraints<E: Encoder>(
         &self,
@@ -47,6 +49,7 @@ impl Encode for bool {
     }
 }
 
+/// Decodes BOOLEAN by the call of the decoder.
 impl Decode for bool {
     fn decode_with_tag_and_constraints<D: Decoder>(
         decoder: &mut D,
@@ -57,7 +60,7 @@ impl Decode for bool {
     }
 }
 
-/// NULL (X.680, section 24).
+/// Describes NULL (X.680, section 24).
 impl AsnType for () {
     const TAG: Tag = Tag::NULL;
 
@@ -84,6 +87,7 @@ impl AsnType for () {
     ghost readable = { refl };
 }
 
+/// Encodes NULL by the call of the encoder.
 impl Encode for () {
     fn encode_with_tag_and_constraints<E: Encoder>(
         &self,
@@ -96,6 +100,7 @@ impl Encode for () {
     }
 }
 
+/// Decodes NULL by the call of the decoder.
 impl Decode for () {
     fn decode_with_tag_and_constraints<D: Decoder>(
         decoder: &mut D,
@@ -106,7 +111,7 @@ impl Decode for () {
     }
 }
 
-/// UTF8String (X.680, section 41).
+/// Describes UTF8String (X.680, section 41). Every text is one.
 impl AsnType for String {
     const TAG: Tag = Tag::UTF8_STRING;
 
@@ -135,6 +140,7 @@ impl AsnType for String {
     ghost readable = { refl };
 }
 
+/// Encodes UTF8String by the call of the encoder, without a copy here.
 impl Encode for String {
     fn encode_with_tag_and_constraints<E: Encoder>(
         &self,
@@ -147,6 +153,7 @@ impl Encode for String {
     }
 }
 
+/// Decodes UTF8String by the call of the decoder, whose text it takes as it is.
 impl Decode for String {
     fn decode_with_tag_and_constraints<D: Decoder>(
         decoder: &mut D,
@@ -240,6 +247,7 @@ impl<T: AsnType> AsnType for Vec<T> {
     ghost readable = { T.readable };
 }
 
+/// Encodes SEQUENCE OF by the call of the encoder, which encodes each element by its own type.
 impl<T: Encode> Encode for Vec<T> {
     fn encode_with_tag_and_constraints<E: Encoder>(
         &self,
@@ -252,6 +260,7 @@ impl<T: Encode> Encode for Vec<T> {
     }
 }
 
+/// Decodes SEQUENCE OF by the call of the decoder, which decodes each element by its own type.
 impl<T: Decode> Decode for Vec<T> {
     fn decode_with_tag_and_constraints<D: Decoder>(
         decoder: &mut D,

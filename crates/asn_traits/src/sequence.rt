@@ -1,4 +1,6 @@
-// A SEQUENCE by its fields: what a type writes is one call a field.
+//! Describes a SEQUENCE by its fields (X.680, section 25). A type implements `SequenceFields`,
+//! with one call a field to encode it and one to decode it; what every SEQUENCE has is given here
+//! once.
 ghost use Rattle.asn_fault.specs.Stop.{error_stop};
 ghost use Rattle.asn_traits.specs.Answer.{Answer};
 ghost use Rattle.asn_traits.specs.FieldAnswer.Ahead.{ahead};
@@ -19,45 +21,61 @@ use asn_base::{Identifier, OutOfMemory, Tag};
 use asn_fault::{DecodeError, EncodeError};
 use std::alloc::Global;
 
-/// A SEQUENCE that is written and read field by field, in the order of its fields.
+/// Describes a SEQUENCE that is encoded and decoded field by field, in the order of its fields.
 pub trait SequenceFields: OfKind<Kind = SequenceKind> {
-    /// The root fields, in order.
+    /// Lists the root fields, in order.
     const ROWS: &'static [Field];
 
-    /// The extension additions, in order. None exactly where there is no extension marker.
+    /// Lists the extension additions, in order, and is `None` exactly where there is no extension
+    /// marker.
     const ADDED: Option<&'static [Field]> = None;
 
+    // The fields of the root, each with its name, tag, presence and the shape of its type.
     ghost fields: { AbstractFields };
 
+    // The extension additions, if there is a marker.
     ghost added: { FieldAdditions } = { FieldAdditions.closed_fields };
 
     // The values of the fields, in order, extension additions last: one slot for each, absent
     // where the field is.
     ghost slots: { Self → Frame };
 
-    /// `ROWS`, which tell of the fields: their places, smallest tags, presence and names.
+    /// Returns `ROWS`, which state of the fields their places, smallest tags, presence and names.
     fn listed() -> &'static [Field]
         ensures { rows_of result.now ≡ field_rows 0 fields };
 
-    /// `ADDED`, which tell of the extension additions in the same way.
+    /// Returns `ADDED`, which states the same of the extension additions. Their places go on from
+    /// those of the root.
     fn listed_added() -> Option<&'static [Field]>
         ensures { option_map (λ t. rows_of t.now) result ≡ added_rows fields added };
 
-    /// The shape of the type. Its one error is want of memory.
+    /// Returns the shape of the type, as a value.
+    ///
+    /// # Errors
+    ///
+    /// `OutOfMemory` alone.
     fn sequence_shape(alloc: Global) -> Result<Shape, OutOfMemory>
         ensures { IfOk result (λ s. shape_view s
             ≡ AbstractShape.seq SeqKind.sequence fields added) };
 
-    /// Writes the fields, by one call of `write_field` or `write_optional_field` for each, in
+    /// Encodes the fields, by one call of `write_field` or `write_optional_field` for each, in
     /// order.
+    ///
+    /// # Errors
+    ///
+    /// Those of the first field that can't be encoded.
     fn write_fields<E: Encoder>(&self, encoder: &mut E) -> Result<(), EncodeError>
         ensures written { OnOk result (AddsFields E.holds E.notation (all_fields fields added)
             (slots self.now) encoder.old encoder.new) }
         ensures refused { IfErr result (RefusesAdding E.holds E.notation (all_fields fields added)
             (slots self.now) encoder.old) };
 
-    /// Reads the fields, by one call of `read_field` or `read_optional_field` for each, in order.
+    /// Decodes the fields, by one call of `read_field` or `read_optional_field` for each, in order.
     /// Each call takes the field's name from `names`.
+    ///
+    /// # Errors
+    ///
+    /// Those of the first field that can't be decoded, within its `FieldError`.
     fn read_fields<D: Decoder>(decoder: &mut D, names: &mut FieldNames) -> Result<Self, DecodeError>
         ensures read { IfOk result (λ x. TakesFields D.notation (all_fields fields added) (slots x)
             (ahead names.old (D.pending decoder.old))
@@ -69,7 +87,12 @@ pub trait SequenceFields: OfKind<Kind = SequenceKind> {
     ghost readable: { is_readable (AbstractShape.seq SeqKind.sequence fields added) ≡ true };
 }
 
-/// Writes a SEQUENCE by its fields.
+/// Encodes a SEQUENCE: opens a frame, adds a slot for each field, and closes the frame as named
+/// members.
+///
+/// # Errors
+///
+/// Those of `write_fields`; `OutOfMemory`.
 pub fn write_sequence<T: SequenceFields, E: Encoder>(
     value: &T,
     encoder: &mut E,
@@ -99,7 +122,13 @@ pub fn write_sequence<T: SequenceFields, E: Encoder>(
     )
 }
 
-/// Reads a SEQUENCE by its fields.
+/// Decodes a SEQUENCE: puts a slot for each field, whatever their order in the text, and decodes
+/// the fields from these.
+///
+/// # Errors
+///
+/// Those of `read_fields`; a type mismatch where the slot's tree has no members, and the end of
+/// input where there is no slot; `OutOfMemory`.
 pub fn read_sequence<T: SequenceFields, D: Decoder>(
     decoder: &mut D,
     tag: Tag,
@@ -125,6 +154,7 @@ pub fn read_sequence<T: SequenceFields, D: Decoder>(
     )
 }
 
+/// Takes the tables of a SEQUENCE from `SequenceFields`.
 impl<T: SequenceFields> Constructed for T {
     const FIELDS: Fields = Fields { items: T::ROWS };
 

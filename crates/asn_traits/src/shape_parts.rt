@@ -1,4 +1,5 @@
-// Putting the shapes of a type's parts together, for its call `shape`.
+//! Puts the shapes of a type's parts together, for its call `shape`: one call a field, alternative
+//! or list of items, in the order of the type.
 ghost use Rattle.asn_model.specs.Shape.{Shape as AbstractShape, SeqKind as AbstractKind, Fields as AbstractFields, FieldAdditions, Presence as AbstractPresence, Alternatives, AlternativeAdditions, closed_seq, closed_choice};
 ghost use Rattle.asn_model.specs.ShapeView.{shape_view, field_views, alternative_views, with_last_field, with_last_alternative, presence_view};
 ghost use Rattle.std.specs.Prelude.{◌≡◌, IfOk, OnOk, map, option_map, string_bytes};
@@ -7,15 +8,18 @@ use crate::{AlternativeShape, AsnType, FieldShape, PresenceShape, SeqKind, Shape
 use asn_base::{OutOfMemory, Tag};
 use std::alloc::Global;
 
-/// The fields of a SEQUENCE, in order.
+/// Collects the fields of a SEQUENCE, in order.
 #[derive(Drop)]
 pub struct FieldShapes {
+    /// Allocates the names and the shapes.
     alloc: Global,
+    /// Holds the fields so far.
     pub items: Vec<FieldShape>,
 }
 
+/// Adds fields, and makes a shape of them.
 impl FieldShapes {
-    /// No field.
+    /// Returns a list of no field. It takes no memory.
     pub fn new(alloc: Global) -> FieldShapes
         ensures { field_views result.items.items ≡ AbstractFields.no_fields }
     {
@@ -25,8 +29,11 @@ impl FieldShapes {
         }
     }
 
-    /// Puts a field of type `T` behind the others that has to be present. Its one error is want of
-    /// memory.
+    /// Adds a field of type `T` behind the others that has to be present.
+    ///
+    /// # Errors
+    ///
+    /// `OutOfMemory` alone.
     pub fn required<T: AsnType>(&mut self, name: &str, tag: Tag) -> Result<(), OutOfMemory>
         ensures { OnOk result (field_views self.new.items.items
             ≡ with_last_field (field_views self.old.items.items) name.now tag
@@ -35,8 +42,11 @@ impl FieldShapes {
         self.push::<T>(name, tag, PresenceShape::Required)
     }
 
-    /// Puts a field of type `T` behind the others that may be absent. Its one error is want of
-    /// memory.
+    /// Adds a field of type `T` behind the others that may be absent.
+    ///
+    /// # Errors
+    ///
+    /// `OutOfMemory` alone.
     pub fn optional<T: AsnType>(&mut self, name: &str, tag: Tag) -> Result<(), OutOfMemory>
         ensures { OnOk result (field_views self.new.items.items
             ≡ with_last_field (field_views self.old.items.items) name.now tag
@@ -45,6 +55,12 @@ impl FieldShapes {
         self.push::<T>(name, tag, PresenceShape::Optional)
     }
 
+    /// Adds a field of type `T` behind the others, with a copy of its name and with the shape that
+    /// its type gives.
+    ///
+    /// # Errors
+    ///
+    /// `OutOfMemory` alone.
     fn push<T: AsnType>(
         &mut self,
         name: &str,
@@ -66,7 +82,7 @@ impl FieldShapes {
         Ok(())
     }
 
-    /// The SEQUENCE of these fields, without an extension marker.
+    /// Returns the SEQUENCE of these fields, without an extension marker. It takes no memory.
     pub fn sequence(self) -> Shape
         ensures { shape_view result ≡ closed_seq (field_views self.items.items) }
     {
@@ -78,7 +94,8 @@ impl FieldShapes {
         }
     }
 
-    /// The SEQUENCE of these fields, with `added` after the extension marker.
+    /// Returns the SEQUENCE of these fields, with `added` after the extension marker. It takes no
+    /// memory.
     pub fn extensible_sequence(self, added: FieldShapes) -> Shape
         ensures { shape_view result ≡ AbstractShape.seq AbstractKind.sequence
             (field_views self.items.items)
@@ -97,15 +114,18 @@ impl FieldShapes {
     }
 }
 
-/// The alternatives of a CHOICE, in order.
+/// Collects the alternatives of a CHOICE, in order.
 #[derive(Drop)]
 pub struct AlternativeShapes {
+    /// Allocates the identifiers and the shapes.
     alloc: Global,
+    /// Holds the alternatives so far.
     pub items: Vec<AlternativeShape>,
 }
 
+/// Adds alternatives, and makes a shape of them.
 impl AlternativeShapes {
-    /// No alternative.
+    /// Returns a list of no alternative. It takes no memory.
     pub fn new(alloc: Global) -> AlternativeShapes
         ensures { alternative_views result.items.items ≡ Alternatives.no_alternatives }
     {
@@ -115,7 +135,11 @@ impl AlternativeShapes {
         }
     }
 
-    /// Puts an alternative of type `T` behind the others. Its one error is want of memory.
+    /// Adds an alternative of type `T` behind the others.
+    ///
+    /// # Errors
+    ///
+    /// `OutOfMemory` alone.
     pub fn alternative<T: AsnType>(&mut self, identifier: &str, tag: Tag) -> Result<(), OutOfMemory>
         ensures { OnOk result (alternative_views self.new.items.items
             ≡ with_last_alternative (alternative_views self.old.items.items) identifier.now tag
@@ -131,7 +155,7 @@ impl AlternativeShapes {
         Ok(())
     }
 
-    /// The CHOICE of these alternatives, without an extension marker.
+    /// Returns the CHOICE of these alternatives, without an extension marker. It takes no memory.
     pub fn choice(self) -> Shape
         ensures { shape_view result ≡ closed_choice (alternative_views self.items.items) }
     {
@@ -142,7 +166,8 @@ impl AlternativeShapes {
         }
     }
 
-    /// The CHOICE of these alternatives, with `added` after the extension marker.
+    /// Returns the CHOICE of these alternatives, with `added` after the extension marker. It takes
+    /// no memory.
     pub fn extensible_choice(self, added: AlternativeShapes) -> Shape
         ensures { shape_view result ≡ AbstractShape.choice (alternative_views self.items.items)
             (AlternativeAdditions.extended_alternatives (alternative_views added.items.items)) }
@@ -159,8 +184,12 @@ impl AlternativeShapes {
     }
 }
 
-/// The ENUMERATED type of these items, and of `added` after the extension marker, if there is one.
-/// Its one error is want of memory.
+/// Returns the ENUMERATED type of these items, and of `added` after the extension marker, if there
+/// is one.
+///
+/// # Errors
+///
+/// `OutOfMemory` alone.
 pub fn enumerated_shape(
     alloc: Global,
     items: &[&'static str],
@@ -177,7 +206,11 @@ pub fn enumerated_shape(
     Ok(Shape::Enum { items, added })
 }
 
-/// A copy of each text, in order. Its one error is want of memory.
+/// Returns a copy of each text, in order.
+///
+/// # Errors
+///
+/// `OutOfMemory` alone.
 fn texts(alloc: Global, items: &[&'static str]) -> Result<Vec<String>, OutOfMemory>
     ensures { IfOk result (λ v. map string_bytes v.items ≡ map (λ s. s.now) items.now) }
 {

@@ -1,4 +1,6 @@
-// Looking things up in tables of constants.
+//! Looks things up in tables of constants, by which codecs find fields and alternatives. A table
+//! has a part for the root and one for the extension additions, which are looked through as one
+//! list, in order; the cost of a look-up is the length of that list.
 ghost use Rattle.asn_base.specs.Tags.{smallest};
 ghost use Rattle.asn_model.specs.Shape.{tag_eq, is_tag, name_tagged, place_named, class_number, end_tag};
 ghost use Rattle.asn_traits.specs.Tables.{names_of, smallest_tags, or_end};
@@ -11,7 +13,7 @@ use crate::{Field, Fields};
 use asn_base::{Tag, TagTree};
 use asn_model::same_tag;
 
-/// The items of a table, and none where there is no table.
+/// Returns the items of a table, and none where there is no table.
 pub fn listed<T: Copy>(table: Option<&'static [T]>) -> &'static [T]
     ensures { result.now ≡ unwrap_or (option_map (λ t. t.now) table.entry) [] }
 {
@@ -21,25 +23,27 @@ pub fn listed<T: Copy>(table: Option<&'static [T]>) -> &'static [T]
     }
 }
 
-/// The fields of a table, and none where there is no table.
+/// Returns the fields of a table, and none where there is no table.
 pub fn listed_fields(table: Option<Fields>) -> &'static [Field]
     ensures { result.now ≡ unwrap_or (option_map (λ t. t.items.now) table) [] }
 {
     listed(table.map(|fields| fields.items))
 }
 
-/// The name of the field at the place, where extension additions come last. Empty past the fields.
+/// Returns the name of the field at the place, where extension additions come last. It is empty
+/// past the fields.
 pub fn field_name(root: &[Field], additions: &[Field], place: usize) -> &'static str
     ensures { result.now ≡ head_name (drop place (names_of root.now ++ names_of additions.now)) }
 {
     if place < root.len() {
         name_at(root, place)
     } else {
+        // No underflow: the place is past the root's fields here.
         name_at(additions, place - root.len())
     }
 }
 
-/// The name of the field at the place. Empty past the fields.
+/// Returns the name of the field at the place, or an empty one past the fields.
 fn name_at(fields: &[Field], place: usize) -> &'static str
     ensures { result.now ≡ head_name (drop place (names_of fields.now)) }
 {
@@ -49,13 +53,15 @@ fn name_at(fields: &[Field], place: usize) -> &'static str
     }
 }
 
-/// The first place of the field of this name, where extension additions come last.
+/// Returns the first place of the field of this name, where extension additions come last, or
+/// `None` where no field has the name.
 pub fn place_of_field(root: &[Field], additions: &[Field], name: &str) -> Option<usize>
     ensures is { result ≡ place_named bytes_eq (names_of root.now ++ names_of additions.now)
         name.now }
     ensures below { IfSome result (λ k. k < length root.now + length additions.now) }
 {
     let Some((first, others)) = root.split_first() else {
+        // The additions take the place of the root, and no list that of the additions.
         return if additions.is_empty() {
             None
         } else {
@@ -65,10 +71,12 @@ pub fn place_of_field(root: &[Field], additions: &[Field], name: &str) -> Option
     if first.name == name {
         return Some(0);
     }
+    // No overflow: a place is below the number of rows.
     Some(place_of_field(others, additions, name)? + 1)
 }
 
-/// The first place of the identifier. The case of ASCII letters makes no difference.
+/// Returns the first place of the identifier, or `None` where it is none of them. The case of
+/// ASCII letters makes no difference: alternatives are distinguished without it.
 pub fn place_of(identifiers: &[&'static str], name: &str) -> Option<usize>
     ensures is { result ≡ place_named same_identifier (map (λ s. s.now) identifiers.now)
         name.now }
@@ -81,7 +89,8 @@ pub fn place_of(identifiers: &[&'static str], name: &str) -> Option<usize>
     Some(place_of(others, name)? + 1)
 }
 
-/// The identifier beside the alternative of this smallest tag, where added alternatives come last.
+/// Returns the identifier beside the alternative of this smallest tag, where extension additions
+/// come last, or `None` where no alternative has the tag.
 pub fn identifier_of(
     variants: &[TagTree],
     added: &[TagTree],
@@ -99,6 +108,7 @@ pub fn identifier_of(
             identifier_of(added, &[], identifiers, tag)
         };
     };
+    // Tags and identifiers go along together: each tree of tags takes one identifier.
     let Some((name, other_names)) = identifiers.split_first() else {
         return None;
     };
@@ -109,8 +119,8 @@ pub fn identifier_of(
     }
 }
 
-/// The smallest tag of the alternative at the place, where added ones come last. `EOC` where there
-/// is none.
+/// Returns the smallest tag of the alternative at the place, where extension additions come last,
+/// or `EOC` where there is none.
 pub fn tag_at(variants: &[TagTree], added: &[TagTree], place: usize) -> Tag
     ensures { result ≡ get_or (map or_end (smallest_tags variants.now ++ smallest_tags added.now))
         place end_tag }
@@ -122,7 +132,7 @@ pub fn tag_at(variants: &[TagTree], added: &[TagTree], place: usize) -> Tag
     }
 }
 
-/// The smallest tag of the alternative at the place. `EOC` where there is none.
+/// Returns the smallest tag of the alternative at the place, or `EOC` where there is none.
 fn least_at(variants: &[TagTree], place: usize) -> Tag
     ensures { result ≡ get_or (map or_end (smallest_tags variants.now)) place end_tag }
 {
@@ -135,7 +145,7 @@ fn least_at(variants: &[TagTree], place: usize) -> Tag
     }
 }
 
-/// Whether the smallest tag is this one.
+/// Returns whether the smallest tag of an alternative is this one.
 fn has_tag(tree: &TagTree, tag: Tag) -> bool
     ensures { result ≡ is_tag (smallest tree.now) tag }
 {

@@ -1,4 +1,6 @@
-// What every ASN.1 type tells of itself: its shape, its values and its tables of constants.
+//! Defines what every ASN.1 type states of itself: its shape, its values and its tables of
+//! constants. `AsnType` is the trait of all types; `Constructed`, `Choice` and `Enumerated` add the
+//! tables of their kinds, each tied to the shape row by row by a call that returns it.
 ghost use Rattle.asn_model.specs.Fixed.{fixed_size};
 ghost use Rattle.asn_traits.specs.OwnTag.{HasTags};
 ghost use Rattle.asn_model.specs.Readable.{is_readable};
@@ -12,28 +14,35 @@ use crate::{EnumeratedKind, OfKind, Shape};
 use asn_base::{Constraints, Identifier, OutOfMemory, Tag, TagTree};
 use std::alloc::Global;
 
-/// Whether a field may be absent, and whether it then has a default.
+/// States whether a field may be absent, and whether it then has a default.
 #[derive(Clone, Copy)]
 pub enum Presence {
+    /// The field has to be present.
     Required,
+    /// The field may be absent (OPTIONAL).
     Optional,
+    /// The field may be absent and then has a value all the same (DEFAULT).
     Default,
 }
 
-/// A field of a SEQUENCE or SET (X.680, sections 25 and 27).
+/// Describes a field of a SEQUENCE or SET (X.680, sections 25 and 27): a row of a table.
 #[derive(Clone, Copy)]
 pub struct Field {
-    /// Its place among all fields: those of the root, and then the extension additions.
+    /// Holds its place among all fields: those of the root, and then the extension additions.
     pub index: usize,
+    /// Holds its tag, with automatic tags the context tag of its place.
     pub tag: Tag,
-    /// The tags that its value may begin with.
+    /// Holds the tags that its value may begin with.
     pub tag_tree: TagTree,
+    /// States whether it may be absent.
     pub presence: Presence,
+    /// Holds its name, an identifier.
     pub name: &'static str,
 }
 
+/// Makes rows, one call for each presence.
 impl Field {
-    /// A field that has to be present.
+    /// Returns a field that has to be present.
     pub fn new_required(index: usize, tag: Tag, tag_tree: TagTree, name: &'static str) -> Field
         ensures { result ≡ record {
           index = index;
@@ -52,7 +61,7 @@ impl Field {
         }
     }
 
-    /// A field that may be absent.
+    /// Returns a field that may be absent.
     pub fn new_optional(index: usize, tag: Tag, tag_tree: TagTree, name: &'static str) -> Field
         ensures { result ≡ record {
           index = index;
@@ -71,7 +80,7 @@ impl Field {
         }
     }
 
-    /// A field that is absent where it has its default.
+    /// Returns a field that is absent where it has its default.
     pub fn new_default(index: usize, tag: Tag, tag_tree: TagTree, name: &'static str) -> Field
         ensures { result ≡ record {
           index = index;
@@ -91,7 +100,7 @@ impl Field {
     }
 }
 
-/// A field that has to be present, for a constant table.
+/// Makes a field that has to be present, for a constant table: `required!(0, TAG, "name")`.
 #[macro_export]
 macro_rules! required {
     ($index:expr, $tag:expr, $name:expr) => {
@@ -105,7 +114,7 @@ macro_rules! required {
     };
 }
 
-/// A field that may be absent, for a constant table.
+/// Makes a field that may be absent, for a constant table: `optional!(1, TAG, "name")`.
 #[macro_export]
 macro_rules! optional {
     ($index:expr, $tag:expr, $name:expr) => {
@@ -119,14 +128,16 @@ macro_rules! optional {
     };
 }
 
-/// The fields of a type, in order.
+/// Holds a table: the fields of a type, in order.
 #[derive(Clone, Copy)]
 pub struct Fields {
+    /// Holds the rows.
     pub items: &'static [Field],
 }
 
+/// Makes a table of rows.
 impl Fields {
-    /// These fields.
+    /// Returns the table of these fields.
     pub fn from_static(items: &'static [Field]) -> Fields
         ensures { result.items.now ≡ items.now }
     {
@@ -134,41 +145,48 @@ impl Fields {
     }
 }
 
-/// An ASN.1 type.
+/// Describes an ASN.1 type: its tags, its shape and the value that each Rust value stands for.
 pub trait AsnType {
-    /// Its tag, which for a CHOICE is `EOC`.
+    /// Holds its tag, which for a CHOICE is `EOC`.
     const TAG: Tag;
 
-    /// The tags that its value may begin with.
+    /// Holds the tags that its value may begin with.
     const TAG_TREE: TagTree;
 
+    /// Holds its constraints (X.680, sections 49 to 51), of which sizes of BIT STRING play a part.
     const CONSTRAINTS: Constraints = Constraints::NONE;
 
-    /// The name that other encoding rules write for it. JER and AVN ignore it.
+    /// Holds the name that other encoding rules write for it. JER and AVN ignore it.
     const IDENTIFIER: Identifier = Identifier::EMPTY;
 
+    /// States whether it is a CHOICE, whose tags are those of its alternatives.
     const IS_CHOICE: bool;
 
-    /// Above that of each type whose reader is handed the same tree.
+    /// Ranks the type above each type whose decoding is handed the same tree.
     const RANK: u32 = 0;
 
+    // The shape of the type.
     ghost shape_of: { AbstractShape };
 
     // The value that a Rust value stands for.
     ghost value_of: { Self → Value };
 
-    /// `TAG`, `TAG_TREE` and `IS_CHOICE`, which are those of the shape. A generic impl, whose own
-    /// constants no proof sees, has their values once more here.
+    /// Returns `TAG`, `TAG_TREE` and `IS_CHOICE`, which are those of the shape. A generic impl,
+    /// whose own constants no proof sees, has their values once more here.
     fn tag_table() -> (Tag, TagTree, bool)
         ensures { HasTags shape_of result };
 
-    /// `CONSTRAINTS`. The type's own shape and values are those under them.
+    /// Returns `CONSTRAINTS`. The type's own shape and values are those under them.
     fn constraint_table() -> Constraints
         ensures shape { shape_under (fixed_size result) shape_of ≡ shape_of }
         ensures value { (x : Self) → value_under (fixed_size result) shape_of
             (value_of x) ≡ value_of x };
 
-    /// The shape of the type. Its one error is want of memory.
+    /// Returns the shape of the type, as a value that a program holds.
+    ///
+    /// # Errors
+    ///
+    /// `OutOfMemory` alone.
     fn shape(alloc: Global) -> Result<Shape, OutOfMemory>
         ensures { IfOk result (λ s. shape_view s ≡ shape_of) };
 
@@ -176,25 +194,29 @@ pub trait AsnType {
     ghost readable: { is_readable shape_of ≡ true };
 }
 
-/// A SEQUENCE or SET.
+/// Describes a SEQUENCE or SET (X.680, sections 25 and 27) by the tables of its fields.
 pub trait Constructed: AsnType {
-    /// The root fields, in order.
+    /// Lists the root fields, in order.
     const FIELDS: Fields;
 
-    /// The extension additions, in order. None exactly where there is no extension marker.
+    /// Lists the extension additions, in order, and is `None` exactly where there is no extension
+    /// marker.
     const EXTENDED_FIELDS: Option<Fields> = None;
 
+    // SEQUENCE, unless the type states SET.
     ghost kind: { SeqKind } = { SeqKind.sequence };
 
+    // The root fields of the shape, and its extension additions.
     ghost fields: { FieldShapes };
 
     ghost added: { FieldAdditions } = { FieldAdditions.closed_fields };
 
-    /// `FIELDS`, which tell of the shape's fields: their places, smallest tags, presence and names.
+    /// Returns `FIELDS`, which states of the shape's fields their places, smallest tags, presence
+    /// and names.
     fn field_table() -> Fields
         ensures { rows_of result.items.now ≡ field_rows 0 fields };
 
-    /// `EXTENDED_FIELDS`, which tell of the shape's extension additions in the same way.
+    /// Returns `EXTENDED_FIELDS`, which states the same of the shape's extension additions.
     fn extended_field_table() -> Option<Fields>
         ensures { option_map (λ t. rows_of t.items.now) result ≡ added_rows fields added };
 
@@ -202,30 +224,31 @@ pub trait Constructed: AsnType {
     ghost of_fields: { opened Self.shape_of ≡ AbstractShape.seq kind fields added };
 }
 
-/// A CHOICE (X.680, section 29).
+/// Describes a CHOICE (X.680, section 29) by the tables of its alternatives.
 pub trait Choice: AsnType {
-    /// The tags that the alternatives may begin with.
+    /// Lists the tags that the alternatives may begin with.
     const VARIANTS: &'static [TagTree];
 
-    /// Those of the alternatives after the extension marker, if there is one.
+    /// Lists those of the alternatives after the extension marker, if there is one.
     const EXTENDED_VARIANTS: Option<&'static [TagTree]>;
 
-    /// The identifiers of all alternatives, added ones last.
+    /// Lists the identifiers of all alternatives, extension additions last.
     const IDENTIFIERS: &'static [&'static str];
 
+    // The alternatives of the shape, and its extension additions.
     ghost alternatives: { Alternatives };
 
     ghost added: { AlternativeAdditions };
 
-    /// `VARIANTS`, whose smallest tags are those of the shape.
+    /// Returns `VARIANTS`, whose smallest tags are those of the shape.
     fn variant_table() -> &'static [TagTree]
         ensures { smallest_tags result.now ≡ root_tags alternatives };
 
-    /// `EXTENDED_VARIANTS`, whose smallest tags are those of the shape's added alternatives.
+    /// Returns `EXTENDED_VARIANTS`, whose smallest tags are those of the shape's additions.
     fn extended_variant_table() -> Option<&'static [TagTree]>
         ensures { option_map (λ t. smallest_tags t.now) result ≡ added_tags added };
 
-    /// `IDENTIFIERS`, which are those of the shape.
+    /// Returns `IDENTIFIERS`, which are those of the shape.
     fn identifier_table() -> &'static [&'static str]
         ensures { map (λ s. s.now) result.now ≡ identifiers
             (all_alternatives alternatives added) };
@@ -234,13 +257,15 @@ pub trait Choice: AsnType {
     ghost of_alternatives: { opened Self.shape_of ≡ AbstractShape.choice alternatives added };
 }
 
-/// An ENUMERATED type (X.680, section 20).
+/// Describes an ENUMERATED type (X.680, section 20) by the identifiers of its items.
 pub trait Enumerated: OfKind<Kind = EnumeratedKind> {
+    /// Lists the items before the extension marker, in order.
     const IDENTIFIERS: &'static [&'static str];
 
-    /// The items after the extension marker, if there is one.
+    /// Lists the items after the extension marker, if there is one.
     const EXTENDED_IDENTIFIERS: Option<&'static [&'static str]>;
 
+    // The items of the shape, and its extension additions.
     ghost items: { List (List ℕ) };
 
     ghost added: { Option (List (List ℕ)) };
@@ -248,20 +273,20 @@ pub trait Enumerated: OfKind<Kind = EnumeratedKind> {
     // The item that a Rust value stands for.
     ghost item: { Self → List ℕ };
 
-    /// `IDENTIFIERS`, which are the items of the shape.
+    /// Returns `IDENTIFIERS`, which are the items of the shape.
     fn identifier_table() -> &'static [&'static str]
         ensures { map (λ s. s.now) result.now ≡ items };
 
-    /// `EXTENDED_IDENTIFIERS`, which are the added items of the shape.
+    /// Returns `EXTENDED_IDENTIFIERS`, which are the extension additions of the shape.
     fn extended_identifier_table() -> Option<&'static [&'static str]>
         ensures { option_map (λ t. map (λ s. s.now) t.now) result ≡ added };
 
-    /// The item that the value stands for.
+    /// Returns the item that the value stands for, which is one of the type's (`listed`).
     fn identifier(&self) -> &'static str
         ensures is { result.now ≡ item self.now }
         ensures listed { is_item (all_items items added) result.now ≡ true };
 
-    /// The value of that item. None exactly where it is none of them.
+    /// Returns the value of that item, or `None` exactly where it is none of the type's.
     fn from_identifier(identifier: &str) -> Option<Self>
         ensures { MatchOption result (is_item (all_items items added) identifier.now ≡ false)
             (λ x. (item x ≡ identifier.now)

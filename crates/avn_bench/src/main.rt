@@ -1,26 +1,37 @@
 //! Times the reader and the printer of the ASN.1 value notation (X.680) on the text of standard
-//! input. Standard output tells how many bytes were read and printed, or why the text is refused;
-//! standard error has the least processor seconds of ten turns of either.
+//! input. Standard output states how many bytes were read and printed, or why the text is refused;
+//! standard error has the least processor seconds of ten turns of either. `bench/run.py` runs it
+//! beside a native reader and printer on the same texts.
 #![tactic(auto)]
 
 use avn_value::{AvnValue, parse_avn};
 use std::io;
 use std::time::{CpuClock, Duration};
 
+/// Is the number of turns, of which the least time counts.
 const TURNS: usize = 10;
 
-/// The least time in which the text is read.
+/// Returns the least processor time in which the text is read.
+///
+/// # Errors
+///
+/// Those of the clock.
 fn reading_time(rt: &HostRuntime, text: &str) -> io::Result<Duration> {
     let mut least = Duration::MAX;
     for _ in 0..TURNS {
         let start = rt.process_cpu_time()?;
+        // The value is dropped at the end of the turn, and dropping it counts as part of reading.
         let _value = parse_avn(rt.alloc(), text);
         least = least.min(rt.process_cpu_time()?.saturating_sub(start));
     }
     Ok(least)
 }
 
-/// The least time in which the value is printed.
+/// Returns the least processor time in which the value is printed to a text of its own.
+///
+/// # Errors
+///
+/// Those of the clock.
 fn printing_time(rt: &HostRuntime, value: &AvnValue) -> io::Result<Duration> {
     let mut least = Duration::MAX;
     for _ in 0..TURNS {
@@ -31,6 +42,11 @@ fn printing_time(rt: &HostRuntime, value: &AvnValue) -> io::Result<Duration> {
     Ok(least)
 }
 
+/// Reads standard input whole, once for the numbers of bytes and then for the times.
+///
+/// # Errors
+///
+/// Those of reading and of printing. A text that is refused is none: its error is printed.
 fn main(rt: HostRuntime) -> io::Result<()> {
     let text = io::read_to_string(rt.alloc(), rt.stdin())?;
     match parse_avn(rt.alloc(), text.as_str()) {

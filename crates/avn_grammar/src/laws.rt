@@ -1,5 +1,5 @@
-//! The laws of the notation, each the contract of a function that does nothing. Each holds for
-//! every limit on levels.
+//! States the laws of the notation, each as the contract of a function that does nothing. Each
+//! holds for every limit on levels. A call gives the caller's proof the law, and no code.
 ghost use Rattle.std.specs.Prelude.{◌≡◌, ℕ, ◌≤◌, ◌<◌, ◌++◌, ◌↔◌, List, true};
 ghost use Rattle.std.specs.Str.{chars};
 ghost use Rattle.avn_grammar.specs.Tree.{Tree};
@@ -18,7 +18,7 @@ pub fn one_tree_and_rest()
         → (tree ≡ other) × (rest ≡ other_rest) }
 {}
 
-/// Where a value is looked for too deep, no tree stands.
+/// No tree stands at the front of a text where a value is nested beyond the limit.
 pub fn depth_excludes_tree()
     ensures { (limit level : ℕ) (text rest : List ℕ) (tree : Tree)
         → Deep limit level text → Stands limit level text tree rest → ⊥ }
@@ -30,8 +30,9 @@ pub fn one_tree()
         → Reads limit text tree → Reads limit text other → tree ≡ other }
 {}
 
-/// A whole text has at most one of three answers: a tree, what was found in place of one, and
-/// that a value is looked for too deep.
+/// A whole text has at most one of three outcomes: it is read as a tree, it is not read and
+/// something else was found, or a value in it is nested beyond the limit. Each clause excludes
+/// two of them together.
 pub fn one_answer()
     ensures read_or_unread { (limit : ℕ) (text found : List ℕ) (tree : Tree)
         → Reads limit text tree → Unread limit text found → ⊥ }
@@ -41,14 +42,15 @@ pub fn one_answer()
         → Unread limit text found → Deep limit 0 text → ⊥ }
 {}
 
-/// What is found in a text that is not read is one text.
+/// A text that is not read has one text that an error names as found.
 pub fn one_found()
     ensures { (limit : ℕ) (text found other : List ℕ)
         → Unread limit text found → Unread limit text other → found ≡ other }
 {}
 
-/// The printed text of a well-formed tree is read as its normal form where it is deep at most the
-/// limit, whatever text follows that may follow a value.
+/// The printed text of a well-formed tree is read as its normal form where the tree is no deeper
+/// than the limit, whatever text follows that may follow a value. `depth` counts the levels that
+/// the text is indented by.
 pub fn reads_printed_text()
     ensures { (limit level depth : ℕ) (tree : Tree) (rest : List ℕ)
         → is_well_formed tree ≡ true → deepest level tree ≤ limit
@@ -56,7 +58,7 @@ pub fn reads_printed_text()
         → Stands limit level (chars (print depth tree ++ rest)) (normal tree) (chars rest) }
 {}
 
-/// The whole printed text of a well-formed tree that is deep at most the limit is read as its
+/// The whole printed text of a well-formed tree that is no deeper than the limit is read as its
 /// normal form.
 pub fn reads_whole_printed_text()
     ensures { (limit : ℕ) (tree : Tree)

@@ -1,4 +1,6 @@
-// Reading and writing a value of a type as JSON text.
+//! Encodes a value of a type as JSON text, and decodes one from it. `enc` and `de` have the two
+//! halves of the codec: each is a few primitive calls on JSON values, over which the traits of
+//! `asn_traits` encode and decode every type.
 ghost use Rattle.asn_fault.specs.Stop.{error_stop};
 ghost use Rattle.asn_fault.specs.declared.encode.EncodeErrorKind.TheVariants.{OutOfMemory};
 ghost use Rattle.asn_traits.specs.Canonical.{canonical_text};
@@ -25,17 +27,23 @@ use asn_fault::{DecodeError, EncodeError};
 use asn_traits::{Decode, Encode};
 use std::alloc::Global;
 
-/// Writes a value as compact JSON text, with the members of an object in byte order of their names.
+/// Encodes a value as compact JSON text, with the members of an object in byte order of their
+/// names.
 ///
-/// Errors: `OutOfMemory`; else the kind of the first part that JER cannot write.
+/// # Errors
+///
+/// `OutOfMemory`; else the kind of the first part that JER cannot encode.
 pub fn encode<T: Encode>(alloc: Global, value: &T) -> Result<String, EncodeError>
+    // The text is the canonical one of the value, of the type's shape, and decodes to the value
+    // again unless it nests deeper than JSON is read.
     ensures text { IfOk result (λ s. string_bytes s ≡ canonical_text Notation.jer
         (T.value_of value.now)) }
     ensures reads_back { IfOk result (λ s. ReadsBack (T.value_of value.now) (string_bytes s)) }
     ensures fits { OnOk result (Fits T.shape_of (T.value_of value.now)) }
     ensures writable { OnOk result (Writable Notation.jer (T.value_of value.now)) }
+    // An error is that of the first part that can't be encoded.
     ensures refused { IfErr result (CannotWrite Notation.jer (T.value_of value.now)) }
-    // What can be written is written, unless memory runs out.
+    // What can be encoded is encoded, unless memory runs out.
     ensures complete { Writable Notation.jer (T.value_of value.now) → IfErr result
         (λ e. e.kind ≡ OutOfMemory) }
 {
@@ -44,16 +52,21 @@ pub fn encode<T: Encode>(alloc: Global, value: &T) -> Result<String, EncodeError
     encoder.to_string()
 }
 
-/// Reads the value that a JSON text says.
+/// Returns the value that a JSON text decodes to.
 ///
-/// Errors: `OutOfMemory`; `Parser` where the text is no JSON; `RealNotSupported` where a number in
-/// it is neither an `i64` nor a `u64`; else why the JSON value is no value of the type, within a
+/// # Errors
+///
+/// `OutOfMemory`; `Parser` where the text is no JSON; `RealNotSupported` where a number in it is
+/// neither an `i64` nor a `u64`; else why the JSON value is no value of the type, within a
 /// `FieldError` for each field on the way.
 pub fn decode<T: Decode>(alloc: Global, input: &str) -> Result<T, DecodeError>
+    // The text is a JSON value that decodes to the value of the result.
     ensures value { IfOk result (λ x. (d : Data) × IsJer input.now d × Says Notation.jer T.shape_of
         (Some (Tree.json d)) (T.value_of x)) }
+    // An error is why the text is no JSON value of the kind, or where and why its value decodes to
+    // none of the type.
     ensures refused { IfErr result (λ e. RefusesText T.shape_of input.now (error_stop e)) }
-    // A text that says a value is read as that value, unless memory runs out.
+    // A text that decodes to a value is read as that value, unless memory runs out.
     ensures complete { (d : Data) (v : Value) → IsJer input.now d → Says Notation.jer T.shape_of
         (Some (Tree.json d)) v → Reads T.value_of v result }
 {

@@ -1,4 +1,6 @@
-//! JER: values of ASN.1 types as JSON text (X.697).
+//! Encodes values of ASN.1 types as JSON text, and decodes them from it, by the JSON Encoding
+//! Rules of X.697. Text is read and written by `serde_json`; this crate takes its `Value` apart
+//! and puts it together.
 #![tactic(auto)]
 
 pub mod jer;

@@ -1,4 +1,5 @@
-// JSON values made of slots.
+//! Makes JSON values of the slots that an encoder has collected. Values are moved in; names are
+//! copied, since a map owns its keys.
 ghost use Rattle.asn_base.specs.Numbers.{signed};
 ghost use Rattle.asn_slots.specs.Trees.{trees_of};
 ghost use Rattle.asn_traits.specs.Notation.{Notation};
@@ -15,8 +16,8 @@ use asn_traits::{Field, field_name};
 use serde_json::{Map, Number, Value};
 use std::alloc::Global;
 
-/// Returns the number with this sign and magnitude. None exactly where it is below -2^63 or not
-/// below 2^64.
+/// Returns the number with this sign and magnitude, or `None` exactly where it is below -2^63 or
+/// not below 2^64.
 pub fn integer_of(negative: bool, magnitude: u128) -> Option<Number>
     ensures { MatchOption result (IntStands Notation.jer (signed negative magnitude) → ⊥)
         (λ n. IntStands Notation.jer (signed negative magnitude)
@@ -25,14 +26,17 @@ pub fn integer_of(negative: bool, magnitude: u128) -> Option<Number>
     if magnitude > 18_446_744_073_709_551_615 {
         return None;
     }
+    // The cast loses nothing below 2^64, and so the sign can't overflow.
     let number = magnitude as i128;
     Number::from_i128(if negative { -number } else { number })
 }
 
 /// Returns the members of the slots that are present, each with the name of the field at its
-/// place, where extension additions come last.
+/// place, where extension additions come last. Absent slots are left out.
 ///
-/// Its one error is that memory ran out.
+/// # Errors
+///
+/// `OutOfMemory` alone.
 pub fn members_of(
     alloc: Global,
     slots: Vec<Option<Value>>,
@@ -44,6 +48,7 @@ pub fn members_of(
 {
     let mut slots = slots;
     let mut members = Map::new(alloc);
+    // Slots come off the end, so the number of those left is the place of this one.
     while let Some(slot) = slots.pop() {
         if let Some(value) = slot {
             let name = field_name(root, additions, slots.len());
@@ -53,9 +58,11 @@ pub fn members_of(
     Ok(members)
 }
 
-/// Returns the choice of this alternative and payload, an object with one member.
+/// Returns the choice of this alternative and payload: an object with one member.
 ///
-/// Its one error is that memory ran out.
+/// # Errors
+///
+/// `OutOfMemory` alone.
 pub fn choice_of(alloc: Global, identifier: &str, payload: Value) -> Result<Value, OutOfMemory>
     ensures { IfOk result (λ v. view v ≡ one_member identifier.now (view payload)) }
 {
@@ -64,7 +71,11 @@ pub fn choice_of(alloc: Global, identifier: &str, payload: Value) -> Result<Valu
     Ok(Value::Object(members))
 }
 
-// Puts a member into an object. Its one error is that memory ran out.
+/// Puts a member into an object, in the place of one of that name.
+///
+/// # Errors
+///
+/// `OutOfMemory` alone.
 fn insert(
     alloc: Global,
     members: &mut Map<String, Value>,

@@ -1,4 +1,5 @@
-// Reading a JSON value as a value of a type.
+//! Decodes a JSON value as a value of a type. The decoder holds the pending slots, of which each
+//! call takes the first, and takes the JSON value apart by moves as it goes.
 ghost use Rattle.asn_base.specs.declared.codec.Codec.TheVariants.{Jer};
 ghost use Rattle.asn_fault.specs.Stop.{Why, error_stop, at_root};
 ghost use Rattle.asn_traits.specs.Answer.{Refuses};
@@ -22,26 +23,32 @@ use asn_traits::{Field, LeafKind, OwnedLeaf};
 use serde_json::{Map, Value};
 use std::alloc::Global;
 
-/// A reader of one JSON value, which it takes apart as it reads.
+/// Decodes one JSON value. Contracts see the list of its pending slots.
 #[derive(Drop)]
 pub struct Decoder {
+    /// Allocates texts, octets and the room for slots.
     alloc: Global,
+    /// Holds the JSON values that are still to be decoded.
     pending: Pending<Value>,
 }
 
+/// Makes decoders of a text or of a JSON value.
 impl Decoder {
     ghost use Rattle.jer_rules.specs.Pending.{tree_of, pending_of, TakesFields};
     ghost use Rattle.jer_rules.specs.Text.{IsJer, NoTree};
 
-    /// Makes a reader of a text.
+    /// Makes a decoder of a text.
     ///
-    /// Errors: `Parser` where the text is no JSON; else `RealNotSupported` where a number in it is
-    /// neither an `i64` nor a `u64`; `OutOfMemory`.
+    /// # Errors
+    ///
+    /// `Parser` where the text is no JSON; else `RealNotSupported` where a number in it is neither
+    /// an `i64` nor a `u64`; `OutOfMemory`.
     pub fn new(alloc: Global, input: &str) -> Result<Decoder, DecodeError>
         ensures tree { IfOk result (λ d. (t : Data) × IsJer input.now t
             × (pending_of d ≡ Some (Tree.json t) ∷ [])) }
         ensures refused { IfErr result (λ e. NoTree input.now (error_stop e)) }
     {
+        // `serde_json` has one error for a text that is no JSON and for memory that ran out.
         let value = match Value::from_str(alloc, input) {
             Ok(value) => value,
             Err(error) if error.is_memory() => {
@@ -49,15 +56,18 @@ impl Decoder {
             }
             Err(_error) => return Err(no_json(alloc)),
         };
+        // Floats are refused wherever they stand, even in members that no type asks for.
         if holds_float(&value) {
             return Err(DecodeError::real_not_supported(Codec::Jer));
         }
         Decoder::from_value(alloc, value)
     }
 
-    /// Makes a reader of a JSON value. A float in it is of no kind that a type needs.
+    /// Makes a decoder of a JSON value. A float in it is of no kind that a type needs.
     ///
-    /// Errors: `OutOfMemory`.
+    /// # Errors
+    ///
+    /// `OutOfMemory` alone.
     pub fn from_value(alloc: Global, value: Value) -> Result<Decoder, DecodeError>
         ensures tree { IfOk result (λ d. pending_of d ≡ Some (tree_of value) ∷ []) }
         ensures refused { IfErr result (λ e. error_stop e ≡ at_root Why.out_of_memory Jer) }
@@ -69,7 +79,11 @@ impl Decoder {
         }
     }
 
-    // Takes the first pending slot, if it is present.
+    /// Takes the first pending slot and returns its value.
+    ///
+    /// # Errors
+    ///
+    /// The end of input where the slot is absent, or none is pending.
     fn take(&mut self) -> Result<Value, DecodeError>
         ensures { MatchResult result (λ v. pending_of self.old ≡ Some
             (tree_of v) ∷ pending_of self.new) (λ e. (s : Shape) → Refuses Notation.jer
@@ -82,7 +96,11 @@ impl Decoder {
         }
     }
 
-    // Puts a slot before the pending ones.
+    /// Puts a slot before the pending ones.
+    ///
+    /// # Errors
+    ///
+    /// `OutOfMemory` alone.
     fn put(&mut self, slot: Option<Value>) -> Result<(), DecodeError>
         ensures { MatchResult result
             (λ _. pending_of self.new ≡ option_map tree_of slot ∷ pending_of self.old)
@@ -94,7 +112,12 @@ impl Decoder {
         }
     }
 
-    // Takes the fields out of the members, and puts their slots before the pending ones.
+    /// Takes the fields out of the members by their names, and puts their slots before the pending
+    /// ones, in the order of the fields. Members of other names stay.
+    ///
+    /// # Errors
+    ///
+    /// `OutOfMemory` alone.
     fn take_fields(
         &mut self,
         members: &mut Map<String, Value>,
@@ -106,6 +129,7 @@ impl Decoder {
             (pending_of self.old) (pending_of self.new)) }
         ensures refused { IfErr result (λ e. error_stop e ≡ at_root Why.out_of_memory Jer) }
     {
+        // The last field goes first, since each is put before those that were put already.
         for field in fields.iter().rev() {
             let member = members.remove(field.name);
             self.put(member)?;
@@ -114,6 +138,7 @@ impl Decoder {
     }
 }
 
+/// Opens JSON values and takes leaves out of them.
 impl asn_traits::Decoder for Decoder {
     ghost use Rattle.jer_rules.specs.Pending.{pending_of};
 
@@ -129,6 +154,7 @@ impl asn_traits::Decoder for Decoder {
         self.alloc
     }
 
+    // The slot is gone in any case: a value of another kind is named in the error and dropped.
     #[inline(always)]
     fn take_leaf(&mut self, kind: LeafKind) -> Result<OwnedLeaf, DecodeError> {
         match leaf_of_json(self.alloc, self.take()?, kind) {
@@ -139,6 +165,7 @@ impl asn_traits::Decoder for Decoder {
         }
     }
 
+    // An item is a JSON string, so its text is named as it is.
     fn no_item(&self, text: String) -> DecodeError {
         no_item(text)
     }
@@ -150,6 +177,7 @@ impl asn_traits::Decoder for Decoder {
         }
     }
 
+    // The array's vector goes into the pending slots as it is, without a copy.
     fn open_list(&mut self) -> Result<usize, DecodeError> {
         match into_items(self.take()?) {
             Ok(items) => {
@@ -163,6 +191,7 @@ impl asn_traits::Decoder for Decoder {
         }
     }
 
+    // Extension additions go in first, since the root fields come before them.
     fn open_members(&mut self, root: &[Field], additions: &[Field]) -> Result<(), DecodeError> {
         let mut members = match into_members(self.take()?) {
             Ok(members) => members,
@@ -173,6 +202,8 @@ impl asn_traits::Decoder for Decoder {
         Ok(())
     }
 
+    // A choice is the object's first member. Where its name is no identifier, or there is no
+    // member, an absent slot stands for the payload, and the caller refuses by the type's name.
     fn open_choice(&mut self, identifiers: &[&'static str]) -> Result<Option<usize>, DecodeError> {
         match into_members(self.take()?) {
             Ok(members) => match into_payload(members, identifiers) {

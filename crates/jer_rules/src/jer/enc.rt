@@ -1,4 +1,5 @@
-// Writing a value of a type as a JSON value.
+//! Encodes a value of a type as a JSON value. The encoder holds the open frames, each the JSON
+//! values of the slots that were added to it; closing a frame makes one JSON value of them.
 ghost use Rattle.asn_base.specs.declared.codec.Codec.TheVariants.{Jer};
 ghost use Rattle.asn_fault.specs.Unwritten.{WhyUnwritten, encode_why};
 ghost use Rattle.asn_traits.specs.Canonical.{jer_data, canonical_text};
@@ -20,17 +21,21 @@ use asn_traits::{Field, Leaf};
 use serde_json::Value;
 use std::alloc::Global;
 
-/// A writer of one JSON value.
+/// Encodes one JSON value. Contracts see the frames that it may hold as a relation, since a JSON
+/// value doesn't determine the value that it was made of.
 #[derive(Drop)]
 pub struct Encoder {
+    /// Allocates texts, maps and the room for slots.
     alloc: Global,
+    /// Holds the JSON values of the open frames.
     frames: Frames<Value>,
 }
 
+/// Makes encoders, and hands over what one holds at its root.
 impl Encoder {
     ghost use Rattle.jer_rules.specs.Holding.{Holds};
 
-    /// Makes a writer that holds nothing at its root.
+    /// Makes an encoder that holds nothing at its root. It takes no memory.
     pub fn new(alloc: Global) -> Encoder
         ensures { Holds result ([] ∷ []) }
     {
@@ -40,10 +45,13 @@ impl Encoder {
         }
     }
 
-    /// Returns the JSON value of the last value that was written at the root.
+    /// Returns the JSON value of the last value that was encoded at the root.
     ///
-    /// Errors: `NoRootValueFound` where none was.
+    /// # Errors
+    ///
+    /// `NoRootValueFound` where none was.
     pub fn to_json(self) -> Result<Value, EncodeError>
+        // Whatever slots the root has, the JSON value is that of the last one that is present.
         ensures tree { IfOk result (λ t. (f : Frame) → Holds self (f ∷ []) → option_map jer_data
             (last_present f) ≡ Some (view t)) }
         ensures refused { IfErr result (λ e. (e.kind ≡ EncodeErrorKind.OutOfMemory)
@@ -60,8 +68,11 @@ impl Encoder {
 
     /// Returns the compact text of that JSON value.
     ///
-    /// Errors: `NoRootValueFound` where there is none; `OutOfMemory`.
+    /// # Errors
+    ///
+    /// `NoRootValueFound` where there is none; `OutOfMemory`.
     pub fn to_string(self) -> Result<String, EncodeError>
+        // The text is the canonical one of the root's value, and decodes to it again.
         ensures text { IfOk result (λ s. (f : Frame) → Holds self (f ∷ []) → option_map
             (canonical_text Notation.jer) (last_present f) ≡ Some (string_bytes s)) }
         ensures reads_back { IfOk result (λ s. (f : Frame) → Holds self (f ∷ [])
@@ -79,7 +90,11 @@ impl Encoder {
         }
     }
 
-    // Puts a slot into the last frame.
+    /// Puts a slot into the last frame.
+    ///
+    /// # Errors
+    ///
+    /// `OutOfMemory` alone.
     fn put(&mut self, slot: Option<Value>) -> Result<(), EncodeError>
         ensures added { OnOk result (self.new.frames ≡ push slot self.old.frames) }
         ensures refused { IfErr result (λ e. e.kind ≡ EncodeErrorKind.OutOfMemory) }
@@ -91,6 +106,7 @@ impl Encoder {
     }
 }
 
+/// Adds leaves to the last frame, and closes frames as arrays, objects and choices.
 impl asn_traits::Encoder for Encoder {
     ghost use Rattle.jer_rules.specs.Holding.{Holds};
 
@@ -123,6 +139,7 @@ impl asn_traits::Encoder for Encoder {
         }
     }
 
+    // The values are moved into the array, which keeps the vector.
     fn close_list(&mut self) -> Result<(), EncodeError> {
         match self.frames.close_list() {
             Ok(items) => self.put(Some(Value::Array(items))),
@@ -130,6 +147,7 @@ impl asn_traits::Encoder for Encoder {
         }
     }
 
+    // The slots get their names from the fields' table, in order; absent ones are left out.
     fn close_members(&mut self, root: &[Field], additions: &[Field]) -> Result<(), EncodeError> {
         let Ok(slots) = self.frames.close() else {
             return Err(EncodeError::out_of_memory(Codec::Jer));
@@ -140,6 +158,7 @@ impl asn_traits::Encoder for Encoder {
         }
     }
 
+    // A frame without a payload leaves an absent slot, as a scope that added nothing does.
     fn close_choice(&mut self, identifier: &'static str) -> Result<(), EncodeError> {
         let Some(payload) = self.frames.close_first() else {
             return self.put(None);

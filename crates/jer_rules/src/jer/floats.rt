@@ -1,11 +1,13 @@
-// Whether a JSON value holds a number that JER does not have.
+//! Tests whether a JSON value holds a number that JER does not have. The test is one walk over
+//! the value that was read, since `serde_json` reads every number of JSON.
 ghost use Rattle.serde_json.specs.View.{view, items_view, members_view};
 ghost use Rattle.serde_json.specs.Written.{has_float, items_have_float, members_have_float};
 ghost use Rattle.std.specs.Prelude.{◌≡◌};
 
 use serde_json::{Map, Value};
 
-/// Whether a number in the value is neither an `i64` nor a `u64`. Each part is looked at once.
+/// Returns whether a number in the value is neither an `i64` nor a `u64`. Each part is looked at
+/// once, and no memory is taken.
 #[cycle(floats)]
 pub fn holds_float(value: &Value) -> bool
     ensures { result ≡ has_float (view value.now) }
@@ -18,6 +20,7 @@ pub fn holds_float(value: &Value) -> bool
     }
 }
 
+/// Returns whether an element of an array holds such a number.
 #[cycle(floats)]
 fn items_hold_float(items: &Vec<Value>) -> bool
     ensures { result ≡ items_have_float (items_view items.now.items) }
@@ -30,6 +33,7 @@ fn items_hold_float(items: &Vec<Value>) -> bool
     false
 }
 
+/// Returns whether a member of an object holds such a number.
 #[cycle(floats)]
 fn members_hold_float(members: &Map<String, Value>) -> bool
     ensures { result ≡ members_have_float (members_view members.now.entries) }

@@ -1,4 +1,5 @@
-// The parts of a JSON value, taken out of it.
+//! Takes parts out of a JSON value by moves: nothing is copied, and no memory is taken. A value
+//! of another kind comes back as it was, so that an error can name it.
 ghost use Rattle.jer_rules.specs.Numbers.{IsWhole};
 ghost use Rattle.jer_rules.specs.Payload.{PayloadOf};
 ghost use Rattle.serde_json.specs.Data.{Data};
@@ -10,7 +11,11 @@ use asn_base::WholeNumber;
 use asn_traits::place_of;
 use serde_json::{Map, Number, Value};
 
-/// Returns the elements, or the value where it is no array.
+/// Returns the elements of an array.
+///
+/// # Errors
+///
+/// The value itself where it is no array.
 pub fn into_items(value: Value) -> Result<Vec<Value>, Value>
     ensures { MatchResult result (λ items. view value ≡ Data.array (items_view items.items))
         (λ v. (v ≡ value) × (as_array (view value) ≡ None)) }
@@ -21,7 +26,11 @@ pub fn into_items(value: Value) -> Result<Vec<Value>, Value>
     }
 }
 
-/// Returns the members, or the value where it is no object.
+/// Returns the members of an object.
+///
+/// # Errors
+///
+/// The value itself where it is no object.
 pub fn into_members(value: Value) -> Result<Map<String, Value>, Value>
     ensures { MatchResult result (λ members. view value ≡ Data.object
         (members_view members.entries)) (λ v. (v ≡ value) × (as_object (view value) ≡ None)) }
@@ -32,10 +41,10 @@ pub fn into_members(value: Value) -> Result<Map<String, Value>, Value>
     }
 }
 
-/// Returns the place of the first member's name among the identifiers, and the member's value. None
-/// exactly where there is no member, or no such identifier.
+/// Returns the place of the first member's name among the identifiers, and the member's value, or
+/// `None` exactly where there is no member, or no such identifier.
 ///
-/// The case of ASCII letters makes no difference.
+/// The case of ASCII letters makes no difference. Members after the first are dropped.
 pub fn into_payload(
     members: Map<String, Value>,
     identifiers: &[&'static str],
@@ -43,12 +52,13 @@ pub fn into_payload(
     ensures { PayloadOf (members_view members.entries) (map (λ s. s.now) identifiers.now) result }
 {
     let mut members = members;
+    // A map holds its members in byte order of their names, and the first in that order counts.
     let (name, payload) = members.pop_first()?;
     let place = place_of(identifiers, name.as_str())?;
     Some((place, payload))
 }
 
-/// Returns the whole number that a number is. None exactly where it is none.
+/// Returns the whole number that a number is, or `None` exactly where it is none: a float.
 pub fn whole_number(number: &Number) -> Option<WholeNumber>
     ensures { IsWhole (Data.number (number_view number.now)) result }
 {
@@ -58,6 +68,7 @@ pub fn whole_number(number: &Number) -> Option<WholeNumber>
             magnitude: magnitude as u128,
         });
     }
+    // What is no `u64` may be a number below 0.
     match number.as_i64() {
         Some(number) => Some(WholeNumber {
             negative: number < 0,

@@ -1,14 +1,19 @@
 // What a reader of AVN refuses by.
 ghost use Rattle.asn_base.specs.declared.codec.Codec.TheVariants.{Avn};
 ghost use Rattle.asn_fault.specs.Stop.{Why, error_stop, at_root, codec_why};
+ghost use Rattle.asn_fault.specs.Unwritten.{WhyUnwritten};
 ghost use Rattle.asn_traits.specs.Answer.{TellsBlame};
 ghost use Rattle.asn_traits.specs.Leaf.{Blame};
 ghost use Rattle.asn_traits.specs.Notation.{Notation};
+ghost use Rattle.asn_traits.specs.TextTypes.{TellsUnwritten};
 ghost use Rattle.avn_rules.specs.Pending.{tree_of};
 ghost use Rattle.std.specs.Prelude.{◌≡◌, ◌⊎◌, codes, string_bytes};
 
 use asn_base::Codec;
-use asn_fault::{AvnDecodeErrorKind, CodecDecodeError, DecodeError, DecodeErrorKind};
+use asn_fault::{
+    AvnDecodeErrorKind, AvnEncodeErrorKind, CodecDecodeError, CodecEncodeError, DecodeError,
+    DecodeErrorKind, EncodeError, EncodeErrorKind,
+};
 use avn_value::AvnValue;
 use std::alloc::Global;
 
@@ -59,6 +64,22 @@ pub fn no_utf8(alloc: Global) -> DecodeError
         Ok(msg) => DecodeError::custom(msg, Codec::Avn),
         Err(_) => DecodeError::out_of_memory(Codec::Avn),
     }
+}
+
+/// Returns the refusal to write a text that isn't Unicode. Memory may run out.
+pub fn no_unicode(alloc: Global) -> EncodeError
+    ensures { TellsUnwritten Notation.avn (WhyUnwritten.avn_encoder (codes "Invalid UTF-8"))
+        result }
+{
+    let Ok(msg) = String::from_str(alloc, "Invalid UTF-8") else {
+        return EncodeError::out_of_memory(Codec::Avn);
+    };
+    EncodeError::from_kind(
+        EncodeErrorKind::CodecSpecific {
+            inner: CodecEncodeError::Avn(AvnEncodeErrorKind::AvnEncoder { msg }),
+        },
+        Codec::Avn,
+    )
 }
 
 // The refusal of this kind.

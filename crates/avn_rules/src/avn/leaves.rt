@@ -88,7 +88,7 @@ pub fn leaf_of_avn(value: AvnValue, kind: LeafKind) -> Result<OwnedLeaf, NoLeaf>
             },
             other => Err(NoLeaf::Kind(other)),
         },
-        LeafKind::Text => match value {
+        LeafKind::Text | LeafKind::Time | LeafKind::Date => match value {
             AvnValue::CharString(text) => Ok(OwnedLeaf::Text(text)),
             AvnValue::OctetString(octets) => match text_of(octets) {
                 Some(text) => Ok(OwnedLeaf::Text(text)),

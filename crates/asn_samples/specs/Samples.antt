@@ -1,7 +1,7 @@
 -- The sample types, their names and their shapes.
 use denote.Enum.Bare.{sameb}
 use Rattle.std.specs.Prelude.{ℕ, List, [], ◌∷◌, codes, bytes_eq, if◌then◌else◌, Option, Some, None, option_map}
-use Rattle.asn_traits.specs.Shape.{Shape}
+use Rattle.asn_traits.specs.Shape.{Alphabet, Shape}
 use Rattle.asn_traits.specs.Terms.{signed, unsigned, utf8_string}
 use Rattle.asn_samples.specs.ExtChoice.{ext_choice_shape}
 use Rattle.asn_samples.specs.ExtEnum.{ext_enum_shape}
@@ -28,6 +28,17 @@ samples =
     ∷ (codes "u128", sample_type.U128, unsigned 128)
     ∷ (codes "Integer", sample_type.Integer, signed 128)
     ∷ (codes "Utf8String", sample_type.Utf8String, utf8_string)
+    ∷ (codes "NumericString", sample_type.NumericString, Shape.text Alphabet.numeric)
+    ∷ (codes "PrintableString", sample_type.PrintableString, Shape.text Alphabet.printable)
+    ∷ (codes "VisibleString", sample_type.VisibleString, Shape.text Alphabet.visible)
+    ∷ (codes "Ia5String", sample_type.Ia5String, Shape.text Alphabet.ia5)
+    ∷ (codes "GeneralString", sample_type.GeneralString, Shape.text Alphabet.general)
+    ∷ (codes "GraphicString", sample_type.GraphicString, Shape.text Alphabet.graphic)
+    ∷ (codes "BmpString", sample_type.BmpString, Shape.bmp)
+    ∷ (codes "UniversalString", sample_type.UniversalString, Shape.text Alphabet.universal)
+    ∷ (codes "UtcTime", sample_type.UtcTime, Shape.utc)
+    ∷ (codes "GeneralizedTime", sample_type.GeneralizedTime, Shape.gen)
+    ∷ (codes "Date", sample_type.Date, Shape.day)
     ∷ (codes "SequenceOf<u8>", sample_type.SequenceOfU8, Shape.list_of (unsigned 8))
     ∷ (codes "SequenceOf<i64>", sample_type.SequenceOfI64, Shape.list_of (signed 64))
     ∷ (codes "SequenceOf<bool>", sample_type.SequenceOfBool, Shape.list_of Shape.boolean)

@@ -7,6 +7,11 @@ ghost use Rattle.std.specs.Prelude.{◌≡◌, IfOk, is_some};
 
 use crate::SampleVisitor;
 use asn_base::{Integer, OutOfMemory};
+use asn_strings::{
+    BmpString, GeneralString, GraphicString, Ia5String, NumericString, PrintableString,
+    UniversalString, VisibleString,
+};
+use asn_times::{Date, GeneralizedTime, UtcTime};
 use asn_traits::{Decode, Encode, Shape};
 use std::alloc::Global;
 
@@ -29,6 +34,28 @@ pub enum Sample {
     Integer,
     /// Is UTF8String, as `String`.
     Utf8String,
+    /// Is NumericString.
+    NumericString,
+    /// Is PrintableString.
+    PrintableString,
+    /// Is VisibleString.
+    VisibleString,
+    /// Is IA5String.
+    Ia5String,
+    /// Is GeneralString.
+    GeneralString,
+    /// Is GraphicString.
+    GraphicString,
+    /// Is BMPString.
+    BmpString,
+    /// Is UniversalString.
+    UniversalString,
+    /// Is UTCTime.
+    UtcTime,
+    /// Is GeneralizedTime.
+    GeneralizedTime,
+    /// Is DATE.
+    Date,
     /// Is SEQUENCE OF INTEGER (0..255), as `Vec<u8>`.
     SequenceOfU8,
     /// Is SEQUENCE OF INTEGER (-2^63..2^63-1), as `Vec<i64>`.
@@ -75,6 +102,17 @@ impl Sample {
             "u128" => Some(Sample::U128),
             "Integer" => Some(Sample::Integer),
             "Utf8String" => Some(Sample::Utf8String),
+            "NumericString" => Some(Sample::NumericString),
+            "PrintableString" => Some(Sample::PrintableString),
+            "VisibleString" => Some(Sample::VisibleString),
+            "Ia5String" => Some(Sample::Ia5String),
+            "GeneralString" => Some(Sample::GeneralString),
+            "GraphicString" => Some(Sample::GraphicString),
+            "BmpString" => Some(Sample::BmpString),
+            "UniversalString" => Some(Sample::UniversalString),
+            "UtcTime" => Some(Sample::UtcTime),
+            "GeneralizedTime" => Some(Sample::GeneralizedTime),
+            "Date" => Some(Sample::Date),
             "SequenceOf<u8>" => Some(Sample::SequenceOfU8),
             "SequenceOf<i64>" => Some(Sample::SequenceOfI64),
             "SequenceOf<bool>" => Some(Sample::SequenceOfBool),
@@ -107,6 +145,17 @@ impl Sample {
             Sample::U128 => visitor.visit::<u128>(state),
             Sample::Integer => visitor.visit::<Integer>(state),
             Sample::Utf8String => visitor.visit::<String>(state),
+            Sample::NumericString => visitor.visit::<NumericString>(state),
+            Sample::PrintableString => visitor.visit::<PrintableString>(state),
+            Sample::VisibleString => visitor.visit::<VisibleString>(state),
+            Sample::Ia5String => visitor.visit::<Ia5String>(state),
+            Sample::GeneralString => visitor.visit::<GeneralString>(state),
+            Sample::GraphicString => visitor.visit::<GraphicString>(state),
+            Sample::BmpString => visitor.visit::<BmpString>(state),
+            Sample::UniversalString => visitor.visit::<UniversalString>(state),
+            Sample::UtcTime => visitor.visit::<UtcTime>(state),
+            Sample::GeneralizedTime => visitor.visit::<GeneralizedTime>(state),
+            Sample::Date => visitor.visit::<Date>(state),
             Sample::SequenceOfU8 => visitor.visit::<Vec<u8>>(state),
             Sample::SequenceOfI64 => visitor.visit::<Vec<i64>>(state),
             Sample::SequenceOfBool => visitor.visit::<Vec<bool>>(state),

@@ -11,6 +11,7 @@ ghost use Rattle.avn_value.specs.View.{tree_of};
 ghost use Rattle.std.specs.Prelude.{◌≡◌, ◌⊎◌, ◌∷◌, [], Option, Some, None, OnOk, IfOk, IfErr, option_map, string_bytes};
 
 use super::build::{choice_of, fields_of};
+use super::faults::no_unicode;
 use super::leaves::avn_of_leaf;
 use asn_base::Codec;
 use asn_fault::{AvnEncodeErrorKind, CodecEncodeError, EncodeError, EncodeErrorKind};
@@ -134,6 +135,10 @@ impl asn_traits::Encoder for Encoder {
     fn put_leaf(&mut self, leaf: Leaf<'_>) -> Result<(), EncodeError> {
         let value = avn_of_leaf(self.alloc, leaf)?;
         self.put(Some(value))
+    }
+
+    fn no_unicode(&self, _place: usize) -> EncodeError {
+        no_unicode(self.alloc)
     }
 
     fn encode_absent(&mut self) -> Result<(), EncodeError> {

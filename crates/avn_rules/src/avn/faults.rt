@@ -1,17 +1,19 @@
 // What a reader of AVN refuses by.
 ghost use Rattle.asn_base.specs.declared.codec.Codec.TheVariants.{Avn};
 ghost use Rattle.asn_fault.specs.Stop.{Why, error_stop, at_root, codec_why};
+ghost use Rattle.asn_fault.specs.Unwritten.{WhyUnwritten};
 ghost use Rattle.asn_traits.specs.Answer.{TellsBlame};
 ghost use Rattle.asn_traits.specs.Leaf.{Blame};
 ghost use Rattle.asn_traits.specs.Notation.{Notation};
-ghost use Rattle.asn_traits.specs.Arcs.{listed_text};
-ghost use Rattle.avn_rules.specs.NoLeaves.{no_arc};
+ghost use Rattle.asn_traits.specs.TextTypes.{TellsUnwritten};
 ghost use Rattle.avn_rules.specs.Pending.{tree_of};
 ghost use Rattle.std.specs.Prelude.{◌≡◌, ◌⊎◌, IfOk, codes, string_bytes};
 
-use asn_base::{Codec, OutOfMemory};
-use asn_fault::{AvnDecodeErrorKind, CodecDecodeError, DecodeError, DecodeErrorKind};
-use asn_model::joined_arcs;
+use asn_base::Codec;
+use asn_fault::{
+    AvnDecodeErrorKind, AvnEncodeErrorKind, CodecDecodeError, CodecEncodeError, DecodeError,
+    DecodeErrorKind, EncodeError, EncodeErrorKind,
+};
 use avn_value::AvnValue;
 use std::alloc::Global;
 
@@ -102,6 +104,22 @@ fn list_of_arcs(alloc: Global, arcs: &[u32]) -> Result<String, OutOfMemory>
 {
     let joined = joined_arcs(alloc, arcs, ", ")?;
     Ok(format!(in alloc; "[{joined}]")?)
+}
+
+/// Returns the refusal to write a text that isn't Unicode. Memory may run out.
+pub fn no_unicode(alloc: Global) -> EncodeError
+    ensures { TellsUnwritten Notation.avn (WhyUnwritten.avn_encoder (codes "Invalid UTF-8"))
+        result }
+{
+    let Ok(msg) = String::from_str(alloc, "Invalid UTF-8") else {
+        return EncodeError::out_of_memory(Codec::Avn);
+    };
+    EncodeError::from_kind(
+        EncodeErrorKind::CodecSpecific {
+            inner: CodecEncodeError::Avn(AvnEncodeErrorKind::AvnEncoder { msg }),
+        },
+        Codec::Avn,
+    )
 }
 
 // The refusal of this kind.

@@ -109,7 +109,7 @@ pub fn leaf_of_avn(alloc: Global, value: AvnValue, kind: LeafKind) -> Result<Own
             },
             other => Err(NoLeaf::Kind(other)),
         },
-        LeafKind::Text => match value {
+        LeafKind::Text | LeafKind::Time | LeafKind::Date => match value {
             AvnValue::CharString(text) => Ok(OwnedLeaf::Text(text)),
             AvnValue::OctetString(octets) => match text_of(octets) {
                 Some(text) => Ok(OwnedLeaf::Text(text)),

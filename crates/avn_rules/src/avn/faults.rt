@@ -3,17 +3,20 @@ ghost use Rattle.asn_base.specs.declared.codec.Codec.TheVariants.{Avn};
 ghost use Rattle.asn_fault.specs.Stop.{Why, error_stop, at_root, codec_why};
 ghost use Rattle.asn_fault.specs.Unwritten.{WhyUnwritten};
 ghost use Rattle.asn_traits.specs.Answer.{TellsBlame};
+ghost use Rattle.asn_traits.specs.Arcs.{listed_text};
 ghost use Rattle.asn_traits.specs.Leaf.{Blame};
 ghost use Rattle.asn_traits.specs.Notation.{Notation};
 ghost use Rattle.asn_traits.specs.TextTypes.{TellsUnwritten};
+ghost use Rattle.avn_rules.specs.NoLeaves.{no_arc};
 ghost use Rattle.avn_rules.specs.Pending.{tree_of};
 ghost use Rattle.std.specs.Prelude.{◌≡◌, ◌⊎◌, IfOk, codes, string_bytes};
 
-use asn_base::Codec;
+use asn_base::{Codec, OutOfMemory};
 use asn_fault::{
     AvnDecodeErrorKind, AvnEncodeErrorKind, CodecDecodeError, CodecEncodeError, DecodeError,
     DecodeErrorKind, EncodeError, EncodeErrorKind,
 };
+use asn_model::joined_arcs;
 use avn_value::AvnValue;
 use std::alloc::Global;
 

@@ -1,3 +1,4 @@
+pub mod Joined
 pub mod Stop
 pub mod Texts
 pub mod Unwritten

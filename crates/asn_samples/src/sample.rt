@@ -4,7 +4,7 @@ ghost use Rattle.asn_traits.specs.ShapeView.{shape_view};
 ghost use Rattle.std.specs.Prelude.{◌≡◌, IfOk, is_some};
 
 use crate::SampleVisitor;
-use asn_base::{Integer, OutOfMemory};
+use asn_base::{Any, BitString, Integer, ObjectIdentifier, OctetString, OutOfMemory};
 use asn_traits::{Decode, Encode, Shape};
 use std::alloc::Global;
 
@@ -23,6 +23,10 @@ pub enum Sample {
     SequenceOfI64,
     SequenceOfBool,
     SequenceOfSimpleChoice,
+    OctetString,
+    BitString,
+    Any,
+    ObjectIdentifier,
     Renamed,
     Inner,
     SimpleEnum,
@@ -32,6 +36,9 @@ pub enum Sample {
     Nested,
     Struct,
     WithNullOpt,
+    ConstrainedBitString,
+    ExtensibleBitString,
+    ExtensibleBitStringField,
     Nest,
 }
 
@@ -53,6 +60,10 @@ impl Sample {
             "SequenceOf<i64>" => Some(Sample::SequenceOfI64),
             "SequenceOf<bool>" => Some(Sample::SequenceOfBool),
             "SequenceOf<SimpleChoice>" => Some(Sample::SequenceOfSimpleChoice),
+            "OctetString" => Some(Sample::OctetString),
+            "BitString" => Some(Sample::BitString),
+            "Any" => Some(Sample::Any),
+            "ObjectIdentifier" => Some(Sample::ObjectIdentifier),
             "Renamed" => Some(Sample::Renamed),
             "Inner" => Some(Sample::Inner),
             "SimpleEnum" => Some(Sample::SimpleEnum),
@@ -62,6 +73,9 @@ impl Sample {
             "Nested" => Some(Sample::Nested),
             "Struct" => Some(Sample::Struct),
             "WithNullOpt" => Some(Sample::WithNullOpt),
+            "ConstrainedBitString" => Some(Sample::ConstrainedBitString),
+            "ExtensibleBitString" => Some(Sample::ExtensibleBitString),
+            "ExtensibleBitStringField" => Some(Sample::ExtensibleBitStringField),
             "Nest" => Some(Sample::Nest),
             _ => None,
         }
@@ -84,6 +98,10 @@ impl Sample {
             Sample::SequenceOfI64 => visitor.visit::<Vec<i64>>(state),
             Sample::SequenceOfBool => visitor.visit::<Vec<bool>>(state),
             Sample::SequenceOfSimpleChoice => visitor.visit::<Vec<crate::SimpleChoice>>(state),
+            Sample::OctetString => visitor.visit::<OctetString>(state),
+            Sample::BitString => visitor.visit::<BitString>(state),
+            Sample::Any => visitor.visit::<Any>(state),
+            Sample::ObjectIdentifier => visitor.visit::<ObjectIdentifier>(state),
             Sample::Renamed => visitor.visit::<crate::Renamed>(state),
             Sample::Inner => visitor.visit::<crate::Inner>(state),
             Sample::SimpleEnum => visitor.visit::<crate::SimpleEnum>(state),
@@ -93,6 +111,11 @@ impl Sample {
             Sample::Nested => visitor.visit::<crate::Nested>(state),
             Sample::Struct => visitor.visit::<crate::Struct>(state),
             Sample::WithNullOpt => visitor.visit::<crate::WithNullOpt>(state),
+            Sample::ConstrainedBitString => visitor.visit::<crate::ConstrainedBitString>(state),
+            Sample::ExtensibleBitString => visitor.visit::<crate::ExtensibleBitString>(state),
+            Sample::ExtensibleBitStringField => {
+                visitor.visit::<crate::ExtensibleBitStringField>(state)
+            }
             Sample::Nest => visitor.visit::<crate::Nest>(state),
         }
     }

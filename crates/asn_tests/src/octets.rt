@@ -1,7 +1,7 @@
 // Octet strings in both notations, and a SEQUENCE that has an extension addition.
-use asn_base::Tag;
+use asn_base::{OctetString, Tag};
 use asn_fault::DecodeError;
-use asn_traits::{FieldShapes, OctetString, Shape, is_readable};
+use asn_traits::{FieldShapes, Shape, is_readable};
 use avn_rules::avn;
 use jer_rules::jer;
 use std::process::Abort;
@@ -10,7 +10,7 @@ use std::test::Fail;
 /// Checks that the text was read as the octets 01 and FF.
 fn assert_read(rt: &impl Abort, read: Result<OctetString, DecodeError>) {
     let is_read = match read {
-        Ok(value) => value.octets.as_slice() == [0x01, 0xFF].as_slice(),
+        Ok(value) => value.as_bytes() == [0x01, 0xFF].as_slice(),
         Err(_) => false,
     };
     assert!(rt; is_read);
@@ -20,7 +20,7 @@ fn assert_read(rt: &impl Abort, read: Result<OctetString, DecodeError>) {
 fn octets_are_written_in_capitals_and_read_in_either_case(rt: HostRuntime) -> Result<(), Fail> {
     let alloc = rt.alloc();
     let octets = Vec::from_slice(alloc, [0x01, 0xFF].as_slice())?;
-    let value = OctetString { octets };
+    let value = OctetString::from_vec(octets);
     assert_eq!(rt; jer::encode(alloc, &value)?.as_str(), "\"01FF\"");
     assert_eq!(rt; avn::encode(alloc, &value)?.as_str(), "'01FF'H");
     assert_read(&rt, jer::decode(alloc, "\"01fF\""));

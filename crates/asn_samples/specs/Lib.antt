@@ -7,5 +7,9 @@ pub mod Nested
 pub mod Inner
 pub mod SimpleChoice
 pub mod ExtChoice
+pub mod ConstrainedBitString
+pub mod ExtensibleBitString
+pub mod MarkedBitString
+pub mod ExtensibleBitStringField
 pub mod Nest
 pub mod Samples

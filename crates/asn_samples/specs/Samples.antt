@@ -3,8 +3,11 @@ use denote.Enum.Bare.{sameb}
 use Rattle.std.specs.Prelude.{ℕ, List, [], ◌∷◌, codes, bytes_eq, if◌then◌else◌, Option, Some, None, option_map}
 use Rattle.asn_traits.specs.Shape.{Alphabet, Shape}
 use Rattle.asn_traits.specs.Terms.{signed, unsigned, utf8_string}
+use Rattle.asn_samples.specs.ConstrainedBitString.{constrained_bit_string_shape}
 use Rattle.asn_samples.specs.ExtChoice.{ext_choice_shape}
 use Rattle.asn_samples.specs.ExtEnum.{ext_enum_shape}
+use Rattle.asn_samples.specs.ExtensibleBitString.{extensible_bit_string_shape}
+use Rattle.asn_samples.specs.ExtensibleBitStringField.{extensible_bit_string_field_shape}
 use Rattle.asn_samples.specs.Inner.{inner_shape}
 use Rattle.asn_samples.specs.Nest.{nest_shape}
 use Rattle.asn_samples.specs.Nested.{nested_shape}
@@ -43,6 +46,10 @@ samples =
     ∷ (codes "SequenceOf<i64>", sample_type.SequenceOfI64, Shape.list_of (signed 64))
     ∷ (codes "SequenceOf<bool>", sample_type.SequenceOfBool, Shape.list_of Shape.boolean)
     ∷ (codes "SequenceOf<SimpleChoice>", sample_type.SequenceOfSimpleChoice, Shape.list_of simple_choice_shape)
+    ∷ (codes "OctetString", sample_type.OctetString, Shape.octets)
+    ∷ (codes "BitString", sample_type.BitString, Shape.bits None)
+    ∷ (codes "Any", sample_type.Any, Shape.any)
+    ∷ (codes "ObjectIdentifier", sample_type.ObjectIdentifier, Shape.oid)
     ∷ (codes "Renamed", sample_type.Renamed, renamed_shape)
     ∷ (codes "Inner", sample_type.Inner, inner_shape)
     ∷ (codes "SimpleEnum", sample_type.SimpleEnum, simple_enum_shape)
@@ -52,6 +59,9 @@ samples =
     ∷ (codes "Nested", sample_type.Nested, nested_shape)
     ∷ (codes "Struct", sample_type.Struct, struct_shape)
     ∷ (codes "WithNullOpt", sample_type.WithNullOpt, with_null_opt_shape)
+    ∷ (codes "ConstrainedBitString", sample_type.ConstrainedBitString, constrained_bit_string_shape)
+    ∷ (codes "ExtensibleBitString", sample_type.ExtensibleBitString, extensible_bit_string_shape)
+    ∷ (codes "ExtensibleBitStringField", sample_type.ExtensibleBitStringField, extensible_bit_string_field_shape)
     ∷ (codes "Nest", sample_type.Nest, nest_shape)
     ∷ []
 

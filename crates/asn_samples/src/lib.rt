@@ -4,9 +4,13 @@
 //! its file of `specs/`: its fields, items or alternatives, and the value of each Rust value.
 #![tactic(auto, using(asn_traits::proofs::Passing::field_steps))]
 
+mod constrained_bit_string;
 mod ext_choice;
 mod ext_enum;
+mod extensible_bit_string;
+mod extensible_bit_string_field;
 mod inner;
+mod marked_bit_string;
 mod nest;
 mod nested;
 mod renamed;
@@ -17,9 +21,13 @@ mod struct_;
 mod visitor;
 mod with_null_opt;
 
+pub use constrained_bit_string::ConstrainedBitString;
 pub use ext_choice::ExtChoice;
 pub use ext_enum::ExtEnum;
+pub use extensible_bit_string::ExtensibleBitString;
+pub use extensible_bit_string_field::ExtensibleBitStringField;
 pub use inner::Inner;
+pub use marked_bit_string::MarkedBitString;
 pub use nest::Nest;
 pub use nested::Nested;
 pub use renamed::Renamed;

@@ -6,7 +6,7 @@ ghost use Rattle.asn_traits.specs.ShapeView.{shape_view};
 ghost use Rattle.std.specs.Prelude.{◌≡◌, IfOk, is_some};
 
 use crate::SampleVisitor;
-use asn_base::{Integer, OutOfMemory};
+use asn_base::{Any, BitString, Integer, ObjectIdentifier, OctetString, OutOfMemory};
 use asn_strings::{
     BmpString, GeneralString, GraphicString, Ia5String, NumericString, PrintableString,
     UniversalString, VisibleString,
@@ -64,6 +64,14 @@ pub enum Sample {
     SequenceOfBool,
     /// Is SEQUENCE OF SimpleChoice, as `Vec<SimpleChoice>`.
     SequenceOfSimpleChoice,
+    /// Is OCTET STRING.
+    OctetString,
+    /// Is BIT STRING.
+    BitString,
+    /// Is a value of any type.
+    Any,
+    /// Is OBJECT IDENTIFIER.
+    ObjectIdentifier,
     /// Is a SEQUENCE whose fields have other names than in Rust.
     Renamed,
     /// Is a CHOICE of one alternative.
@@ -82,6 +90,12 @@ pub enum Sample {
     Struct,
     /// Is a SEQUENCE with a NULL that may be absent.
     WithNullOpt,
+    /// Is a BIT STRING of a fixed size.
+    ConstrainedBitString,
+    /// Is a BIT STRING whose size has an extension marker.
+    ExtensibleBitString,
+    /// Is a SEQUENCE of a BIT STRING under constraints with an extension marker.
+    ExtensibleBitStringField,
     /// Is a SEQUENCE OF itself.
     Nest,
 }
@@ -117,6 +131,10 @@ impl Sample {
             "SequenceOf<i64>" => Some(Sample::SequenceOfI64),
             "SequenceOf<bool>" => Some(Sample::SequenceOfBool),
             "SequenceOf<SimpleChoice>" => Some(Sample::SequenceOfSimpleChoice),
+            "OctetString" => Some(Sample::OctetString),
+            "BitString" => Some(Sample::BitString),
+            "Any" => Some(Sample::Any),
+            "ObjectIdentifier" => Some(Sample::ObjectIdentifier),
             "Renamed" => Some(Sample::Renamed),
             "Inner" => Some(Sample::Inner),
             "SimpleEnum" => Some(Sample::SimpleEnum),
@@ -126,6 +144,9 @@ impl Sample {
             "Nested" => Some(Sample::Nested),
             "Struct" => Some(Sample::Struct),
             "WithNullOpt" => Some(Sample::WithNullOpt),
+            "ConstrainedBitString" => Some(Sample::ConstrainedBitString),
+            "ExtensibleBitString" => Some(Sample::ExtensibleBitString),
+            "ExtensibleBitStringField" => Some(Sample::ExtensibleBitStringField),
             "Nest" => Some(Sample::Nest),
             _ => None,
         }
@@ -160,6 +181,10 @@ impl Sample {
             Sample::SequenceOfI64 => visitor.visit::<Vec<i64>>(state),
             Sample::SequenceOfBool => visitor.visit::<Vec<bool>>(state),
             Sample::SequenceOfSimpleChoice => visitor.visit::<Vec<crate::SimpleChoice>>(state),
+            Sample::OctetString => visitor.visit::<OctetString>(state),
+            Sample::BitString => visitor.visit::<BitString>(state),
+            Sample::Any => visitor.visit::<Any>(state),
+            Sample::ObjectIdentifier => visitor.visit::<ObjectIdentifier>(state),
             Sample::Renamed => visitor.visit::<crate::Renamed>(state),
             Sample::Inner => visitor.visit::<crate::Inner>(state),
             Sample::SimpleEnum => visitor.visit::<crate::SimpleEnum>(state),
@@ -169,6 +194,11 @@ impl Sample {
             Sample::Nested => visitor.visit::<crate::Nested>(state),
             Sample::Struct => visitor.visit::<crate::Struct>(state),
             Sample::WithNullOpt => visitor.visit::<crate::WithNullOpt>(state),
+            Sample::ConstrainedBitString => visitor.visit::<crate::ConstrainedBitString>(state),
+            Sample::ExtensibleBitString => visitor.visit::<crate::ExtensibleBitString>(state),
+            Sample::ExtensibleBitStringField => {
+                visitor.visit::<crate::ExtensibleBitStringField>(state)
+            }
             Sample::Nest => visitor.visit::<crate::Nest>(state),
         }
     }

@@ -6,6 +6,8 @@
 #[cfg(test)]
 mod avn_texts;
 #[cfg(test)]
+mod bits;
+#[cfg(test)]
 mod codecs;
 #[cfg(test)]
 mod errors;

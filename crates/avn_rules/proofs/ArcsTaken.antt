@@ -4,7 +4,7 @@ use Rattle.asn_fault.specs.Stop.{Why}
 use Rattle.avn_value.specs.View.{tree_of, list_trees}
 use Rattle.avn_value.specs.declared.value.AvnValue.{AvnValue}
 use Rattle.asn_traits.specs.Arcs.{arc_before, braced_arc, braced_arcs}
-use Rattle.avn_rules.specs.NoLeaves.{IsWrong, no_arc}
+use Rattle.avn_rules.specs.NoLeaves.{IsWrong}
 use Rattle.avn_rules.specs.declared.avn.leaves.NoLeaf.{NoLeaf}
 use Rattle.avn_rules.specs.declared.avn.leaves.NoLeaf.TheVariants as no
 

@@ -61,7 +61,7 @@ fn arcs_of(alloc: Global, items: Vec<AvnValue>) -> Result<Vec<u32>, NoLeaf>
                     return Err(NoLeaf::OutOfMemory);
                 };
             }
-            Err(error) => return Err(error),
+            Err(wrong) => return Err(wrong),
         }
     }
     Ok(arcs)

@@ -1,4 +1,4 @@
-use Rattle.avn_rules.proofs.ArcsTaken.{arc_more, arc_wrong, arcs_end}
+use Rattle.avn_rules.proofs.ArcsTaken.{arc_wrong}
 use Rattle.avn_rules.proofs.avn.identifiers.arcs_of.Goals as goal
 
 pub returns-in-Err : goal.returns-in-Err

@@ -6,3 +6,4 @@ pub mod Roots
 pub mod Taken
 pub mod Views
 pub mod ReadBack
+pub mod ArcsTaken

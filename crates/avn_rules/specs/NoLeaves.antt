@@ -1,20 +1,36 @@
 -- Why an AVN value is no value of a kind.
-use Rattle.std.specs.Prelude.{◌≡◌, string_bytes, codes}
+use Rattle.std.specs.Prelude.{◌≡◌, Result, Err, string_bytes, codes}
+use Rattle.asn_base.specs.declared.codec.Codec.TheVariants.{Avn}
 use Rattle.asn_fault.specs.Stop.{Why}
-use Rattle.asn_traits.specs.Leaf.{Blame, needed}
+use Rattle.avn_grammar.specs.Print.{print}
+use Rattle.asn_traits.specs.Arcs.{listed_text}
+use Rattle.asn_traits.specs.Leaf.{Blame, as_leaf, needed}
 use Rattle.asn_traits.specs.Notation.{Notation}
 use Rattle.asn_model.specs.declared.leaves.LeafKind.{LeafKind}
+use Rattle.avn_rules.specs.Pending.{tree_of}
 use Rattle.avn_rules.specs.declared.avn.leaves.NoLeaf.{NoLeaf}
 use Rattle.avn_rules.specs.declared.avn.leaves.NoLeaf.TheVariants as no
+use Rattle.avn_value.specs.View.{tree_of as avn_tree_of}
 use Rattle.avn_value.specs.declared.value.AvnValue.{AvnValue}
 
--- The blame of a value that is none of the kind.
-abbrev pub blame_of : LeafKind → NoLeaf → Blame
-blame_of k (no.Kind v) = Blame.mismatch (needed Notation.avn k)
-blame_of k (no.Number text) = Blame.because (Why.integer_parse_error (string_bytes text))
-blame_of k no.Utf8 = Blame.because (Why.custom (codes "Invalid UTF-8 in AVN string"))
+-- What is wrong with a value that stands in braces in the place of an arc.
+abbrev pub no_arc : AvnValue → Why
+no_arc item = Why.type_mismatch Avn (codes "OID arc (integer)") (print 0 (avn_tree_of item))
 
--- A value of another kind is kept.
-abbrev pub IsKept : AvnValue → NoLeaf → Type 0
-IsKept value (no.Kind v) = v ≡ value
-IsKept value e = Unit {0}
+-- This is wrong with the arcs, or memory ran out.
+abbrev pub IsWrong : {A : Type 0} → Result A Why → NoLeaf → Type 0
+IsWrong r (no.Item item) = r ≡ Err (no_arc item)
+IsWrong r (no.Arc text) = r ≡ Err (Why.invalid_oid (string_bytes text))
+IsWrong r (no.Arcs arcs) = r ≡ Err (Why.invalid_oid (listed_text arcs.items))
+IsWrong r no.OutOfMemory = Unit {0}
+IsWrong r e = ⊥
+
+-- The value is none of the kind for this reason, or memory ran out.
+abbrev pub IsNoLeaf : LeafKind → AvnValue → NoLeaf → Type 0
+IsNoLeaf k value (no.Kind v) = (v ≡ value) × (as_leaf Notation.avn k (tree_of value) ≡ Err (Blame.mismatch (needed Notation.avn k)))
+IsNoLeaf k value (no.Number text) = as_leaf Notation.avn k (tree_of value) ≡ Err (Blame.because (Why.integer_parse_error (string_bytes text)))
+IsNoLeaf k value no.Utf8 = as_leaf Notation.avn k (tree_of value) ≡ Err (Blame.because (Why.custom (codes "Invalid UTF-8 in AVN string")))
+IsNoLeaf k value (no.Item item) = as_leaf Notation.avn k (tree_of value) ≡ Err (Blame.because (no_arc item))
+IsNoLeaf k value (no.Arc text) = as_leaf Notation.avn k (tree_of value) ≡ Err (Blame.because (Why.invalid_oid (string_bytes text)))
+IsNoLeaf k value (no.Arcs arcs) = as_leaf Notation.avn k (tree_of value) ≡ Err (Blame.because (Why.invalid_oid (listed_text arcs.items)))
+IsNoLeaf k value no.OutOfMemory = Unit {0}

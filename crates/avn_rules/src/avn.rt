@@ -13,10 +13,12 @@ ghost use Rattle.avn_grammar.specs.Tree.{Tree as AvnTree};
 ghost use Rattle.avn_rules.specs.Text.{IsAvn, ReadsBack, RefusesText};
 ghost use Rattle.std.specs.Prelude.{◌≡◌, Some, IfOk, IfErr, OnOk, string_bytes};
 
+mod bits;
 mod build;
 pub mod de;
 pub mod enc;
 mod faults;
+mod identifiers;
 mod leaves;
 mod numbers;
 mod parts;

@@ -9,7 +9,9 @@ ghost use Rattle.asn_traits.specs.Tree.{Tree, head_slot};
 ghost use Rattle.avn_grammar.specs.Tree.{Tree as AvnTree};
 ghost use Rattle.std.specs.Prelude.{◌≡◌, ◌∷◌, [], Some, IfOk, IfErr, MatchResult, option_map};
 
-use super::faults::{end_of_input, mismatch, no_item, no_number, no_utf8};
+use super::faults::{
+    end_of_input, mismatch, no_arc, no_item, no_number, no_oid, no_utf8, other_arcs,
+};
 use super::leaves::{NoLeaf, leaf_of_avn};
 use super::parts::{into_choice, into_fields, into_items, slots_of};
 use asn_base::Codec;
@@ -100,11 +102,15 @@ impl asn_traits::Decoder for Decoder {
 
     #[inline(always)]
     fn take_leaf(&mut self, kind: LeafKind) -> Result<OwnedLeaf, DecodeError> {
-        match leaf_of_avn(self.take()?, kind) {
+        match leaf_of_avn(self.alloc, self.take()?, kind) {
             Ok(leaf) => Ok(leaf),
             Err(NoLeaf::Kind(other)) => Err(mismatch(self.alloc, kind.needed(Codec::Avn), &other)),
             Err(NoLeaf::Number(text)) => Err(no_number(text)),
             Err(NoLeaf::Utf8) => Err(no_utf8(self.alloc)),
+            Err(NoLeaf::Item(item)) => Err(no_arc(self.alloc, &item)),
+            Err(NoLeaf::Arc(text)) => Err(no_oid(text)),
+            Err(NoLeaf::Arcs(arcs)) => Err(other_arcs(self.alloc, arcs)),
+            Err(NoLeaf::OutOfMemory) => Err(DecodeError::out_of_memory(Codec::Avn)),
         }
     }
 

@@ -6,14 +6,17 @@ ghost use Rattle.asn_traits.specs.Answer.{TellsBlame};
 ghost use Rattle.asn_traits.specs.Leaf.{Blame};
 ghost use Rattle.asn_traits.specs.Notation.{Notation};
 ghost use Rattle.asn_traits.specs.TextTypes.{TellsUnwritten};
+ghost use Rattle.asn_traits.specs.Arcs.{listed_text};
+ghost use Rattle.avn_rules.specs.NoLeaves.{no_arc};
 ghost use Rattle.avn_rules.specs.Pending.{tree_of};
-ghost use Rattle.std.specs.Prelude.{◌≡◌, ◌⊎◌, codes, string_bytes};
+ghost use Rattle.std.specs.Prelude.{◌≡◌, ◌⊎◌, IfOk, codes, string_bytes};
 
-use asn_base::Codec;
+use asn_base::{Codec, OutOfMemory};
 use asn_fault::{
     AvnDecodeErrorKind, AvnEncodeErrorKind, CodecDecodeError, CodecEncodeError, DecodeError,
     DecodeErrorKind, EncodeError, EncodeErrorKind,
 };
+use asn_model::joined_arcs;
 use avn_value::AvnValue;
 use std::alloc::Global;
 
@@ -80,6 +83,46 @@ pub fn no_unicode(alloc: Global) -> EncodeError
         },
         Codec::Avn,
     )
+}
+
+/// The value in the place of an arc is no integer. Memory may run out.
+pub fn no_arc(alloc: Global, item: &AvnValue) -> DecodeError
+    ensures { (error_stop result ≡ at_root (no_arc item.now) Avn)
+        ⊎ (error_stop result ≡ at_root Why.out_of_memory Avn) }
+{
+    match format!(in alloc; "{item}") {
+        Ok(found) => avn_error(AvnDecodeErrorKind::AvnTypeMismatch {
+            needed: "OID arc (integer)",
+            found,
+        }),
+        Err(_) => DecodeError::out_of_memory(Codec::Avn),
+    }
+}
+
+/// The integer is no arc.
+pub fn no_oid(text: String) -> DecodeError
+    ensures { error_stop result ≡ at_root (Why.invalid_oid (string_bytes text)) Avn }
+{
+    avn_error(AvnDecodeErrorKind::InvalidOid { value: text })
+}
+
+/// The arcs are those of no object identifier. Memory may run out.
+pub fn other_arcs(alloc: Global, arcs: Vec<u32>) -> DecodeError
+    ensures { (error_stop result ≡ at_root (Why.invalid_oid (listed_text arcs.items)) Avn)
+        ⊎ (error_stop result ≡ at_root Why.out_of_memory Avn) }
+{
+    match list_of_arcs(alloc, arcs.as_slice()) {
+        Ok(value) => avn_error(AvnDecodeErrorKind::InvalidOid { value }),
+        Err(_) => DecodeError::out_of_memory(Codec::Avn),
+    }
+}
+
+// The arcs in brackets. Its one error is want of memory.
+fn list_of_arcs(alloc: Global, arcs: &[u32]) -> Result<String, OutOfMemory>
+    ensures { IfOk result (λ text. string_bytes text ≡ listed_text arcs.now) }
+{
+    let joined = joined_arcs(alloc, arcs, ", ")?;
+    Ok(format!(in alloc; "[{joined}]")?)
 }
 
 // The refusal of this kind.

@@ -1,17 +1,20 @@
 // Values without parts as AVN values.
 ghost use Rattle.asn_fault.specs.declared.encode.EncodeErrorKind.TheVariants.{OutOfMemory};
 ghost use Rattle.asn_traits.specs.Canonical.{avn_tree};
-ghost use Rattle.asn_traits.specs.Leaf.{as_leaf, leaf_value};
+ghost use Rattle.asn_model.specs.declared.leaves.LeafKind.TheVariants.{Any};
+ghost use Rattle.asn_traits.specs.Leaf.{leaf_value};
 ghost use Rattle.asn_traits.specs.Notation.{Notation};
 ghost use Rattle.asn_traits.specs.Opening.{IsTaken};
 ghost use Rattle.asn_traits.specs.Writable.{Writable};
-ghost use Rattle.avn_rules.specs.NoLeaves.{blame_of, IsKept};
+ghost use Rattle.avn_rules.specs.NoLeaves.{IsNoLeaf};
 ghost use Rattle.avn_rules.specs.Pending.{tree_of};
 ghost use Rattle.avn_value.specs.View.{tree_of as avn_tree_of};
-ghost use Rattle.std.specs.Prelude.{◌≡◌, ◌∷◌, true, false, Err, IfOk, IfErr, OnOk, MatchOption, MatchResult, string_bytes};
+ghost use Rattle.std.specs.Prelude.{◌≡◌, true, false, IfOk, IfErr, OnOk, MatchOption, MatchResult, string_bytes};
 ghost use Rattle.std.specs.Str.{is_utf8};
 
+use super::bits::bits_of_avn;
 use super::build::integer_of;
+use super::identifiers::identifier_of_avn;
 use super::numbers::whole_number;
 use asn_base::Codec;
 use asn_fault::EncodeError;
@@ -39,6 +42,17 @@ pub fn avn_of_leaf(alloc: Global, leaf: Leaf<'_>) -> Result<AvnValue, EncodeErro
             Ok(octets) => Ok(AvnValue::OctetString(octets)),
             Err(_) => Err(EncodeError::out_of_memory(Codec::Avn)),
         },
+        Leaf::Arcs(arcs) => match Vec::from_slice(alloc, arcs) {
+            Ok(arcs) => Ok(AvnValue::Oid(arcs)),
+            Err(_) => Err(EncodeError::out_of_memory(Codec::Avn)),
+        },
+        Leaf::Bits(bits, _) => match Vec::from_slice(alloc, bits.octets()) {
+            Ok(bytes) => Ok(AvnValue::BitString {
+                bytes,
+                bit_length: bits.len(),
+            }),
+            Err(_) => Err(EncodeError::out_of_memory(Codec::Avn)),
+        },
     }
 }
 
@@ -63,14 +77,21 @@ pub enum NoLeaf {
     Number(String),
     /// Its octets are no UTF-8.
     Utf8,
+    /// This value in its braces is no integer.
+    Item(AvnValue),
+    /// This integer in its braces is no arc.
+    Arc(String),
+    /// Its arcs are those of no object identifier.
+    Arcs(Vec<u32>),
+    /// Memory ran out.
+    OutOfMemory,
 }
 
 /// The value without parts that an AVN value is, or why it is none of this kind.
 #[inline(always)]
-pub fn leaf_of_avn(value: AvnValue, kind: LeafKind) -> Result<OwnedLeaf, NoLeaf>
+pub fn leaf_of_avn(alloc: Global, value: AvnValue, kind: LeafKind) -> Result<OwnedLeaf, NoLeaf>
     ensures { MatchResult result (IsTaken Notation.avn kind (tree_of value))
-        (λ e. IsKept value e × (as_leaf Notation.avn kind (tree_of value)
-        ≡ Err (blame_of kind e))) }
+        (IsNoLeaf kind value) }
 {
     match kind {
         LeafKind::Null => match value {
@@ -103,6 +124,23 @@ pub fn leaf_of_avn(value: AvnValue, kind: LeafKind) -> Result<OwnedLeaf, NoLeaf>
         LeafKind::Octets => match value {
             AvnValue::OctetString(octets) => Ok(OwnedLeaf::Octets(octets)),
             other => Err(NoLeaf::Kind(other)),
+        },
+        LeafKind::Any => any_of_avn(alloc, value),
+        LeafKind::Oid => identifier_of_avn(alloc, value),
+        LeafKind::Bits(size) => bits_of_avn(value, size),
+    }
+}
+
+/// Returns the octets of a value of any type: those of an octet string, and of any other value
+/// those of its printed text. Its one error is want of memory.
+fn any_of_avn(alloc: Global, value: AvnValue) -> Result<OwnedLeaf, NoLeaf>
+    ensures { MatchResult result (IsTaken Notation.avn Any (tree_of value)) (IsNoLeaf Any value) }
+{
+    match value {
+        AvnValue::OctetString(octets) => Ok(OwnedLeaf::Any(octets)),
+        other => match format!(in alloc; "{other}") {
+            Ok(text) => Ok(OwnedLeaf::Any(text.into_bytes())),
+            Err(_) => Err(NoLeaf::OutOfMemory),
         },
     }
 }

@@ -3,10 +3,10 @@ ghost use Rattle.asn_base.specs.declared.codec.Codec.TheVariants.{Avn};
 ghost use Rattle.asn_fault.specs.Stop.{Why, error_stop, at_root, codec_why};
 ghost use Rattle.asn_fault.specs.Unwritten.{WhyUnwritten};
 ghost use Rattle.asn_traits.specs.Answer.{TellsBlame};
-ghost use Rattle.asn_traits.specs.Arcs.{listed_text};
 ghost use Rattle.asn_traits.specs.Leaf.{Blame};
 ghost use Rattle.asn_traits.specs.Notation.{Notation};
 ghost use Rattle.asn_traits.specs.TextTypes.{TellsUnwritten};
+ghost use Rattle.asn_traits.specs.Arcs.{listed_text};
 ghost use Rattle.avn_rules.specs.NoLeaves.{no_arc};
 ghost use Rattle.avn_rules.specs.Pending.{tree_of};
 ghost use Rattle.std.specs.Prelude.{◌≡◌, ◌⊎◌, IfOk, codes, string_bytes};
@@ -69,6 +69,22 @@ pub fn no_utf8(alloc: Global) -> DecodeError
     }
 }
 
+/// Returns the refusal to write a text that isn't Unicode. Memory may run out.
+pub fn no_unicode(alloc: Global) -> EncodeError
+    ensures { TellsUnwritten Notation.avn (WhyUnwritten.avn_encoder (codes "Invalid UTF-8"))
+        result }
+{
+    let Ok(msg) = String::from_str(alloc, "Invalid UTF-8") else {
+        return EncodeError::out_of_memory(Codec::Avn);
+    };
+    EncodeError::from_kind(
+        EncodeErrorKind::CodecSpecific {
+            inner: CodecEncodeError::Avn(AvnEncodeErrorKind::AvnEncoder { msg }),
+        },
+        Codec::Avn,
+    )
+}
+
 /// The value in the place of an arc is no integer. Memory may run out.
 pub fn no_arc(alloc: Global, item: &AvnValue) -> DecodeError
     ensures { (error_stop result ≡ at_root (no_arc item.now) Avn)
@@ -107,22 +123,6 @@ fn list_of_arcs(alloc: Global, arcs: &[u32]) -> Result<String, OutOfMemory>
 {
     let joined = joined_arcs(alloc, arcs, ", ")?;
     Ok(format!(in alloc; "[{joined}]")?)
-}
-
-/// Returns the refusal to write a text that isn't Unicode. Memory may run out.
-pub fn no_unicode(alloc: Global) -> EncodeError
-    ensures { TellsUnwritten Notation.avn (WhyUnwritten.avn_encoder (codes "Invalid UTF-8"))
-        result }
-{
-    let Ok(msg) = String::from_str(alloc, "Invalid UTF-8") else {
-        return EncodeError::out_of_memory(Codec::Avn);
-    };
-    EncodeError::from_kind(
-        EncodeErrorKind::CodecSpecific {
-            inner: CodecEncodeError::Avn(AvnEncodeErrorKind::AvnEncoder { msg }),
-        },
-        Codec::Avn,
-    )
 }
 
 // The refusal of this kind.

@@ -21,3 +21,5 @@ mod program;
 mod samples;
 #[cfg(test)]
 mod slots;
+#[cfg(test)]
+mod texts;

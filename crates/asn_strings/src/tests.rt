@@ -2,7 +2,7 @@
 //! of X.680, section 41.
 use crate::{
     BmpString, GeneralString, GraphicString, Ia5String, NumericString, PrintableString,
-    StringFault, TeletexString, UniversalString, VisibleString,
+    StringFault, TeletexString, UnitFault, UniversalString, VisibleString,
 };
 use std::alloc::{AllocError, Global};
 use std::test::Fail;
@@ -98,6 +98,11 @@ fn fault_texts(rt: HostRuntime) -> Result<(), Fail> {
     let text = format!(in rt.alloc(); "{fault}")?;
     assert_eq!(rt; text.as_str(), "character outside the alphabet at place 16");
     let text = format!(in rt.alloc(); "{}", StringFault::OutOfMemory)?;
+    assert_eq!(rt; text.as_str(), "Out of memory");
+    let fault = UnitFault::Surrogate { place: 16 };
+    let text = format!(in rt.alloc(); "{fault}")?;
+    assert_eq!(rt; text.as_str(), "surrogate at place 16");
+    let text = format!(in rt.alloc(); "{}", UnitFault::OutOfMemory)?;
     assert_eq!(rt; text.as_str(), "Out of memory");
     Ok(())
 }

@@ -25,3 +25,5 @@ mod program;
 mod samples;
 #[cfg(test)]
 mod slots;
+#[cfg(test)]
+mod texts;

@@ -1,4 +1,3 @@
-pub mod Joined
 pub mod Stop
 pub mod Texts
 pub mod Unwritten

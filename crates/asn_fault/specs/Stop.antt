@@ -1,18 +1,18 @@
 -- What an error of reading says: the fields that lead to the place, each with the codec of its level, and what is wrong there.
-use Rattle.std.specs.Prelude.{◌≡◌, ℕ, List, [], ◌∷◌, string_bytes, Bool, true, false, if◌then◌else◌}
+use Rattle.std.specs.Prelude.{ℕ, List, [], ◌∷◌, string_bytes, Bool, true, false, if◌then◌else◌}
 use Rattle.asn_base.specs.declared.codec.Codec.{Codec}
 use Rattle.asn_base.specs.declared.codec.Codec.TheVariants as codec
 use Rattle.asn_base.specs.declared.tag.Tag.{Tag}
-use Rattle.asn_fault.specs.declared.codec_specific.CodecDecodeError.{CodecDecodeError}
-use Rattle.asn_fault.specs.declared.codec_specific.CodecDecodeError.TheVariants.{Ber, Cer, Der, Uper, Aper, Jer, Oer, Coer, Xer, Avn}
+use Rattle.asn_fault.specs.declared.decode.CodecDecodeError.{CodecDecodeError}
+use Rattle.asn_fault.specs.declared.decode.CodecDecodeError.TheVariants.{Ber, Jer, Avn}
 use Rattle.asn_fault.specs.declared.ber.BerDecodeErrorKind.TheVariants.{InvalidDate}
 use Rattle.asn_fault.specs.declared.jer.JerDecodeErrorKind.TheVariants.{EndOfInput, TypeMismatch, InvalidJerOctetString, InvalidOIDString, InvalidEnumDiscriminant}
 use Rattle.asn_fault.specs.declared.avn.AvnDecodeErrorKind.TheVariants.{AvnEndOfInput, AvnTypeMismatch, InvalidOid, AvnInvalidEnumDiscriminant, UnexpectedToken, IntegerParseError}
 use Rattle.asn_fault.specs.declared.decode.DecodeErrorKind.{DecodeErrorKind}
-use Rattle.asn_fault.specs.declared.decode.DecodeErrorKind.TheVariants.{CodecSpecific, Custom, FieldError', ChoiceIndexExceedsPlatformWidth', IntegerOverflow, MissingField, RealNotSupported, Parser, StringConversionFailed, NoValidChoice, ExceedsMaxParseDepth, OutOfMemory}
+use Rattle.asn_fault.specs.declared.decode.DecodeErrorKind.TheVariants.{CodecSpecific, Custom, FieldError', IntegerOverflow, MissingField, RealNotSupported, Parser, StringConversionFailed, NoValidChoice, ExceedsMaxParseDepth, OutOfMemory}
 use Rattle.asn_fault.specs.declared.decode.DecodeError.{DecodeError}
 
--- What is wrong at the place itself: a kind of refusal other than `FieldError`. Those of the text notations have every text as its bytes, and the codec where JER and AVN share the kind.
+-- What is wrong at the place itself, with every text as its bytes: a kind of refusal other than `FieldError`, where JER and AVN share a kind the codec that has it.
 pub data Why : Type 0 where
   parser : List ℕ → Why
   real_not_supported : Why
@@ -32,8 +32,6 @@ pub data Why : Type 0 where
   integer_parse_error : List ℕ → Why
   custom : List ℕ → Why
   out_of_memory : Why
-  -- A kind that no text notation has, as it is.
-  other : DecodeErrorKind → Why
 
 -- A field on the way, and the codec of its level.
 pub record Level : Type 0 where
@@ -81,7 +79,6 @@ codec_why (Avn (InvalidOid value)) = Why.invalid_oid (string_bytes value)
 codec_why (Avn (AvnInvalidEnumDiscriminant text)) = Why.invalid_enum_discriminant codec.Avn (string_bytes text)
 codec_why (Avn (UnexpectedToken found)) = Why.unexpected_token (string_bytes found)
 codec_why (Avn (IntegerParseError msg)) = Why.integer_parse_error (string_bytes msg)
-codec_why inner = Why.other (CodecSpecific inner)
 
 -- The refusal of this kind by this codec.
 abbrev pub kind_stop : DecodeErrorKind → Codec → Stop
@@ -96,7 +93,6 @@ kind_stop (StringConversionFailed tag msg) c = at_root (Why.string_conversion_fa
 kind_stop (NoValidChoice name) c = at_root (Why.no_valid_choice name.now) c
 kind_stop ExceedsMaxParseDepth c = at_root Why.exceeds_max_parse_depth c
 kind_stop OutOfMemory c = at_root Why.out_of_memory c
-kind_stop kind c = at_root (Why.other kind) c
 
 -- What an error of reading says.
 abbrev pub error_stop : DecodeError → Stop
@@ -110,21 +106,9 @@ root_kind kind = kind
 -- The set of encoding rules that has the kind.
 abbrev pub decode_codec_of : CodecDecodeError → Codec
 decode_codec_of (Ber kind) = codec.Ber
-decode_codec_of (Cer kind) = codec.Cer
-decode_codec_of (Der kind) = codec.Der
-decode_codec_of (Uper kind) = codec.Uper
-decode_codec_of (Aper kind) = codec.Aper
 decode_codec_of (Jer kind) = codec.Jer
-decode_codec_of (Oer kind) = codec.Oer
-decode_codec_of (Coer kind) = codec.Coer
-decode_codec_of (Xer kind) = codec.Xer
 decode_codec_of (Avn kind) = codec.Avn
 
--- The error of the set of encoding rules that has the kind.
-abbrev pub codec_error : CodecDecodeError → DecodeError
-codec_error inner = record { kind = CodecSpecific inner; codec = decode_codec_of inner }
-
--- The kind is that the index of an alternative, of so many octets, is too wide, for the reason that the error states.
-abbrev pub ExceedsWidth : ℕ → DecodeError → DecodeErrorKind → Type 0
-ExceedsWidth needed present (ChoiceIndexExceedsPlatformWidth' octets p kind codec) = (octets ≡ needed) × (kind ≡ present.kind) × (codec ≡ present.codec)
-ExceedsWidth needed present kind = ⊥
+-- The refusal by the set of encoding rules that has the kind.
+abbrev pub codec_stop : CodecDecodeError → Stop
+codec_stop inner = at_root (codec_why inner) (decode_codec_of inner)

@@ -4,8 +4,8 @@ use Rattle.asn_base.specs.declared.codec.Codec.{Codec}
 use Rattle.asn_base.specs.declared.codec.Codec.TheVariants as codec
 use Rattle.asn_base.specs.declared.constraint.Bounded.{Bounded}
 use Rattle.asn_base.specs.declared.whole_number.WholeNumber.{WholeNumber}
-use Rattle.asn_fault.specs.declared.codec_specific.CodecEncodeError.{CodecEncodeError}
-use Rattle.asn_fault.specs.declared.codec_specific.CodecEncodeError.TheVariants.{Ber, Cer, Der, Uper, Aper, Jer, Coer, Xer, Avn}
+use Rattle.asn_fault.specs.declared.encode.CodecEncodeError.{CodecEncodeError}
+use Rattle.asn_fault.specs.declared.encode.CodecEncodeError.TheVariants.{Jer, Avn}
 use Rattle.asn_fault.specs.declared.jer.JerEncodeErrorKind.TheVariants.{NoRootValueFound, ExceedsSupportedIntSize, InvalidCharacter}
 use Rattle.asn_fault.specs.declared.avn.AvnEncodeErrorKind.TheVariants.{AvnNoRootValueFound, AvnEncoder}
 use Rattle.asn_fault.specs.declared.encode.EncodeError.{EncodeError}
@@ -23,8 +23,6 @@ pub data WhyUnwritten : Type 0 where
   no_root_value : Codec → WhyUnwritten
   real_not_supported : WhyUnwritten
   out_of_memory : WhyUnwritten
-  -- A kind that no text notation has, as it is.
-  other : EncodeErrorKind → WhyUnwritten
 
 -- What is wrong, of a kind that one set of encoding rules has.
 abbrev pub codec_encode_why : CodecEncodeError → WhyUnwritten
@@ -33,7 +31,6 @@ codec_encode_why (Jer (ExceedsSupportedIntSize value)) = WhyUnwritten.exceeds_su
 codec_encode_why (Jer (InvalidCharacter error)) = WhyUnwritten.invalid_character error.valid_up_to
 codec_encode_why (Avn AvnNoRootValueFound) = WhyUnwritten.no_root_value codec.Avn
 codec_encode_why (Avn (AvnEncoder msg)) = WhyUnwritten.avn_encoder (string_bytes msg)
-codec_encode_why inner = WhyUnwritten.other (CodecSpecific inner)
 
 -- What keeps a value from being written, by the kind of the error.
 abbrev pub encode_why : EncodeErrorKind → WhyUnwritten
@@ -43,18 +40,10 @@ encode_why (SizeConstraintNotSatisfied size expected) = WhyUnwritten.size_constr
 encode_why VariantNotInChoice = WhyUnwritten.variant_not_in_choice
 encode_why RealNotSuppored = WhyUnwritten.real_not_supported
 encode_why OutOfMemory = WhyUnwritten.out_of_memory
-encode_why kind = WhyUnwritten.other kind
 
 -- The set of encoding rules that has the kind.
 abbrev pub encode_codec_of : CodecEncodeError → Codec
-encode_codec_of (Ber kind) = codec.Ber
-encode_codec_of (Cer kind) = codec.Cer
-encode_codec_of (Der kind) = codec.Der
-encode_codec_of (Uper kind) = codec.Uper
-encode_codec_of (Aper kind) = codec.Aper
 encode_codec_of (Jer kind) = codec.Jer
-encode_codec_of (Coer kind) = codec.Coer
-encode_codec_of (Xer kind) = codec.Xer
 encode_codec_of (Avn kind) = codec.Avn
 
 -- The refusal by the set of encoding rules that has the kind.

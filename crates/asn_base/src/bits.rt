@@ -11,7 +11,8 @@ ghost use Rattle.std.proofs.lemmas.Slice.Eq.{slice_eq-Decides};
 ghost use Rattle.std.specs.Int.{div_ceil};
 ghost use Rattle.std.specs.Option.{SomeIff};
 ghost use Rattle.std.specs.Prelude.{◌≡◌, ◌≢◌, ◌↔◌, ◌+◌, ◌-◌, ◌/◌, ◌%◌, ◌<◌, ◌^◌, [], ◌∷◌, ◌++◌};
-ghost use Rattle.std.specs.Prelude.{IsTrue, MatchOption, OnErr, OnOk, length, refl, slice_get, vec_len};
+ghost use Rattle.std.specs.Prelude.{IsTrue, MatchOption, OnErr, OnOk, length, refl, slice_get};
+ghost use Rattle.std.specs.Prelude.{vec_len};
 
 use crate::OutOfMemory;
 use std::alloc::{AllocError, Global};

@@ -1,14 +1,18 @@
 //! Defines constraints on values and on sizes (X.680, sections 49 to 51). Neither notation checks
 //! them; a fixed size of a BIT STRING alone changes what JER writes.
-ghost use Rattle.asn_base.specs.Bounds.{HasCount, IsCount, intersection, is_admitted, is_every, nat_cmp-int_cmp};
-ghost use Rattle.asn_base.specs.Bounds.{is_from, is_single, is_up_to, larger, range_if_any, smaller, start_of};
+ghost use Rattle.asn_base.specs.Bounds.{HasCount, IsCount, intersection, is_admitted, is_every};
+ghost use Rattle.asn_base.specs.Bounds.{nat_cmp-int_cmp};
+ghost use Rattle.asn_base.specs.Bounds.{is_from, is_single, is_up_to, larger, range_if_any};
+ghost use Rattle.asn_base.specs.Bounds.{smaller, start_of};
 ghost use Rattle.asn_base.specs.Constraints.{any_has_marker, first_size_constraint, has_marker};
 ghost use Rattle.asn_base.specs.Texts.{bounded_text};
 ghost use Rattle.std.specs.Fmt.{signed_decimal};
 ghost use Rattle.std.specs.Option.{option_copied};
 ghost use Rattle.std.specs.Ordering.{int_cmp, int_eq};
-ghost use Rattle.std.specs.Prelude.{◌≡◌, ◌&&◌, ◌-◌, ◌^◌, ◌<ℤ◌, ◌≤ℤ◌, ℕ, ℤ, List, pos, decimal, refl};
-ghost use Rattle.std.specs.Prelude.{IfNone, IfSome, MatchResult, None, Some, false, if◌then◌else◌, int_lt, not, true};
+ghost use Rattle.std.specs.Prelude.{◌≡◌, ◌&&◌, ◌-◌, ◌^◌, ◌<ℤ◌, ◌≤ℤ◌, ℕ, ℤ, List, pos, decimal};
+ghost use Rattle.std.specs.Prelude.{refl};
+ghost use Rattle.std.specs.Prelude.{IfNone, IfSome, MatchResult, None, Some, false, if◌then◌else◌};
+ghost use Rattle.std.specs.Prelude.{int_lt, not, true};
 
 use std::fmt;
 

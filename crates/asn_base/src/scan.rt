@@ -1,5 +1,6 @@
 //! Defines a text that is read a character at a time, by calls that are counted.
-ghost use Rattle.std.specs.Prelude.{◌≡◌, ◌+◌, ◌-◌, ◌<◌, ◌≤◌, ◌^◌, [], ◌∷◌, min, MatchOption, length, take, OnOk, OnErr, IfOk, string_bytes};
+ghost use Rattle.std.specs.Prelude.{◌≡◌, ◌+◌, ◌-◌, ◌<◌, ◌≤◌, ◌^◌, [], ◌∷◌, min, MatchOption};
+ghost use Rattle.std.specs.Prelude.{length, take, OnOk, OnErr, IfOk, string_bytes};
 ghost use Rattle.std.specs.Str.{IsCharBoundary, encode_utf8_all};
 ghost use Rattle.std.specs.Char.{len_utf8};
 ghost use Rattle.asn_base.specs.Seen.{after};
@@ -8,8 +9,8 @@ use crate::memory::OutOfMemory;
 use std::alloc::Global;
 use std::marker::Model;
 
-/// Shows a text whose characters are reached only through two counted calls, so that its count bounds
-/// the work of a reader. A place is a byte offset on a character's edge.
+/// Shows a text whose characters are reached only through two counted calls, so that its count
+/// bounds the work of a reader. A place is a byte offset on a character's edge.
 #[derive(Drop)]
 pub struct Scan<'a> {
     text: &'a str,
@@ -35,8 +36,8 @@ impl<'a> Scan<'a> {
         Scan { text, count: 0 }
     }
 
-    /// Returns the character at the place, none at the end. The count rises by one, up to the greatest
-    /// `u128`.
+    /// Returns the character at the place, none at the end. The count rises by one, up to the
+    /// greatest `u128`.
     #[inline(always)]
     pub fn look(&mut self, place: usize) -> Option<char>
         requires { IsCharBoundary self.old.text place }
@@ -122,8 +123,8 @@ impl<'a> Scan<'a> {
     }
 }
 
-/// Returns the character at the place, none at the end. It stands apart, so that the common case of an
-/// ASCII character stays short.
+/// Returns the character at the place, none at the end. It stands apart, so that the common case of
+/// an ASCII character stays short.
 #[inline(never)]
 fn wide_at(text: &str, place: usize) -> Option<char>
     requires { IsCharBoundary text.now place }

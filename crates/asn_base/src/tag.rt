@@ -1,5 +1,5 @@
-//! Defines the tags of types (X.680, section 8). Neither notation writes a tag; they tell apart the
-//! alternatives of a CHOICE and order the fields of a SET.
+//! Defines the tags of types (X.680, section 8). Neither notation writes a tag; they distinguish
+//! the alternatives of a CHOICE and order the fields of a SET.
 ghost use Rattle.asn_base.specs.Texts.{class_name, tag_text};
 ghost use Rattle.std.specs.Prelude.{◌≡◌, Some};
 

@@ -14,8 +14,8 @@ pub enum TagTree {
 }
 
 impl TagTree {
-    /// Returns the least leaf tag, in the order of tags (X.680, section 8.6). A type is ordered by it.
-    /// There has to be one.
+    /// Returns the least leaf tag, in the order of tags (X.680, section 8.6). A type is ordered by
+    /// it. There has to be one.
     pub fn smallest_tag(&self) -> Tag
         requires { IsSome (smallest self.now) }
         ensures { smallest self.now ≡ Some result }

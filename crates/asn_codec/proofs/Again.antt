@@ -5,26 +5,26 @@ use Rattle.serde_json.specs.Data.{Data, depth}
 use Rattle.serde_json.specs.Read.{read, max_depth}
 use Rattle.std.proofs.Math.Nat.{le_trans}
 use Rattle.serde_json.proofs.Nesting.{depth-read}
-use Rattle.avn_grammar.specs.Depth.{Deep, deepest}
-use Rattle.avn_grammar.proofs.OneTree.{same_stands}
+use Rattle.avn_grammar.specs.Depth.{ExceedsDepth, deepest}
+use Rattle.avn_grammar.proofs.OneTree.{same_parses}
 use Rattle.avn_grammar.specs.declared.limits.TheConstants.{LEVEL_LIMIT}
 use Rattle.asn_base.specs.declared.codec.Codec.{Codec}
 use Rattle.asn_base.specs.declared.codec.Codec.TheVariants.{Avn}
 use Rattle.asn_traits.specs.Canonical.{jer_data, avn_tree, canonical_text}
 use Rattle.asn_traits.specs.Notation.{Notation, IsText, notation_of}
 use Rattle.asn_traits.specs.Readable.{is_readable}
-use Rattle.asn_traits.specs.Says.{Says}
+use Rattle.asn_traits.specs.DecodesTo.{DecodesTo}
 use Rattle.asn_traits.specs.Shape.{Shape}
 use Rattle.asn_traits.specs.Tree.{Tree}
 use Rattle.asn_traits.specs.Value.{Value, Fits}
 use Rattle.asn_traits.specs.Writable.{Writable}
 use Rattle.asn_traits.proofs.Meanings.{one}
-use Rattle.asn_traits.proofs.Nesting.{says-depth}
+use Rattle.asn_traits.proofs.Nesting.{decodes-depth}
 use Rattle.asn_traits.proofs.SameText.{same_text}
-use Rattle.asn_traits.proofs.Written.{says_written, jer_tree, jer_writes}
+use Rattle.asn_traits.proofs.Written.{decodes_written, jer_tree, jer_writes}
 use Rattle.asn_traits.proofs.WrittenAvn.{read_tree, avn_writes}
 use Rattle.jer_rules.specs.Text as jer
-use Rattle.asn_codec.specs.Texts.{HasTree, SaysValue, SaysAlone, ReadsBack, IsShallow}
+use Rattle.asn_codec.specs.Texts.{HasTree, TextDecodesTo, DecodesOnlyTo, ReadsBack, IsShallow}
 
 same_data : (text : List ℕ) (d e : Data) → jer.IsJer text d → jer.IsJer text e → d ≡ e
 same_data text d e h k = let x : ◌≡◌ {A = Option Data} (Some d) (Some e) = sym h.0 ∙ k.0 in cc x
@@ -32,37 +32,37 @@ same_data text d e h k = let x : ◌≡◌ {A = Option Data} (Some d) (Some e) =
 -- A text has at most one tree.
 one_tree : (n : Notation) (text : List ℕ) (t u : Tree) → HasTree n text t → HasTree n text u → t ≡ u
 one_tree n text t u (HasTree.json_tree {d = d} h) (HasTree.json_tree {d = e} k) = ap Tree.json (same_data text d e h k)
-one_tree n text t u (HasTree.avn_tree h) (HasTree.avn_tree k) = ap Tree.avn (same_stands h.1 k.1).0
+one_tree n text t u (HasTree.avn_tree h) (HasTree.avn_tree k) = ap Tree.avn (same_parses h.1 k.1).0
 
--- A text says at most one value.
-one_said : (n : Notation) (s : Shape) (text : List ℕ) (v w : Value) → IsText n → SaysValue n s text v → SaysValue n s text w → v ≡ w
-one_said n s text v w is h k = one is h.says (subst (λ t. Says n s (Some t) w) (one_tree n text k.tree h.tree k.has h.has) k.says)
+-- A text decodes to at most one value.
+one_said : (n : Notation) (s : Shape) (text : List ℕ) (v w : Value) → IsText n → TextDecodesTo n s text v → TextDecodesTo n s text w → v ≡ w
+one_said n s text v w is h k = one is h.says (subst (λ t. DecodesTo n s (Some t) w) (one_tree n text k.tree h.tree k.has h.has) k.says)
 
-alone : (n : Notation) (s : Shape) (text : List ℕ) (v : Value) → IsText n → SaysValue n s text v → SaysAlone n s text v
+alone : (n : Notation) (s : Shape) (text : List ℕ) (v : Value) → IsText n → TextDecodesTo n s text v → DecodesOnlyTo n s text v
 alone n s text v is h = record { says = h; alone = λ w k. one_said n s text w v is k h }
 
--- What is written for a value that a JSON text says nests no deeper than JSON is read.
-never_deep : (s : Shape) (text : List ℕ) (v : Value) → SaysValue Notation.jer s text v → depth (jer_data v) ≤ max_depth
+-- What is written for a value that a JSON text decodes to nests no deeper than JSON is read.
+never_deep : (s : Shape) (text : List ℕ) (v : Value) → TextDecodesTo Notation.jer s text v → depth (jer_data v) ≤ max_depth
 never_deep s text v h = within h.has h.says
   where
-    within : {t : Tree} → HasTree Notation.jer text t → Says Notation.jer s (Some t) v → depth (jer_data v) ≤ max_depth
-    within (HasTree.json_tree {d = d} is) says = le_trans (says-depth says) (depth-read text d is.0)
+    within : {t : Tree} → HasTree Notation.jer text t → DecodesTo Notation.jer s (Some t) v → depth (jer_data v) ≤ max_depth
+    within (HasTree.json_tree {d = d} is) says = le_trans (decodes-depth says) (depth-read text d is.0)
 
-json_again : (s : Shape) (v : Value) (text : List ℕ) → is_readable s ≡ true → Fits s v → Writable Notation.jer v → ReadsBack Notation.jer v text → depth (jer_data v) ≤ max_depth → SaysAlone Notation.jer s text v
+json_again : (s : Shape) (v : Value) (text : List ℕ) → is_readable s ≡ true → Fits s v → Writable Notation.jer v → ReadsBack Notation.jer v text → depth (jer_data v) ≤ max_depth → DecodesOnlyTo Notation.jer s text v
 json_again s v text read fit can back shallow =
-    alone Notation.jer s text v tt (record { tree = jer_tree v; has = HasTree.json_tree (back shallow); says = says_written Notation.jer jer_tree jer_writes read fit can })
+    alone Notation.jer s text v tt (record { tree = jer_tree v; has = HasTree.json_tree (back shallow); says = decodes_written Notation.jer jer_tree jer_writes read fit can })
 
--- The text of a value that can be written says that value alone, unless it nests too deep.
-pub again : (from to : Notation) (s : Shape) (v : Value) (input text : List ℕ) → is_readable s ≡ true → Fits s v → Writable to v → ReadsBack to v text → SaysValue from s input v → IsShallow from to v → SaysAlone to s text v
+-- The text of a value that can be written decodes to that value alone, unless it nests too deep.
+pub again : (from to : Notation) (s : Shape) (v : Value) (input text : List ℕ) → is_readable s ≡ true → Fits s v → Writable to v → ReadsBack to v text → TextDecodesTo from s input v → IsShallow from to v → DecodesOnlyTo to s text v
 again Notation.jer Notation.jer s v input text read fit can back says shallow = json_again s v text read fit can back (never_deep s input v says)
 again Notation.avn Notation.jer s v input text read fit can back says shallow = json_again s v text read fit can back shallow
 again Notation.other Notation.jer s v input text read fit can back says shallow = json_again s v text read fit can back shallow
 again from Notation.avn s v input text read fit can back says shallow =
-    alone Notation.avn s text v tt (record { tree = read_tree v; has = HasTree.avn_tree (back.again shallow); says = says_written Notation.avn read_tree avn_writes read fit can })
+    alone Notation.avn s text v tt (record { tree = read_tree v; has = HasTree.avn_tree (back.again shallow); says = decodes_written Notation.avn read_tree avn_writes read fit can })
 again from Notation.other s v input text read fit can back says shallow = absurd shallow
 
 -- The text of a value that is too deep in AVN is refused for it.
-pub deep_again : (to : Codec) (v : Value) (text : List ℕ) → to ≡ Avn → ReadsBack (notation_of to) v text → LEVEL_LIMIT < deepest 0 (avn_tree v) → Deep LEVEL_LIMIT 0 (chars text)
+pub deep_again : (to : Codec) (v : Value) (text : List ℕ) → to ≡ Avn → ReadsBack (notation_of to) v text → LEVEL_LIMIT < deepest 0 (avn_tree v) → ExceedsDepth LEVEL_LIMIT 0 (chars text)
 deep_again to v text is back deep = (subst (λ c. ReadsBack (notation_of c) v text) is back).deep deep
 
 -- A value has the text of another exactly if it is equal to it.

@@ -8,21 +8,21 @@ use Rattle.avn_grammar.specs.declared.limits.TheConstants.{LEVEL_LIMIT}
 use Rattle.avn_value.specs.Answer.{Explains}
 use Rattle.asn_base.specs.declared.codec.Codec.{Codec}
 use Rattle.asn_base.specs.declared.codec.Codec.TheVariants.{Jer, Avn}
-use Rattle.asn_fault.specs.Stop.{Stop, Why, at_root, error_stop, is_memory}
-use Rattle.asn_fault.specs.Unwritten.{WhyUnwritten, encode_why, is_unwritten_memory}
+use Rattle.asn_fault.specs.Failure.{Failure, Cause, at_root, failure_of, is_out_of_memory}
+use Rattle.asn_fault.specs.EncodeCause.{EncodeCause, encode_cause, is_encode_out_of_memory}
 use Rattle.asn_fault.specs.declared.decode.DecodeError.{DecodeError}
 use Rattle.asn_fault.specs.declared.encode.EncodeError.{EncodeError}
 use Rattle.asn_traits.specs.Answer as answer
 use Rattle.asn_traits.specs.Notation.{Notation, notation_of}
 use Rattle.asn_traits.specs.Root.{Reads}
-use Rattle.asn_traits.specs.Says.{Says}
+use Rattle.asn_traits.specs.DecodesTo.{DecodesTo}
 use Rattle.asn_traits.specs.Shape.{Shape}
 use Rattle.asn_traits.specs.Tree.{Tree}
 use Rattle.asn_traits.specs.Value.{Value}
-use Rattle.asn_traits.specs.Writing.{CannotWrite}
+use Rattle.asn_traits.specs.Writing.{FailsToEncode}
 use Rattle.jer_rules.specs.Text as jer
 use Rattle.avn_rules.specs.Text as avn
-use Rattle.asn_codec.specs.Texts.{HasTree, SaysValue, IsUnread, IsUnwritten, no_text}
+use Rattle.asn_codec.specs.Texts.{HasTree, TextDecodesTo, IsDecodeFailure, IsUnencodable, no_text}
 
 -- the codec of JER is Jer
 jer_codec : (c : Codec) → notation_of c ≡ Notation.jer → c ≡ Jer
@@ -37,25 +37,25 @@ avn_codec Jer h = let e : ◌≡◌ {A = Notation} Notation.jer Notation.avn = h
 avn_codec c h = let e : ◌≡◌ {A = Notation} Notation.other Notation.avn = h in cc e
 
 -- a JSON text that is not read is refused, unless memory ran out
-pub jer_unread : (s : Shape) (text : List ℕ) (stop : Stop) → jer.RefusesText s text stop → (is_memory stop ≡ true) ⊎ IsUnread Jer s text stop
-jer_unread s text stop (jer.RefusesText.no_tree (jer.NoTree.no_json e is)) = inr (subst (IsUnread Jer s text) (sym is) (IsUnread.no_json refl e))
-jer_unread s text stop (jer.RefusesText.no_tree (jer.NoTree.has_real d e f is)) = inr (subst (IsUnread Jer s text) (sym is) (IsUnread.has_real d refl e f))
-jer_unread s text stop (jer.RefusesText.no_tree (jer.NoTree.no_memory m)) = inl m
-jer_unread s text stop (jer.RefusesText.no_value d h (answer.Refuses.no_memory m)) = inl m
-jer_unread s text stop (jer.RefusesText.no_value d h (answer.Refuses.stopped p levels place)) = inr (IsUnread.no_value (Tree.json d) stop (HasTree.json_tree h) p levels place)
-jer_unread s text stop (jer.RefusesText.no_value d h (answer.Refuses.refuses_free o)) = cc o
+pub jer_unread : (s : Shape) (text : List ℕ) (failure : Failure) → jer.RefusesText s text failure → (is_out_of_memory failure ≡ true) ⊎ IsDecodeFailure Jer s text failure
+jer_unread s text failure (jer.RefusesText.no_tree (jer.NoTree.no_json e is)) = inr (subst (IsDecodeFailure Jer s text) (sym is) (IsDecodeFailure.no_json refl e))
+jer_unread s text failure (jer.RefusesText.no_tree (jer.NoTree.has_real d e f is)) = inr (subst (IsDecodeFailure Jer s text) (sym is) (IsDecodeFailure.has_real d refl e f))
+jer_unread s text failure (jer.RefusesText.no_tree (jer.NoTree.no_memory m)) = inl m
+jer_unread s text failure (jer.RefusesText.no_value d h (answer.Refuses.no_memory m)) = inl m
+jer_unread s text failure (jer.RefusesText.no_value d h (answer.Refuses.stopped p levels place)) = inr (IsDecodeFailure.no_value (Tree.json d) failure (HasTree.json_tree h) p levels place)
+jer_unread s text failure (jer.RefusesText.no_value d h (answer.Refuses.refuses_free o)) = cc o
 
-avn_no_tree : (s : Shape) (text : List ℕ) (stop : Stop) → Explains LEVEL_LIMIT (chars text) stop → (is_memory stop ≡ true) ⊎ IsUnread Avn s text stop
-avn_no_tree s text stop (Explains.unexpected_token found h) = inr (IsUnread.no_avn found refl h)
-avn_no_tree s text stop (Explains.exceeds_depth h) = inr (IsUnread.too_deep refl h)
-avn_no_tree s text stop Explains.out_of_memory = inl refl
+avn_no_tree : (s : Shape) (text : List ℕ) (failure : Failure) → Explains LEVEL_LIMIT (chars text) failure → (is_out_of_memory failure ≡ true) ⊎ IsDecodeFailure Avn s text failure
+avn_no_tree s text failure (Explains.unexpected_token found h) = inr (IsDecodeFailure.no_avn found refl h)
+avn_no_tree s text failure (Explains.exceeds_depth h) = inr (IsDecodeFailure.too_deep refl h)
+avn_no_tree s text failure Explains.out_of_memory = inl refl
 
 -- a text of the value notation that is not read is refused, unless memory ran out
-pub avn_unread : (s : Shape) (text : List ℕ) (stop : Stop) → avn.RefusesText s text stop → (is_memory stop ≡ true) ⊎ IsUnread Avn s text stop
-avn_unread s text stop (avn.RefusesText.no_tree h) = avn_no_tree s text stop h
-avn_unread s text stop (avn.RefusesText.no_value t h (answer.Refuses.no_memory m)) = inl m
-avn_unread s text stop (avn.RefusesText.no_value t h (answer.Refuses.stopped p levels place)) = inr (IsUnread.no_value (Tree.avn t) stop (HasTree.avn_tree h) p levels place)
-avn_unread s text stop (avn.RefusesText.no_value t h (answer.Refuses.refuses_free o)) = cc o
+pub avn_unread : (s : Shape) (text : List ℕ) (failure : Failure) → avn.RefusesText s text failure → (is_out_of_memory failure ≡ true) ⊎ IsDecodeFailure Avn s text failure
+avn_unread s text failure (avn.RefusesText.no_tree h) = avn_no_tree s text failure h
+avn_unread s text failure (avn.RefusesText.no_value t h (answer.Refuses.no_memory m)) = inl m
+avn_unread s text failure (avn.RefusesText.no_value t h (answer.Refuses.stopped p levels place)) = inr (IsDecodeFailure.no_value (Tree.avn t) failure (HasTree.avn_tree h) p levels place)
+avn_unread s text failure (avn.RefusesText.no_value t h (answer.Refuses.refuses_free o)) = cc o
 
 -- the tree of a JSON text is its JSON value
 json_of : {text : List ℕ} {t : Tree} → HasTree Notation.jer text t → (d : Data) × jer.IsJer text d × (t ≡ Tree.json d)
@@ -65,40 +65,40 @@ json_of (HasTree.json_tree {d = d} h) = (d, h, refl)
 avn_of : {text : List ℕ} {t : Tree} → HasTree Notation.avn text t → (u : AvnTree) × avn.IsAvn text u × (t ≡ Tree.avn u)
 avn_of (HasTree.avn_tree {t = u} h) = (u, h, refl)
 
--- a JSON text that says a value is read as that value, unless memory runs out
+-- a JSON text that decodes to a value is read as that value, unless memory runs out
 pub jer_complete : {A : Type 0} (s : Shape) (text : List ℕ) (value : A → Value) (r : Result A DecodeError)
-    → ((d : Data) (v : Value) → jer.IsJer text d → Says Notation.jer s (Some (Tree.json d)) v → Reads value v r)
-    → (v : Value) → SaysValue Notation.jer s text v → Reads value v r
+    → ((d : Data) (v : Value) → jer.IsJer text d → DecodesTo Notation.jer s (Some (Tree.json d)) v → Reads value v r)
+    → (v : Value) → TextDecodesTo Notation.jer s text v → Reads value v r
 jer_complete s text value r complete v h =
     let (d, is, same) = json_of h.has in
-    complete d v is (subst (λ t. Says Notation.jer s (Some t) v) same h.says)
+    complete d v is (subst (λ t. DecodesTo Notation.jer s (Some t) v) same h.says)
 
--- a text of the value notation that says a value is read as that value, unless memory runs out
+-- a text of the value notation that decodes to a value is read as that value, unless memory runs out
 pub avn_complete : {A : Type 0} (s : Shape) (text : List ℕ) (value : A → Value) (r : Result A DecodeError)
-    → ((t : AvnTree) (v : Value) → avn.IsAvn text t → Says Notation.avn s (Some (Tree.avn t)) v → Reads value v r)
-    → (v : Value) → SaysValue Notation.avn s text v → Reads value v r
+    → ((t : AvnTree) (v : Value) → avn.IsAvn text t → DecodesTo Notation.avn s (Some (Tree.avn t)) v → Reads value v r)
+    → (v : Value) → TextDecodesTo Notation.avn s text v → Reads value v r
 avn_complete s text value r complete v h =
     let (t, is, same) = avn_of h.has in
-    complete t v is (subst (λ u. Says Notation.avn s (Some u) v) same h.says)
+    complete t v is (subst (λ u. DecodesTo Notation.avn s (Some u) v) same h.says)
 
 -- no text has a tree under a codec that is no text notation
-pub no_tree : {s : Shape} {text : List ℕ} {v : Value} → SaysValue Notation.other s text v → ⊥
+pub no_tree : {s : Shape} {text : List ℕ} {v : Value} → TextDecodesTo Notation.other s text v → ⊥
 no_tree h = none_has h.has
   where
     none_has : {text : List ℕ} {t : Tree} → HasTree Notation.other text t → ⊥
     none_has k = elim k [ ]
 
 -- a value that JER does not write is refused, unless memory ran out
-pub jer_unwritten : (v : Value) (e : EncodeError) → CannotWrite Notation.jer v e → (is_unwritten_memory (encode_why e.kind) ≡ true) ⊎ (IsUnwritten Jer v (encode_why e.kind) × (e.codec ≡ Jer))
-jer_unwritten v e (CannotWrite.no_memory o) = inl (rw o refl)
-jer_unwritten v e (CannotWrite.blocked b c) = inr (IsUnwritten.blocked _ b, jer_codec e.codec c)
-jer_unwritten v e (CannotWrite.write_free o) = cc o
+pub jer_unwritten : (v : Value) (e : EncodeError) → FailsToEncode Notation.jer v e → (is_encode_out_of_memory (encode_cause e.kind) ≡ true) ⊎ (IsUnencodable Jer v (encode_cause e.kind) × (e.codec ≡ Jer))
+jer_unwritten v e (FailsToEncode.no_memory o) = inl (rw o refl)
+jer_unwritten v e (FailsToEncode.blocked b c) = inr (IsUnencodable.blocked _ b, jer_codec e.codec c)
+jer_unwritten v e (FailsToEncode.write_free o) = cc o
 
 -- a value that AVN does not write is refused, unless memory ran out
-pub avn_unwritten : (v : Value) (e : EncodeError) → CannotWrite Notation.avn v e → (is_unwritten_memory (encode_why e.kind) ≡ true) ⊎ (IsUnwritten Avn v (encode_why e.kind) × (e.codec ≡ Avn))
-avn_unwritten v e (CannotWrite.no_memory o) = inl (rw o refl)
-avn_unwritten v e (CannotWrite.blocked b c) = inr (IsUnwritten.blocked _ b, avn_codec e.codec c)
-avn_unwritten v e (CannotWrite.write_free o) = cc o
+pub avn_unwritten : (v : Value) (e : EncodeError) → FailsToEncode Notation.avn v e → (is_encode_out_of_memory (encode_cause e.kind) ≡ true) ⊎ (IsUnencodable Avn v (encode_cause e.kind) × (e.codec ≡ Avn))
+avn_unwritten v e (FailsToEncode.no_memory o) = inl (rw o refl)
+avn_unwritten v e (FailsToEncode.blocked b c) = inr (IsUnencodable.blocked _ b, avn_codec e.codec c)
+avn_unwritten v e (FailsToEncode.write_free o) = cc o
 
 -- a codec that is neither of the two is no text notation
 pub other_codec : (c : Codec) → c ≢ Jer → c ≢ Avn → notation_of c ≡ Notation.other
@@ -108,43 +108,43 @@ other_codec c h k = refl
 
 -- the call's answer, where its codec is this one
 pub jer_value : {A : Type 0} (c : Codec) (s : Shape) (text : List ℕ) (value : A → Value) (r : Result A DecodeError) → c ≡ Jer
-    → IfOk r (λ x. (d : Data) × jer.IsJer text d × Says Notation.jer s (Some (Tree.json d)) (value x)) → IfOk r (λ x. SaysValue (notation_of c) s text (value x))
-jer_value c s text value (Ok x) is (d, h, says) = subst (λ k. SaysValue (notation_of k) s text (value x)) (sym is) record { tree = Tree.json d; has = HasTree.json_tree h; says = says }
+    → IfOk r (λ x. (d : Data) × jer.IsJer text d × DecodesTo Notation.jer s (Some (Tree.json d)) (value x)) → IfOk r (λ x. TextDecodesTo (notation_of c) s text (value x))
+jer_value c s text value (Ok x) is (d, h, says) = subst (λ k. TextDecodesTo (notation_of k) s text (value x)) (sym is) record { tree = Tree.json d; has = HasTree.json_tree h; says = says }
 jer_value c s text value (Err e) is h = tt
 
 pub avn_value_of : {A : Type 0} (c : Codec) (s : Shape) (text : List ℕ) (value : A → Value) (r : Result A DecodeError) → c ≡ Avn
-    → IfOk r (λ x. (t : AvnTree) × avn.IsAvn text t × Says Notation.avn s (Some (Tree.avn t)) (value x)) → IfOk r (λ x. SaysValue (notation_of c) s text (value x))
-avn_value_of c s text value (Ok x) is (t, h, says) = subst (λ k. SaysValue (notation_of k) s text (value x)) (sym is) record { tree = Tree.avn t; has = HasTree.avn_tree h; says = says }
+    → IfOk r (λ x. (t : AvnTree) × avn.IsAvn text t × DecodesTo Notation.avn s (Some (Tree.avn t)) (value x)) → IfOk r (λ x. TextDecodesTo (notation_of c) s text (value x))
+avn_value_of c s text value (Ok x) is (t, h, says) = subst (λ k. TextDecodesTo (notation_of k) s text (value x)) (sym is) record { tree = Tree.avn t; has = HasTree.avn_tree h; says = says }
 avn_value_of c s text value (Err e) is h = tt
 
-pub jer_refused : {A : Type 0} (c : Codec) (s : Shape) (text : List ℕ) (r : Result A DecodeError) → c ≡ Jer → IfErr r (λ e. jer.RefusesText s text (error_stop e))
-    → IfErr r (λ e. (is_memory (error_stop e) ≡ true) ⊎ IsUnread c s text (error_stop e))
+pub jer_refused : {A : Type 0} (c : Codec) (s : Shape) (text : List ℕ) (r : Result A DecodeError) → c ≡ Jer → IfErr r (λ e. jer.RefusesText s text (failure_of e))
+    → IfErr r (λ e. (is_out_of_memory (failure_of e) ≡ true) ⊎ IsDecodeFailure c s text (failure_of e))
 jer_refused c s text (Ok x) is h = tt
-jer_refused c s text (Err e) is h = subst (λ k. (is_memory (error_stop e) ≡ true) ⊎ IsUnread k s text (error_stop e)) (sym is) (jer_unread s text (error_stop e) h)
+jer_refused c s text (Err e) is h = subst (λ k. (is_out_of_memory (failure_of e) ≡ true) ⊎ IsDecodeFailure k s text (failure_of e)) (sym is) (jer_unread s text (failure_of e) h)
 
-pub avn_refused : {A : Type 0} (c : Codec) (s : Shape) (text : List ℕ) (r : Result A DecodeError) → c ≡ Avn → IfErr r (λ e. avn.RefusesText s text (error_stop e))
-    → IfErr r (λ e. (is_memory (error_stop e) ≡ true) ⊎ IsUnread c s text (error_stop e))
+pub avn_refused : {A : Type 0} (c : Codec) (s : Shape) (text : List ℕ) (r : Result A DecodeError) → c ≡ Avn → IfErr r (λ e. avn.RefusesText s text (failure_of e))
+    → IfErr r (λ e. (is_out_of_memory (failure_of e) ≡ true) ⊎ IsDecodeFailure c s text (failure_of e))
 avn_refused c s text (Ok x) is h = tt
-avn_refused c s text (Err e) is h = subst (λ k. (is_memory (error_stop e) ≡ true) ⊎ IsUnread k s text (error_stop e)) (sym is) (avn_unread s text (error_stop e) h)
+avn_refused c s text (Err e) is h = subst (λ k. (is_out_of_memory (failure_of e) ≡ true) ⊎ IsDecodeFailure k s text (failure_of e)) (sym is) (avn_unread s text (failure_of e) h)
 
-pub jer_not_written : {A : Type 0} (c : Codec) (v : Value) (r : Result A EncodeError) → c ≡ Jer → IfErr r (CannotWrite Notation.jer v)
-    → IfErr r (λ e. (is_unwritten_memory (encode_why e.kind) ≡ true) ⊎ (IsUnwritten c v (encode_why e.kind) × (e.codec ≡ c)))
+pub jer_not_written : {A : Type 0} (c : Codec) (v : Value) (r : Result A EncodeError) → c ≡ Jer → IfErr r (FailsToEncode Notation.jer v)
+    → IfErr r (λ e. (is_encode_out_of_memory (encode_cause e.kind) ≡ true) ⊎ (IsUnencodable c v (encode_cause e.kind) × (e.codec ≡ c)))
 jer_not_written c v (Ok x) is h = tt
-jer_not_written c v (Err e) is h = subst (λ k. (is_unwritten_memory (encode_why e.kind) ≡ true) ⊎ (IsUnwritten k v (encode_why e.kind) × (e.codec ≡ k))) (sym is) (jer_unwritten v e h)
+jer_not_written c v (Err e) is h = subst (λ k. (is_encode_out_of_memory (encode_cause e.kind) ≡ true) ⊎ (IsUnencodable k v (encode_cause e.kind) × (e.codec ≡ k))) (sym is) (jer_unwritten v e h)
 
-pub avn_not_written : {A : Type 0} (c : Codec) (v : Value) (r : Result A EncodeError) → c ≡ Avn → IfErr r (CannotWrite Notation.avn v)
-    → IfErr r (λ e. (is_unwritten_memory (encode_why e.kind) ≡ true) ⊎ (IsUnwritten c v (encode_why e.kind) × (e.codec ≡ c)))
+pub avn_not_written : {A : Type 0} (c : Codec) (v : Value) (r : Result A EncodeError) → c ≡ Avn → IfErr r (FailsToEncode Notation.avn v)
+    → IfErr r (λ e. (is_encode_out_of_memory (encode_cause e.kind) ≡ true) ⊎ (IsUnencodable c v (encode_cause e.kind) × (e.codec ≡ c)))
 avn_not_written c v (Ok x) is h = tt
-avn_not_written c v (Err e) is h = subst (λ k. (is_unwritten_memory (encode_why e.kind) ≡ true) ⊎ (IsUnwritten k v (encode_why e.kind) × (e.codec ≡ k))) (sym is) (avn_unwritten v e h)
+avn_not_written c v (Err e) is h = subst (λ k. (is_encode_out_of_memory (encode_cause e.kind) ≡ true) ⊎ (IsUnencodable k v (encode_cause e.kind) × (e.codec ≡ k))) (sym is) (avn_unwritten v e h)
 
 -- what is refused for its codec is so
-pub other_unread : (c : Codec) (s : Shape) (text : List ℕ) (stop : Stop) → notation_of c ≡ Notation.other
-    → (is_memory stop ≡ true) ⊎ (stop ≡ at_root (Why.custom (no_text c (codes "decode_from_binary"))) c) → (is_memory stop ≡ true) ⊎ IsUnread c s text stop
-other_unread c s text stop h (inl m) = inl m
-other_unread c s text stop h (inr e) = inr (subst (IsUnread c s text) (sym e) (IsUnread.not_text h))
+pub other_unread : (c : Codec) (s : Shape) (text : List ℕ) (failure : Failure) → notation_of c ≡ Notation.other
+    → (is_out_of_memory failure ≡ true) ⊎ (failure ≡ at_root (Cause.custom (no_text c (codes "decode_from_binary"))) c) → (is_out_of_memory failure ≡ true) ⊎ IsDecodeFailure c s text failure
+other_unread c s text failure h (inl m) = inl m
+other_unread c s text failure h (inr e) = inr (subst (IsDecodeFailure c s text) (sym e) (IsDecodeFailure.not_text h))
 
 pub other_unwritten : (c : Codec) (v : Value) (e : EncodeError) → notation_of c ≡ Notation.other
-    → (is_unwritten_memory (encode_why e.kind) ≡ true) ⊎ (encode_why e.kind ≡ WhyUnwritten.custom (no_text c (codes "encode_to_binary"))) → e.codec ≡ c
-    → (is_unwritten_memory (encode_why e.kind) ≡ true) ⊎ (IsUnwritten c v (encode_why e.kind) × (e.codec ≡ c))
+    → (is_encode_out_of_memory (encode_cause e.kind) ≡ true) ⊎ (encode_cause e.kind ≡ EncodeCause.custom (no_text c (codes "encode_to_binary"))) → e.codec ≡ c
+    → (is_encode_out_of_memory (encode_cause e.kind) ≡ true) ⊎ (IsUnencodable c v (encode_cause e.kind) × (e.codec ≡ c))
 other_unwritten c v e h (inl m) same = inl m
-other_unwritten c v e h (inr why) same = inr (subst (IsUnwritten c v) (sym why) (IsUnwritten.not_text h), same)
+other_unwritten c v e h (inr cause) same = inr (subst (IsUnencodable c v) (sym cause) (IsUnencodable.not_text h), same)

@@ -1,42 +1,42 @@
 -- What converting a text from one codec to another answers.
 use Rattle.std.specs.Prelude.{◌≡◌, ℕ, List, Bool}
 use Rattle.asn_base.specs.declared.codec.Codec.{Codec}
-use Rattle.asn_fault.specs.Stop.{Stop, is_memory, error_stop}
-use Rattle.asn_fault.specs.Unwritten.{WhyUnwritten, encode_why, is_unwritten_memory}
+use Rattle.asn_fault.specs.Failure.{Failure, is_out_of_memory, failure_of}
+use Rattle.asn_fault.specs.EncodeCause.{EncodeCause, encode_cause, is_encode_out_of_memory}
 use Rattle.asn_fault.specs.Texts.{decode_error_text, encode_error_text}
 use Rattle.asn_traits.specs.Canonical.{canonical_text}
 use Rattle.asn_traits.specs.Notation.{IsText, notation_of}
 use Rattle.asn_traits.specs.Shape.{Shape}
 use Rattle.asn_traits.specs.Value.{Value, Fits}
 use Rattle.asn_traits.specs.Writable.{Writable}
-use Rattle.asn_codec.specs.Texts.{SaysValue, IsUnread, IsUnwritten}
+use Rattle.asn_codec.specs.Texts.{TextDecodesTo, IsDecodeFailure, IsUnencodable}
 use Rattle.asn_codec.specs.declared.conversion.TranscodeError.{TranscodeError}
 use Rattle.asn_codec.specs.declared.conversion.TranscodeError.TheVariants.{Decode, Encode}
 
--- the output is the canonical text of the value that the input says, which fits the shape and can be written
+-- the output is the canonical text of the value that the input decodes to, which fits the shape and can be written
 pub record Converts (from to : Codec) (s : Shape) (input output : List ℕ) : Type 0 where
   pub value : Value
-  pub says : SaysValue (notation_of from) s input value
+  pub says : TextDecodesTo (notation_of from) s input value
   pub fits : Fits s value
   pub writable : Writable (notation_of to) value
   pub text : output ≡ canonical_text (notation_of to) value
 
--- the input says a value by the shape that the other codec, a text notation, can write
+-- the input decodes to a value by the shape that the other codec, a text notation, can write
 pub record IsConvertible (from to : Codec) (s : Shape) (input : List ℕ) : Type 0 where
   pub notation : IsText (notation_of to)
   pub value : Value
-  pub says : SaysValue (notation_of from) s input value
+  pub says : TextDecodesTo (notation_of from) s input value
   pub writable : Writable (notation_of to) value
 
 -- a refusal: of reading, or of writing by the codec that refused
 pub data Refusal : Type 0 where
-  decode : Stop → Refusal
-  encode : WhyUnwritten → Codec → Refusal
+  decode : Failure → Refusal
+  encode : EncodeCause → Codec → Refusal
 
 -- what an error of converting says
 abbrev pub refusal_of : TranscodeError → Refusal
-refusal_of (Decode e) = Refusal.decode (error_stop e)
-refusal_of (Encode e) = Refusal.encode (encode_why e.kind) e.codec
+refusal_of (Decode e) = Refusal.decode (failure_of e)
+refusal_of (Encode e) = Refusal.encode (encode_cause e.kind) e.codec
 
 -- the text of the inner error
 abbrev pub error_text : TranscodeError → List ℕ
@@ -44,11 +44,11 @@ error_text (Decode e) = decode_error_text e
 error_text (Encode e) = encode_error_text e
 
 -- memory ran out
-abbrev pub is_want_of_memory : Refusal → Bool
-is_want_of_memory (Refusal.decode stop) = is_memory stop
-is_want_of_memory (Refusal.encode why codec) = is_unwritten_memory why
+abbrev pub is_refusal_out_of_memory : Refusal → Bool
+is_refusal_out_of_memory (Refusal.decode failure) = is_out_of_memory failure
+is_refusal_out_of_memory (Refusal.encode cause codec) = is_encode_out_of_memory cause
 
--- the input is refused so: it is not read, or the value that it says is not written
+-- the input is refused so: it is not read, or the value that it decodes to is not written
 pub data Refuses (from to : Codec) (s : Shape) (input : List ℕ) : Refusal → Type 0 where
-  unread : (stop : Stop) → IsUnread from s input stop → Refuses from to s input (Refusal.decode stop)
-  unwritten : (v : Value) (why : WhyUnwritten) → SaysValue (notation_of from) s input v → IsUnwritten to v why → Refuses from to s input (Refusal.encode why to)
+  unread : (failure : Failure) → IsDecodeFailure from s input failure → Refuses from to s input (Refusal.decode failure)
+  unwritten : (v : Value) (cause : EncodeCause) → TextDecodesTo (notation_of from) s input v → IsUnencodable to v cause → Refuses from to s input (Refusal.encode cause to)

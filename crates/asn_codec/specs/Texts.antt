@@ -4,24 +4,24 @@ use Rattle.std.specs.Str.{chars}
 use Rattle.serde_json.specs.Data.{Data, depth}
 use Rattle.serde_json.specs.Read.{read, max_depth}
 use Rattle.serde_json.specs.Written.{has_float}
-use Rattle.avn_grammar.specs.Depth.{Deep, deepest}
+use Rattle.avn_grammar.specs.Depth.{ExceedsDepth, deepest}
 use Rattle.avn_grammar.specs.Tree.{Tree as AvnTree}
-use Rattle.avn_grammar.specs.Unread as grammar
+use Rattle.avn_grammar.specs.ParseFailure as grammar
 use Rattle.avn_grammar.specs.declared.limits.TheConstants.{LEVEL_LIMIT}
 use Rattle.asn_base.specs.Texts.{codec_name}
 use Rattle.asn_base.specs.declared.codec.Codec.{Codec}
 use Rattle.asn_base.specs.declared.codec.Codec.TheVariants.{Jer, Avn, Xer}
-use Rattle.asn_fault.specs.Stop.{Stop, Why, at_root}
-use Rattle.asn_fault.specs.Unwritten.{WhyUnwritten}
+use Rattle.asn_fault.specs.Failure.{Failure, Cause, at_root}
+use Rattle.asn_fault.specs.EncodeCause.{EncodeCause}
 use Rattle.asn_traits.specs.Answer.{OfLevels, OfPlace}
 use Rattle.asn_traits.specs.Canonical as canonical
 use Rattle.asn_traits.specs.Notation.{Notation, notation_of}
-use Rattle.asn_traits.specs.Says.{Says}
+use Rattle.asn_traits.specs.DecodesTo.{DecodesTo}
 use Rattle.asn_traits.specs.Shape.{Shape}
-use Rattle.asn_traits.specs.Stops.{Stops}
+use Rattle.asn_traits.specs.FailsWith.{FailsWith}
 use Rattle.asn_traits.specs.Tree.{Tree}
 use Rattle.asn_traits.specs.Value.{Value}
-use Rattle.asn_traits.specs.Writable.{Blocks}
+use Rattle.asn_traits.specs.Writable.{FirstUnencodable}
 use Rattle.jer_rules.specs.Text as jer
 use Rattle.jer_rules.specs.Text.{IsJer}
 use Rattle.avn_rules.specs.Text as avn
@@ -32,11 +32,11 @@ pub data HasTree : Notation → List ℕ → Tree → Type 0 where
   json_tree : {text : List ℕ} {d : Data} → IsJer text d → HasTree Notation.jer text (Tree.json d)
   avn_tree : {text : List ℕ} {t : AvnTree} → IsAvn text t → HasTree Notation.avn text (Tree.avn t)
 
--- the text says this value by the shape
-pub record SaysValue (n : Notation) (s : Shape) (text : List ℕ) (value : Value) : Type 0 where
+-- the text decodes to this value by the shape
+pub record TextDecodesTo (n : Notation) (s : Shape) (text : List ℕ) (value : Value) : Type 0 where
   pub tree : Tree
   pub has : HasTree n text tree
-  pub says : Says n s (Some tree) value
+  pub says : DecodesTo n s (Some tree) value
 
 -- The text of the value is read as its tree, where that nests no deeper than texts of the notation are read; and in AVN it is refused for depth where it nests deeper.
 abbrev pub ReadsBack : Notation → Value → List ℕ → Type 0
@@ -44,10 +44,10 @@ ReadsBack Notation.jer v text = jer.ReadsBack v text
 ReadsBack Notation.avn v text = avn.ReadsBack v text
 ReadsBack Notation.other v text = Unit {0}
 
--- The text says the value by the shape, and no other.
-pub record SaysAlone (n : Notation) (s : Shape) (text : List ℕ) (v : Value) : Type 0 where
-  pub says : SaysValue n s text v
-  pub alone : (w : Value) → SaysValue n s text w → w ≡ v
+-- The text decodes to the value by the shape, and no other.
+pub record DecodesOnlyTo (n : Notation) (s : Shape) (text : List ℕ) (v : Value) : Type 0 where
+  pub says : TextDecodesTo n s text v
+  pub alone : (w : Value) → TextDecodesTo n s text w → w ≡ v
 
 -- The canonical text of a value that was read nests no deeper than texts are read: in AVN at most the limit, in JSON 127 levels, and always where JSON was read.
 abbrev pub IsShallow : Notation → Notation → Value → Type 0
@@ -61,17 +61,17 @@ abbrev pub no_text : Codec → List ℕ → List ℕ
 no_text Xer call = codes "XER is not supported."
 no_text codec call = codec_name codec ++ (codes " is a binary-based encoding. Call `Codec::" ++ (call ++ codes "` instead."))
 
--- reading the text by the shape is refused so: it has no tree, or a number in it is a float, or it nests too deep, or its tree says no value, or the codec is no text notation
-pub data IsUnread (codec : Codec) (s : Shape) (text : List ℕ) : Stop → Type 0 where
-  no_json : codec ≡ Jer → read text ≡ None → IsUnread codec s text (at_root (Why.parser (codes "Error parsing JER JSON")) Jer)
-  has_real : (d : Data) → codec ≡ Jer → read text ≡ Some d → has_float d ≡ true → IsUnread codec s text (at_root Why.real_not_supported Jer)
-  no_avn : (found : List ℕ) → codec ≡ Avn → grammar.Unread LEVEL_LIMIT (chars text) found → IsUnread codec s text (at_root (Why.unexpected_token found) Avn)
-  too_deep : codec ≡ Avn → Deep LEVEL_LIMIT 0 (chars text) → IsUnread codec s text (at_root Why.exceeds_max_parse_depth Avn)
-  no_value : (t : Tree) (stop : Stop) → HasTree (notation_of codec) text t → Stops (notation_of codec) s (Some t) (map (λ l. l.name) stop.path) stop.why
-      → OfLevels (notation_of codec) stop.path → OfPlace (notation_of codec) stop.why stop.codec → IsUnread codec s text stop
-  not_text : notation_of codec ≡ Notation.other → IsUnread codec s text (at_root (Why.custom (no_text codec (codes "decode_from_binary"))) codec)
+-- reading the text by the shape is refused so: it has no tree, or a number in it is a float, or it nests too deep, or its tree decodes to no value, or the codec is no text notation
+pub data IsDecodeFailure (codec : Codec) (s : Shape) (text : List ℕ) : Failure → Type 0 where
+  no_json : codec ≡ Jer → read text ≡ None → IsDecodeFailure codec s text (at_root (Cause.parser (codes "Error parsing JER JSON")) Jer)
+  has_real : (d : Data) → codec ≡ Jer → read text ≡ Some d → has_float d ≡ true → IsDecodeFailure codec s text (at_root Cause.real_not_supported Jer)
+  no_avn : (found : List ℕ) → codec ≡ Avn → grammar.ParseFailure LEVEL_LIMIT (chars text) found → IsDecodeFailure codec s text (at_root (Cause.unexpected_token found) Avn)
+  too_deep : codec ≡ Avn → ExceedsDepth LEVEL_LIMIT 0 (chars text) → IsDecodeFailure codec s text (at_root Cause.exceeds_max_parse_depth Avn)
+  no_value : (t : Tree) (failure : Failure) → HasTree (notation_of codec) text t → FailsWith (notation_of codec) s (Some t) (map (λ l. l.name) failure.path) failure.cause
+      → OfLevels (notation_of codec) failure.path → OfPlace (notation_of codec) failure.cause failure.codec → IsDecodeFailure codec s text failure
+  not_text : notation_of codec ≡ Notation.other → IsDecodeFailure codec s text (at_root (Cause.custom (no_text codec (codes "decode_from_binary"))) codec)
 
 -- writing the value is refused so: a part of it cannot be written, or the codec is no text notation
-pub data IsUnwritten (codec : Codec) (v : Value) : WhyUnwritten → Type 0 where
-  blocked : (why : WhyUnwritten) → Blocks (notation_of codec) v why → IsUnwritten codec v why
-  not_text : notation_of codec ≡ Notation.other → IsUnwritten codec v (WhyUnwritten.custom (no_text codec (codes "encode_to_binary")))
+pub data IsUnencodable (codec : Codec) (v : Value) : EncodeCause → Type 0 where
+  blocked : (cause : EncodeCause) → FirstUnencodable (notation_of codec) v cause → IsUnencodable codec v cause
+  not_text : notation_of codec ≡ Notation.other → IsUnencodable codec v (EncodeCause.custom (no_text codec (codes "encode_to_binary")))

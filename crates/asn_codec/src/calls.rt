@@ -1,13 +1,14 @@
 //! Encodes and decodes texts by the name of a codec.
 ghost use Rattle.asn_base.specs.declared.codec.Codec.{Codec as CodecName};
-ghost use Rattle.asn_fault.specs.Stop.{Why, at_root, error_stop, is_memory};
-ghost use Rattle.asn_fault.specs.Unwritten.{WhyUnwritten, encode_why, is_unwritten_memory};
+ghost use Rattle.asn_fault.specs.Failure.{Cause, at_root, failure_of, is_out_of_memory};
+ghost use Rattle.asn_fault.specs.EncodeCause.{EncodeCause, encode_cause, is_encode_out_of_memory};
 ghost use Rattle.asn_traits.specs.Canonical.{canonical_text};
 ghost use Rattle.asn_traits.specs.Notation.{IsText, notation_of};
 ghost use Rattle.asn_traits.specs.Root.{Reads};
 ghost use Rattle.asn_traits.specs.Value.{Value, Fits};
 ghost use Rattle.asn_traits.specs.Writable.{Writable};
-ghost use Rattle.asn_codec.specs.Texts.{ReadsBack, SaysValue, IsUnread, IsUnwritten, no_text};
+ghost use Rattle.asn_codec.specs.Texts.{ReadsBack, TextDecodesTo, IsDecodeFailure, IsUnencodable};
+ghost use Rattle.asn_codec.specs.Texts.{no_text};
 ghost use Rattle.std.specs.Prelude.{◌≡◌, ◌⊎◌, true, IfOk, IfErr, OnOk, codes, string_bytes};
 
 use asn_base::Codec;
@@ -42,13 +43,13 @@ pub trait CodecCalls: Copy {
         ensures writable { OnOk result
             (Writable (notation_of (codec_of self)) (T.value_of value.now)) }
         // An error states the first part that cannot be encoded, and names this codec.
-        ensures refused { IfErr result (λ e. (is_unwritten_memory (encode_why e.kind) ≡ true)
-            ⊎ (IsUnwritten (codec_of self) (T.value_of value.now) (encode_why e.kind)
+        ensures refused { IfErr result (λ e. (is_encode_out_of_memory (encode_cause e.kind) ≡ true)
+            ⊎ (IsUnencodable (codec_of self) (T.value_of value.now) (encode_cause e.kind)
             × (e.codec ≡ codec_of self))) }
         // What can be encoded is encoded, unless memory runs out.
         ensures complete { IsText (notation_of (codec_of self))
             → Writable (notation_of (codec_of self)) (T.value_of value.now)
-            → IfErr result (λ e. is_unwritten_memory (encode_why e.kind) ≡ true) };
+            → IfErr result (λ e. is_encode_out_of_memory (encode_cause e.kind) ≡ true) };
 
     /// Returns the value that a text decodes to as a T.
     ///
@@ -58,14 +59,14 @@ pub trait CodecCalls: Copy {
     /// in the notation, or why its tree decodes to no value.
     fn decode_from_str<T: Decode>(&self, alloc: Global, input: &str) -> Result<T, DecodeError>
         // The text decodes to the value that the result stands for.
-        ensures value { IfOk result (λ x. SaysValue (notation_of (codec_of self.now))
+        ensures value { IfOk result (λ x. TextDecodesTo (notation_of (codec_of self.now))
             T.shape_of input.now (T.value_of x)) }
         // An error states where and why decoding stops, by the definition of the notation.
-        ensures refused { IfErr result (λ e. (is_memory (error_stop e) ≡ true)
-            ⊎ IsUnread (codec_of self.now) T.shape_of input.now (error_stop e)) }
+        ensures refused { IfErr result (λ e. (is_out_of_memory (failure_of e) ≡ true)
+            ⊎ IsDecodeFailure (codec_of self.now) T.shape_of input.now (failure_of e)) }
         // A text that decodes to a value is read as that value, unless memory runs out.
         ensures complete { (v : Value)
-            → SaysValue (notation_of (codec_of self.now)) T.shape_of input.now v
+            → TextDecodesTo (notation_of (codec_of self.now)) T.shape_of input.now v
             → Reads T.value_of v result };
 }
 
@@ -92,9 +93,9 @@ impl CodecCalls for Codec {
 
 /// Returns the error that the codec encodes no text, or that there is no memory to state it.
 fn not_written(alloc: Global, codec: Codec) -> EncodeError
-    ensures why { (is_unwritten_memory (encode_why result.kind) ≡ true)
-        ⊎ (encode_why result.kind
-        ≡ WhyUnwritten.custom (no_text codec (codes "encode_to_binary"))) }
+    ensures cause { (is_encode_out_of_memory (encode_cause result.kind) ≡ true)
+        ⊎ (encode_cause result.kind
+        ≡ EncodeCause.custom (no_text codec (codes "encode_to_binary"))) }
     ensures codec { result.codec ≡ codec }
 {
     match other_call(alloc, codec, "encode_to_binary") {
@@ -105,9 +106,9 @@ fn not_written(alloc: Global, codec: Codec) -> EncodeError
 
 /// Returns the error that the codec decodes no text, or that there is no memory to state it.
 fn not_read(alloc: Global, codec: Codec) -> DecodeError
-    ensures { (is_memory (error_stop result) ≡ true)
-        ⊎ (error_stop result
-        ≡ at_root (Why.custom (no_text codec (codes "decode_from_binary"))) codec) }
+    ensures { (is_out_of_memory (failure_of result) ≡ true)
+        ⊎ (failure_of result
+        ≡ at_root (Cause.custom (no_text codec (codes "decode_from_binary"))) codec) }
 {
     match other_call(alloc, codec, "decode_from_binary") {
         Ok(msg) => DecodeError::custom(msg, codec),

@@ -1,13 +1,14 @@
 //! Converts a text from one notation to another by way of a value of a Rust type. This is the
 //! call that the library is for, and its contract joins those of all crates below.
-ghost use Rattle.asn_codec.specs.Conversion.{Converts, IsConvertible, Refuses, refusal_of, is_want_of_memory, error_text};
-ghost use Rattle.asn_codec.specs.Texts.{SaysValue, SaysAlone, IsShallow};
+ghost use Rattle.asn_codec.specs.Conversion.{Converts, IsConvertible, Refuses, refusal_of};
+ghost use Rattle.asn_codec.specs.Conversion.{is_refusal_out_of_memory, error_text};
+ghost use Rattle.asn_codec.specs.Texts.{TextDecodesTo, DecodesOnlyTo, IsShallow};
 ghost use Rattle.asn_base.specs.declared.codec.Codec.TheVariants.{Avn};
 ghost use Rattle.asn_traits.specs.Canonical.{avn_tree, canonical_text};
 ghost use Rattle.asn_traits.specs.Notation.{notation_of};
 ghost use Rattle.asn_traits.specs.Value.{Value, Fits};
 ghost use Rattle.asn_traits.specs.Writable.{Writable};
-ghost use Rattle.avn_grammar.specs.Depth.{Deep, deepest};
+ghost use Rattle.avn_grammar.specs.Depth.{ExceedsDepth, deepest};
 ghost use Rattle.avn_grammar.specs.declared.limits.TheConstants.{LEVEL_LIMIT};
 ghost use Rattle.std.specs.Str.{chars};
 ghost use Rattle.std.specs.Prelude.{◌≡◌, ◌⊎◌, ◌↔◌, ◌<◌, true, Some, IfOk, IfErr, string_bytes};
@@ -32,7 +33,7 @@ pub enum TranscodeError {
 impl TranscodeError {
     /// Returns whether memory ran out.
     pub fn is_out_of_memory(&self) -> bool
-        ensures { result ≡ is_want_of_memory (refusal_of self.now) }
+        ensures { result ≡ is_refusal_out_of_memory (refusal_of self.now) }
     {
         match self {
             TranscodeError::Decode(error) => error.is_out_of_memory(),
@@ -72,25 +73,25 @@ pub fn transcode<T: Encode + Decode>(
     // are read. In AVN it is refused for depth exactly there (`too_deep`), and what was read from
     // JSON is never too deep in JSON.
     ensures read_again { IfOk result (λ s. (v : Value)
-        → SaysValue (notation_of from) T.shape_of input.now v
+        → TextDecodesTo (notation_of from) T.shape_of input.now v
         → IsShallow (notation_of from) (notation_of to) v
-        → SaysAlone (notation_of to) T.shape_of (string_bytes s) v) }
+        → DecodesOnlyTo (notation_of to) T.shape_of (string_bytes s) v) }
     ensures too_deep { IfOk result (λ s. (v : Value)
-        → SaysValue (notation_of from) T.shape_of input.now v
+        → TextDecodesTo (notation_of from) T.shape_of input.now v
         → to ≡ Avn → LEVEL_LIMIT < deepest 0 (avn_tree v)
-        → Deep LEVEL_LIMIT 0 (chars (string_bytes s))) }
+        → ExceedsDepth LEVEL_LIMIT 0 (chars (string_bytes s))) }
     // Of the values that can be encoded under `to`, the result is the canonical text of that value
     // alone.
     ensures equal { IfOk result (λ s. (v w : Value)
-        → SaysValue (notation_of from) T.shape_of input.now v
+        → TextDecodesTo (notation_of from) T.shape_of input.now v
         → Fits T.shape_of w → Writable (notation_of to) w
         → (canonical_text (notation_of to) w ≡ string_bytes s) ↔ (w ≡ v)) }
     // Each error is one that the definition of refusing gives for this input.
-    ensures refused { IfErr result (λ e. (is_want_of_memory (refusal_of e) ≡ true)
+    ensures refused { IfErr result (λ e. (is_refusal_out_of_memory (refusal_of e) ≡ true)
         ⊎ Refuses from to T.shape_of input.now (refusal_of e)) }
     // An input that decodes to a value which can be encoded gives a result, unless memory runs out.
     ensures complete { IsConvertible from to T.shape_of input.now
-        → IfErr result (λ e. is_want_of_memory (refusal_of e) ≡ true) }
+        → IfErr result (λ e. is_refusal_out_of_memory (refusal_of e) ≡ true) }
 {
     // No tree of the input is left when the value is encoded: decoding takes it apart by moves.
     match from.decode_from_str::<T>(alloc, input) {

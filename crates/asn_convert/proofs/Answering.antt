@@ -2,9 +2,9 @@
 use Rattle.std.proofs.Common.{◌≡◌, ◌≢◌, refl, ◌++◌, ◌∷◌, [], ℕ, List, true, ◌⊎◌, inl, inr}
 use Rattle.asn_base.specs.declared.codec.Codec.{Codec}
 use Rattle.asn_traits.specs.Shape.{Shape}
-use Rattle.asn_codec.specs.Conversion.{Converts, Refuses, refusal_of, is_want_of_memory}
-use Rattle.asn_convert.specs.Due.{Answers, Puts, refusal_line}
-use Rattle.asn_convert.specs.Faults.{Rose}
+use Rattle.asn_codec.specs.Conversion.{Converts, Refuses, refusal_of, is_refusal_out_of_memory}
+use Rattle.asn_convert.specs.ExpectedOutput.{Answers, Outcome, refusal_line}
+use Rattle.asn_convert.specs.Faults.{Increased}
 use Rattle.asn_convert.specs.Transfer.{Transfer}
 use Rattle.asn_codec.specs.declared.conversion.TranscodeError.{TranscodeError}
 use Rattle.asn_convert.specs.declared.status.Status.{Status}
@@ -12,31 +12,31 @@ use Rattle.asn_convert.specs.declared.status.Status.TheVariants.{Done, Refused, 
 
 -- a canonical text and a line feed answer the text
 pub text_answers : (from to : Codec) (s : Shape) (text output : List ℕ) (t : Transfer) (r : Status) → Converts from to s text output
-    → Puts (output ++ 10 ∷ []) Done t r → Answers from to s text t r
-text_answers from to s text output t r h (Puts.whole a) = record { bytes = output ++ 10 ∷ []; has = record { output = output; converts = h; is = refl }; appended = a }
-text_answers from to s text output t r h (Puts.cut rose front) = (rose, record { bytes = output ++ 10 ∷ []; has = inl record { output = output; converts = h; is = refl }; appended = front })
-text_answers from to s text output t r h (Puts.unwritten keeps) = keeps
+    → Outcome (output ++ 10 ∷ []) Done t r → Answers from to s text t r
+text_answers from to s text output t r h (Outcome.whole a) = record { bytes = output ++ 10 ∷ []; has = record { output = output; converts = h; is = refl }; appended = a }
+text_answers from to s text output t r h (Outcome.cut rose front) = (rose, record { bytes = output ++ 10 ∷ []; has = inl record { output = output; converts = h; is = refl }; appended = front })
+text_answers from to s text output t r h (Outcome.unwritten keeps) = keeps
 
--- the line of a fault answers the text that is refused so
+-- the line of a fault returns the text that is refused so
 pub line_answers : (from to : Codec) (s : Shape) (text : List ℕ) (fault : TranscodeError) (t : Transfer) (r : Status)
-    → (is_want_of_memory (refusal_of fault) ≡ true) ⊎ Refuses from to s text (refusal_of fault)
-    → (is_want_of_memory (refusal_of fault) ≡ true → r ≡ WantOfMemory)
-    → Puts (refusal_line fault) Refused t r → Answers from to s text t r
-line_answers from to s text fault t r (inl m) k (Puts.whole a) = let e = k m in absurd (cc e)
-line_answers from to s text fault t r (inr h) k (Puts.whole a) = record { bytes = refusal_line fault; has = record { fault = fault; refuses = h; is = refl }; appended = a }
-line_answers from to s text fault t r (inl m) k (Puts.cut rose front) = let e = k m in absurd (cc e)
-line_answers from to s text fault t r (inr h) k (Puts.cut rose front) = (rose, record { bytes = refusal_line fault; has = inr record { fault = fault; refuses = h; is = refl }; appended = front })
-line_answers from to s text fault t r h k (Puts.unwritten keeps) = keeps
+    → (is_refusal_out_of_memory (refusal_of fault) ≡ true) ⊎ Refuses from to s text (refusal_of fault)
+    → (is_refusal_out_of_memory (refusal_of fault) ≡ true → r ≡ WantOfMemory)
+    → Outcome (refusal_line fault) Refused t r → Answers from to s text t r
+line_answers from to s text fault t r (inl m) k (Outcome.whole a) = let e = k m in absurd (cc e)
+line_answers from to s text fault t r (inr h) k (Outcome.whole a) = record { bytes = refusal_line fault; has = record { fault = fault; refuses = h; is = refl }; appended = a }
+line_answers from to s text fault t r (inl m) k (Outcome.cut rose front) = let e = k m in absurd (cc e)
+line_answers from to s text fault t r (inr h) k (Outcome.cut rose front) = (rose, record { bytes = refusal_line fault; has = inr record { fault = fault; refuses = h; is = refl }; appended = front })
+line_answers from to s text fault t r h k (Outcome.unwritten keeps) = keeps
 
 -- what is put as an answer is no refusal
-pub no_refusal : (due : List ℕ) (t : Transfer) (r : Status) → Puts due Done t r → r ≢ Refused
-no_refusal due t r (Puts.whole a) e = cc e
-no_refusal due t r (Puts.cut rose front) e = cc e
-no_refusal due t r (Puts.unwritten keeps) e = cc e
+pub no_refusal : (due : List ℕ) (t : Transfer) (r : Status) → Outcome due Done t r → r ≢ Refused
+no_refusal due t r (Outcome.whole a) e = cc e
+no_refusal due t r (Outcome.cut rose front) e = cc e
+no_refusal due t r (Outcome.unwritten keeps) e = cc e
 
 -- where no write fails and nothing is refused, the answer is written or memory runs out
 pub done_or_hungry : (from to : Codec) (s : Shape) (text : List ℕ) (t : Transfer) (r : Status) → Answers from to s text t r
-    → r ≢ Refused → (Rose t.faults_before t.faults_after → ⊥) → (r ≡ Done) ⊎ (r ≡ WantOfMemory)
+    → r ≢ Refused → (Increased t.faults_before t.faults_after → ⊥) → (r ≡ Done) ⊎ (r ≡ WantOfMemory)
 done_or_hungry from to s text t Done h not_refused steady = inl refl
 done_or_hungry from to s text t Refused h not_refused steady = absurd (not_refused refl)
 done_or_hungry from to s text t WriteFault h not_refused steady = absurd (steady h.0)

@@ -7,14 +7,14 @@ abbrev pub next_count : ℕ → ℕ
 next_count n = min (n + 1) (2 ^ 64 - 1)
 
 -- the count went up, or stood at the end of its type
-abbrev pub Rose : ℕ → ℕ → Type 0
-Rose before now = next_count before ≤ now
+abbrev pub Increased : ℕ → ℕ → Type 0
+Increased before now = next_count before ≤ now
 
 -- the count never falls, and an error comes only where it rose
 pub record HasCause {T E : Type 0} (before now : ℕ) (result : Result T E) : Type 0 where
   pub later : before ≤ now
-  pub failed : OnErr result (Rose before now)
+  pub failed : OnErr result (Increased before now)
 
--- the known bytes grew by a front part of what was due
+-- the known bytes grew by a front part of what was expected
 abbrev pub AppendsFront : Option (List ℕ) → Option (List ℕ) → List ℕ → Type 0
 AppendsFront old new due = (k : ℕ) × Appends old new (take k due)

@@ -1,5 +1,5 @@
 pub mod Calls
-pub mod Due
+pub mod ExpectedOutput
 pub mod Faults
 pub mod Input
 pub mod Lines

@@ -17,13 +17,13 @@ request_for (Some from) (Some to) (Some sample) = Some record { from = from; to 
 request_for _ _ _ = None
 
 -- the request that these words are
-abbrev pub request_of : List (List ℕ) → Option Request
-request_of [] = None
-request_of (from ∷ []) = None
-request_of (from ∷ to ∷ []) = None
-request_of (from ∷ to ∷ name ∷ []) = request_for (notation_named from) (notation_named to) (sample_named name)
-request_of (from ∷ to ∷ name ∷ other ∷ more) = None
+abbrev pub request_of_words : List (List ℕ) → Option Request
+request_of_words [] = None
+request_of_words (from ∷ []) = None
+request_of_words (from ∷ to ∷ []) = None
+request_of_words (from ∷ to ∷ name ∷ []) = request_for (notation_named from) (notation_named to) (sample_named name)
+request_of_words (from ∷ to ∷ name ∷ other ∷ more) = None
 
 -- the request that an input makes
-abbrev pub asked : List ℕ → Option Request
-asked input = request_of (words (request_line input))
+abbrev pub request_of : List ℕ → Option Request
+request_of input = request_of_words (words (request_line input))

@@ -2,38 +2,38 @@
 use Rattle.std.specs.Prelude.{◌≡◌, ◌≤◌, ℕ, List, length, Some, IsUtf8}
 use Rattle.asn_base.specs.declared.codec.Codec.{Codec}
 use Rattle.asn_traits.specs.Shape.{Shape}
-use Rattle.asn_convert.specs.Faults.{Rose}
+use Rattle.asn_convert.specs.Faults.{Increased}
 use Rattle.asn_convert.specs.Input.{input_limit}
 use Rattle.asn_convert.specs.Lines.{text_part}
 use Rattle.asn_samples.specs.Samples.{sample_shape}
-use Rattle.asn_convert.specs.Requests.{asked}
+use Rattle.asn_convert.specs.Requests.{request_of}
 use Rattle.asn_codec.specs.Conversion.{IsConvertible}
-use Rattle.asn_convert.specs.Due.{Wrote, WroteFront, IsDue}
+use Rattle.asn_convert.specs.ExpectedOutput.{Wrote, WroteFront, IsExpectedOutput}
 use Rattle.asn_convert.specs.Transfer.{Transfer}
 use Rattle.asn_convert.specs.declared.request.Request.{Request}
 
--- the input is a request, and bytes that are due for its text in this way were written
-pub record Answered (sink : Transfer) (Due : Codec → Codec → Shape → List ℕ → List ℕ → Type 0) (input : List ℕ) : Type 0 where
+-- the input is a request, and bytes that are expected for its text in this way were written
+pub record Answered (sink : Transfer) (ExpectedOutput : Codec → Codec → Shape → List ℕ → List ℕ → Type 0) (input : List ℕ) : Type 0 where
   pub utf8 : IsUtf8 input
   pub asks : Request
-  pub asked_for : asked input ≡ Some asks
-  pub wrote : Wrote sink (Due asks.from asks.to (sample_shape asks.sample) (text_part input))
+  pub for_request : request_of input ≡ Some asks
+  pub wrote : Wrote sink (ExpectedOutput asks.from asks.to (sample_shape asks.sample) (text_part input))
 
--- the input is a request, and a front part of what is due for its text was written
+-- the input is a request, and a front part of what is expected for its text was written
 pub record CutShort (sink : Transfer) (input : List ℕ) : Type 0 where
   pub utf8 : IsUtf8 input
   pub asks : Request
-  pub asked_for : asked input ≡ Some asks
-  pub wrote : WroteFront sink (IsDue asks.from asks.to (sample_shape asks.sample) (text_part input))
+  pub for_request : request_of input ≡ Some asks
+  pub wrote : WroteFront sink (IsExpectedOutput asks.from asks.to (sample_shape asks.sample) (text_part input))
 
 -- the source tells this input, which is within the limit, and none of its reads fails
 pub record IsRead (source : Transfer) (input : List ℕ) : Type 0 where
   pub told : source.bytes_before ≡ Some input
   pub within : length input ≤ input_limit
-  pub steady : Rose source.faults_before source.faults_after → ⊥
+  pub steady : Increased source.faults_before source.faults_after → ⊥
 
--- the input is a request by which its text says a value that can be written
-pub record AsksValue (input : List ℕ) : Type 0 where
+-- the input is a request by which its text decodes to a value that can be written
+pub record RequestsValue (input : List ℕ) : Type 0 where
   pub asks : Request
-  pub asked_for : asked input ≡ Some asks
+  pub for_request : request_of input ≡ Some asks
   pub convertible : IsConvertible asks.from asks.to (sample_shape asks.sample) (text_part input)

@@ -4,16 +4,16 @@
 //! (`asn_convert_main`) over standard input and output.
 #![tactic(auto)]
 
-mod ends;
+mod io;
+mod io_all;
 mod lines;
 mod memory;
 mod program;
 mod request;
 mod standard;
 mod status;
-mod whole;
 
-pub use ends::{Failed, Sink, Source};
+pub use io::{Failed, Sink, Source};
 pub use memory::{MemorySink, MemorySource, SteadySink, SteadySource};
 pub use program::{convert_as, run};
 pub use standard::{StdSink, StdSource};

@@ -1,7 +1,8 @@
 //! Splits an input into its request line and its text, and a line into words. A word is a run of
 //! characters other than space and tab. Nothing is copied: all results borrow from the input.
 ghost use Rattle.std.specs.Io.BufRead.{strip_last};
-ghost use Rattle.std.specs.Prelude.{◌≡◌, ◌≤◌, ◌<◌, ◌∷◌, [], length, MatchOption, IsCharBoundary, IsTrue, slice_index};
+ghost use Rattle.std.specs.Prelude.{◌≡◌, ◌≤◌, ◌<◌, ◌∷◌, [], length, MatchOption, IsCharBoundary};
+ghost use Rattle.std.specs.Prelude.{IsTrue, slice_index};
 ghost use Rattle.std.specs.List.{position_or_len};
 ghost use Rattle.asn_convert.specs.Lines.{is_blank, request_line, text_part, words};
 

@@ -1,12 +1,13 @@
 //! Implements sources and sinks in memory: two that never fail, and two that fail at the calls
 //! that a list names, give and take small pieces, and run out of room. Tests run the whole
 //! program over them, and contracts state exactly which call fails.
-ghost use Rattle.std.specs.Prelude.{◌≡◌, ◌≤◌, ◌<◌, ◌+◌, ◌-◌, ◌^◌, ◌↔◌, ◌⊎◌, [], length, min, Some, None, vec_len, vec_capacity, IfOk, IsErr, IsTrue, Contains};
+ghost use Rattle.std.specs.Prelude.{◌≡◌, ◌≤◌, ◌<◌, ◌+◌, ◌-◌, ◌^◌, ◌↔◌, ◌⊎◌, [], length, min, Some};
+ghost use Rattle.std.specs.Prelude.{None, vec_len, vec_capacity, IfOk, IsErr, IsTrue, Contains};
 ghost use Rattle.std.specs.Io.{ReadsAtMost, WritesAtMost};
 ghost use Rattle.std.specs.Io.KnownBytes.{ReadConsumes, WriteAppends};
-ghost use Rattle.asn_convert.specs.Faults.{Rose, HasCause, next_count};
+ghost use Rattle.asn_convert.specs.Faults.{Increased, HasCause, next_count};
 
-use crate::ends::{Failed, Sink, Source};
+use crate::io::{Failed, Sink, Source};
 use asn_base::OutOfMemory;
 use std::alloc::Global;
 
@@ -256,7 +257,7 @@ impl Sink for MemorySink {
         ensures bytes { WriteAppends (Some self.old.bytes.items) (Some self.new.bytes.items)
             result from.now }
         ensures stuck { IfOk result (λ n. n ≡ 0 → 0 < length from.now
-            → Rose self.old.calls.faults self.new.calls.faults) }
+            → Increased self.old.calls.faults self.new.calls.faults) }
         ensures cause { HasCause self.old.calls.faults self.new.calls.faults result }
         ensures fails { IsErr result ↔ (IsToFail self.old.calls
             ⊎ (0 < length from.now × (self.old.room ≡ vec_len self.old.bytes))) }

@@ -1,23 +1,28 @@
 //! Runs the program: reads an input, decides what it asks for, converts the text at the Rust type
 //! of the sample that it names, and writes the result. Each step below `run` is one function, and
 //! returns a `Status`.
-ghost use Rattle.std.specs.Prelude.{◌≡◌, ◌≢◌, ◌<◌, ◌⊎◌, ◌++◌, ◌∷◌, [], ℕ, List, length, IsUtf8, Some, None, true, string_bytes};
+ghost use Rattle.std.specs.Prelude.{◌≡◌, ◌≢◌, ◌<◌, ◌⊎◌, ◌++◌, ◌∷◌, [], ℕ, List, length, IsUtf8};
+ghost use Rattle.std.specs.Prelude.{Some, None, true, string_bytes};
 ghost use Rattle.std.specs.Io.KnownBytes.{Keeps};
-ghost use Rattle.asn_convert.specs.Faults.{Rose};
-ghost use Rattle.asn_convert.specs.Requests.{asked};
+ghost use Rattle.asn_convert.specs.Faults.{Increased};
+ghost use Rattle.asn_convert.specs.Requests.{request_of};
 ghost use Rattle.asn_samples.specs.Samples.{sample_shape};
-ghost use Rattle.asn_convert.specs.Due.{Answers, IsAnswer, IsRefusal, Puts, refusal_line};
+ghost use Rattle.asn_convert.specs.ExpectedOutput.{Answers, IsAnswer, IsRefusal, Outcome};
+ghost use Rattle.asn_convert.specs.ExpectedOutput.{refusal_line};
 ghost use Rattle.asn_convert.specs.Input.{ReadPastLimit, ReadWhole, input_limit};
 ghost use Rattle.asn_convert.specs.Transfer.{transfer_of};
-ghost use Rattle.asn_codec.specs.Conversion.{IsConvertible, refusal_of, is_want_of_memory};
-ghost use Rattle.asn_convert.specs.Run.{Answered, CutShort, IsRead, AsksValue};
-ghost use Rattle.asn_convert.specs.declared.status.Status.TheVariants.{Done, Refused, BadRequest, ReadFault, WriteFault, WantOfMemory, TooLong, NotText};
+ghost use Rattle.asn_codec.specs.Conversion.{IsConvertible, refusal_of, is_refusal_out_of_memory};
+ghost use Rattle.asn_convert.specs.Run.{Answered, CutShort, IsRead, RequestsValue};
+ghost use Rattle.asn_convert.specs.declared.status.Status.TheVariants.{Done, Refused, BadRequest};
+ghost use Rattle.asn_convert.specs.declared.status.Status.TheVariants.{ReadFault, WriteFault};
+ghost use Rattle.asn_convert.specs.declared.status.Status.TheVariants.{WantOfMemory, TooLong};
+ghost use Rattle.asn_convert.specs.declared.status.Status.TheVariants.{NotText};
 
-use crate::ends::{Sink, Source};
+use crate::io::{Sink, Source};
+use crate::io_all::{Stopped, read_to_end, write_all};
 use crate::lines::split_request;
 use crate::request::{Request, requested};
 use crate::status::Status;
-use crate::whole::{Stopped, read_to_end, write_all};
 use asn_base::Codec;
 use asn_codec::{TranscodeError, transcode};
 use asn_samples::SampleVisitor;
@@ -42,11 +47,11 @@ pub fn run<S: Source, K: Sink>(alloc: Global, source: &mut S, sink: &mut K) -> S
     // The input is text, and its first line is no request.
     ensures bad_request { result ≡ BadRequest
         → ReadWhole (transfer_of S.left S.faults source.old source.new)
-        (λ input. IsUtf8 input × (asked input ≡ None)) }
+        (λ input. IsUtf8 input × (request_of input ≡ None)) }
     // A read failed.
-    ensures read_fault { result ≡ ReadFault → Rose (S.faults source.old) (S.faults source.new) }
+    ensures read_fault { result ≡ ReadFault → Increased (S.faults source.old) (S.faults source.new) }
     // A write failed, and what was written is a front part of the text or of the error's line.
-    ensures write_fault { result ≡ WriteFault → Rose (K.faults sink.old) (K.faults sink.new) }
+    ensures write_fault { result ≡ WriteFault → Increased (K.faults sink.old) (K.faults sink.new) }
     ensures cut { result ≡ WriteFault
         → ReadWhole (transfer_of S.left S.faults source.old source.new)
         (CutShort (transfer_of K.written K.faults sink.old sink.new)) }
@@ -65,23 +70,24 @@ pub fn run<S: Source, K: Sink>(alloc: Global, source: &mut S, sink: &mut K) -> S
     // status, or memory runs out: a request is done or refused.
     ensures answers { (input : List ℕ)
         → IsRead (transfer_of S.left S.faults source.old source.new) input
-        → IsUtf8 input → asked input ≢ None → ¬ Rose (K.faults sink.old) (K.faults sink.new)
+        → IsUtf8 input → request_of input ≢ None → ¬ Increased (K.faults sink.old) (K.faults
+        sink.new)
         → (result ≡ Done) ⊎ (result ≡ Refused) ⊎ (result ≡ WantOfMemory) }
     // A request whose text decodes to a value that can be encoded is done.
     ensures answers_values { (input : List ℕ)
         → IsRead (transfer_of S.left S.faults source.old source.new) input
-        → IsUtf8 input → AsksValue input → ¬ Rose (K.faults sink.old) (K.faults sink.new)
+        → IsUtf8 input → RequestsValue input → ¬ Increased (K.faults sink.old) (K.faults sink.new)
         → (result ≡ Done) ⊎ (result ≡ WantOfMemory) }
     // Text that is no request is a bad one, and an input that isn't UTF-8 is no text.
     ensures rejects { (input : List ℕ)
         → IsRead (transfer_of S.left S.faults source.old source.new) input
-        → IsUtf8 input → asked input ≡ None → (result ≡ BadRequest) ⊎ (result ≡ WantOfMemory) }
+        → IsUtf8 input → request_of input ≡ None → (result ≡ BadRequest) ⊎ (result ≡ WantOfMemory) }
     ensures rejects_bytes { (input : List ℕ)
         → IsRead (transfer_of S.left S.faults source.old source.new) input
         → ¬ IsUtf8 input → (result ≡ NotText) ⊎ (result ≡ WantOfMemory) }
     // An input that has more bytes than the limit is too long, whatever it holds.
     ensures stops { (input : List ℕ) → S.left source.old ≡ Some input → input_limit < length input
-        → ¬ Rose (S.faults source.old) (S.faults source.new)
+        → ¬ Increased (S.faults source.old) (S.faults source.new)
         → (result ≡ TooLong) ⊎ (result ≡ WantOfMemory) }
 {
     // The first three statuses are those of reading.
@@ -169,7 +175,7 @@ pub fn convert_as<T: Encode + Decode, K: Sink>(
 
 /// Writes the text and a line feed after it, and returns `Done` where all of it is written.
 fn answer<K: Sink>(mut text: String, sink: &mut K) -> Status
-    ensures { Puts (string_bytes text ++ 10 ∷ []) Done
+    ensures { Outcome (string_bytes text ++ 10 ∷ []) Done
         (transfer_of K.written K.faults sink.old sink.new) result }
 {
     // The line feed goes into the text, so that a sink sees one piece.
@@ -182,9 +188,9 @@ fn answer<K: Sink>(mut text: String, sink: &mut K) -> Status
 /// Writes the line of an error, and returns `Refused` where all of it is written. Where the error
 /// is that memory ran out, it writes nothing and returns `WantOfMemory`.
 fn refuse<K: Sink>(alloc: Global, fault: &TranscodeError, sink: &mut K) -> Status
-    ensures line { Puts (refusal_line fault.now) Refused
+    ensures line { Outcome (refusal_line fault.now) Refused
         (transfer_of K.written K.faults sink.old sink.new) result }
-    ensures memory { is_want_of_memory (refusal_of fault.now) ≡ true → result ≡ WantOfMemory }
+    ensures memory { is_refusal_out_of_memory (refusal_of fault.now) ≡ true → result ≡ WantOfMemory }
 {
     if fault.is_out_of_memory() {
         return Status::WantOfMemory;
@@ -197,7 +203,7 @@ fn refuse<K: Sink>(alloc: Global, fault: &TranscodeError, sink: &mut K) -> Statu
 
 /// Writes the bytes, and returns `status` where all of them are written, else `WriteFault`.
 fn written<K: Sink>(sink: &mut K, bytes: &[u8], status: Status) -> Status
-    ensures { Puts bytes.now status (transfer_of K.written K.faults sink.old sink.new) result }
+    ensures { Outcome bytes.now status (transfer_of K.written K.faults sink.old sink.new) result }
 {
     match write_all(sink, bytes) {
         Ok(()) => status,

@@ -2,7 +2,7 @@
 //! notation and the third a sample type.
 ghost use Rattle.std.specs.Prelude.{◌≡◌};
 ghost use Rattle.asn_convert.specs.Lines.{words};
-ghost use Rattle.asn_convert.specs.Requests.{notation_named, request_of};
+ghost use Rattle.asn_convert.specs.Requests.{notation_named, request_of_words};
 
 use crate::lines::next_word;
 use asn_base::Codec;
@@ -33,7 +33,7 @@ fn notation(name: &str) -> Option<Codec>
 /// Returns the request that a line makes, or `None` where it makes none: where it has more or
 /// fewer words than three, or one of them is no name.
 pub fn requested(line: &str) -> Option<Request>
-    ensures { result ≡ request_of (words line.now) }
+    ensures { result ≡ request_of_words (words line.now) }
 {
     let (from, rest) = next_word(line)?;
     let (to, rest) = next_word(rest)?;

@@ -2,7 +2,7 @@
 //! the program.
 ghost use Rattle.std.specs.Prelude.{◌≡◌};
 
-use crate::ends::{Failed, Sink, Source};
+use crate::io::{Failed, Sink, Source};
 use std::io::{Read, Write};
 
 /// Reads from a reader of std. Each read is one call of the reader; each error of it, an

@@ -1,3 +1,3 @@
-pub mod Stop
+pub mod Failure
 pub mod Texts
-pub mod Unwritten
+pub mod EncodeCause

@@ -1,7 +1,7 @@
 //! Defines the kinds of errors that the value notation of X.680 (AVN) alone has, with their
 //! texts.
 ghost use Rattle.std.specs.Prelude.{◌≡◌, Some};
-ghost use Rattle.asn_fault.specs.Stop.{Why, codec_why};
+ghost use Rattle.asn_fault.specs.Failure.{Cause, codec_cause};
 ghost use Rattle.asn_fault.specs.Texts.{avn_decode_text, avn_encode_text};
 ghost use Rattle.asn_base.specs.declared.codec.Codec.TheVariants.{Avn};
 
@@ -31,7 +31,7 @@ pub enum AvnDecodeErrorKind {
 impl AvnDecodeErrorKind {
     /// Returns the error that a value is expected where none is.
     pub fn eoi() -> CodecDecodeError
-        ensures { codec_why result ≡ Why.end_of_input Avn }
+        ensures { codec_cause result ≡ Cause.end_of_input Avn }
     {
         CodecDecodeError::Avn(AvnDecodeErrorKind::AvnEndOfInput {})
     }

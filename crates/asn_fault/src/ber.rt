@@ -1,7 +1,7 @@
 //! Defines the kinds of errors that both text notations share with BER: rules on the text of a
 //! value that is the same in each of them.
 ghost use Rattle.std.specs.Prelude.{◌≡◌, Some, string_bytes};
-ghost use Rattle.asn_fault.specs.Stop.{Why, codec_why};
+ghost use Rattle.asn_fault.specs.Failure.{Cause, codec_cause};
 ghost use Rattle.asn_fault.specs.Texts.{ber_decode_text};
 
 use crate::CodecDecodeError;
@@ -19,7 +19,7 @@ pub enum BerDecodeErrorKind {
 impl BerDecodeErrorKind {
     /// Returns the error that a text is no time or date. `msg` is the text.
     pub fn invalid_date(msg: String) -> CodecDecodeError
-        ensures { codec_why result ≡ Why.invalid_date (string_bytes msg) }
+        ensures { codec_cause result ≡ Cause.invalid_date (string_bytes msg) }
     {
         CodecDecodeError::Ber(BerDecodeErrorKind::InvalidDate { msg })
     }

@@ -1,13 +1,14 @@
 //! Defines `DecodeError`: why a value is not decoded, within which fields, and by which codec.
 //! An error within fields holds boxes, so contracts don't compare errors as they are: they
-//! compare what `error_stop` gives of them, the path of fields, the cause and the codec.
+//! compare what `failure_of` gives of them, the path of fields, the cause and the codec.
 ghost use Rattle.std.specs.Prelude.{◌≡◌, ◌⊎◌, Some, string_bytes};
 ghost use Rattle.std.specs.Fn.{FnReturnsAt};
-ghost use Rattle.asn_fault.specs.Stop.{Why, at_root, codec_stop, error_stop, is_memory, root_kind, wrapped};
+ghost use Rattle.asn_fault.specs.Failure.{Cause, at_root, codec_failure, failure_of};
+ghost use Rattle.asn_fault.specs.Failure.{is_out_of_memory, root_kind, wrapped};
 ghost use Rattle.asn_fault.specs.Texts.{codec_decode_text, decode_kind_text, decode_error_text};
 ghost use Rattle.asn_fault.specs.declared.decode.CodecDecodeError.TheVariants.{Ber, Jer, Avn};
 
-use crate::{AvnDecodeErrorKind, BerDecodeErrorKind, Cause, JerDecodeErrorKind};
+use crate::{AvnDecodeErrorKind, BerDecodeErrorKind, JerDecodeErrorKind, RootCause};
 use asn_base::{Codec, Tag};
 use std::alloc::Global;
 use std::error::Error;
@@ -114,21 +115,21 @@ impl DecodeError {
 
     /// Returns the error that a number is outside the range of its type, which has this many bits.
     pub fn integer_overflow(max_width: u32, codec: Codec) -> DecodeError
-        ensures { error_stop result ≡ at_root (Why.integer_overflow max_width) codec }
+        ensures { failure_of result ≡ at_root (Cause.integer_overflow max_width) codec }
     {
         DecodeError::from_kind(DecodeErrorKind::IntegerOverflow { max_width }, codec)
     }
 
     /// Returns the error that a text is no JSON. `msg` is what the JSON parser states.
     pub fn parser_fail(msg: String, codec: Codec) -> DecodeError
-        ensures { error_stop result ≡ at_root (Why.parser (string_bytes msg)) codec }
+        ensures { failure_of result ≡ at_root (Cause.parser (string_bytes msg)) codec }
     {
         DecodeError::from_kind(DecodeErrorKind::Parser { msg }, codec)
     }
 
     /// Returns the error that a REAL is expected, or that the value holds one.
     pub fn real_not_supported(codec: Codec) -> DecodeError
-        ensures { error_stop result ≡ at_root Why.real_not_supported codec }
+        ensures { failure_of result ≡ at_root Cause.real_not_supported codec }
     {
         DecodeError::from_kind(DecodeErrorKind::RealNotSupported, codec)
     }
@@ -136,36 +137,36 @@ impl DecodeError {
     /// Returns the error that a string has a character that its type lacks. `tag` is the type's
     /// universal tag, and `msg` states the character and its place.
     pub fn string_conversion_failed(tag: Tag, msg: String, codec: Codec) -> DecodeError
-        ensures { error_stop result
-            ≡ at_root (Why.string_conversion_failed tag (string_bytes msg)) codec }
+        ensures { failure_of result
+            ≡ at_root (Cause.string_conversion_failed tag (string_bytes msg)) codec }
     {
         DecodeError::from_kind(DecodeErrorKind::StringConversionFailed { tag, msg }, codec)
     }
 
     /// Returns an error in words of its own.
     pub fn custom(msg: String, codec: Codec) -> DecodeError
-        ensures { error_stop result ≡ at_root (Why.custom (string_bytes msg)) codec }
+        ensures { failure_of result ≡ at_root (Cause.custom (string_bytes msg)) codec }
     {
         DecodeError::from_kind(DecodeErrorKind::Custom { msg }, codec)
     }
 
     /// Returns the error that the required extension addition of this name is absent.
     pub fn missing_field(name: &'static str, codec: Codec) -> DecodeError
-        ensures { error_stop result ≡ at_root (Why.missing_field name.now) codec }
+        ensures { failure_of result ≡ at_root (Cause.missing_field name.now) codec }
     {
         DecodeError::from_kind(DecodeErrorKind::MissingField { name }, codec)
     }
 
     /// Returns the error that a value names no alternative of the CHOICE type of this name.
     pub fn no_valid_choice(name: &'static str, codec: Codec) -> DecodeError
-        ensures { error_stop result ≡ at_root (Why.no_valid_choice name.now) codec }
+        ensures { failure_of result ≡ at_root (Cause.no_valid_choice name.now) codec }
     {
         DecodeError::from_kind(DecodeErrorKind::NoValidChoice { name }, codec)
     }
 
     /// Returns the error that memory ran out.
     pub fn out_of_memory(codec: Codec) -> DecodeError
-        ensures { error_stop result ≡ at_root Why.out_of_memory codec }
+        ensures { failure_of result ≡ at_root Cause.out_of_memory codec }
     {
         DecodeError::from_kind(DecodeErrorKind::OutOfMemory, codec)
     }
@@ -173,7 +174,7 @@ impl DecodeError {
     /// Returns what the predicate returns for the kind at the end of the chain of `FieldError`s.
     /// `K` stands for `DecodeErrorKind`, as `Cause` states: a caller writes
     /// `|kind: &DecodeErrorKind| ..`.
-    pub fn matches_root_cause<K: Cause, F: Fn(&K) -> bool + Drop>(&self, predicate: F) -> bool
+    pub fn matches_root_cause<K: RootCause, F: Fn(&K) -> bool + Drop>(&self, predicate: F) -> bool
         requires { F.IsAlwaysCallable predicate }
         ensures { (cause : K) × (K.kind cause ≡ root_kind self.now.kind)
             × FnReturnsAt F.Fn predicate cause result }
@@ -193,7 +194,7 @@ impl DecodeError {
 
     /// Returns whether memory ran out, and not within a field.
     pub fn is_out_of_memory(&self) -> bool
-        ensures { result ≡ is_memory (error_stop self.now) }
+        ensures { result ≡ is_out_of_memory (failure_of self.now) }
     {
         match &self.kind {
             DecodeErrorKind::OutOfMemory => true,
@@ -210,8 +211,8 @@ impl DecodeError {
         nested: DecodeError,
         codec: Codec,
     ) -> DecodeError
-        ensures { (error_stop result ≡ wrapped name.now codec (error_stop nested))
-            ⊎ (error_stop result ≡ at_root Why.out_of_memory codec) }
+        ensures { (failure_of result ≡ wrapped name.now codec (failure_of nested))
+            ⊎ (failure_of result ≡ at_root Cause.out_of_memory codec) }
     {
         if nested.is_out_of_memory() {
             return DecodeError::out_of_memory(codec);
@@ -227,7 +228,7 @@ impl DecodeError {
 
 /// Wraps a kind of one set of encoding rules in an error of its codec.
 impl From<CodecDecodeError> for DecodeError {
-    ghost from_gives = { λ inner error. error_stop error ≡ codec_stop inner };
+    ghost from_gives = { λ inner error. failure_of error ≡ codec_failure inner };
 
     fn from(inner: CodecDecodeError) -> DecodeError {
         let codec = match &inner {
@@ -241,7 +242,7 @@ impl From<CodecDecodeError> for DecodeError {
 
 /// Wraps a kind of BER in an error of the codec BER.
 impl From<BerDecodeErrorKind> for DecodeError {
-    ghost from_gives = { λ kind error. error_stop error ≡ codec_stop (Ber kind) };
+    ghost from_gives = { λ kind error. failure_of error ≡ codec_failure (Ber kind) };
 
     fn from(kind: BerDecodeErrorKind) -> DecodeError {
         DecodeError::from(CodecDecodeError::Ber(kind))
@@ -250,7 +251,7 @@ impl From<BerDecodeErrorKind> for DecodeError {
 
 /// Wraps a kind of JER in an error of the codec JER, so that `?` and `into` take it.
 impl From<JerDecodeErrorKind> for DecodeError {
-    ghost from_gives = { λ kind error. error_stop error ≡ codec_stop (Jer kind) };
+    ghost from_gives = { λ kind error. failure_of error ≡ codec_failure (Jer kind) };
 
     fn from(kind: JerDecodeErrorKind) -> DecodeError {
         DecodeError::from(CodecDecodeError::Jer(kind))
@@ -259,7 +260,7 @@ impl From<JerDecodeErrorKind> for DecodeError {
 
 /// Wraps a kind of AVN in an error of the codec AVN, so that `?` and `into` take it.
 impl From<AvnDecodeErrorKind> for DecodeError {
-    ghost from_gives = { λ kind error. error_stop error ≡ codec_stop (Avn kind) };
+    ghost from_gives = { λ kind error. failure_of error ≡ codec_failure (Avn kind) };
 
     fn from(kind: AvnDecodeErrorKind) -> DecodeError {
         DecodeError::from(CodecDecodeError::Avn(kind))

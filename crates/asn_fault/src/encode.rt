@@ -2,7 +2,7 @@
 //! decoding it names no fields, so contracts compare it as it is.
 ghost use Rattle.std.specs.Prelude.{◌≡◌, Some};
 ghost use Rattle.asn_fault.specs.Texts.{codec_encode_text, encode_kind_text, encode_error_text};
-ghost use Rattle.asn_fault.specs.Unwritten.{codec_refusal, encode_why, is_unwritten_memory};
+ghost use Rattle.asn_fault.specs.EncodeCause.{codec_refusal, encode_cause, is_encode_out_of_memory};
 ghost use Rattle.asn_fault.specs.declared.encode.CodecEncodeError.TheVariants.{Jer, Avn};
 
 use crate::{AvnEncodeErrorKind, JerEncodeErrorKind};
@@ -124,7 +124,7 @@ impl EncodeError {
 
     /// Returns whether memory ran out.
     pub fn is_out_of_memory(&self) -> bool
-        ensures { result ≡ is_unwritten_memory (encode_why self.now.kind) }
+        ensures { result ≡ is_encode_out_of_memory (encode_cause self.now.kind) }
     {
         match &self.kind {
             EncodeErrorKind::OutOfMemory => true,

@@ -1,7 +1,7 @@
 //! Defines the kinds of errors that the JSON Encoding Rules of X.697 (JER) alone have, with their
 //! texts.
 ghost use Rattle.std.specs.Prelude.{◌≡◌, Some, decimal};
-ghost use Rattle.asn_fault.specs.Stop.{Why, codec_why};
+ghost use Rattle.asn_fault.specs.Failure.{Cause, codec_cause};
 ghost use Rattle.asn_fault.specs.Texts.{jer_decode_text, jer_encode_text};
 ghost use Rattle.asn_base.specs.declared.codec.Codec.TheVariants.{Jer};
 
@@ -30,7 +30,7 @@ pub enum JerDecodeErrorKind {
 impl JerDecodeErrorKind {
     /// Returns the error that a value is expected where none is.
     pub fn eoi() -> CodecDecodeError
-        ensures { codec_why result ≡ Why.end_of_input Jer }
+        ensures { codec_cause result ≡ Cause.end_of_input Jer }
     {
         CodecDecodeError::Jer(JerDecodeErrorKind::EndOfInput {})
     }

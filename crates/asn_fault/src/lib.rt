@@ -16,4 +16,4 @@ pub use ber::BerDecodeErrorKind;
 pub use decode::{CodecDecodeError, DecodeError, DecodeErrorKind};
 pub use encode::{CodecEncodeError, EncodeError, EncodeErrorKind};
 pub use jer::{JerDecodeErrorKind, JerEncodeErrorKind, Utf8Fault};
-pub use refusal::{Cause, Refusal};
+pub use refusal::{Refusal, RootCause};

@@ -4,7 +4,7 @@
 //! `DecodeError` does. So the bound names a type parameter, and these traits tie it to the type.
 ghost use Rattle.asn_fault.specs.declared.decode.DecodeErrorKind.{DecodeErrorKind};
 ghost use Rattle.std.specs.Prelude.{◌≡◌};
-ghost use Rattle.asn_fault.specs.Stop.{Stop, error_stop};
+ghost use Rattle.asn_fault.specs.Failure.{Failure, failure_of};
 
 use crate::{DecodeError, DecodeErrorKind};
 
@@ -12,16 +12,16 @@ use crate::{DecodeError, DecodeErrorKind};
 /// why. `DecodeError` alone implements it, and is inferred at each call.
 pub trait Refusal: Sized + Drop {
     // The fields that lead to the place, and what is wrong there.
-    ghost stop: { Self → Stop };
+    ghost failure: { Self → Failure };
 
     /// Returns the same error, as the type that the closure has.
     fn of(error: DecodeError) -> Self
-        ensures { stop result ≡ error_stop error };
+        ensures { failure result ≡ failure_of error };
 }
 
 /// Passes the error on as it is.
 impl Refusal for DecodeError {
-    ghost stop = { error_stop };
+    ghost failure = { failure_of };
 
     fn of(error: DecodeError) -> DecodeError {
         error
@@ -30,7 +30,7 @@ impl Refusal for DecodeError {
 
 /// The argument of a predicate on root causes. `DecodeErrorKind` alone implements it, and is
 /// inferred where the closure's argument is annotated.
-pub trait Cause: Sized {
+pub trait RootCause: Sized {
     // The kind that it is.
     ghost kind: { Self → DecodeErrorKind };
 
@@ -40,7 +40,7 @@ pub trait Cause: Sized {
 }
 
 /// Passes the kind on as it is.
-impl Cause for DecodeErrorKind {
+impl RootCause for DecodeErrorKind {
     ghost kind = { λ kind. kind };
 
     fn of(cause: &DecodeErrorKind) -> &DecodeErrorKind {

@@ -2,7 +2,7 @@
 use Rattle.std.proofs.Common.{◌≡◌, refl, ap, sym, ◌∙◌, arith, ℕ, zero, suc, ◌+◌, ◌/◌, ◌%◌, ◌<◌, ◌≤◌, List, [], ◌∷◌, map, take, length, Bool, true, false, cond, ◌==◌, Option, Some, None, Ok, inl, inr}
 use Rattle.std.proofs.lemmas.Bool.{lt-ltb, eq-eqb, eqb-true, cases_Bool, cond-true, cond-false}
 use Rattle.std.proofs.lemmas.List.{take_all, take-map}
-use Rattle.avn_grammar.specs.Chars.{every}
+use Rattle.avn_grammar.specs.Chars.{all}
 use Rattle.avn_grammar.specs.Normal.{normal}
 use Rattle.avn_grammar.specs.Octets.{bit_text, packed}
 use Rattle.avn_grammar.specs.Tree.{Tree as AvnTree}
@@ -21,7 +21,7 @@ octet-small : (a b c d e f g h : Bool) → is_octet (octet_of a b c d e f g h) �
 octet-small a b c d e f g h = lt-ltb _ 256 (omega (arith, value-lt a, value-lt b, value-lt c, value-lt d, value-lt e, value-lt f, value-lt g, value-lt h))
 
 -- The octets of bits are octets.
-pub padded-octets : (bits : List Bool) → every is_octet (padded bits) ≡ true
+pub padded-octets : (bits : List Bool) → all is_octet (padded bits) ≡ true
 unfolding padded
 padded-octets [] = refl
 padded-octets (a ∷ []) = and-both _ _ (octet-small a false false false false false false false) refl

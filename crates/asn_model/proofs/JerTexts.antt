@@ -22,7 +22,7 @@ use Rattle.serde_json.specs.Written.{outline, items_outline, members_outline, nu
 use Rattle.asn_model.specs.Canonical.{jer_data, jer_items, jer_members}
 use Rattle.asn_model.specs.Notation.{Notation}
 use Rattle.asn_model.specs.Value.{Value, Values, Slots}
-use Rattle.asn_model.specs.Writable.{IntStands, Writable, WritableEach, WritableSlots}
+use Rattle.asn_model.specs.Writable.{IsEncodableInt, Writable, WritableEach, WritableSlots}
 
 tokens-compact_text : (d : Data) → tree.HasNumbers (outline d) → tokens (compact_text d) ≡ tree.json_tokens (outline d)
 tokens-compact_text d h = ap tokens (sym (print-outline d)) ∙ tokens-print _ (ArePrintable-json_tokens (outline d) h)
@@ -66,7 +66,7 @@ abbrev mutual
 -- Each number is a whole one that JER has.
 abbrev mutual
   IsWhole : Data → Type 0
-  IsWhole (Data.number n) = (k : ℤ) × (n ≡ of_integer k) × IntStands Notation.jer k
+  IsWhole (Data.number n) = (k : ℤ) × (n ≡ of_integer k) × IsEncodableInt Notation.jer k
   IsWhole (Data.array ds) = ItemsAreWhole ds
   IsWhole (Data.object ms) = MembersAreWhole ms
   IsWhole d = Unit {0}
@@ -79,13 +79,13 @@ abbrev mutual
   MembersAreWhole Members.no_members = Unit {0}
   MembersAreWhole (Members.member k d ms) = IsWhole d × MembersAreWhole ms
 
-below_unsigned : (n : ℕ) → IntStands Notation.jer (pos n) → n < 2 ^ 64
+below_unsigned : (n : ℕ) → IsEncodableInt Notation.jer (pos n) → n < 2 ^ 64
 below_unsigned n h = omega (arith, ints, h.1)
 
-above_signed : (n : ℕ) → IntStands Notation.jer (negsuc n) → n < 2 ^ 63
+above_signed : (n : ℕ) → IsEncodableInt Notation.jer (negsuc n) → n < 2 ^ 63
 above_signed n h = omega (arith, ints, h.0)
 
-number-back : (k : ℤ) → IntStands Notation.jer k → number_in (number_text (of_integer k)) ≡ of_integer k
+number-back : (k : ℤ) → IsEncodableInt Notation.jer k → number_in (number_text (of_integer k)) ≡ of_integer k
 number-back (pos n) h = ap (λ o. unwrap_or o (Num.unsigned 0)) (number_of-decimal n (below_unsigned n h))
 number-back (negsuc n) h = ap (λ o. unwrap_or o (Num.unsigned 0)) (number_of-negative n (above_signed n h))
 
@@ -97,7 +97,7 @@ IsNumber-negative : (n : ℕ) → 0 < n → n < 2 ^ 64 → IsNumber (45 ∷ deci
 unfolding after_number
 IsNumber-negative n some h = rw (head-decimal (decimal n) (first_decimal n some h)) at (IsNumber-decimal n h)
 
-number-is : (k : ℤ) → IntStands Notation.jer k → IsNumber (number_text (of_integer k))
+number-is : (k : ℤ) → IsEncodableInt Notation.jer k → IsNumber (number_text (of_integer k))
 number-is (pos n) h = IsNumber-decimal n (below_unsigned n h)
 number-is (negsuc n) h = IsNumber-negative (suc n) (omega arith) (omega (arith, above_signed n h))
 
@@ -143,13 +143,13 @@ put-whole n d Members.no_members h k = (h, tt)
 put-whole n d (Members.member m e ms) h k =
     ordered-whole (slice_cmp nat_cmp n m) (Members.member n d (Members.member m e ms)) (Members.member m d ms) (Members.member m e (put n d ms)) (h, k) (h, k.1) (k.0, put-whole n d ms h k.1)
 
-length-stands : (n : ℕ) → n < 2 ^ 64 → IntStands Notation.jer (pos n)
-length-stands n h = (omega (arith, ints), omega (arith, ints, h))
+length-parses : (n : ℕ) → n < 2 ^ 64 → IsEncodableInt Notation.jer (pos n)
+length-parses n h = (omega (arith, ints), omega (arith, ints, h))
 
 mutual
   written-whole : (v : Value) → Writable Notation.jer v → IsWhole (jer_data v)
   written-whole (Value.int k) h = (k, refl, h)
-  written-whole (Value.bits bits None) h = ((pos (length bits), refl, length-stands (length bits) h), (tt, tt))
+  written-whole (Value.bits bits None) h = ((pos (length bits), refl, length-parses (length bits) h), (tt, tt))
   written-whole (Value.members ms) h = slots-whole ms h
   written-whole (Value.list vs) h = each-whole vs h
   written-whole (Value.choice i v) h = (written-whole v h, tt)

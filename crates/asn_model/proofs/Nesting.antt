@@ -14,7 +14,7 @@ use Rattle.asn_base.specs.declared.codec.Codec.TheVariants.{Jer}
 use Rattle.asn_base.specs.declared.tag.Tag.{Tag}
 use Rattle.asn_strings.specs.Alphabets.{is_bmp, place_outside}
 use Rattle.asn_times.specs.Meanings.{day_of_text, generalized_of_text, utc_of_text}
-use Rattle.asn_fault.specs.Stop.{Why}
+use Rattle.asn_fault.specs.Failure.{Cause}
 use Rattle.serde_json.specs.Data.{Data, Num, Items, Members, put, depth, items_depth, members_depth}
 use Rattle.serde_json.specs.Find.{as_str, get_member}
 use Rattle.serde_json.specs.Written.{compact_text}
@@ -22,10 +22,10 @@ use Rattle.asn_model.specs.Canonical.{jer_data, jer_items, jer_members}
 use Rattle.asn_model.specs.CharacterStrings.{alphabet_number, alphabet_of, bmp_number, universal_tag}
 use Rattle.asn_model.specs.Arcs.{arc_numbers, identifier_or}
 use Rattle.asn_model.specs.BitLeaves.{no_bits, sized_bits}
-use Rattle.asn_model.specs.Leaf.{Blame, leaf, declared_bits, length_in, octets_or, or_blame, as_leaf, kind_of, refine, refined, time_or, within_alphabet}
+use Rattle.asn_model.specs.Leaf.{LeafFailure, leaf, declared_bits, length_in, octets_or, or_blame, as_leaf, kind_of, refine, refined, time_or, within_alphabet}
 use Rattle.asn_model.specs.Notation.{Notation}
 use Rattle.asn_model.specs.Range.{is_between}
-use Rattle.asn_model.specs.Says.{Says, SaysEach, SaysFields}
+use Rattle.asn_model.specs.DecodesTo.{DecodesTo, EachDecodesTo, FieldsDecodeTo}
 use Rattle.asn_model.specs.Shape.{Shape, Fields, all_fields, is_item, all_items, field_names}
 use Rattle.asn_model.specs.Tree.{Tree, Slot, as_list, as_members, as_choice, item_slots, member_slot}
 use Rattle.asn_model.specs.Value.{Value, Values, Slots, is_kept}
@@ -70,11 +70,11 @@ items-within Items.no_items n h = tt
 items-within (Items.item d ds) n h = (omega (arith, h), items-within ds n (omega (arith, h)))
 
 -- How deep the tree of an answer nests.
-abbrev answer_depth : Result Value Blame → ℕ
+abbrev answer_depth : Result Value LeafFailure → ℕ
 answer_depth (Ok v) = depth (jer_data v)
 answer_depth (Err b) = 0
 
-abbrev leaf_depth : Option (Result Value Blame) → ℕ
+abbrev leaf_depth : Option (Result Value LeafFailure) → ℕ
 leaf_depth None = 0
 leaf_depth (Some r) = answer_depth r
 
@@ -87,12 +87,12 @@ size-depth : (size : Option ℕ) (bits : List Bool) → depth (jer_data (Value.b
 size-depth None bits = omega arith
 size-depth (Some n) bits = omega arith
 
-sized-depth : (b : Bool) (size : Option ℕ) (bits : List Bool) (why : Why) (n : ℕ) → depth (jer_data (Value.bits bits size)) ≤ n → answer_depth (or_blame (if b then Ok (Value.bits bits size) else Err why)) ≤ n
-sized-depth true size bits why n h = h
-sized-depth false size bits why n h = omega arith
+sized-depth : (b : Bool) (size : Option ℕ) (bits : List Bool) (cause : Cause) (n : ℕ) → depth (jer_data (Value.bits bits size)) ≤ n → answer_depth (or_blame (if b then Ok (Value.bits bits size) else Err cause)) ≤ n
+sized-depth true size bits cause n h = h
+sized-depth false size bits cause n h = omega arith
 
 -- Bits nest no deeper than what is written for them.
-bits-depth : (size : Option ℕ) (k : ℕ) (bad : Why) (r : Result (List ℕ) FromHexError) (n : ℕ) → ((bits : List Bool) → depth (jer_data (Value.bits bits size)) ≤ n) → answer_depth (or_blame (sized_bits size k bad r)) ≤ n
+bits-depth : (size : Option ℕ) (k : ℕ) (bad : Cause) (r : Result (List ℕ) FromHexError) (n : ℕ) → ((bits : List Bool) → depth (jer_data (Value.bits bits size)) ≤ n) → answer_depth (or_blame (sized_bits size k bad r)) ≤ n
 bits-depth size k bad (Ok o) n h = sized-depth (length o == div_ceil k 8) size (bits_of o k) _ n (h (bits_of o k))
 bits-depth size k bad (Err e) n h = omega arith
 
@@ -100,15 +100,15 @@ declared-depth : (digits : Option (List ℕ)) (size : Option ℕ) (n : ℕ) → 
 declared-depth (Some x) (Some k) n h = bits-depth None k no_bits (decode_of x) n (λ bits. omega (arith, size-depth None bits, h))
 declared-depth digits size n h = omega arith
 
-tested-flat : (b : Bool) (v : Value) (blame : Blame) (n : ℕ) → depth (jer_data v) ≤ n → answer_depth (if b then Ok v else Err blame) ≤ n
+tested-flat : (b : Bool) (v : Value) (blame : LeafFailure) (n : ℕ) → depth (jer_data v) ≤ n → answer_depth (if b then Ok v else Err blame) ≤ n
 tested-flat true v blame n h = h
 tested-flat false v blame n h = omega arith
 
-identifier-depth : (why : Why) (o : Option (List ℕ)) → answer_depth (or_blame (identifier_or why o)) ≡ 0
-identifier-depth why None = refl
-identifier-depth why (Some arcs) = by (is_object_identifier arcs)
+identifier-depth : (cause : Cause) (o : Option (List ℕ)) → answer_depth (or_blame (identifier_or cause o)) ≡ 0
+identifier-depth cause None = refl
+identifier-depth cause (Some arcs) = by (is_object_identifier arcs)
   where
-    by : (b : Bool) → answer_depth (or_blame (if b then Ok (Value.arcs arcs) else Err why)) ≡ 0
+    by : (b : Bool) → answer_depth (or_blame (if b then Ok (Value.arcs arcs) else Err cause)) ≡ 0
     by true = refl
     by false = refl
 
@@ -124,9 +124,9 @@ kind-flat Date (Tree.json (Data.string x)) = omega arith
 kind-flat Item (Tree.json (Data.string x)) = omega arith
 kind-flat Octets (Tree.json (Data.string x)) = omega (arith, octets-flat (decode_of x))
 kind-flat Any (Tree.json (Data.string x)) = omega (arith, octets-flat (decode_of x))
-kind-flat Oid (Tree.json (Data.string x)) = omega (arith, identifier-depth (Why.invalid_oid_string (compact_text (Data.string x))) (arc_numbers (slice_split (λ c. c == 46) x)))
+kind-flat Oid (Tree.json (Data.string x)) = omega (arith, identifier-depth (Cause.invalid_oid_string (compact_text (Data.string x))) (arc_numbers (slice_split (λ c. c == 46) x)))
 kind-flat (Bits None) (Tree.json (Data.object ms)) = declared-depth (option_and_then as_str (get_member (codes "value") ms)) (option_and_then length_in (get_member (codes "length") ms)) _ (omega arith)
-kind-flat (Bits (Some size)) (Tree.json (Data.string x)) = bits-depth (Some size) size Why.invalid_jer_octet_string (decode_of x) 0 (λ bits. omega arith)
+kind-flat (Bits (Some size)) (Tree.json (Data.string x)) = bits-depth (Some size) size Cause.invalid_jer_octet_string (decode_of x) 0 (λ bits. omega arith)
 kind-flat k t = omega arith
 
 placed-flat : (tag : Tag) (v : Value) (place : Option ℕ) (n : ℕ) → depth (jer_data v) ≤ n → answer_depth (within_alphabet tag v place) ≤ n
@@ -147,7 +147,7 @@ refine-flat Shape.gen (Value.text t) n h = timed-flat t Value.gen (generalized_o
 refine-flat Shape.day (Value.text t) n h = timed-flat t Value.day (day_of_text t) n (λ k. h)
 refine-flat s v n h = h
 
-refined-flat : (s : Shape) (r : Result Value Blame) (n : ℕ) → answer_depth r ≤ n → answer_depth (refined Jer s r) ≤ n
+refined-flat : (s : Shape) (r : Result Value LeafFailure) (n : ℕ) → answer_depth r ≤ n → answer_depth (refined Jer s r) ≤ n
 refined-flat s (Ok v) n h = refine-flat s v n h
 refined-flat s (Err b) n h = omega arith
 
@@ -207,26 +207,26 @@ no_other : {P : Type 0} → Notation.jer ≡ Notation.other → P
 no_other e = cc e
 
 mutual
-  -- What JER writes for a value that a slot says nests no deeper than the slot's tree.
-  pub says-depth : {s : Shape} {slot : Slot} {v : Value} → Says Notation.jer s slot v → depth (jer_data v) ≤ slot_depth slot
-  says-depth (Says.says_leaf s t v e) = subst (λ o. leaf_depth o ≤ tree_depth t) e (leaf-flat s t)
-  says-depth (Says.says_seq kind fs more t look vs e h) =
+  -- What JER writes for a value that a slot decodes to nests no deeper than the slot's tree.
+  pub decodes-depth : {s : Shape} {slot : Slot} {v : Value} → DecodesTo Notation.jer s slot v → depth (jer_data v) ≤ slot_depth slot
+  decodes-depth (DecodesTo.decodes_leaf s t v e) = subst (λ o. leaf_depth o ≤ tree_depth t) e (leaf-flat s t)
+  decodes-depth (DecodesTo.decodes_seq kind fs more t look vs e h) =
       let o = members-opened t look e in
       let below = fields-depth o.inner h (looked-within look o.inner o.parts (field_names (all_fields fs more))) in omega (arith, below, o.outer)
-  says-depth (Says.says_list s t slots vs e h) =
+  decodes-depth (DecodesTo.decodes_list s t slots vs e h) =
       let o = list-opened t slots e in
       let below = each-depth o.inner h o.parts in omega (arith, below, o.outer)
-  says-depth (Says.says_choice alts added t name u id s v e f h) = let below = says-depth h in let outer = choice-opened t name u e in omega (arith, below, outer)
-  says-depth (Says.says_loop body t v h) = says-depth h
-  says-depth (Says.says_free s slot v e) = no_other e
+  decodes-depth (DecodesTo.decodes_choice alts added t name u id s v e f h) = let below = decodes-depth h in let outer = choice-opened t name u e in omega (arith, below, outer)
+  decodes-depth (DecodesTo.decodes_loop body t v h) = decodes-depth h
+  decodes-depth (DecodesTo.decodes_free s slot v e) = no_other e
 
-  each-depth : {s : Shape} {slots : List Slot} {vs : Values} (n : ℕ) → SaysEach Notation.jer s slots vs → AllWithin n slots → items_depth (jer_items vs) ≤ n
-  each-depth n (SaysEach.says_none s) w = omega arith
-  each-depth n (SaysEach.says_one s slot rest v vs h hs) w = let first = says-depth h in let others = each-depth n hs w.1 in omega (arith, first, others, w.0)
+  each-depth : {s : Shape} {slots : List Slot} {vs : Values} (n : ℕ) → EachDecodesTo Notation.jer s slots vs → AllWithin n slots → items_depth (jer_items vs) ≤ n
+  each-depth n (EachDecodesTo.decodes_none s) w = omega arith
+  each-depth n (EachDecodesTo.decodes_one s slot rest v vs h hs) w = let first = decodes-depth h in let others = each-depth n hs w.1 in omega (arith, first, others, w.0)
 
-  fields-depth : {fs : Fields} {slots : List Slot} {vs : Slots} (n : ℕ) → SaysFields Notation.jer fs slots vs → AllWithin n slots → members_depth (jer_members vs) ≤ n
-  fields-depth n SaysFields.says_end w = omega arith
-  fields-depth n (SaysFields.says_present name g p s fs slot rest v vs h hs) w =
-      let first = says-depth h in
+  fields-depth : {fs : Fields} {slots : List Slot} {vs : Slots} (n : ℕ) → FieldsDecodeTo Notation.jer fs slots vs → AllWithin n slots → members_depth (jer_members vs) ≤ n
+  fields-depth n FieldsDecodeTo.decodes_end w = omega arith
+  fields-depth n (FieldsDecodeTo.decodes_present name g p s fs slot rest v vs h hs) w =
+      let first = decodes-depth h in
       kept-depth (is_kept p v) name v vs n (omega (arith, first, w.0)) (fields-depth n hs w.1)
-  fields-depth n (SaysFields.says_absent name g p s fs rest vs lack hs) w = fields-depth n hs w.1
+  fields-depth n (FieldsDecodeTo.decodes_absent name g p s fs rest vs lack hs) w = fields-depth n hs w.1

@@ -4,7 +4,7 @@ use Rattle.std.proofs.lemmas.Bool.{leb-true, le-leb, ltb-true, lt-ltb, eq-eqb}
 use Rattle.std.proofs.lemmas.Bool.Decides.{eqb_tells}
 use Rattle.asn_base.specs.declared.tag.Tag.{Tag}
 use Rattle.asn_model.specs.Shape.{Shape, SeqKind, Fields, FieldAdditions, all_fields, join_fields, Alternatives, AlternativeAdditions, Plain, Presence, fill, fill_fields, fill_added_fields, fill_alternatives, fill_added_alternatives, unfold_loop, opened, all_alternatives, join_alternatives, field_names, identifiers, tags, tag_eq, has_tag, tags_distinct, alternative_tagged, are_distinct, end_tag}
-use Rattle.asn_model.specs.Readable.{are_apart, are_identifiers, all_field_names, is_of_shape, suits, has_alternative, are_told_apart, is_readable, is_readable_in, are_fields_readable, are_added_fields_readable, are_alternatives_readable, are_added_alternatives_readable}
+use Rattle.asn_model.specs.Readable.{differ_ignoring_case, are_identifiers, all_field_names, is_of_shape, suits, has_alternative, are_distinguishable, is_readable, is_readable_in, are_fields_readable, are_added_fields_readable, are_alternatives_readable, are_added_alternatives_readable}
 
 pub and-left : (a b : Bool) → (a && b) ≡ true → a ≡ true
 and-left true b e = refl
@@ -42,7 +42,7 @@ tags-fill : (alts : Alternatives) (k : ℕ) (r : Shape) → tags (fill_alternati
 tags-fill Alternatives.no_alternatives k r = refl
 tags-fill (Alternatives.alternative n t s alts) k r = ap (λ l. t ∷ l) (tags-fill alts k r)
 
-told-fill : (alts : Alternatives) (added : AlternativeAdditions) (k : ℕ) (r : Shape) → are_told_apart (all_alternatives (fill_alternatives alts k r) (fill_added_alternatives added k r)) ≡ are_told_apart (all_alternatives alts added)
+told-fill : (alts : Alternatives) (added : AlternativeAdditions) (k : ℕ) (r : Shape) → are_distinguishable (all_alternatives (fill_alternatives alts k r) (fill_added_alternatives added k r)) ≡ are_distinguishable (all_alternatives alts added)
 told-fill alts added k r =
     rw (all_alternatives-fill alts added k r, identifiers-fill (all_alternatives alts added) k r, tags-fill (all_alternatives alts added) k r) refl
 
@@ -96,7 +96,7 @@ mutual
   loosen (Shape.set_of s) l e = loosen s (within_part l) e
   loosen (Shape.table s) l e = loosen s (within_part l) e
   loosen (Shape.choice alts added) {loops} {bare} {loops2} {bare2} l e =
-      let names = has_alternative alts && are_told_apart (all_alternatives alts added) in
+      let names = has_alternative alts && are_distinguishable (all_alternatives alts added) in
       let parts = and-right names (are_alternatives_readable loops alts && are_added_alternatives_readable loops added) e in
       and-both _ _ (and-left names (are_alternatives_readable loops alts && are_added_alternatives_readable loops added) e)
       (and-both _ _ (loosen_alternatives alts l (and-left (are_alternatives_readable loops alts) (are_added_alternatives_readable loops added) parts))
@@ -152,11 +152,11 @@ mutual
   fill-readable (Shape.set_of s) k bare bare2 r h l e = fill-readable s k 0 0 r h (omega arith) e
   fill-readable (Shape.table s) k bare bare2 r h l e = fill-readable s k 0 0 r h (omega arith) e
   fill-readable (Shape.choice alts added) k bare bare2 r h l e =
-      let names = has_alternative alts && are_told_apart (all_alternatives alts added) in
+      let names = has_alternative alts && are_distinguishable (all_alternatives alts added) in
       let parts = and-right names (are_alternatives_readable (suc k) alts && are_added_alternatives_readable (suc k) added) e in
       let told = and-left names (are_alternatives_readable (suc k) alts && are_added_alternatives_readable (suc k) added) e in
-      and-both _ _ (and-both _ _ (has_alternative-fill alts k r ∙ and-left (has_alternative alts) (are_told_apart (all_alternatives alts added)) told)
-      (told-fill alts added k r ∙ and-right (has_alternative alts) (are_told_apart (all_alternatives alts added)) told))
+      and-both _ _ (and-both _ _ (has_alternative-fill alts k r ∙ and-left (has_alternative alts) (are_distinguishable (all_alternatives alts added)) told)
+      (told-fill alts added k r ∙ and-right (has_alternative alts) (are_distinguishable (all_alternatives alts added)) told))
       (and-both _ _ (alternatives-readable alts k r h (and-left (are_alternatives_readable (suc k) alts) (are_added_alternatives_readable (suc k) added) parts))
       (added_alternatives-readable added k r h (and-right (are_alternatives_readable (suc k) alts) (are_added_alternatives_readable (suc k) added) parts)))
   fill-readable (Shape.loop s) k bare bare2 r h l e = fill-readable s (suc k) (suc bare) (suc bare2) r h (omega (arith, l)) e
@@ -235,17 +235,17 @@ fields_read kind fs added e =
 pub names_distinct : (s : Shape) (kind : SeqKind) (fs : Fields) (added : FieldAdditions) → is_readable s ≡ true → opened s ≡ Shape.seq kind fs added → are_distinct (field_names (all_fields fs added)) ≡ true
 names_distinct s kind fs added e o = let read = fields_read kind fs added (subst (λ x. is_readable x ≡ true) o (opened-readable s e)) in read.distinct
 
--- The alternatives of a choice that can be read are told apart.
-told_apart : (s : Shape) (alts : Alternatives) (added : AlternativeAdditions) → is_readable s ≡ true → opened s ≡ Shape.choice alts added → are_told_apart (all_alternatives alts added) ≡ true
-told_apart s alts added e o =
+-- The alternatives of a choice that can be read are distinguishable.
+distinguished : (s : Shape) (alts : Alternatives) (added : AlternativeAdditions) → is_readable s ≡ true → opened s ≡ Shape.choice alts added → are_distinguishable (all_alternatives alts added) ≡ true
+distinguished s alts added e o =
     let read = subst (λ x. is_readable x ≡ true) o (opened-readable s e) in
-    and-right (has_alternative alts) _ (and-left (has_alternative alts && are_told_apart (all_alternatives alts added)) _ read)
+    and-right (has_alternative alts) _ (and-left (has_alternative alts && are_distinguishable (all_alternatives alts added)) _ read)
 
 -- Their tags are distinct.
-pub tags_told_apart : (s : Shape) (alts : Alternatives) (added : AlternativeAdditions) → is_readable s ≡ true → opened s ≡ Shape.choice alts added → tags_distinct (tags (all_alternatives alts added)) ≡ true
-tags_told_apart s alts added e o =
+pub tags_distinguished : (s : Shape) (alts : Alternatives) (added : AlternativeAdditions) → is_readable s ≡ true → opened s ≡ Shape.choice alts added → tags_distinct (tags (all_alternatives alts added)) ≡ true
+tags_distinguished s alts added e o =
     let all = all_alternatives alts added in
-    and-left (tags_distinct (tags all)) _ (and-right (are_identifiers (identifiers all) && are_apart (identifiers all)) _ (told_apart s alts added e o))
+    and-left (tags_distinct (tags all)) _ (and-right (are_identifiers (identifiers all) && differ_ignoring_case (identifiers all)) _ (distinguished s alts added e o))
 
 not-true : (b : Bool) → not b ≡ true → b ≡ false
 not-true true e = let d : false ≡ true = e in cc d
@@ -267,5 +267,5 @@ no_alternative_of (Alternatives.alternative n t s alts) e = no_first (tag_eq t e
 pub no_end_tag : (s : Shape) (alts : Alternatives) (added : AlternativeAdditions) → is_readable s ≡ true → opened s ≡ Shape.choice alts added → alternative_tagged (all_alternatives alts added) end_tag ≡ None
 no_end_tag s alts added e o =
     let all = all_alternatives alts added in
-    let ends = and-right (tags_distinct (tags all)) _ (and-right (are_identifiers (identifiers all) && are_apart (identifiers all)) _ (told_apart s alts added e o)) in
+    let ends = and-right (tags_distinct (tags all)) _ (and-right (are_identifiers (identifiers all) && differ_ignoring_case (identifiers all)) _ (distinguished s alts added e o)) in
     no_alternative_of all (not-true (has_tag (tags all) end_tag) ends)

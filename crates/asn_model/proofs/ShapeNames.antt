@@ -2,11 +2,11 @@
 use Rattle.std.proofs.Common.{◌≡◌, refl, ap, sym, ◌∙◌, arith, rules, Bor, ℕ, zero, suc, ◌+◌, ◌<◌, List, [], ◌∷◌, ◌++◌, map, take, get_or, length, Bool, true, false, ◌&&◌, Option, Some, None, string_bytes, append-nil}
 use Rattle.std.proofs.lemmas.List.{take_more}
 use Rattle.std.specs.Global.{Vec}
-use Rattle.asn_model.specs.Around.{loops_step, loops_of, bare_step, bare_of, entries_of}
-use Rattle.asn_model.specs.Readable.{all_field_names, are_identifiers, has_alternative, are_told_apart, suits, is_readable_in, are_fields_readable, are_added_fields_readable, are_alternatives_readable, are_added_alternatives_readable}
-use Rattle.asn_model.specs.declared.readable.Around.{Around, fold-roll-Around}
-use Rattle.asn_model.specs.declared.readable.Around.TheVariants.{rolls-Part}
-use Rattle.asn_model.specs.declared.readable.Around.TheViews.{Part}
+use Rattle.asn_model.specs.Enclosing.{loops_step, loops_of, unguarded_step, unguarded_of, entries_of}
+use Rattle.asn_model.specs.Readable.{all_field_names, are_identifiers, has_alternative, are_distinguishable, suits, is_readable_in, are_fields_readable, are_added_fields_readable, are_alternatives_readable, are_added_alternatives_readable}
+use Rattle.asn_model.specs.declared.readable.Enclosing.{Enclosing, fold-roll-Enclosing}
+use Rattle.asn_model.specs.declared.readable.Enclosing.TheVariants.{rolls-Part}
+use Rattle.asn_model.specs.declared.readable.Enclosing.TheViews.{Part}
 use Rattle.asn_model.specs.Shape.{Shape, Alternatives, all_alternatives, join_alternatives, field_names, identifiers, tags, are_distinct}
 use Rattle.asn_model.specs.ShapeView.{shape_view, presence_view, field_views, alternative_views}
 use Rattle.asn_model.specs.declared.shape_type.AlternativeShape.{AlternativeShape}
@@ -63,9 +63,9 @@ pub sequence_readable : (loops bare : ℕ) (k : SeqKind) (fs : Vec FieldShape) (
 sequence_readable loops bare k fs added =
     ap (is_readable_in loops bare) (sequence_viewed k fs added) ∙ rw (all_field_names_viewed fs.items added, added_fields_viewed loops added) refl
 
--- A choice can be read where it has alternatives, they are told apart, and they can be read.
+-- A choice can be read where it has alternatives, they are distinguishable, and they can be read.
 pub choice_readable : (loops bare : ℕ) (alts : Vec AlternativeShape) (added : Option (Vec AlternativeShape))
-    → is_readable_in loops bare (shape_view (Choice alts added)) ≡ ((has_alternative (alternative_views alts.items) && are_told_apart (join_alternatives (alternative_views alts.items) (alternative_views (entries_of added))))
+    → is_readable_in loops bare (shape_view (Choice alts added)) ≡ ((has_alternative (alternative_views alts.items) && are_distinguishable (join_alternatives (alternative_views alts.items) (alternative_views (entries_of added))))
     && (are_alternatives_readable loops (alternative_views alts.items) && are_alternatives_readable loops (alternative_views (entries_of added))))
 choice_readable loops bare alts added =
     ap (is_readable_in loops bare) (choice_viewed alts added) ∙ rw (all_alternatives_viewed alts.items added, added_alternatives_viewed loops added) refl
@@ -118,12 +118,12 @@ alternatives-other loops (b ∷ alts) zero a l k = ap (λ x. x && are_alternativ
 alternatives-other loops (b ∷ alts) (suc i) a l k = and-false (is_readable_in loops 0 (shape_view b.shape)) (are_alternatives_readable loops (alternative_views alts)) (alternatives-other loops alts i a (omega arith) k)
 
 -- A part adds no loop, and leaves none bare.
-loops_of-part : (outer : Bor Around) → loops_of (Part outer) ≡ loops_of outer.now
-loops_of-part outer = let layer = fold-roll-Around ℕ loops_step in let rolled = rolls-Part outer in search rules
+loops_of-part : (outer : Bor Enclosing) → loops_of (Part outer) ≡ loops_of outer.now
+loops_of-part outer = let layer = fold-roll-Enclosing ℕ loops_step in let rolled = rolls-Part outer in search rules
 
-bare_of-part : (outer : Bor Around) → bare_of (Part outer) ≡ 0
-bare_of-part outer = let layer = fold-roll-Around ℕ bare_step in let rolled = rolls-Part outer in search rules
+unguarded_of-part : (outer : Bor Enclosing) → unguarded_of (Part outer) ≡ 0
+unguarded_of-part outer = let layer = fold-roll-Enclosing ℕ unguarded_step in let rolled = rolls-Part outer in search rules
 
 -- Whether a shape can be read as a part of what stands within this.
-pub part_readable : (outer : Bor Around) (s : Shape) → is_readable_in (loops_of (Part outer)) (bare_of (Part outer)) s ≡ is_readable_in (loops_of outer.now) 0 s
-part_readable outer s = rw (loops_of-part outer, bare_of-part outer) refl
+pub part_readable : (outer : Bor Enclosing) (s : Shape) → is_readable_in (loops_of (Part outer)) (unguarded_of (Part outer)) s ≡ is_readable_in (loops_of outer.now) 0 s
+part_readable outer s = rw (loops_of-part outer, unguarded_of-part outer) refl

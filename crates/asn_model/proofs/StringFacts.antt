@@ -2,7 +2,7 @@
 use Rattle.std.proofs.Common.{◌≡◌, refl, ap, ◌∙◌, ℕ, List, Bool, true, ◌&&◌, None, Ok}
 use Rattle.std.specs.Str.{chars, is_utf8}
 use Rattle.std.proofs.lemmas.Str.{IsUtf8-from_is_utf8, is_utf8-from_IsUtf8, chars-encodes}
-use Rattle.avn_grammar.specs.Chars.{every}
+use Rattle.avn_grammar.specs.Chars.{all}
 use Rattle.avn_grammar.specs.WellFormed.{is_octet}
 use Rattle.asn_base.specs.declared.codec.Codec.{Codec}
 use Rattle.asn_strings.specs.Alphabets.{all_within, is_any, is_bmp, is_graphic, is_ia5, is_numeric, is_printable, is_visible, past_ascii_is_graphic, place_outside}
@@ -21,9 +21,9 @@ none_where p t e = (none_is_within p (chars t)).1 (and-right (is_utf8 t) (all_wi
 none_of_any : (t : List ℕ) → place_outside is_any (chars t) ≡ None
 none_of_any t = (none_is_within is_any (chars t)).1 (every_octet_within is_any (λ _. refl) (chars t))
 
-none_of_graphic : (t : List ℕ) → is_utf8 t ≡ true → (every is_octet t && all_within is_graphic t) ≡ true → place_outside is_graphic (chars t) ≡ None
+none_of_graphic : (t : List ℕ) → is_utf8 t ≡ true → (all is_octet t && all_within is_graphic t) ≡ true → place_outside is_graphic (chars t) ≡ None
 none_of_graphic t u e =
-    (none_is_within is_graphic (chars t)).1 (characters_within is_graphic past_ascii_is_graphic t (IsUtf8-from_is_utf8 t u) (and-right (every is_octet t) (all_within is_graphic t) e))
+    (none_is_within is_graphic (chars t)).1 (characters_within is_graphic past_ascii_is_graphic t (IsUtf8-from_is_utf8 t u) (and-right (all is_octet t) (all_within is_graphic t) e))
 
 -- A text of the type has no character outside its alphabet.
 pub none_outside : (a : Alphabet) (t : List ℕ) → is_utf8 t ≡ true → is_string_of a t ≡ true → place_outside (alphabet_of a) (chars t) ≡ None

@@ -11,12 +11,12 @@ use Rattle.asn_model.specs.declared.shape_type.Shape.TheVariants.{rolls-Seq, rol
 use Rattle.asn_model.specs.declared.shape_type.Shape.TheViews.{Seq, Choice}
 use Rattle.asn_model.specs.declared.shape_type.Shape.TheFolds.{fold-FieldShape, fold-AlternativeShape, fold-roll-Shape, fold_out-FieldShape, fold_out-AlternativeShape}
 
--- The added fields that `FieldShape`s are, if there is an extension marker.
+-- The extension additions that `FieldShape`s are, if there is an extension marker.
 abbrev pub added_field_views : Option (Vec FieldShape) → spec.FieldAdditions
 added_field_views None = spec.FieldAdditions.closed_fields
 added_field_views (Some fs) = spec.FieldAdditions.extended_fields (field_views fs.items)
 
--- The added alternatives that `AlternativeShape`s are, if there is an extension marker.
+-- The extension additions that `AlternativeShape`s are, if there is an extension marker.
 abbrev pub added_alternative_views : Option (Vec AlternativeShape) → spec.AlternativeAdditions
 added_alternative_views None = spec.AlternativeAdditions.closed_alternatives
 added_alternative_views (Some alts) = spec.AlternativeAdditions.extended_alternatives (alternative_views alts.items)

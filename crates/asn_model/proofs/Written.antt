@@ -1,4 +1,4 @@
--- What is written says the value that was written.
+-- What is written decodes to the value that was written.
 use Rattle.std.proofs.Common.{◌≡◌, refl, ap, sym, ◌∙◌, subst, arith, ℕ, zero, suc, ◌<◌, nat_lt, slice_index, [], ◌-◌, ◌^◌, ℤ, pos, negsuc, ◌≤ℤ◌, List, ◌∷◌, map, Bool, true, false, not, ◌&&◌, if◌then◌else◌, Option, Some, None, Ok, Err, length}
 use Rattle.std.specs.Prelude.{option_map}
 use Rattle.std.specs.Int.Signed.{lt_z_no}
@@ -15,21 +15,21 @@ use Rattle.serde_json.proofs.Views.{get_member-put, get_member-put_other}
 use Rattle.asn_base.specs.declared.codec.Codec.TheVariants.{Jer}
 use Rattle.hex.proofs.HexLemmas.{decode_of-encode_upper}
 use Rattle.hex.specs.Hex.{decode_of, encode_upper}
-use Rattle.avn_grammar.specs.Chars.{every}
+use Rattle.avn_grammar.specs.Chars.{all}
 use Rattle.avn_grammar.specs.WellFormed.{is_octet, is_arc}
 use Rattle.std.specs.Int.{div_ceil}
 use Rattle.asn_base.specs.BitStrings.{bits_of, padded}
 use Rattle.asn_base.specs.ObjectIdentifiers.{is_object_identifier}
 use Rattle.asn_base.proofs.Padding.{first-padded, length-padded}
-use Rattle.asn_fault.specs.Stop.{Why}
+use Rattle.asn_fault.specs.Failure.{Cause}
 use Rattle.asn_model.specs.Arcs.{dotted_text, identifier_or}
 use Rattle.asn_model.specs.BitLeaves.{another_length, no_bits, sized_bits}
 use Rattle.asn_model.specs.Canonical.{jer_data, jer_items, jer_members}
 use Rattle.asn_model.specs.Leaf.{leaf, octets_or, or_blame, refined}
 use Rattle.asn_model.specs.Notation.{Notation}
-use Rattle.asn_model.specs.Readable.{is_readable, are_fields_readable, are_alternatives_readable, are_added_alternatives_readable, suits, has_alternative, are_told_apart, are_identifiers, are_apart, has_identifier, has_128_bits}
+use Rattle.asn_model.specs.Readable.{is_readable, are_fields_readable, are_alternatives_readable, are_added_alternatives_readable, suits, has_alternative, are_distinguishable, are_identifiers, differ_ignoring_case, has_identifier, has_128_bits}
 use Rattle.asn_model.specs.Range.{at_most}
-use Rattle.asn_model.specs.Says.{Says, SaysEach, SaysFields}
+use Rattle.asn_model.specs.DecodesTo.{DecodesTo, EachDecodesTo, FieldsDecodeTo}
 use Rattle.asn_model.specs.Shape.{Shape, Fields, Alternatives, AlternativeAdditions, all_alternatives, join_alternatives, field_names, identifiers, tags, has_tag, tags_distinct, end_tag, are_distinct, is_item, alternative_named}
 use Rattle.asn_model.specs.Tree.{Tree, Slot, item_slots, member_slot, same_identifier}
 use Rattle.asn_model.specs.Value.{Value, Values, Slots, Fits, FitsEach, FitsFields, FitsAlternative, is_leaf_of}
@@ -89,49 +89,49 @@ all_readable alts (AlternativeAdditions.extended_alternatives more) e f = altern
 
 module _ (n : Notation) (tree : Value → Tree) (w : Writes n tree) where
   mutual
-    -- The tree of a value that fits and can be written says that value.
-    pub says_written : {s : Shape} {v : Value} → is_readable s ≡ true → Fits s v → Writable n v → Says n s (Some (tree v)) v
-    says_written a (Fits.fits_leaf {s} {v} e) can = Says.says_leaf s _ v (w.leaf s v a e can)
-    says_written a (Fits.fits_members {kind} {fs} {added} {ms} fit) can =
+    -- The tree of a value that fits and can be written decodes to that value.
+    pub decodes_written : {s : Shape} {v : Value} → is_readable s ≡ true → Fits s v → Writable n v → DecodesTo n s (Some (tree v)) v
+    decodes_written a (Fits.fits_leaf {s} {v} e) can = DecodesTo.decodes_leaf s _ v (w.leaf s v a e can)
+    decodes_written a (Fits.fits_members {kind} {fs} {added} {ms} fit) can =
         let read = fields_read kind fs added a in
         let m = w.members ms (ap are_distinct (slot_names-fields fit) ∙ read.distinct) in
-        Says.says_seq kind fs added _ m.0 ms m.1 (fields_written m.0 read.parts fit can m.2)
-    says_written a (Fits.fits_list {s} {vs} fit) can = Says.says_list s _ _ vs (w.list vs) (each_written a fit can)
-    says_written a (Fits.fits_choice {alts} {added} {i} {v} fit) can =
-        let all = all_alternatives alts added in
-        let names = has_alternative alts && are_told_apart all in
-        let told = and-right (has_alternative alts) (are_told_apart all) (and-left names (are_alternatives_readable 0 alts && are_added_alternatives_readable 0 added) a) in
-        let apart = and-right (are_identifiers (identifiers all)) (are_apart (identifiers all)) (and-left (are_identifiers (identifiers all) && are_apart (identifiers all)) (tags_distinct (tags all) && not (has_tag (tags all) end_tag)) told) in
+        DecodesTo.decodes_seq kind fs added _ m.0 ms m.1 (fields_written m.0 read.parts fit can m.2)
+    decodes_written a (Fits.fits_list {s} {vs} fit) can = DecodesTo.decodes_list s _ _ vs (w.list vs) (each_written a fit can)
+    decodes_written a (Fits.fits_choice {alts} {added} {i} {v} fit) can =
+        let whole = all_alternatives alts added in
+        let names = has_alternative alts && are_distinguishable whole in
+        let told = and-right (has_alternative alts) (are_distinguishable whole) (and-left names (are_alternatives_readable 0 alts && are_added_alternatives_readable 0 added) a) in
+        let apart = and-right (are_identifiers (identifiers whole)) (differ_ignoring_case (identifiers whole)) (and-left (are_identifiers (identifiers whole) && differ_ignoring_case (identifiers whole)) (tags_distinct (tags whole) && not (has_tag (tags whole) end_tag)) told) in
         let read = and-right names (are_alternatives_readable 0 alts && are_added_alternatives_readable 0 added) a in
         let parts = all_readable alts added (and-left (are_alternatives_readable 0 alts) (are_added_alternatives_readable 0 added) read) (and-right (are_alternatives_readable 0 alts) (are_added_alternatives_readable 0 added) read) in
         let c = alternative_written apart parts fit can in
-        Says.says_choice alts added _ i (tree v) i c.0 v (w.choice i v) c.1 c.2
-    says_written a (Fits.fits_loop {b} {v} fit) can = Says.says_loop b _ v (says_written (unfolded-readable b a) fit can)
+        DecodesTo.decodes_choice alts added _ i (tree v) i c.0 v (w.choice i v) c.1 c.2
+    decodes_written a (Fits.fits_loop {b} {v} fit) can = DecodesTo.decodes_loop b _ v (decodes_written (unfolded-readable b a) fit can)
 
-    each_written : {s : Shape} {vs : Values} → is_readable s ≡ true → FitsEach s vs → WritableEach n vs → SaysEach n s (value_slots tree vs) vs
-    each_written a (FitsEach.fits_none {s}) can = SaysEach.says_none s
-    each_written a (FitsEach.fits_one {s} {v} {vs} fit rest) can = SaysEach.says_one s _ _ v vs (says_written a fit can.0) (each_written a rest can.1)
+    each_written : {s : Shape} {vs : Values} → is_readable s ≡ true → FitsEach s vs → WritableEach n vs → EachDecodesTo n s (value_slots tree vs) vs
+    each_written a (FitsEach.fits_none {s}) can = EachDecodesTo.decodes_none s
+    each_written a (FitsEach.fits_one {s} {v} {vs} fit rest) can = EachDecodesTo.decodes_one s _ _ v vs (decodes_written a fit can.0) (each_written a rest can.1)
 
-    fields_written : {fs : Fields} {ms : Slots} (look : List ℕ → Slot) → are_fields_readable 0 fs ≡ true → FitsFields fs ms → WritableSlots n ms → Finds tree look ms → SaysFields n fs (map look (field_names fs)) ms
-    fields_written look a FitsFields.fits_end can f = SaysFields.says_end
+    fields_written : {fs : Fields} {ms : Slots} (look : List ℕ → Slot) → are_fields_readable 0 fs ≡ true → FitsFields fs ms → WritableSlots n ms → Finds tree look ms → FieldsDecodeTo n fs (map look (field_names fs)) ms
+    fields_written look a FitsFields.fits_end can f = FieldsDecodeTo.decodes_end
     fields_written look a (FitsFields.fits_present {n = name} {t = g} {p} {s} {fs} {v} {ms} fit kept rest) can f =
         let first = and-right (suits p s) (is_readable s) (and-left (suits p s && is_readable s) (are_fields_readable 0 fs) a) in
-        let said = subst (λ slot. Says n s slot v) (sym f.0) (says_written first fit can.0) in
+        let said = subst (λ slot. DecodesTo n s slot v) (sym f.0) (decodes_written first fit can.0) in
         let others = fields_written look (and-right (suits p s && is_readable s) (are_fields_readable 0 fs) a) rest can.1 f.1 in
-        subst (SaysFields n (Fields.field name g p s fs) (look name ∷ map look (field_names fs))) (ap (λ b. if b then Slots.present name v ms else Slots.absent name ms) kept)
-        (SaysFields.says_present name g p s fs (look name) (map look (field_names fs)) v ms said others)
+        subst (FieldsDecodeTo n (Fields.field name g p s fs) (look name ∷ map look (field_names fs))) (ap (λ b. if b then Slots.present name v ms else Slots.absent name ms) kept)
+        (FieldsDecodeTo.decodes_present name g p s fs (look name) (map look (field_names fs)) v ms said others)
     fields_written look a (FitsFields.fits_absent {n = name} {t = g} {p} {s} {fs} {ms} lack rest) can f =
         let others = fields_written look (and-right (suits p s && is_readable s) (are_fields_readable 0 fs) a) rest can f.1 in
-        subst (λ slot. SaysFields n (Fields.field name g p s fs) (slot ∷ map look (field_names fs)) (Slots.absent name ms)) (sym f.0)
-        (SaysFields.says_absent name g p s fs (map look (field_names fs)) ms lack others)
+        subst (λ slot. FieldsDecodeTo n (Fields.field name g p s fs) (slot ∷ map look (field_names fs)) (Slots.absent name ms)) (sym f.0)
+        (FieldsDecodeTo.decodes_absent name g p s fs (map look (field_names fs)) ms lack others)
 
-    alternative_written : {alts : Alternatives} {i : List ℕ} {v : Value} → are_apart (identifiers alts) ≡ true → are_alternatives_readable 0 alts ≡ true → FitsAlternative alts i v → Writable n v
-        → (s : Shape) × (alternative_named same_identifier alts i ≡ Some (i, s)) × Says n s (Some (tree v)) v
+    alternative_written : {alts : Alternatives} {i : List ℕ} {v : Value} → differ_ignoring_case (identifiers alts) ≡ true → are_alternatives_readable 0 alts ≡ true → FitsAlternative alts i v → Writable n v
+        → (s : Shape) × (alternative_named same_identifier alts i ≡ Some (i, s)) × DecodesTo n s (Some (tree v)) v
     alternative_written apart a (FitsAlternative.fits_here {i} {t} {s} {alts} {v} fit) can =
-        (s, ap (λ b. if b then Some (i, s) else alternative_named same_identifier alts i) (same_identifier-itself i), says_written (and-left (is_readable s) (are_alternatives_readable 0 alts) a) fit can)
+        (s, ap (λ b. if b then Some (i, s) else alternative_named same_identifier alts i) (same_identifier-itself i), decodes_written (and-left (is_readable s) (are_alternatives_readable 0 alts) a) fit can)
     alternative_written apart a (FitsAlternative.fits_later {i} {j} {t} {s} {alts} {v} rest) can =
-        let none = none_named (has_identifier (identifiers alts) j) (are_apart (identifiers alts)) apart in
-        let r = alternative_written (others_named (has_identifier (identifiers alts) j) (are_apart (identifiers alts)) apart) (and-right (is_readable s) (are_alternatives_readable 0 alts) a) rest can in
+        let none = none_named (has_identifier (identifiers alts) j) (differ_ignoring_case (identifiers alts)) apart in
+        let r = alternative_written (others_named (has_identifier (identifiers alts) j) (differ_ignoring_case (identifiers alts)) apart) (and-right (is_readable s) (are_alternatives_readable 0 alts) a) rest can in
         (r.0, ap (λ b. if b then Some (j, s) else alternative_named same_identifier alts i) (differs j rest none) ∙ r.1, r.2)
 
 -- The tree that JER writes.
@@ -142,13 +142,13 @@ pub no_leaf : {P : Type 0} → false ≡ true → P
 no_leaf e = cc e
 
 -- Octets are bytes.
-octets-bytes : (o : List ℕ) → every is_octet o ≡ true → (i : ℕ) → slice_index o i < 256
+octets-bytes : (o : List ℕ) → all is_octet o ≡ true → (i : ℕ) → slice_index o i < 256
 octets-bytes [] e i = omega arith
-octets-bytes (b ∷ bs) e zero = ltb-true b 256 (and-left (nat_lt b 256) (every is_octet bs) e)
-octets-bytes (b ∷ bs) e (suc i) = octets-bytes bs (and-right (nat_lt b 256) (every is_octet bs) e) i
+octets-bytes (b ∷ bs) e zero = ltb-true b 256 (and-left (nat_lt b 256) (all is_octet bs) e)
+octets-bytes (b ∷ bs) e (suc i) = octets-bytes bs (and-right (nat_lt b 256) (all is_octet bs) e) i
 
 -- The digits of bits say these bits.
-sized-read : (mark : Option ℕ) (bad : Why) (bits : List Bool) → sized_bits mark (length bits) bad (decode_of (encode_upper (padded bits))) ≡ Ok (Value.bits bits mark)
+sized-read : (mark : Option ℕ) (bad : Cause) (bits : List Bool) → sized_bits mark (length bits) bad (decode_of (encode_upper (padded bits))) ≡ Ok (Value.bits bits mark)
 sized-read mark bad bits =
     let n = length bits in
     let octets = padded bits in
@@ -170,15 +170,15 @@ leaf-written (Shape.enum items added) (Value.item i) a e can = rw e refl
 leaf-written Shape.octets (Value.octets o) a e can = ap (λ r. Some (refined Jer Shape.octets (octets_or r))) (decode_of-encode_upper o (octets-bytes o e))
 leaf-written Shape.any (Value.octets o) a e can = ap (λ r. Some (refined Jer Shape.any (octets_or r))) (decode_of-encode_upper o (octets-bytes o e))
 leaf-written Shape.oid (Value.arcs arcs) a e can =
-    let accepted = and-right (every is_arc arcs) (is_object_identifier arcs) e in
-    let why = Why.invalid_oid_string (compact_text (Data.string (dotted_text arcs))) in
-    ap (λ o. Some (refined Jer Shape.oid (or_blame (identifier_or why o)))) (dotted-read arcs (and-left (every is_arc arcs) (is_object_identifier arcs) e) accepted)
-    ∙ ap (λ b. Some (refined Jer Shape.oid (or_blame (if b then Ok (Value.arcs arcs) else Err why)))) accepted
+    let accepted = and-right (all is_arc arcs) (is_object_identifier arcs) e in
+    let cause = Cause.invalid_oid_string (compact_text (Data.string (dotted_text arcs))) in
+    ap (λ o. Some (refined Jer Shape.oid (or_blame (identifier_or cause o)))) (dotted-read arcs (and-left (all is_arc arcs) (is_object_identifier arcs) e) accepted)
+    ∙ ap (λ b. Some (refined Jer Shape.oid (or_blame (if b then Ok (Value.arcs arcs) else Err cause)))) accepted
 leaf-written (Shape.bits None) (Value.bits bits None) a e can = ap (λ r. Some (refined Jer (Shape.bits None) (or_blame r))) (sized-read None no_bits bits)
 leaf-written (Shape.bits (Some m)) (Value.bits bits (Some n)) a e can =
     let same : m ≡ length bits = eqb-true m n e ∙ sym can in
-    ap (λ k. Some (refined Jer (Shape.bits (Some k)) (or_blame (sized_bits (Some k) k Why.invalid_jer_octet_string (decode_of (encode_upper (padded bits))))))) same
-    ∙ ap (λ r. Some (refined Jer (Shape.bits (Some (length bits))) (or_blame r))) (sized-read (Some (length bits)) Why.invalid_jer_octet_string bits)
+    ap (λ k. Some (refined Jer (Shape.bits (Some k)) (or_blame (sized_bits (Some k) k Cause.invalid_jer_octet_string (decode_of (encode_upper (padded bits))))))) same
+    ∙ ap (λ r. Some (refined Jer (Shape.bits (Some (length bits))) (or_blame r))) (sized-read (Some (length bits)) Cause.invalid_jer_octet_string bits)
     ∙ ap (λ k. Some (Ok (Value.bits bits (Some k)))) can
 leaf-written s v a e can = no_leaf e
 
@@ -198,15 +198,15 @@ lost (Slots.present m v ms) n e =
     ∙ lost ms n (rest_apart (bytes_eq n m) (is_item (slot_names ms) n) e)
 
 -- A member that is put leaves those of other names.
-finds-put : (n : List ℕ) (d : Data) (all : Members) (ms : Slots) → is_item (slot_names ms) n ≡ false → Finds jer_tree (member_slot all) ms → Finds jer_tree (member_slot (put n d all)) ms
-finds-put n d all Slots.no_slots e f = tt
-finds-put n d all (Slots.absent m ms) e f = (
-  ap (option_map Tree.json) (get_member-put_other m n d all (different n m (first_apart (bytes_eq n m) (is_item (slot_names ms) n) e))) ∙ f.0,
-  finds-put n d all ms (rest_apart (bytes_eq n m) (is_item (slot_names ms) n) e) f.1,
+finds-put : (n : List ℕ) (d : Data) (whole : Members) (ms : Slots) → is_item (slot_names ms) n ≡ false → Finds jer_tree (member_slot whole) ms → Finds jer_tree (member_slot (put n d whole)) ms
+finds-put n d whole Slots.no_slots e f = tt
+finds-put n d whole (Slots.absent m ms) e f = (
+  ap (option_map Tree.json) (get_member-put_other m n d whole (different n m (first_apart (bytes_eq n m) (is_item (slot_names ms) n) e))) ∙ f.0,
+  finds-put n d whole ms (rest_apart (bytes_eq n m) (is_item (slot_names ms) n) e) f.1,
 )
-finds-put n d all (Slots.present m v ms) e f = (
-  ap (option_map Tree.json) (get_member-put_other m n d all (different n m (first_apart (bytes_eq n m) (is_item (slot_names ms) n) e))) ∙ f.0,
-  finds-put n d all ms (rest_apart (bytes_eq n m) (is_item (slot_names ms) n) e) f.1,
+finds-put n d whole (Slots.present m v ms) e f = (
+  ap (option_map Tree.json) (get_member-put_other m n d whole (different n m (first_apart (bytes_eq n m) (is_item (slot_names ms) n) e))) ∙ f.0,
+  finds-put n d whole ms (rest_apart (bytes_eq n m) (is_item (slot_names ms) n) e) f.1,
 )
 
 finds-written : (ms : Slots) → are_distinct (slot_names ms) ≡ true → Finds jer_tree (member_slot (jer_members ms)) ms

@@ -1,22 +1,22 @@
--- What AVN writes is well formed, and is read as a tree that says the value.
+-- What AVN writes is well formed, and is read as a tree that decodes to the value.
 use Rattle.std.proofs.Common.{◌≡◌, refl, ap, sym, ◌∙◌, subst, arith, ℕ, ◌+◌, ◌/◌, List, [], ◌∷◌, length, Bool, true, false, not, ◌&&◌, if◌then◌else◌, Option, Some, None, Ok, Err}
 use Rattle.std.specs.Fmt.{signed_decimal}
 use Rattle.std.specs.Str.{bytes_eq}
 use Rattle.std.proofs.lemmas.Bool.{eqb-true, eq-eqb}
 use Rattle.std.proofs.lemmas.Slice.Eq.{bytes_eq-Decides}
 use Rattle.asn_base.specs.declared.codec.Codec.TheVariants.{Avn}
-use Rattle.asn_fault.specs.Stop.{Why}
+use Rattle.asn_fault.specs.Failure.{Cause}
 use Rattle.avn_grammar.specs.Tree.{Tree as AvnTree, Fields as AvnFields}
 use Rattle.avn_grammar.specs.Normal.{normal, normal_trees, normal_fields, braced}
-use Rattle.avn_grammar.specs.Chars.{every}
+use Rattle.avn_grammar.specs.Chars.{all}
 use Rattle.avn_grammar.specs.WellFormed.{is_identifier, is_keyword, is_arc, is_well_formed, are_well_formed, are_fields_well_formed}
 use Rattle.asn_base.specs.BitStrings.{padded}
 use Rattle.asn_base.specs.ObjectIdentifiers.{is_object_identifier}
 use Rattle.asn_model.specs.Arcs.{checked_identifier, listed_text}
 use Rattle.asn_model.specs.Canonical.{avn_tree, avn_trees, avn_fields}
-use Rattle.asn_model.specs.Leaf.{Blame, leaf, number_or, or_blame, refined}
+use Rattle.asn_model.specs.Leaf.{LeafFailure, leaf, number_or, or_blame, refined}
 use Rattle.asn_model.specs.Notation.{Notation}
-use Rattle.asn_model.specs.Readable.{is_readable, are_fields_readable, are_alternatives_readable, are_added_alternatives_readable, suits, has_alternative, are_told_apart, are_identifiers, are_words, are_apart}
+use Rattle.asn_model.specs.Readable.{is_readable, are_fields_readable, are_alternatives_readable, are_added_alternatives_readable, suits, has_alternative, are_distinguishable, are_identifiers, are_no_keywords, differ_ignoring_case}
 use Rattle.asn_model.specs.Shape.{Shape, Fields, Alternatives, all_items, all_alternatives, field_names, identifiers, tags, has_tag, tags_distinct, end_tag, are_distinct, is_item}
 use Rattle.asn_model.specs.Tree.{Tree, Slot, or_else, as_members, tree_slots, field_slot}
 use Rattle.asn_model.specs.Value.{Value, Values, Slots, Fits, FitsEach, FitsFields, FitsAlternative, is_leaf_of, is_same_size}
@@ -49,8 +49,8 @@ leaf-written Shape.boolean (Value.boolean b) a e can = refl
 leaf-written (Shape.int l g w) (Value.int k) a e can =
     let r = inside l g k e in
     let within = within_128_bits l g k a r.0 r.1 in
-    ap (λ o. Some (refined Avn (Shape.int l g w) (number_or (Blame.because (Why.integer_parse_error (signed_decimal k))) o))) (number-read k within.0 within.1)
-    ∙ ap (λ b. Some (if b then Ok (Value.int k) else Err (Blame.because (Why.integer_overflow w)))) e
+    ap (λ o. Some (refined Avn (Shape.int l g w) (number_or (LeafFailure.because (Cause.integer_parse_error (signed_decimal k))) o))) (number-read k within.0 within.1)
+    ∙ ap (λ b. Some (if b then Ok (Value.int k) else Err (LeafFailure.because (Cause.integer_overflow w)))) e
 leaf-written (Shape.text alphabet) (Value.text t) a e can = ap Some (string_kept Avn alphabet t can e)
 leaf-written Shape.bmp (Value.units u) a e can = ap Some (units_kept Avn u can e)
 leaf-written Shape.utc (Value.utc n) a e can = ap Some (utc_kept Avn n can)
@@ -60,8 +60,8 @@ leaf-written (Shape.enum items added) (Value.item i) a e can = rw e refl
 leaf-written Shape.octets (Value.octets o) a e can = refl
 leaf-written Shape.any (Value.octets o) a e can = refl
 leaf-written Shape.oid (Value.arcs arcs) a e can =
-    ap (λ o. Some (refined Avn Shape.oid (or_blame (checked_identifier o)))) (braced-read arcs (and-left (every is_arc arcs) (is_object_identifier arcs) e))
-    ∙ ap (λ b. Some (refined Avn Shape.oid (or_blame (if b then Ok (Value.arcs arcs) else Err (Why.invalid_oid (listed_text arcs)))))) (and-right (every is_arc arcs) (is_object_identifier arcs) e)
+    ap (λ o. Some (refined Avn Shape.oid (or_blame (checked_identifier o)))) (braced-read arcs (and-left (all is_arc arcs) (is_object_identifier arcs) e))
+    ∙ ap (λ b. Some (refined Avn Shape.oid (or_blame (if b then Ok (Value.arcs arcs) else Err (Cause.invalid_oid (listed_text arcs)))))) (and-right (all is_arc arcs) (is_object_identifier arcs) e)
 leaf-written (Shape.bits m) (Value.bits bits n) a e can =
     ap (λ r. Some (refined Avn (Shape.bits m) r)) (bits-read m bits) ∙ ap (λ k. Some (Ok (Value.bits bits k))) (same-size m n e)
 leaf-written s v a e can = no_leaf e
@@ -92,15 +92,15 @@ bytes_eq-differ n m e = unequal (bytes_eq m n) refl
     unequal false f = refl
 
 -- A field in front leaves those of other names.
-finds-field : (n : List ℕ) (t : AvnTree) (all : AvnFields) (ms : Slots) → is_item (slot_names ms) n ≡ false → Finds read_tree (field_slot all) ms → Finds read_tree (field_slot (AvnFields.field n t all)) ms
-finds-field n t all Slots.no_slots e f = tt
-finds-field n t all (Slots.absent m ms) e f = (
-  ap (λ b. or_else (field_slot all m) (if b then Some (Tree.avn t) else None)) (bytes_eq-differ n m (first_apart (bytes_eq n m) (is_item (slot_names ms) n) e)) ∙ or_none (field_slot all m) ∙ f.0,
-  finds-field n t all ms (rest_apart (bytes_eq n m) (is_item (slot_names ms) n) e) f.1,
+finds-field : (n : List ℕ) (t : AvnTree) (whole : AvnFields) (ms : Slots) → is_item (slot_names ms) n ≡ false → Finds read_tree (field_slot whole) ms → Finds read_tree (field_slot (AvnFields.field n t whole)) ms
+finds-field n t whole Slots.no_slots e f = tt
+finds-field n t whole (Slots.absent m ms) e f = (
+  ap (λ b. or_else (field_slot whole m) (if b then Some (Tree.avn t) else None)) (bytes_eq-differ n m (first_apart (bytes_eq n m) (is_item (slot_names ms) n) e)) ∙ or_none (field_slot whole m) ∙ f.0,
+  finds-field n t whole ms (rest_apart (bytes_eq n m) (is_item (slot_names ms) n) e) f.1,
 )
-finds-field n t all (Slots.present m v ms) e f = (
-  ap (λ b. or_else (field_slot all m) (if b then Some (Tree.avn t) else None)) (bytes_eq-differ n m (first_apart (bytes_eq n m) (is_item (slot_names ms) n) e)) ∙ or_none (field_slot all m) ∙ f.0,
-  finds-field n t all ms (rest_apart (bytes_eq n m) (is_item (slot_names ms) n) e) f.1,
+finds-field n t whole (Slots.present m v ms) e f = (
+  ap (λ b. or_else (field_slot whole m) (if b then Some (Tree.avn t) else None)) (bytes_eq-differ n m (first_apart (bytes_eq n m) (is_item (slot_names ms) n) e)) ∙ or_none (field_slot whole m) ∙ f.0,
+  finds-field n t whole ms (rest_apart (bytes_eq n m) (is_item (slot_names ms) n) e) f.1,
 )
 
 own_name : (n : List ℕ) (s : Slot) (t : Tree) → s ≡ None → or_else s (if bytes_eq n n then Some t else None) ≡ Some t
@@ -141,12 +141,12 @@ first_or_later true rest f g h = f refl
 first_or_later false rest f g h = g h
 
 -- An item is spelled as a word.
-word_of_item : (items : List (List ℕ)) (i : List ℕ) → are_words items ≡ true → is_item items i ≡ true → (is_identifier i && not (is_keyword i)) ≡ true
+word_of_item : (items : List (List ℕ)) (i : List ℕ) → are_no_keywords items ≡ true → is_item items i ≡ true → (is_identifier i && not (is_keyword i)) ≡ true
 word_of_item [] i e h = let d : false ≡ true = h in cc d
 word_of_item (n ∷ ns) i e h =
     first_or_later (bytes_eq i n) (is_item ns i)
-    (λ f. subst (λ x. (is_identifier x && not (is_keyword x)) ≡ true) (sym ((bytes_eq-Decides i n).0 f)) (and-left (is_identifier n && not (is_keyword n)) (are_words ns) e))
-    (λ g. word_of_item ns i (and-right (is_identifier n && not (is_keyword n)) (are_words ns) e) g) h
+    (λ f. subst (λ x. (is_identifier x && not (is_keyword x)) ≡ true) (sym ((bytes_eq-Decides i n).0 f)) (and-left (is_identifier n && not (is_keyword n)) (are_no_keywords ns) e))
+    (λ g. word_of_item ns i (and-right (is_identifier n && not (is_keyword n)) (are_no_keywords ns) e) g) h
 
 -- So is one of a shape whose values have no parts.
 leaf-formed : (s : Shape) (v : Value) → is_readable s ≡ true → is_leaf_of s v ≡ true → Writable Notation.avn v → is_well_formed (avn_tree v) ≡ true
@@ -159,10 +159,10 @@ leaf-formed Shape.bmp (Value.units u) a e can = units_utf8 u can
 leaf-formed Shape.utc (Value.utc n) a e can = utc_text_utf8 n can
 leaf-formed Shape.gen (Value.gen n) a e can = generalized_text_utf8 n can
 leaf-formed Shape.day (Value.day n) a e can = day_text_utf8 n can
-leaf-formed (Shape.enum items added) (Value.item i) a e can = word_of_item (all_items items added) i (and-left (are_words (all_items items added)) (are_distinct (all_items items added)) a) e
+leaf-formed (Shape.enum items added) (Value.item i) a e can = word_of_item (all_items items added) i (and-left (are_no_keywords (all_items items added)) (are_distinct (all_items items added)) a) e
 leaf-formed Shape.octets (Value.octets o) a e can = e
 leaf-formed Shape.any (Value.octets o) a e can = e
-leaf-formed Shape.oid (Value.arcs arcs) a e can = and-left (every is_arc arcs) (is_object_identifier arcs) e
+leaf-formed Shape.oid (Value.arcs arcs) a e can = and-left (all is_arc arcs) (is_object_identifier arcs) e
 leaf-formed (Shape.bits m) (Value.bits bits n) a e can = and-both _ _ (padded-octets bits) (eq-eqb (length (padded bits)) ((length bits + 7) / 8) (omega (arith, length-padded bits)))
 leaf-formed s v a e can = no_leaf e
 
@@ -175,10 +175,10 @@ mutual
   well-formed a (Fits.fits_members {kind} {fs} {added} {ms} fit) can = let read = fields_read kind fs added a in fields-formed read.spelled read.parts fit can
   well-formed a (Fits.fits_list fit) can = each-formed a fit can
   well-formed a (Fits.fits_choice {alts} {added} {i} {v} fit) can =
-      let all = all_alternatives alts added in
-      let names = has_alternative alts && are_told_apart all in
-      let told = and-right (has_alternative alts) (are_told_apart all) (and-left names (are_alternatives_readable 0 alts && are_added_alternatives_readable 0 added) a) in
-      let spelled = and-left (are_identifiers (identifiers all)) (are_apart (identifiers all)) (and-left (are_identifiers (identifiers all) && are_apart (identifiers all)) (tags_distinct (tags all) && not (has_tag (tags all) end_tag)) told) in
+      let whole = all_alternatives alts added in
+      let names = has_alternative alts && are_distinguishable whole in
+      let told = and-right (has_alternative alts) (are_distinguishable whole) (and-left names (are_alternatives_readable 0 alts && are_added_alternatives_readable 0 added) a) in
+      let spelled = and-left (are_identifiers (identifiers whole)) (differ_ignoring_case (identifiers whole)) (and-left (are_identifiers (identifiers whole) && differ_ignoring_case (identifiers whole)) (tags_distinct (tags whole) && not (has_tag (tags whole) end_tag)) told) in
       let read = and-right names (are_alternatives_readable 0 alts && are_added_alternatives_readable 0 added) a in
       let parts = all_readable alts added (and-left (are_alternatives_readable 0 alts) (are_added_alternatives_readable 0 added) read) (and-right (are_alternatives_readable 0 alts) (are_added_alternatives_readable 0 added) read) in
       alternative-formed spelled parts fit can

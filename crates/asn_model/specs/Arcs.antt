@@ -10,7 +10,7 @@ use Rattle.avn_grammar.specs.Tree.{Tree as AvnTree, Trees as AvnTrees}
 use Rattle.avn_grammar.specs.WellFormed.{is_arc}
 use Rattle.asn_base.specs.ObjectIdentifiers.{is_object_identifier}
 use Rattle.asn_base.specs.declared.codec.Codec.TheVariants.{Avn}
-use Rattle.asn_fault.specs.Stop.{Why}
+use Rattle.asn_fault.specs.Failure.{Cause}
 use Rattle.asn_model.specs.Digits.{digits}
 use Rattle.asn_model.specs.Value.{Value}
 
@@ -34,13 +34,13 @@ arc_numbers [] = Some []
 arc_numbers (text ∷ texts) = in_front (arc_number text) (arc_numbers texts)
 
 -- The object identifier of these arcs, or what is wrong.
-abbrev pub identifier_or : Why → Option (List ℕ) → Result Value Why
+abbrev pub identifier_or : Cause → Option (List ℕ) → Result Value Cause
 identifier_or w (Some arcs) = if is_object_identifier arcs then Ok (Value.arcs arcs) else Err w
 identifier_or w None = Err w
 
 -- The object identifier of a text of arcs with `.` between each two, or what is wrong.
-abbrev pub dotted_identifier : List ℕ → Result Value Why
-dotted_identifier text = identifier_or (Why.invalid_oid_string (compact_text (Data.string text))) (arc_numbers (slice_split (λ c. c == 46) text))
+abbrev pub dotted_identifier : List ℕ → Result Value Cause
+dotted_identifier text = identifier_or (Cause.invalid_oid_string (compact_text (Data.string text))) (arc_numbers (slice_split (λ c. c == 46) text))
 
 -- The arcs in decimal with `.` between each two.
 abbrev pub dotted_text : List ℕ → List ℕ
@@ -51,27 +51,27 @@ abbrev pub listed_text : List ℕ → List ℕ
 listed_text arcs = codes "[" ++ (join_by decimal (codes ", ") arcs ++ codes "]")
 
 -- The arc, or what is wrong with a text that is none.
-abbrev pub arc_or : List ℕ → Option ℕ → Result ℕ Why
+abbrev pub arc_or : List ℕ → Option ℕ → Result ℕ Cause
 arc_or text (Some a) = Ok a
-arc_or text None = Err (Why.invalid_oid text)
+arc_or text None = Err (Cause.invalid_oid text)
 
 -- The arc that a value in braces is, or what is wrong.
-abbrev pub braced_arc : AvnTree → Result ℕ Why
+abbrev pub braced_arc : AvnTree → Result ℕ Cause
 braced_arc (AvnTree.integer text) = arc_or text (arc_number text)
-braced_arc t = Err (Why.type_mismatch Avn (codes "OID arc (integer)") (print 0 t))
+braced_arc t = Err (Cause.type_mismatch Avn (codes "OID arc (integer)") (print 0 t))
 
 -- The arc with the arcs after it, or what is wrong with the first that is none.
-abbrev pub arc_before : Result ℕ Why → Result (List ℕ) Why → Result (List ℕ) Why
+abbrev pub arc_before : Result ℕ Cause → Result (List ℕ) Cause → Result (List ℕ) Cause
 arc_before (Ok a) (Ok arcs) = Ok (a ∷ arcs)
 arc_before (Ok a) (Err w) = Err w
 arc_before (Err w) arcs = Err w
 
 -- The arcs that the values in braces are, or what is wrong with the first that is none.
-abbrev pub braced_arcs : AvnTrees → Result (List ℕ) Why
+abbrev pub braced_arcs : AvnTrees → Result (List ℕ) Cause
 braced_arcs AvnTrees.no_trees = Ok []
 braced_arcs (AvnTrees.tree t ts) = arc_before (braced_arc t) (braced_arcs ts)
 
 -- The object identifier of these arcs, or what is wrong.
-abbrev pub checked_identifier : Result (List ℕ) Why → Result Value Why
-checked_identifier (Ok arcs) = identifier_or (Why.invalid_oid (listed_text arcs)) (Some arcs)
+abbrev pub checked_identifier : Result (List ℕ) Cause → Result Value Cause
+checked_identifier (Ok arcs) = identifier_or (Cause.invalid_oid (listed_text arcs)) (Some arcs)
 checked_identifier (Err w) = Err w

@@ -1,11 +1,11 @@
 -- The character string types (X.680, section 41): what their values are, and why a text is none of them.
 use Rattle.std.specs.Prelude.{ℕ, List, ◌++◌, Bool, ◌&&◌, codes, decimal}
 use Rattle.std.specs.Str.{chars, is_utf8}
-use Rattle.avn_grammar.specs.Chars.{every}
+use Rattle.avn_grammar.specs.Chars.{all}
 use Rattle.avn_grammar.specs.WellFormed.{is_octet}
 use Rattle.asn_base.specs.declared.tag.Class.TheVariants.{Universal}
 use Rattle.asn_base.specs.declared.tag.Tag.{Tag}
-use Rattle.asn_fault.specs.Stop.{Why}
+use Rattle.asn_fault.specs.Failure.{Cause}
 use Rattle.asn_strings.specs.Alphabets.{all_within, is_any, is_graphic, is_ia5, is_numeric, is_printable, is_visible}
 use Rattle.asn_model.specs.Shape.{Alphabet}
 
@@ -43,10 +43,10 @@ universal_tag n = record { class = Universal; value = n }
 abbrev pub is_string_of : Alphabet → List ℕ → Bool
 is_string_of Alphabet.utf8 bytes = is_utf8 bytes
 is_string_of Alphabet.universal bytes = is_utf8 bytes
-is_string_of Alphabet.general bytes = every is_octet bytes
-is_string_of Alphabet.graphic bytes = every is_octet bytes && all_within is_graphic bytes
+is_string_of Alphabet.general bytes = all is_octet bytes
+is_string_of Alphabet.graphic bytes = all is_octet bytes && all_within is_graphic bytes
 is_string_of a bytes = is_utf8 bytes && all_within (alphabet_of a) (chars bytes)
 
 -- The text has a character outside the alphabet of the type with this universal tag, and so many characters before it.
-abbrev pub outside_alphabet : Tag → ℕ → Why
-outside_alphabet tag place = Why.string_conversion_failed tag (codes "character outside the alphabet at place " ++ decimal place)
+abbrev pub outside_alphabet : Tag → ℕ → Cause
+outside_alphabet tag place = Cause.string_conversion_failed tag (codes "character outside the alphabet at place " ++ decimal place)

@@ -1,4 +1,4 @@
--- What a tree says by a shape whose values have no parts, and why it says nothing.
+-- What a tree decodes to by a shape whose values have no parts, and why it decodes to nothing.
 use Rattle.std.specs.Prelude.{◌≡◌, ◌≤◌, ◌^◌, ℕ, ℤ, pos, List, Option, Some, None, Result, Ok, Err, Bool, false, if◌then◌else◌, option_and_then, option_map, codes, string_bytes}
 use Rattle.std.specs.Str.{chars, is_utf8}
 use Rattle.serde_json.specs.Data.{Data, Num}
@@ -12,7 +12,7 @@ use Rattle.asn_base.specs.Numbers.{signed}
 use Rattle.asn_base.specs.declared.codec.Codec.{Codec}
 use Rattle.asn_base.specs.declared.codec.Codec.TheVariants.{Jer, Avn}
 use Rattle.asn_base.specs.declared.tag.Tag.{Tag}
-use Rattle.asn_fault.specs.Stop.{Why}
+use Rattle.asn_fault.specs.Failure.{Cause}
 use Rattle.asn_strings.specs.Alphabets.{is_bmp, place_outside}
 use Rattle.asn_times.specs.Meanings.{day_of_text, generalized_of_text, utc_of_text}
 use Rattle.asn_model.specs.CharacterStrings.{alphabet_number, alphabet_of, bmp_number, outside_alphabet, universal_tag}
@@ -32,10 +32,10 @@ use Rattle.asn_model.specs.declared.leaves.Leaf.TheVariants as put
 use Rattle.asn_model.specs.declared.leaves.OwnedLeaf.{OwnedLeaf}
 use Rattle.asn_model.specs.declared.leaves.OwnedLeaf.TheVariants as got
 
--- Why a tree says no value: it is of another kind than what is needed, or as told.
-pub data Blame : Type 0 where
-  mismatch : List ℕ → Blame
-  because : Why → Blame
+-- Why a tree decodes to no value: it is of another kind than what is needed, or as told.
+pub data LeafFailure : Type 0 where
+  mismatch : List ℕ → LeafFailure
+  because : Cause → LeafFailure
 
 -- The codec whose errors a notation has.
 abbrev pub codec_of : Notation → Codec
@@ -47,28 +47,28 @@ abbrev pub IsFound : Tree → List ℕ → Type 0
 IsFound (Tree.json d) found = has_float d ≡ false → found ≡ compact_text d
 IsFound (Tree.avn t) found = found ≡ print 0 t
 
--- The kind of the error that tells this blame of the tree.
-pub data Blamed (n : Notation) (t : Tree) : Blame → Why → Type 0 where
-  blamed_mismatch : (needed found : List ℕ) → IsFound t found → Blamed n t (Blame.mismatch needed) (Why.type_mismatch (codec_of n) needed found)
-  blamed_because : (w : Why) → Blamed n t (Blame.because w) w
+-- The kind of the error that is of this failure of the tree.
+pub data IsFailureOf (n : Notation) (t : Tree) : LeafFailure → Cause → Type 0 where
+  is_mismatch : (needed found : List ℕ) → IsFound t found → IsFailureOf n t (LeafFailure.mismatch needed) (Cause.type_mismatch (codec_of n) needed found)
+  is_because : (w : Cause) → IsFailureOf n t (LeafFailure.because w) w
 
 -- A mismatch by the words of JER and those of AVN.
-abbrev pub needs : Notation → List ℕ → List ℕ → Blame
-needs Notation.avn j a = Blame.mismatch a
-needs _ j a = Blame.mismatch j
+abbrev pub mismatch_of : Notation → List ℕ → List ℕ → LeafFailure
+mismatch_of Notation.avn j a = LeafFailure.mismatch a
+mismatch_of _ j a = LeafFailure.mismatch j
 
--- The blame of a tree that has no members.
-abbrev pub needs_members : Notation → Blame
-needs_members Notation.avn = Blame.mismatch (codes "sequence")
-needs_members _ = Blame.because (Why.type_mismatch Jer (codes "object") (codes "unknown"))
+-- The failure of a tree that has no members.
+abbrev pub members_mismatch : Notation → LeafFailure
+members_mismatch Notation.avn = LeafFailure.mismatch (codes "sequence")
+members_mismatch _ = LeafFailure.because (Cause.type_mismatch Jer (codes "object") (codes "unknown"))
 
--- The blame of a tree that is no list.
-abbrev pub needs_list : Notation → Blame
-needs_list n = needs n (codes "array") (codes "sequence of")
+-- The failure of a tree that is no list.
+abbrev pub list_mismatch : Notation → LeafFailure
+list_mismatch n = mismatch_of n (codes "array") (codes "sequence of")
 
--- The blame of a tree that is no choice.
-abbrev pub needs_choice : Notation → Blame
-needs_choice n = needs n (codes "object") (codes "choice (identifier : value)")
+-- The failure of a tree that is no choice.
+abbrev pub choice_mismatch : Notation → LeafFailure
+choice_mismatch n = mismatch_of n (codes "object") (codes "choice (identifier : value)")
 
 -- The words by which a mismatch names the kind that is needed.
 abbrev pub needed : Notation → LeafKind → List ℕ
@@ -96,43 +96,43 @@ needed _ Oid = codes "number array"
 needed _ (Bits None) = codes "JSON object containing 'value' and 'length' properties."
 needed _ (Bits (Some size)) = codes "hex string"
 
--- The number, or the blame.
-abbrev pub number_or : Blame → Option ℤ → Result Value Blame
+-- The number, or the failure.
+abbrev pub number_or : LeafFailure → Option ℤ → Result Value LeafFailure
 number_or b (Some n) = Ok (Value.int n)
 number_or b None = Err b
 
--- The octets as text, or the blame where they aren't UTF-8.
-abbrev pub utf8_octets : List ℕ → Result Value Blame
-utf8_octets o = if is_utf8 o then Ok (Value.text o) else Err (Blame.because (Why.custom (codes "Invalid UTF-8 in AVN string")))
+-- The octets as text, or the failure where they aren't UTF-8.
+abbrev pub utf8_octets : List ℕ → Result Value LeafFailure
+utf8_octets o = if is_utf8 o then Ok (Value.text o) else Err (LeafFailure.because (Cause.custom (codes "Invalid UTF-8 in AVN string")))
 
--- The octets of a hexadecimal text, or the blame.
-abbrev pub octets_or : Result (List ℕ) FromHexError → Result Value Blame
+-- The octets of a hexadecimal text, or the failure.
+abbrev pub octets_or : Result (List ℕ) FromHexError → Result Value LeafFailure
 octets_or (Ok o) = Ok (Value.octets o)
-octets_or (Err e) = Err (Blame.because Why.invalid_jer_octet_string)
+octets_or (Err e) = Err (LeafFailure.because Cause.invalid_jer_octet_string)
 
--- The value, or the blame of what is wrong.
-abbrev pub or_blame : Result Value Why → Result Value Blame
+-- The value, or the failure of what is wrong.
+abbrev pub or_blame : Result Value Cause → Result Value LeafFailure
 or_blame (Ok v) = Ok v
-or_blame (Err w) = Err (Blame.because w)
+or_blame (Err w) = Err (LeafFailure.because w)
 
 -- The length that a JSON value is, if it is a number that can be one.
 abbrev pub length_in : Data → Option ℕ
 length_in d = option_and_then as_u64 (as_number d)
 
--- The bits of digits and a length, if both are there, or the blame.
-abbrev pub declared_bits : Option (List ℕ) → Option ℕ → Result Value Blame
+-- The bits of digits and a length, if both are there, or the failure.
+abbrev pub declared_bits : Option (List ℕ) → Option ℕ → Result Value LeafFailure
 declared_bits (Some digits) (Some size) = or_blame (sized_bits None size no_bits (decode_of digits))
-declared_bits digits size = Err (Blame.mismatch (needed Notation.jer (Bits None)))
+declared_bits digits size = Err (LeafFailure.mismatch (needed Notation.jer (Bits None)))
 
 -- The value of this kind that a tree is, or why it is none.
-abbrev pub as_leaf : Notation → LeafKind → Tree → Result Value Blame
+abbrev pub as_leaf : Notation → LeafKind → Tree → Result Value LeafFailure
 as_leaf Notation.jer Null (Tree.json Data.null) = Ok Value.null
 as_leaf Notation.avn Null (Tree.avn AvnTree.null) = Ok Value.null
 as_leaf Notation.jer Boolean (Tree.json (Data.boolean b)) = Ok (Value.boolean b)
 as_leaf Notation.avn Boolean (Tree.avn (AvnTree.boolean b)) = Ok (Value.boolean b)
 as_leaf Notation.jer Number (Tree.json (Data.number (Num.unsigned n))) = Ok (Value.int (pos n))
 as_leaf Notation.jer Number (Tree.json (Data.number (Num.negative z))) = Ok (Value.int z)
-as_leaf Notation.avn Number (Tree.avn (AvnTree.integer x)) = number_or (Blame.because (Why.integer_parse_error x)) (signed_number x)
+as_leaf Notation.avn Number (Tree.avn (AvnTree.integer x)) = number_or (LeafFailure.because (Cause.integer_parse_error x)) (signed_number x)
 as_leaf Notation.jer Text (Tree.json (Data.string x)) = Ok (Value.text x)
 as_leaf Notation.avn Text (Tree.avn (AvnTree.char_string x)) = Ok (Value.text x)
 as_leaf Notation.avn Text (Tree.avn (AvnTree.octet_string o)) = utf8_octets o
@@ -153,11 +153,11 @@ as_leaf Notation.jer Oid (Tree.json (Data.string x)) = or_blame (dotted_identifi
 as_leaf Notation.avn Oid (Tree.avn (AvnTree.oid arcs)) = or_blame (checked_identifier (Ok arcs))
 as_leaf Notation.avn Oid (Tree.avn (AvnTree.sequence_of ts)) = or_blame (checked_identifier (braced_arcs ts))
 as_leaf Notation.jer (Bits None) (Tree.json (Data.object ms)) = declared_bits (option_and_then as_str (get_member (codes "value") ms)) (option_and_then length_in (get_member (codes "length") ms))
-as_leaf Notation.jer (Bits None) (Tree.json d) = Err (needs_members Notation.jer)
-as_leaf Notation.jer (Bits (Some size)) (Tree.json (Data.string x)) = or_blame (sized_bits (Some size) size Why.invalid_jer_octet_string (decode_of x))
+as_leaf Notation.jer (Bits None) (Tree.json d) = Err (members_mismatch Notation.jer)
+as_leaf Notation.jer (Bits (Some size)) (Tree.json (Data.string x)) = or_blame (sized_bits (Some size) size Cause.invalid_jer_octet_string (decode_of x))
 as_leaf Notation.avn (Bits size) (Tree.avn (AvnTree.bit_string o n)) = Ok (Value.bits (bits_of o n) size)
 as_leaf Notation.avn (Bits size) (Tree.avn (AvnTree.octet_string o)) = Ok (Value.bits (all_bits o) size)
-as_leaf n k t = Err (Blame.mismatch (needed n k))
+as_leaf n k t = Err (LeafFailure.mismatch (needed n k))
 
 -- The kind that the values of a shape without parts have in a notation.
 abbrev pub kind_of : Shape → Option LeafKind
@@ -177,19 +177,19 @@ kind_of (Shape.bits size) = Some (Bits size)
 kind_of s = None
 
 -- The value, unless a character is outside the alphabet of the type with this universal tag, after so many characters.
-abbrev pub within_alphabet : Tag → Value → Option ℕ → Result Value Blame
+abbrev pub within_alphabet : Tag → Value → Option ℕ → Result Value LeafFailure
 within_alphabet tag v None = Ok v
-within_alphabet tag v (Some place) = Err (Blame.because (outside_alphabet tag place))
+within_alphabet tag v (Some place) = Err (LeafFailure.because (outside_alphabet tag place))
 
--- The time that a text means, or the blame of one that means none.
-abbrev pub time_or : List ℕ → (ℤ → Value) → Option ℤ → Result Value Blame
+-- The time that a text means, or the failure of one that means none.
+abbrev pub time_or : List ℕ → (ℤ → Value) → Option ℤ → Result Value LeafFailure
 time_or text value (Some n) = Ok (value n)
-time_or text value None = Err (Blame.because (Why.invalid_date text))
+time_or text value None = Err (LeafFailure.because (Cause.invalid_date text))
 
 -- The value of the shape that a value of its kind is, or why it is none.
-abbrev pub refine : Codec → Shape → Value → Result Value Blame
-refine c (Shape.int least greatest width) (Value.int n) = if is_between least greatest n then Ok (Value.int n) else Err (Blame.because (Why.integer_overflow width))
-refine c (Shape.enum items added) (Value.item i) = if is_item (all_items items added) i then Ok (Value.item i) else Err (Blame.because (Why.invalid_enum_discriminant c i))
+abbrev pub refine : Codec → Shape → Value → Result Value LeafFailure
+refine c (Shape.int least greatest width) (Value.int n) = if is_between least greatest n then Ok (Value.int n) else Err (LeafFailure.because (Cause.integer_overflow width))
+refine c (Shape.enum items added) (Value.item i) = if is_item (all_items items added) i then Ok (Value.item i) else Err (LeafFailure.because (Cause.invalid_enum_discriminant c i))
 refine c (Shape.text a) (Value.text t) = within_alphabet (universal_tag (alphabet_number a)) (Value.text t) (place_outside (alphabet_of a) (chars t))
 refine c Shape.bmp (Value.text t) = within_alphabet (universal_tag bmp_number) (Value.units (chars t)) (place_outside is_bmp (chars t))
 refine c Shape.utc (Value.text t) = time_or t Value.utc (utc_of_text t)
@@ -198,12 +198,12 @@ refine c Shape.day (Value.text t) = time_or t Value.day (day_of_text t)
 refine c s v = Ok v
 
 -- The same, of an answer.
-abbrev pub refined : Codec → Shape → Result Value Blame → Result Value Blame
+abbrev pub refined : Codec → Shape → Result Value LeafFailure → Result Value LeafFailure
 refined c s (Ok v) = refine c s v
 refined c s (Err b) = Err b
 
--- What a tree says, or why it says nothing, by a shape whose values have no parts.
-abbrev pub leaf : Notation → Shape → Tree → Option (Result Value Blame)
+-- What a tree decodes to, or why it decodes to nothing, by a shape whose values have no parts.
+abbrev pub leaf : Notation → Shape → Tree → Option (Result Value LeafFailure)
 leaf n s t = option_map (λ k. refined (codec_of n) s (as_leaf n k t)) (kind_of s)
 
 -- The value that is put.
@@ -217,7 +217,7 @@ leaf_value (put.Octets o) = Value.octets o.now
 leaf_value (put.Arcs a) = Value.arcs a.now
 leaf_value (put.Bits bs size) = Value.bits bs.now size
 
--- The kind of the answer to what is asked for: a time or a date is answered as its text.
+-- The kind of the answer to what is asked for: a time or a date is returned as its text.
 abbrev pub answer_kind : LeafKind → LeafKind
 answer_kind Time = Text
 answer_kind Date = Text

@@ -10,10 +10,10 @@ pub mod Tree
 pub mod Arcs
 pub mod BitLeaves
 pub mod Leaf
-pub mod Says
-pub mod Stops
+pub mod DecodesTo
+pub mod FailsWith
 pub mod Writable
 pub mod Readable
 pub mod Writes
 pub mod Canonical
-pub mod Around
+pub mod Enclosing

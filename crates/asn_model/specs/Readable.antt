@@ -12,9 +12,9 @@ has_identifier [] i = false
 has_identifier (n ∷ ns) i = if same_identifier n i then true else has_identifier ns i
 
 -- No two identifiers are the same but for the case of ASCII letters.
-abbrev pub are_apart : List (List ℕ) → Bool
-are_apart [] = true
-are_apart (n ∷ ns) = if has_identifier ns n then false else are_apart ns
+abbrev pub differ_ignoring_case : List (List ℕ) → Bool
+differ_ignoring_case [] = true
+differ_ignoring_case (n ∷ ns) = if has_identifier ns n then false else differ_ignoring_case ns
 
 -- Each name is an identifier of AVN: an ASCII letter and then letters, digits, `-` and `_`.
 abbrev pub are_identifiers : List (List ℕ) → Bool
@@ -22,11 +22,11 @@ are_identifiers [] = true
 are_identifiers (n ∷ ns) = is_identifier n && are_identifiers ns
 
 -- Each name is an identifier of AVN and none of its keywords.
-abbrev pub are_words : List (List ℕ) → Bool
-are_words [] = true
-are_words (n ∷ ns) = (is_identifier n && not (is_keyword n)) && are_words ns
+abbrev pub are_no_keywords : List (List ℕ) → Bool
+are_no_keywords [] = true
+are_no_keywords (n ∷ ns) = (is_identifier n && not (is_keyword n)) && are_no_keywords ns
 
--- The names of all fields, added ones last.
+-- The names of all fields, extension additions last.
 abbrev pub all_field_names : Fields → FieldAdditions → List (List ℕ)
 all_field_names fs FieldAdditions.closed_fields = field_names fs
 all_field_names fs (FieldAdditions.extended_fields more) = field_names fs ++ field_names more
@@ -54,21 +54,21 @@ has_alternative Alternatives.no_alternatives = false
 has_alternative (Alternatives.alternative i t s alts) = true
 
 -- The identifiers of a choice are identifiers of AVN that differ in more than case, and its tags are distinct and none is that of the end of contents.
-abbrev pub are_told_apart : Alternatives → Bool
-are_told_apart alts = (are_identifiers (identifiers alts) && are_apart (identifiers alts)) && (tags_distinct (tags alts) && not (has_tag (tags alts) end_tag))
+abbrev pub are_distinguishable : Alternatives → Bool
+are_distinguishable alts = (are_identifiers (identifiers alts) && differ_ignoring_case (identifiers alts)) && (tags_distinct (tags alts) && not (has_tag (tags alts) end_tag))
 
 abbrev mutual
   -- The shape can be read within so many loops, of which the innermost ones, so many, hold it directly and not as a part of a list, sequence, set, table or choice.
   pub is_readable_in : ℕ → ℕ → Shape → Bool
   is_readable_in loops bare (Shape.int least greatest width) = has_128_bits least greatest
-  is_readable_in loops bare (Shape.enum items added) = are_words (all_items items added) && are_distinct (all_items items added)
+  is_readable_in loops bare (Shape.enum items added) = are_no_keywords (all_items items added) && are_distinct (all_items items added)
   is_readable_in loops bare (Shape.seq kind fs added) =
       (are_identifiers (all_field_names fs added) && are_distinct (all_field_names fs added)) && (are_fields_readable loops fs && are_added_fields_readable loops added)
   is_readable_in loops bare (Shape.list_of s) = is_readable_in loops 0 s
   is_readable_in loops bare (Shape.set_of s) = is_readable_in loops 0 s
   is_readable_in loops bare (Shape.table s) = is_readable_in loops 0 s
   is_readable_in loops bare (Shape.choice alts added) =
-      (has_alternative alts && are_told_apart (all_alternatives alts added)) && (are_alternatives_readable loops alts && are_added_alternatives_readable loops added)
+      (has_alternative alts && are_distinguishable (all_alternatives alts added)) && (are_alternatives_readable loops alts && are_added_alternatives_readable loops added)
   is_readable_in loops bare (Shape.loop s) = is_readable_in (suc loops) (suc bare) s
   is_readable_in loops bare (Shape.back k) = nat_le bare k && nat_lt k loops
   is_readable_in loops bare s = true
@@ -78,7 +78,7 @@ abbrev mutual
   are_fields_readable loops Fields.no_fields = true
   are_fields_readable loops (Fields.field n t p s fs) = (suits p s && is_readable_in loops 0 s) && are_fields_readable loops fs
 
-  -- So can those of the added fields.
+  -- So can those of the extension additions.
   pub are_added_fields_readable : ℕ → FieldAdditions → Bool
   are_added_fields_readable loops FieldAdditions.closed_fields = true
   are_added_fields_readable loops (FieldAdditions.extended_fields fs) = are_fields_readable loops fs
@@ -88,7 +88,7 @@ abbrev mutual
   are_alternatives_readable loops Alternatives.no_alternatives = true
   are_alternatives_readable loops (Alternatives.alternative i t s alts) = is_readable_in loops 0 s && are_alternatives_readable loops alts
 
-  -- So can those of the added alternatives.
+  -- So can those of the extension additions.
   pub are_added_alternatives_readable : ℕ → AlternativeAdditions → Bool
   are_added_alternatives_readable loops AlternativeAdditions.closed_alternatives = true
   are_added_alternatives_readable loops (AlternativeAdditions.extended_alternatives alts) = are_alternatives_readable loops alts

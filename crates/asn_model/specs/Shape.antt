@@ -115,7 +115,7 @@ abbrev mutual
   fill_fields Fields.no_fields k r = Fields.no_fields
   fill_fields (Fields.field n t p s fs) k r = Fields.field n t p (fill s k r) (fill_fields fs k r)
 
-  -- The added fields, filled in the same way.
+  -- The extension additions, filled in the same way.
   pub fill_added_fields : FieldAdditions → ℕ → Shape → FieldAdditions
   fill_added_fields FieldAdditions.closed_fields k r = FieldAdditions.closed_fields
   fill_added_fields (FieldAdditions.extended_fields fs) k r = FieldAdditions.extended_fields (fill_fields fs k r)
@@ -125,7 +125,7 @@ abbrev mutual
   fill_alternatives Alternatives.no_alternatives k r = Alternatives.no_alternatives
   fill_alternatives (Alternatives.alternative n t s alts) k r = Alternatives.alternative n t (fill s k r) (fill_alternatives alts k r)
 
-  -- The added alternatives, filled in the same way.
+  -- The extension additions, filled in the same way.
   pub fill_added_alternatives : AlternativeAdditions → ℕ → Shape → AlternativeAdditions
   fill_added_alternatives AlternativeAdditions.closed_alternatives k r = AlternativeAdditions.closed_alternatives
   fill_added_alternatives (AlternativeAdditions.extended_alternatives alts) k r = AlternativeAdditions.extended_alternatives (fill_alternatives alts k r)
@@ -134,7 +134,7 @@ abbrev mutual
 abbrev pub unfold_loop : Shape → Shape
 unfold_loop body = fill body 0 (Shape.loop body)
 
--- The items of an enumeration, added ones last.
+-- The items of an enumeration, extension additions last.
 abbrev pub all_items : List (List ℕ) → Option (List (List ℕ)) → List (List ℕ)
 all_items items None = items
 all_items items (Some more) = items ++ more
@@ -144,7 +144,7 @@ abbrev pub join_alternatives : Alternatives → Alternatives → Alternatives
 join_alternatives Alternatives.no_alternatives more = more
 join_alternatives (Alternatives.alternative n t s alts) more = Alternatives.alternative n t s (join_alternatives alts more)
 
--- The alternatives of a choice, added ones last.
+-- The alternatives of a choice, extension additions last.
 abbrev pub all_alternatives : Alternatives → AlternativeAdditions → Alternatives
 all_alternatives alts AlternativeAdditions.closed_alternatives = alts
 all_alternatives alts (AlternativeAdditions.extended_alternatives more) = join_alternatives alts more
@@ -154,7 +154,7 @@ abbrev pub join_fields : Fields → Fields → Fields
 join_fields Fields.no_fields more = more
 join_fields (Fields.field n t p s fs) more = Fields.field n t p s (join_fields fs more)
 
--- The fields of a sequence or set, added ones last.
+-- The fields of a sequence or set, extension additions last.
 abbrev pub all_fields : Fields → FieldAdditions → Fields
 all_fields fs FieldAdditions.closed_fields = fs
 all_fields fs (FieldAdditions.extended_fields more) = join_fields fs more

@@ -50,7 +50,7 @@ abbrev pub fields_of : List (spec.Fields → spec.Fields) → spec.Fields
 fields_of [] = spec.Fields.no_fields
 fields_of (f ∷ fs) = f (fields_of fs)
 
--- The added fields, if there is an extension marker.
+-- The extension additions, if there is an extension marker.
 abbrev pub added_fields_of : Option (List (spec.Fields → spec.Fields)) → spec.FieldAdditions
 added_fields_of None = spec.FieldAdditions.closed_fields
 added_fields_of (Some fs) = spec.FieldAdditions.extended_fields (fields_of fs)
@@ -60,7 +60,7 @@ abbrev pub alternatives_of : List (spec.Alternatives → spec.Alternatives) → 
 alternatives_of [] = spec.Alternatives.no_alternatives
 alternatives_of (a ∷ alts) = a (alternatives_of alts)
 
--- The added alternatives, if there is an extension marker.
+-- The extension additions, if there is an extension marker.
 abbrev pub added_alternatives_of : Option (List (spec.Alternatives → spec.Alternatives)) → spec.AlternativeAdditions
 added_alternatives_of None = spec.AlternativeAdditions.closed_alternatives
 added_alternatives_of (Some alts) = spec.AlternativeAdditions.extended_alternatives (alternatives_of alts)

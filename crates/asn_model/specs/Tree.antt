@@ -1,4 +1,4 @@
--- What a text says before any type looks at it, and how each notation looks at it.
+-- What a text decodes to before any type looks at it, and how each notation looks at it.
 use Rattle.std.specs.Prelude.{ℕ, suc, List, [], ◌∷◌, Bool, Option, Some, None, ◌+◌, if◌then◌else◌, option_map, map}
 use Rattle.std.specs.Str.{bytes_eq}
 use Rattle.std.specs.Char.{to_ascii_lowercase}

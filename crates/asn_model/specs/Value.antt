@@ -2,7 +2,7 @@
 use Rattle.std.specs.Prelude.{◌≡◌, ℕ, ℤ, ◌+◌, ◌&&◌, nat_eq, List, [], ◌∷◌, Bool, true, false, not, if◌then◌else◌, Option, Some, None}
 use Rattle.std.specs.Str.{bytes_eq}
 use Rattle.std.specs.Ordering.{int_eq}
-use Rattle.avn_grammar.specs.Chars.{every}
+use Rattle.avn_grammar.specs.Chars.{all}
 use Rattle.avn_grammar.specs.WellFormed.{is_octet, is_arc}
 use Rattle.asn_base.specs.ObjectIdentifiers.{is_object_identifier}
 use Rattle.asn_base.specs.declared.tag.Tag.{Tag}
@@ -136,9 +136,9 @@ is_leaf_of Shape.utc (Value.utc n) = is_held_second n
 is_leaf_of Shape.gen (Value.gen n) = is_held_nanosecond n
 is_leaf_of Shape.day (Value.day n) = is_held_day n
 is_leaf_of (Shape.enum items added) (Value.item i) = is_item (all_items items added) i
-is_leaf_of Shape.octets (Value.octets o) = every is_octet o
-is_leaf_of Shape.any (Value.octets o) = every is_octet o
-is_leaf_of Shape.oid (Value.arcs a) = every is_arc a && is_object_identifier a
+is_leaf_of Shape.octets (Value.octets o) = all is_octet o
+is_leaf_of Shape.any (Value.octets o) = all is_octet o
+is_leaf_of Shape.oid (Value.arcs a) = all is_arc a && is_object_identifier a
 is_leaf_of (Shape.bits m) (Value.bits bs n) = is_same_size m n
 is_leaf_of s v = false
 

@@ -2,7 +2,7 @@
 use Rattle.std.specs.Prelude.{◌≡◌, ◌≤ℤ◌, ◌⊎◌, ℕ, pos, negsuc, ℤ, ◌-◌, ◌^◌, length, true, false, codes}
 use Rattle.std.specs.Str.{is_utf8}
 use Rattle.std.specs.Str.Lossy.{utf8_valid_len}
-use Rattle.asn_fault.specs.Unwritten.{WhyUnwritten}
+use Rattle.asn_fault.specs.EncodeCause.{EncodeCause}
 use Rattle.asn_base.specs.declared.whole_number.WholeNumber.{WholeNumber}
 use Rattle.asn_base.specs.Numbers.{is_negative, magnitude}
 use Rattle.asn_strings.specs.Units.{has_text, units_valid_len}
@@ -14,14 +14,14 @@ use Rattle.asn_model.specs.Notation.{Notation}
 use Rattle.asn_model.specs.Value.{Value, Values, Slots}
 
 -- The notation has the number.
-abbrev pub IntStands : Notation → ℤ → Type 0
-IntStands Notation.jer n = (negsuc (2 ^ 63 - 1) ≤ℤ n) × (n ≤ℤ pos (2 ^ 64 - 1))
-IntStands _ n = Unit {0}
+abbrev pub IsEncodableInt : Notation → ℤ → Type 0
+IsEncodableInt Notation.jer n = (negsuc (2 ^ 63 - 1) ≤ℤ n) × (n ≤ℤ pos (2 ^ 64 - 1))
+IsEncodableInt _ n = Unit {0}
 
 abbrev mutual
   -- The notation can write the value.
   pub Writable : Notation → Value → Type 0
-  Writable n (Value.int k) = IntStands n k
+  Writable n (Value.int k) = IsEncodableInt n k
   Writable n (Value.text t) = is_utf8 t ≡ true
   Writable n (Value.units u) = has_text u ≡ true
   Writable n (Value.utc k) = IsInUtcYears k
@@ -45,13 +45,13 @@ abbrev mutual
   WritableSlots n (Slots.present m v ms) = Writable n v × WritableSlots n ms
 
 -- Why a text is not written that stops being Unicode after so many octets or 16-bit units.
-abbrev pub no_unicode : Notation → ℕ → WhyUnwritten
-no_unicode Notation.avn place = WhyUnwritten.avn_encoder (codes "Invalid UTF-8")
-no_unicode _ place = WhyUnwritten.invalid_character place
+abbrev pub no_unicode : Notation → ℕ → EncodeCause
+no_unicode Notation.avn place = EncodeCause.avn_encoder (codes "Invalid UTF-8")
+no_unicode _ place = EncodeCause.invalid_character place
 
 -- Why a time is not written whose year has no place in its text.
-abbrev pub outside_years : WhyUnwritten
-outside_years = WhyUnwritten.custom (codes "time outside the years of its text")
+abbrev pub outside_years : EncodeCause
+outside_years = EncodeCause.custom (codes "time outside the years of its text")
 
 -- The number as an error names it.
 abbrev pub whole : ℤ → WholeNumber
@@ -59,26 +59,26 @@ whole n = record { negative = is_negative n; magnitude = magnitude n }
 
 abbrev mutual
   -- The first part of the value that the notation cannot write is refused so.
-  pub Blocks : Notation → Value → WhyUnwritten → Type 0
-  Blocks n (Value.int k) why = (IntStands n k → ⊥) × (why ≡ WhyUnwritten.exceeds_supported_int_size (whole k))
-  Blocks n (Value.text t) why = (is_utf8 t ≡ false) × (why ≡ no_unicode n (utf8_valid_len t))
-  Blocks n (Value.units u) why = (has_text u ≡ false) × (why ≡ no_unicode n (units_valid_len u))
-  Blocks n (Value.utc k) why = (IsInUtcYears k → ⊥) × (why ≡ outside_years)
-  Blocks n (Value.gen k) why = (IsInGeneralizedYears k → ⊥) × (why ≡ outside_years)
-  Blocks n (Value.day k) why = (IsInDayYears k → ⊥) × (why ≡ outside_years)
-  Blocks n (Value.bits bs size) why = LengthBlocks n size (length bs) why
-  Blocks n (Value.members ms) why = BlocksSlots n ms why
-  Blocks n (Value.list vs) why = BlocksEach n vs why
-  Blocks n (Value.choice i v) why = Blocks n v why
-  Blocks n _ why = ⊥
+  pub FirstUnencodable : Notation → Value → EncodeCause → Type 0
+  FirstUnencodable n (Value.int k) cause = (IsEncodableInt n k → ⊥) × (cause ≡ EncodeCause.exceeds_supported_int_size (whole k))
+  FirstUnencodable n (Value.text t) cause = (is_utf8 t ≡ false) × (cause ≡ no_unicode n (utf8_valid_len t))
+  FirstUnencodable n (Value.units u) cause = (has_text u ≡ false) × (cause ≡ no_unicode n (units_valid_len u))
+  FirstUnencodable n (Value.utc k) cause = (IsInUtcYears k → ⊥) × (cause ≡ outside_years)
+  FirstUnencodable n (Value.gen k) cause = (IsInGeneralizedYears k → ⊥) × (cause ≡ outside_years)
+  FirstUnencodable n (Value.day k) cause = (IsInDayYears k → ⊥) × (cause ≡ outside_years)
+  FirstUnencodable n (Value.bits bs size) cause = LengthBlocks n size (length bs) cause
+  FirstUnencodable n (Value.members ms) cause = SlotsFirstUnencodable n ms cause
+  FirstUnencodable n (Value.list vs) cause = EachFirstUnencodable n vs cause
+  FirstUnencodable n (Value.choice i v) cause = FirstUnencodable n v cause
+  FirstUnencodable n _ cause = ⊥
 
   -- The first element that cannot be written is refused so.
-  pub BlocksEach : Notation → Values → WhyUnwritten → Type 0
-  BlocksEach n Values.no_values why = ⊥
-  BlocksEach n (Values.value v vs) why = Blocks n v why ⊎ (Writable n v × BlocksEach n vs why)
+  pub EachFirstUnencodable : Notation → Values → EncodeCause → Type 0
+  EachFirstUnencodable n Values.no_values cause = ⊥
+  EachFirstUnencodable n (Values.value v vs) cause = FirstUnencodable n v cause ⊎ (Writable n v × EachFirstUnencodable n vs cause)
 
   -- The first present member that cannot be written is refused so.
-  pub BlocksSlots : Notation → Slots → WhyUnwritten → Type 0
-  BlocksSlots n Slots.no_slots why = ⊥
-  BlocksSlots n (Slots.absent m ms) why = BlocksSlots n ms why
-  BlocksSlots n (Slots.present m v ms) why = Blocks n v why ⊎ (Writable n v × BlocksSlots n ms why)
+  pub SlotsFirstUnencodable : Notation → Slots → EncodeCause → Type 0
+  SlotsFirstUnencodable n Slots.no_slots cause = ⊥
+  SlotsFirstUnencodable n (Slots.absent m ms) cause = SlotsFirstUnencodable n ms cause
+  SlotsFirstUnencodable n (Slots.present m v ms) cause = FirstUnencodable n v cause ⊎ (Writable n v × SlotsFirstUnencodable n ms cause)

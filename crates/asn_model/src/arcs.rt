@@ -19,7 +19,7 @@ pub fn arc_of(text: &str) -> Option<u32>
 ///
 /// # Errors
 ///
-/// Want of memory alone.
+/// Lack of memory alone.
 pub fn joined_arcs(alloc: Global, arcs: &[u32], separator: &str) -> Result<String, OutOfMemory>
     ensures { IfOk result (λ text. string_bytes text ≡ join_by decimal separator.now arcs.now) }
 {

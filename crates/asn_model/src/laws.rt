@@ -3,15 +3,15 @@
 ghost use Rattle.asn_model.specs.Canonical.{jer_data, avn_tree, canonical_text};
 ghost use Rattle.asn_model.specs.Notation.{Notation, IsText};
 ghost use Rattle.asn_model.specs.Readable.{is_readable};
-ghost use Rattle.asn_model.specs.Says.{Says};
+ghost use Rattle.asn_model.specs.DecodesTo.{DecodesTo};
 ghost use Rattle.asn_model.specs.Shape.{Shape};
-ghost use Rattle.asn_model.specs.Stops.{Stops, Path};
+ghost use Rattle.asn_model.specs.FailsWith.{FailsWith, Path};
 ghost use Rattle.asn_model.specs.Tree.{Tree, Slot};
 ghost use Rattle.asn_model.specs.Value.{Value, Fits};
 ghost use Rattle.asn_model.specs.Writable.{Writable};
-ghost use Rattle.asn_fault.specs.Stop.{Why};
-ghost use Rattle.avn_grammar.specs.Depth.{Deep, deepest};
-ghost use Rattle.avn_grammar.specs.Grammar.{Reads};
+ghost use Rattle.asn_fault.specs.Failure.{Cause};
+ghost use Rattle.avn_grammar.specs.Depth.{ExceedsDepth, deepest};
+ghost use Rattle.avn_grammar.specs.Grammar.{ParsesWhole};
 ghost use Rattle.avn_grammar.specs.Normal.{normal};
 ghost use Rattle.serde_json.specs.Data.{Data, depth};
 ghost use Rattle.std.specs.Prelude.{◌≡◌, ℕ, ◌≤◌, ◌<◌, Some, true};
@@ -19,26 +19,27 @@ ghost use Rattle.std.specs.Str.{chars};
 
 /// A slot decodes to at most one value by a shape.
 pub fn one_value()
-    ensures { (n : Notation) (s : Shape) (slot : Slot) (v w : Value) → IsText n → Says n s slot v
-        → Says n s slot w → v ≡ w }
+    ensures { (n : Notation) (s : Shape) (slot : Slot) (v w : Value) → IsText n → DecodesTo n s slot
+        v
+        → DecodesTo n s slot w → v ≡ w }
 {}
 
 /// A slot that decodes to a value by a shape has no reason to decode to none.
 pub fn no_reason()
-    ensures { (n : Notation) (s : Shape) (slot : Slot) (v : Value) (p : Path) (w : Why) → IsText n
-        → Says n s slot v → Stops n s slot p w → ⊥ }
+    ensures { (n : Notation) (s : Shape) (slot : Slot) (v : Value) (p : Path) (w : Cause) → IsText n
+        → DecodesTo n s slot v → FailsWith n s slot p w → ⊥ }
 {}
 
-/// What is written for a value of a shape that can be read, which the notation can write, decodes to
-/// that value: in JER the JSON value that is written, and in AVN the normal form of what is written,
-/// which its text is read as.
+/// What is written for a value of a shape that can be read, which the notation can write, decodes
+/// to that value: in JER the JSON value that is written, and in AVN the normal form of what is
+/// written, which its text is read as.
 pub fn written_is_said()
     ensures jer { (s : Shape) (v : Value) → is_readable s ≡ true → Fits s v
         → Writable Notation.jer v
-        → Says Notation.jer s (Some (Tree.json (jer_data v))) v }
+        → DecodesTo Notation.jer s (Some (Tree.json (jer_data v))) v }
     ensures avn { (s : Shape) (v : Value) → is_readable s ≡ true → Fits s v
         → Writable Notation.avn v
-        → Says Notation.avn s (Some (Tree.avn (normal (avn_tree v)))) v }
+        → DecodesTo Notation.avn s (Some (Tree.avn (normal (avn_tree v)))) v }
 {}
 
 /// The text that AVN writes for a value of a shape that can be read, which it can write, is read as
@@ -47,14 +48,15 @@ pub fn written_is_said()
 pub fn written_avn_is_read()
     ensures reads { (limit : ℕ) (s : Shape) (v : Value) → is_readable s ≡ true → Fits s v
         → Writable Notation.avn v → deepest 0 (avn_tree v) ≤ limit
-        → Reads limit (chars (canonical_text Notation.avn v)) (normal (avn_tree v)) }
+        → ParsesWhole limit (chars (canonical_text Notation.avn v)) (normal (avn_tree v)) }
     ensures deep { (limit : ℕ) (s : Shape) (v : Value) → is_readable s ≡ true → Fits s v
-        → Writable Notation.avn v → limit < deepest 0 (avn_tree v) → Deep limit 0 (chars (canonical_text Notation.avn v)) }
+        → Writable Notation.avn v → limit < deepest 0 (avn_tree v) → ExceedsDepth limit 0 (chars
+        (canonical_text Notation.avn v)) }
 {}
 
 /// The JSON value that is written for a value nests no deeper than one that decodes to the value.
 pub fn written_json_nests_no_deeper()
-    ensures { (s : Shape) (d : Data) (v : Value) → Says Notation.jer s (Some (Tree.json d)) v
+    ensures { (s : Shape) (d : Data) (v : Value) → DecodesTo Notation.jer s (Some (Tree.json d)) v
         → depth (jer_data v) ≤ depth d }
 {}
 

@@ -1,22 +1,22 @@
 // Values without parts, as encoders take them and as decoders answer them.
 ghost use Rattle.asn_model.specs.Leaf.{needed};
 ghost use Rattle.asn_model.specs.Notation.{notation_of};
-ghost use Rattle.avn_grammar.specs.Chars.{every};
+ghost use Rattle.avn_grammar.specs.Chars.{all};
 ghost use Rattle.avn_grammar.specs.WellFormed.{is_octet, is_arc};
 ghost use Rattle.std.specs.Prelude.{true, ◌≡◌};
 
 use asn_base::{Bits, Codec, ObjectIdentifier, WholeNumber};
 
-/// The kinds of values without parts that the notations tell apart.
+/// The kinds of values without parts that the notations distinguish.
 #[derive(Clone, Copy)]
 pub enum LeafKind {
     Null,
     Boolean,
     Number,
     Text,
-    /// The text of a time, which is answered as `Text`.
+    /// The text of a time, which is returned as `Text`.
     Time,
-    /// The text of a date, which is answered as `Text`.
+    /// The text of a date, which is returned as `Text`.
     Date,
     Item,
     Octets,
@@ -104,14 +104,14 @@ pub enum OwnedLeaf {
 
 /// Law: octets are below 256, as their type says.
 pub fn are_octets(octets: &[u8])
-    ensures { every is_octet octets.now ≡ true }
+    ensures { all is_octet octets.now ≡ true }
 {
     let _octets = octets;
 }
 
 /// Law: arcs are below 2^32, as their type says.
 pub fn are_arcs(arcs: &[u32])
-    ensures { every is_arc arcs.now ≡ true }
+    ensures { all is_arc arcs.now ≡ true }
 {
     let _arcs = arcs;
 }

@@ -8,7 +8,7 @@ mod arcs;
 mod fixed;
 pub mod laws;
 mod leaves;
-mod named;
+mod names;
 mod readable;
 mod shape_type;
 mod tags;

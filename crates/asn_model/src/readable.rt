@@ -1,17 +1,22 @@
 //! Tests whether a shape can be read. By such a shape, what is written for a value decodes to that
 //! value (`laws::written_is_said`), so every `AsnType` has one by a law of the trait.
-ghost use Rattle.asn_model.specs.Around.{loops_of, bare_of, entries_of};
+ghost use Rattle.asn_model.specs.Enclosing.{loops_of, unguarded_of, entries_of};
 ghost use Rattle.asn_model.specs.CharacterStrings.{is_string_of};
-ghost use Rattle.asn_model.specs.Readable.{is_readable, is_readable_in, are_fields_readable, are_alternatives_readable, has_128_bits, is_of_shape, suits, has_alternative, are_told_apart};
+ghost use Rattle.asn_model.specs.Readable.{is_readable, is_readable_in, are_fields_readable};
+ghost use Rattle.asn_model.specs.Readable.{are_alternatives_readable, has_128_bits, is_of_shape};
+ghost use Rattle.asn_model.specs.Readable.{suits, has_alternative, are_distinguishable};
 ghost use Rattle.asn_model.specs.Shape.{has_tag, tags_distinct, join_alternatives};
-ghost use Rattle.asn_model.specs.ShapeView.{alphabet_view, shape_view, plain_view, presence_view, field_views, alternative_views};
-ghost use Rattle.avn_grammar.specs.Chars.{every};
+ghost use Rattle.asn_model.specs.ShapeView.{alphabet_view, shape_view, plain_view, presence_view};
+ghost use Rattle.asn_model.specs.ShapeView.{field_views, alternative_views};
+ghost use Rattle.avn_grammar.specs.Chars.{all};
 ghost use Rattle.avn_grammar.specs.WellFormed.{is_octet};
 ghost use Rattle.std.specs.Prelude.{◌≡◌, ◌++◌, ◌&&◌, map, nat_le, nat_lt, pos};
 ghost use Rattle.std.specs.Str.{is_utf8};
 
 use crate::leaves::are_octets;
-use crate::named::{are_apart, are_distinct, are_identifiers, are_words, has_name};
+use crate::names::{
+    are_distinct, are_identifiers, are_no_keywords, differ_ignoring_case, has_name,
+};
 use crate::tags::same_tag;
 use crate::{Alphabet, AlternativeShape, FieldShape, Plain, PresenceShape, Shape};
 use asn_base::Tag;
@@ -21,13 +26,13 @@ use asn_strings::octets::are_within;
 /// Holds what stands around a part of a shape, the innermost first, as a chain of references on
 /// the stack: no count of loops can overflow, and none takes memory.
 #[derive(Drop)]
-pub enum Around<'a> {
+pub enum Enclosing<'a> {
     /// The part is the whole shape.
     Nothing,
     /// The part is the body of a type that its own parts name.
-    Loop(&'a Around<'a>),
+    Loop(&'a Enclosing<'a>),
     /// The part stands in a list, sequence, set, table or choice.
-    Part(&'a Around<'a>),
+    Part(&'a Enclosing<'a>),
 }
 
 /// Returns whether a shape can be read, by what its names, tags and loops are. It takes no memory.
@@ -40,14 +45,14 @@ pub enum Around<'a> {
 pub fn is_readable(shape: &Shape) -> bool
     ensures { result ≡ is_readable (shape_view shape.now) }
 {
-    is_readable_in(shape, &Around::Nothing)
+    is_readable_in(shape, &Enclosing::Nothing)
 }
 
 /// Returns whether a part of a shape can be read within what stands around it.
 #[cycle(readable)]
 #[tactic(auto, using(crate::proofs::ShapeNames::sequence_readable, crate::proofs::ShapeNames::choice_readable))]
-fn is_readable_in(shape: &Shape, around: &Around<'_>) -> bool
-    ensures { result ≡ is_readable_in (loops_of around.now) (bare_of around.now)
+fn is_readable_in(shape: &Shape, around: &Enclosing<'_>) -> bool
+    ensures { result ≡ is_readable_in (loops_of around.now) (unguarded_of around.now)
         (shape_view shape.now) }
 {
     // What a kind has to meet stands at its arm; most shapes without parts meet it as they are.
@@ -59,7 +64,7 @@ fn is_readable_in(shape: &Shape, around: &Around<'_>) -> bool
         } => has_128_bits(*least, *greatest),
         Shape::Enum { items, added } => {
             let added = entries(added);
-            are_words(items, added) && are_distinct(items, added)
+            are_no_keywords(items, added) && are_distinct(items, added)
         }
         Shape::Seq {
             kind: _,
@@ -73,20 +78,20 @@ fn is_readable_in(shape: &Shape, around: &Around<'_>) -> bool
                 && are_fields_readable(fields, &*around)
                 && are_fields_readable(added, &*around)
         }
-        Shape::ListOf(element) => is_readable_in(element, &Around::Part(&*around)),
-        Shape::SetOf(element) => is_readable_in(element, &Around::Part(&*around)),
-        Shape::Table(entry) => is_readable_in(entry, &Around::Part(&*around)),
+        Shape::ListOf(element) => is_readable_in(element, &Enclosing::Part(&*around)),
+        Shape::SetOf(element) => is_readable_in(element, &Enclosing::Part(&*around)),
+        Shape::Table(entry) => is_readable_in(entry, &Enclosing::Part(&*around)),
         Shape::Choice {
             alternatives,
             added,
         } => {
             let added = entries(added);
             has_alternative(alternatives)
-                && are_told_apart(alternatives, added)
+                && are_distinguishable(alternatives, added)
                 && are_alternatives_readable(alternatives, &*around)
                 && are_alternatives_readable(added, &*around)
         }
-        Shape::Loop(body) => is_readable_in(body, &Around::Loop(&*around)),
+        Shape::Loop(body) => is_readable_in(body, &Enclosing::Loop(&*around)),
         Shape::Back(number) => means_loop(around, *number),
         Shape::Null => true,
         Shape::Bool => true,
@@ -105,14 +110,14 @@ fn is_readable_in(shape: &Shape, around: &Around<'_>) -> bool
 
 /// Returns whether the shapes of the fields can be read, and their defaults are values of them.
 #[cycle(readable)]
-fn are_fields_readable(fields: &[FieldShape], around: &Around<'_>) -> bool
+fn are_fields_readable(fields: &[FieldShape], around: &Enclosing<'_>) -> bool
     ensures { result ≡ are_fields_readable (loops_of around.now) (field_views fields.now) }
 {
     for field in fields {
         if !suits(&field.presence, &field.shape) {
             return false;
         }
-        if !is_readable_in(&field.shape, &Around::Part(&*around)) {
+        if !is_readable_in(&field.shape, &Enclosing::Part(&*around)) {
             return false;
         }
     }
@@ -121,12 +126,12 @@ fn are_fields_readable(fields: &[FieldShape], around: &Around<'_>) -> bool
 
 /// Returns whether the shapes of the alternatives can be read.
 #[cycle(readable)]
-fn are_alternatives_readable(alternatives: &[AlternativeShape], around: &Around<'_>) -> bool
+fn are_alternatives_readable(alternatives: &[AlternativeShape], around: &Enclosing<'_>) -> bool
     ensures { result ≡ are_alternatives_readable (loops_of around.now)
         (alternative_views alternatives.now) }
 {
     for alternative in alternatives {
-        if !is_readable_in(&alternative.shape, &Around::Part(&*around)) {
+        if !is_readable_in(&alternative.shape, &Enclosing::Part(&*around)) {
             return false;
         }
     }
@@ -153,25 +158,26 @@ fn entries<T>(added: &Option<Vec<T>>) -> &[T]
 
 /// Returns whether the number is that of a loop around, with a list, sequence, set, table or
 /// choice between.
-fn means_loop(around: &Around<'_>, number: u32) -> bool
-    ensures { result ≡ (nat_le (bare_of around.now) number && nat_lt number (loops_of around.now)) }
+fn means_loop(around: &Enclosing<'_>, number: u32) -> bool
+    ensures { result ≡ (nat_le (unguarded_of around.now) number && nat_lt number (loops_of
+        around.now)) }
 {
     match around {
-        Around::Nothing => false,
+        Enclosing::Nothing => false,
         // A loop with nothing between is not meant, whatever its number; those further out may be.
-        Around::Loop(outer) => number > 0 && means_loop(outer, number - 1),
-        Around::Part(outer) => has_loop(outer, number),
+        Enclosing::Loop(outer) => number > 0 && means_loop(outer, number - 1),
+        Enclosing::Part(outer) => has_loop(outer, number),
     }
 }
 
 /// Returns whether the number is that of a loop around, where 0 is the innermost.
-fn has_loop(around: &Around<'_>, number: u32) -> bool
+fn has_loop(around: &Enclosing<'_>, number: u32) -> bool
     ensures { result ≡ nat_lt number (loops_of around.now) }
 {
     match around {
-        Around::Nothing => false,
-        Around::Loop(outer) => number == 0 || has_loop(outer, number - 1),
-        Around::Part(outer) => has_loop(outer, number),
+        Enclosing::Nothing => false,
+        Enclosing::Loop(outer) => number == 0 || has_loop(outer, number - 1),
+        Enclosing::Part(outer) => has_loop(outer, number),
     }
 }
 
@@ -229,7 +235,7 @@ fn is_string_of(alphabet: Alphabet, text: &str) -> bool
 
 /// That octets are below 256, as their type says.
 fn is_octets(octets: &[u8]) -> bool
-    ensures { result ≡ every is_octet octets.now }
+    ensures { result ≡ all is_octet octets.now }
 {
     are_octets(octets);
     true
@@ -255,12 +261,12 @@ fn has_alternative(alternatives: &[AlternativeShape]) -> bool
 
 /// Returns whether the alternatives of both lists are distinguishable by identifiers and by tags.
 #[tactic(auto, using(crate::proofs::ShapeNames::identifiers_viewed, crate::proofs::ShapeNames::tags_viewed))]
-fn are_told_apart(alternatives: &[AlternativeShape], added: &[AlternativeShape]) -> bool
-    ensures { result ≡ are_told_apart
+fn are_distinguishable(alternatives: &[AlternativeShape], added: &[AlternativeShape]) -> bool
+    ensures { result ≡ are_distinguishable
         (join_alternatives (alternative_views alternatives.now) (alternative_views added.now)) }
 {
     are_identifiers(alternatives, added)
-        && are_apart(alternatives, added)
+        && differ_ignoring_case(alternatives, added)
         && are_tags_distinct(alternatives, added)
         && !has_tag(alternatives, added, Tag::EOC)
 }

@@ -1,5 +1,6 @@
 // A bit string of a fixed size.
-ghost use Rattle.asn_samples.specs.ConstrainedBitString.{constrained_bit_string_shape, constrained_bit_string_value};
+ghost use Rattle.asn_samples.specs.ConstrainedBitString.{constrained_bit_string_shape};
+ghost use Rattle.asn_samples.specs.ConstrainedBitString.{constrained_bit_string_value};
 ghost use Rattle.std.specs.Prelude.{refl};
 
 use asn_base::{

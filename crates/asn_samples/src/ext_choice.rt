@@ -1,7 +1,8 @@
 //! Describes a CHOICE with an extension marker (X.680, sections 29 and 52). Beside what
 //! `simple_choice` has, its tables and its shape separate the alternatives of the root from the
 //! extension additions.
-ghost use Rattle.asn_samples.specs.ExtChoice.{ext_choice_alternatives, ext_choice_added, ext_choice_chosen};
+ghost use Rattle.asn_samples.specs.ExtChoice.{ext_choice_alternatives, ext_choice_added};
+ghost use Rattle.asn_samples.specs.ExtChoice.{ext_choice_chosen};
 ghost use Rattle.asn_samples.specs.declared.ext_choice.ExtChoice.TheVariants.{Test1, Test2, Test3};
 ghost use Rattle.asn_traits.specs.Shape.{AlternativeAdditions};
 ghost use Rattle.std.specs.Prelude.{refl};

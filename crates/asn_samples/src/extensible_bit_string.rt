@@ -1,5 +1,6 @@
 // A bit string whose size later versions may admit more of, which is so not fixed.
-ghost use Rattle.asn_samples.specs.ExtensibleBitString.{extensible_bit_string_shape, extensible_bit_string_value};
+ghost use Rattle.asn_samples.specs.ExtensibleBitString.{extensible_bit_string_shape};
+ghost use Rattle.asn_samples.specs.ExtensibleBitString.{extensible_bit_string_value};
 ghost use Rattle.std.specs.Prelude.{refl};
 
 use asn_base::{

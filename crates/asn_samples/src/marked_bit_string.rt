@@ -1,5 +1,6 @@
 // A bit string with an extension marker after its size, which is so not fixed.
-ghost use Rattle.asn_samples.specs.MarkedBitString.{marked_bit_string_shape, marked_bit_string_value};
+ghost use Rattle.asn_samples.specs.MarkedBitString.{marked_bit_string_shape};
+ghost use Rattle.asn_samples.specs.MarkedBitString.{marked_bit_string_value};
 ghost use Rattle.std.specs.Prelude.{refl};
 
 use asn_base::{

@@ -3,7 +3,8 @@ ghost use Rattle.asn_sets.specs.Multiplicities.{same_multiset_equiv};
 ghost use Rattle.asn_sets.specs.Multisets.{IsSameMultiset, same_multiset};
 ghost use Rattle.std.specs.Cmp.{partial_equiv_from_equiv};
 ghost use Rattle.std.specs.Map.Iter.{deref};
-ghost use Rattle.std.specs.Prelude.{◌≡◌, ◌∷◌, [], ◌<◌, ◌+◌, ◌↔◌, IfOk, IsTrue, OnErr, OnOk, length, map};
+ghost use Rattle.std.specs.Prelude.{◌≡◌, ◌∷◌, [], ◌<◌, ◌+◌, ◌↔◌, IfOk, IsTrue, OnErr, OnOk, length};
+ghost use Rattle.std.specs.Prelude.{map};
 
 use asn_base::OutOfMemory;
 use indexmap::IndexMap;

@@ -1,15 +1,15 @@
 -- The slots that are still to be read.
 use Rattle.std.specs.Prelude.{◌≡◌, List, [], ◌∷◌, ◌++◌, map, Option, Some, None, Bool, true, false}
 use Rattle.std.specs.Vec.Iter.{into_iter_items}
-use Rattle.asn_slots.specs.declared.pending.Run.{Run}
+use Rattle.asn_slots.specs.declared.pending.Batch.{Batch}
 
 -- The slots of runs: of each its first slot, and the values after it.
-abbrev pub slots_of : {V : Type 0} → List (Run V) → List (Option V)
+abbrev pub slots_of : {V : Type 0} → List (Batch V) → List (Option V)
 slots_of [] = []
 slots_of (r ∷ rs) = r.first ∷ (map Some (into_iter_items r.later) ++ slots_of rs)
 
 -- The runs, of which the next one may stand apart.
-abbrev pub next_before : {V : Type 0} → Option (Run V) → List (Run V) → List (Run V)
+abbrev pub next_before : {V : Type 0} → Option (Batch V) → List (Batch V) → List (Batch V)
 next_before None rs = rs
 next_before (Some r) rs = r ∷ rs
 

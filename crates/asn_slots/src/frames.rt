@@ -2,7 +2,8 @@
 //! was opened; closing it hands them over, and the codec makes one value of them.
 ghost use Rattle.asn_slots.specs.Frames.{push, Closes, last_start};
 ghost use Rattle.asn_slots.specs.Slots.{last_present, present_of, first_of};
-ghost use Rattle.std.specs.Prelude.{◌≡◌, ◌∷◌, [], List, Option, length, reverse, OnOk, OnErr, IfOk, drop};
+ghost use Rattle.std.specs.Prelude.{◌≡◌, ◌∷◌, [], List, Option, length, reverse, OnOk, OnErr, IfOk};
+ghost use Rattle.std.specs.Prelude.{drop};
 
 use crate::slots::{take_first, take_last_present, take_present};
 use asn_base::OutOfMemory;

@@ -11,7 +11,7 @@ use std::vec::IntoIter;
 
 /// Holds a slot, and the values after it, each of which is a present slot too.
 #[derive(Drop)]
-struct Run<V> {
+struct Batch<V> {
     /// Holds the slot that is read first.
     first: Option<V>,
     /// Holds the values after it, in the vector that they came in.
@@ -25,9 +25,9 @@ pub struct Pending<V> {
     /// Allocates the runs and the vectors that hold no later value.
     alloc: Global,
     /// Holds the run that is read next. It stands apart, so that one slot takes no memory.
-    next: Option<Run<V>>,
+    next: Option<Batch<V>>,
     /// Holds the runs after it, the first of them at the end.
-    runs: Vec<Run<V>>,
+    runs: Vec<Batch<V>>,
 }
 
 /// Lets contracts see the slots as one list, whatever runs they are kept in.
@@ -59,7 +59,7 @@ impl<V: Drop> Pending<V> {
     {
         Pending {
             alloc,
-            next: Some(Run {
+            next: Some(Batch {
                 first: slot,
                 later: Vec::new(alloc).into_iter(),
             }),
@@ -77,7 +77,7 @@ impl<V: Drop> Pending<V> {
         ensures kept { OnErr result (self.new ≡ self.old) }
     {
         let later = Vec::new(self.alloc).into_iter();
-        self.put_run(Run { first: slot, later })
+        self.put_run(Batch { first: slot, later })
     }
 
     /// Puts a run before the slots.
@@ -85,7 +85,7 @@ impl<V: Drop> Pending<V> {
     /// # Errors
     ///
     /// `OutOfMemory` alone, and then nothing is put.
-    fn put_run(&mut self, run: Run<V>) -> Result<(), OutOfMemory>
+    fn put_run(&mut self, run: Batch<V>) -> Result<(), OutOfMemory>
         ensures put { OnOk result (self.new ≡ slots_of (run ∷ []) ++ self.old) }
         ensures kept { OnErr result (self.new ≡ self.old) }
     {
@@ -115,7 +115,7 @@ impl<V: Drop> Pending<V> {
         }
         // The last slot goes in first, since the end of `runs` is read first.
         while let Some(slot) = slots.pop() {
-            self.runs.push_reserved(Run {
+            self.runs.push_reserved(Batch {
                 first: slot,
                 later: Vec::new(self.alloc).into_iter(),
             });
@@ -136,7 +136,7 @@ impl<V: Drop> Pending<V> {
         // An empty vector is no run at all.
         let mut later = values.into_iter();
         match later.next() {
-            Some(value) => self.put_run(Run {
+            Some(value) => self.put_run(Batch {
                 first: Some(value),
                 later,
             }),
@@ -154,10 +154,10 @@ impl<V: Drop> Pending<V> {
             Some(run) => run,
             None => self.runs.pop()?,
         };
-        let Run { first, mut later } = run;
+        let Batch { first, mut later } = run;
         // What is left of the run is read next.
         if let Some(value) = later.next() {
-            self.next = Some(Run {
+            self.next = Some(Batch {
                 first: Some(value),
                 later,
             });

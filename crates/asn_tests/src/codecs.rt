@@ -50,7 +50,7 @@ fn other_codecs_have_no_text(rt: HostRuntime) -> Result<(), Fail> {
 /// text.
 /// The error's text is that of the crate `rasn`.
 #[test]
-fn tells_what_stands_at_the_root_in_avn(rt: HostRuntime) -> Result<(), Fail> {
+fn shows_what_stands_at_the_root_in_avn(rt: HostRuntime) -> Result<(), Fail> {
     match enc::Encoder::new(rt.alloc()).to_string() {
         Ok(_) => return Err(Fail::from("a text of nothing")),
         Err(error) => assert_eq!(rt;

@@ -30,7 +30,7 @@ fn refuses_numbers_that_json_lacks(rt: HostRuntime) -> Result<(), Fail> {
 
 /// The call `shape` gives the shape of BOOLEAN and of a list of it as a value.
 #[test]
-fn tells_the_shapes_of_types(rt: HostRuntime) -> Result<(), Fail> {
+fn gives_the_shapes_of_types(rt: HostRuntime) -> Result<(), Fail> {
     match bool::shape(rt.alloc()) {
         Ok(Shape::Bool) => {}
         _ => return Err(Fail::from("the shape of bool")),
@@ -49,7 +49,7 @@ fn tells_the_shapes_of_types(rt: HostRuntime) -> Result<(), Fail> {
 /// a value has both.
 /// The error's text is that of the crate `rasn`.
 #[test]
-fn tells_what_stands_at_the_root(rt: HostRuntime) -> Result<(), Fail> {
+fn shows_what_stands_at_the_root(rt: HostRuntime) -> Result<(), Fail> {
     let none = "JER encoding error: No encoded JSON root value found (Codec: JER)";
     match enc::Encoder::new(rt.alloc()).to_string() {
         Ok(_) => return Err(Fail::from("a text of nothing")),

@@ -308,7 +308,7 @@ fn a_visitor_is_run_at_the_type_of_the_name(rt: HostRuntime) -> Result<(), Fail>
 /// The shape of a CHOICE has the alternatives of the root and the extension additions apart, and
 /// the tags of these go on from those of the root.
 #[test]
-fn a_choice_tells_its_added_alternatives(rt: HostRuntime) -> Result<(), Fail> {
+fn a_choice_shows_its_additions(rt: HostRuntime) -> Result<(), Fail> {
     match Sample::ExtChoice.shape(rt.alloc())? {
         Shape::Choice {
             alternatives,

@@ -1,7 +1,7 @@
 -- GeneralizedTime: `YYYYMMDDhhmmss` with a fraction and a zone, either of which may be left out.
 use Rattle.std.specs.Prelude.{◌≡◌, ℕ, zero, suc, ◌+◌, ◌-◌, ◌*◌, ◌/◌, ◌%◌, ◌<◌, ◌≤◌, ◌==◌, ◌⊎◌, List, [], ◌∷◌, ◌++◌, length, true, false, ℤ, pos}
 use Rattle.asn_times.specs.Digits.{two_digits, four_digits}
-use Rattle.asn_times.specs.Moments.{minute_digits, IsSmallMinute, IsZone, MomentReads, IsMomentText, IsInYears, IsUnwritten}
+use Rattle.asn_times.specs.Moments.{minute_digits, IsSmallMinute, IsZone, MomentReads, IsMomentText, IsInYears, IsUnencodable}
 use Rattle.asn_times.specs.declared.faults.TimeFault.{TimeFault}
 use Rattle.asn_times.specs.declared.moments.MomentFields.{MomentFields}
 
@@ -86,4 +86,4 @@ GeneralizedWritten n text = IsMomentText generalized_digits (pos 0) (pos 9999) n
 
 -- Why a moment has no text.
 abbrev pub IsUnwrittenGeneralized : ℤ → TimeFault → Type 0
-IsUnwrittenGeneralized n fault = IsUnwritten (pos 0) (pos 9999) n fault
+IsUnwrittenGeneralized n fault = IsUnencodable (pos 0) (pos 9999) n fault

@@ -49,7 +49,7 @@ pub record IsMomentOf (f : MomentFields) (utc : DateTime) : Type 0 where
   pub shifted : civil_nanos utc ≡ civil_nanos local -ℤ f.offset *ℤ pos 1_000_000_000
 
 -- The text states the moment n, in nanoseconds since 1970-01-01T00:00:00 in UTC, by a grammar that
--- tells which fields a text has, and the moment's year in UTC lies from first to last.
+-- states which fields a text has, and the moment's year in UTC lies from first to last.
 pub record MomentReads (States : List ℕ → MomentFields → Type 0) (first last : ℤ)
     (text : List ℕ) (n : ℤ) : Type 0 where
   pub fields : MomentFields
@@ -110,7 +110,7 @@ abbrev pub HasMoment : ℤ → ℤ → MomentFields → DateTime → Type 0
 HasMoment first last f utc = IsMomentOf f utc × IsBetween first last utc.date.year
 
 -- Why a moment has no text: its year is outside, or there was no memory for the text.
-abbrev pub IsUnwritten : ℤ → ℤ → ℤ → TimeFault → Type 0
-IsUnwritten first last n InvalidDate = ⊥
-IsUnwritten first last n OutOfYears = IsInYears first last n → ⊥
-IsUnwritten first last n OutOfMemory = IsInYears first last n
+abbrev pub IsUnencodable : ℤ → ℤ → ℤ → TimeFault → Type 0
+IsUnencodable first last n InvalidDate = ⊥
+IsUnencodable first last n OutOfYears = IsInYears first last n → ⊥
+IsUnencodable first last n OutOfMemory = IsInYears first last n

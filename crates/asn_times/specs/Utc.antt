@@ -1,7 +1,7 @@
 -- UTCTime: `YYMMDDhhmm`, seconds that may be left out, and a zone, in the years 1950 to 2049.
 use Rattle.std.specs.Prelude.{◌≡◌, ℕ, ◌+◌, ◌%◌, ◌<◌, ◌⊎◌, nat_lt, if◌then◌else◌, List, [], ◌∷◌, ◌++◌, ℤ, pos, ◌*ℤ◌}
 use Rattle.asn_times.specs.Digits.{two_digits}
-use Rattle.asn_times.specs.Moments.{minute_digits, IsSmallMinute, IsZone, MomentReads, IsMomentText, IsInYears, IsUnwritten}
+use Rattle.asn_times.specs.Moments.{minute_digits, IsSmallMinute, IsZone, MomentReads, IsMomentText, IsInYears, IsUnencodable}
 use Rattle.asn_times.specs.declared.faults.TimeFault.{TimeFault}
 use Rattle.asn_times.specs.declared.moments.MomentFields.{MomentFields}
 
@@ -49,4 +49,4 @@ UtcWritten n text = IsMomentText utc_digits (pos 1950) (pos 2049) (n *ℤ pos 1_
 
 -- Why a moment has no text.
 abbrev pub IsUnwrittenUtc : ℤ → TimeFault → Type 0
-IsUnwrittenUtc n fault = IsUnwritten (pos 1950) (pos 2049) (n *ℤ pos 1_000_000_000) fault
+IsUnwrittenUtc n fault = IsUnencodable (pos 1950) (pos 2049) (n *ℤ pos 1_000_000_000) fault

@@ -5,7 +5,8 @@ ghost use Rattle.std.specs.Option.{option_map};
 ghost use Rattle.std.specs.String.{string_bytes};
 ghost use Rattle.jiff.specs.Words.{epoch_day};
 ghost use Rattle.asn_times.specs.declared.faults.TimeFault.TheVariants.{InvalidDate, OutOfMemory};
-ghost use Rattle.asn_times.specs.Days.{day_digits, DayReads, StatesNoDay, IsSmallDay, IsRealDay, HasDay, IsUnwrittenDay};
+ghost use Rattle.asn_times.specs.Days.{day_digits, DayReads, StatesNoDay, IsSmallDay, IsRealDay};
+ghost use Rattle.asn_times.specs.Days.{HasDay, IsUnwrittenDay};
 ghost use Rattle.asn_times.specs.Reading.{dash, day_fields};
 ghost use Rattle.asn_times.specs.Written.{day_text};
 

@@ -1,14 +1,18 @@
 //! Defines GeneralizedTime (X.680, section 46): a moment, read as `YYYYMMDDhhmmss`, a fraction and
 //! a zone that may be left out, and written in UTC with `Z` and without trailing zeros of the
 //! fraction. Years go from 0000 to 9999.
-ghost use Rattle.std.specs.Prelude.{◌≡◌, ◌<◌, ◌≤◌, ◌++◌, IfSome, IfOk, IfErr, OnOk, pos, neg_ℤ, IsTrue, ◌↔◌};
+ghost use Rattle.std.specs.Prelude.{◌≡◌, ◌<◌, ◌≤◌, ◌++◌, IfSome, IfOk, IfErr, OnOk, pos, neg_ℤ};
+ghost use Rattle.std.specs.Prelude.{IsTrue, ◌↔◌};
 ghost use Rattle.std.specs.Option.{option_map};
 ghost use Rattle.std.specs.String.{string_bytes};
 ghost use Rattle.jiff.specs.Words.{civil_nanos, IsBetween};
 ghost use Rattle.asn_times.specs.declared.faults.TimeFault.TheVariants.{InvalidDate, OutOfMemory};
-ghost use Rattle.asn_times.specs.Generalized.{fraction_digits, fraction_text, generalized_digits, GeneralizedReads, GeneralizedWritten, IsUnwrittenGeneralized, StatesNoGeneralized};
+ghost use Rattle.asn_times.specs.Generalized.{fraction_digits, fraction_text, generalized_digits};
+ghost use Rattle.asn_times.specs.Generalized.{GeneralizedReads, GeneralizedWritten};
+ghost use Rattle.asn_times.specs.Generalized.{IsUnwrittenGeneralized, StatesNoGeneralized};
 ghost use Rattle.asn_times.specs.Moments.{IsSmallMoment};
-ghost use Rattle.asn_times.specs.Reading.{digits, fraction, generalized_fields, some_digits, zone_or_utc};
+ghost use Rattle.asn_times.specs.Reading.{digits, fraction, generalized_fields, some_digits};
+ghost use Rattle.asn_times.specs.Reading.{zone_or_utc};
 ghost use Rattle.asn_times.specs.Written.{generalized_text};
 
 use crate::digits::{push_char, push_four, push_two, read_four, read_two};

@@ -3,7 +3,8 @@
 //! that was read may differ from the written one, as by a zone.
 ghost use Rattle.std.specs.Prelude.{◌≡◌, ◌↔◌, ℕ, List, ℤ, IsUtf8, Some, true};
 ghost use Rattle.asn_times.specs.Days.{DayReads, IsInDayYears};
-ghost use Rattle.asn_times.specs.Generalized.{GeneralizedReads, GeneralizedWritten, IsInGeneralizedYears};
+ghost use Rattle.asn_times.specs.Generalized.{GeneralizedReads, GeneralizedWritten};
+ghost use Rattle.asn_times.specs.Generalized.{IsInGeneralizedYears};
 ghost use Rattle.asn_times.specs.Held.{is_held_day, is_held_nanosecond, is_held_second};
 ghost use Rattle.asn_times.specs.Meanings.{day_of_text, generalized_of_text, utc_of_text};
 ghost use Rattle.asn_times.specs.Utc.{IsInUtcYears, UtcReads, UtcWritten};

@@ -1,12 +1,14 @@
 //! Reads and writes what the texts of moments share: `MMDDhhmm`, the zone, and the moment in UTC
 //! that local time and its offset mean.
-ghost use Rattle.std.specs.Prelude.{◌≡◌, ◌<◌, ◌++◌, ◌↔◌, IsTrue, pos, neg_ℤ, ◌<ℤ◌, ◌≤ℤ◌, IfSome, IfErr, OnOk, MatchOption};
+ghost use Rattle.std.specs.Prelude.{◌≡◌, ◌<◌, ◌++◌, ◌↔◌, IsTrue, pos, neg_ℤ, ◌<ℤ◌, ◌≤ℤ◌, IfSome};
+ghost use Rattle.std.specs.Prelude.{IfErr, OnOk, MatchOption};
 ghost use Rattle.std.specs.Option.{option_map};
 ghost use Rattle.std.specs.String.{string_bytes};
 ghost use Rattle.jiff.specs.Words.{IsBetween};
 ghost use Rattle.asn_times.specs.declared.faults.TimeFault.TheVariants.{OutOfMemory};
 ghost use Rattle.asn_times.specs.Days.{HasDay, IsSmallDay};
-ghost use Rattle.asn_times.specs.Moments.{minute_digits, HasClock, HasMoment, HasNoMoment, IsRealClock, IsSmallClock, IsSmallMoment};
+ghost use Rattle.asn_times.specs.Moments.{minute_digits, HasClock, HasMoment, HasNoMoment};
+ghost use Rattle.asn_times.specs.Moments.{IsRealClock, IsSmallClock, IsSmallMoment};
 ghost use Rattle.asn_times.specs.Reading.{length_of_offset, minute_fields, zone};
 
 use crate::dates::{DayFields, day_of, fields_of};

@@ -1,13 +1,15 @@
 //! Defines UTCTime (X.680, section 47): a moment of whole seconds, read as `YYMMDDhhmm`, seconds
 //! that may be left out and a zone, and written as `YYMMDDhhmmssZ`. Two digits state a year of
 //! 1950 to 2049.
-ghost use Rattle.std.specs.Prelude.{◌≡◌, ◌≢◌, ◌↔◌, ◌<◌, pos, ◌≤ℤ◌, IfSome, IsNone, IfOk, IfErr, IsTrue};
+ghost use Rattle.std.specs.Prelude.{◌≡◌, ◌≢◌, ◌↔◌, ◌<◌, pos, ◌≤ℤ◌, IfSome, IsNone, IfOk, IfErr};
+ghost use Rattle.std.specs.Prelude.{IsTrue};
 ghost use Rattle.std.specs.String.{string_bytes};
 ghost use Rattle.jiff.specs.Words.{civil_seconds, IsBetween};
 ghost use Rattle.asn_times.specs.declared.faults.TimeFault.TheVariants.{InvalidDate, OutOfMemory};
 ghost use Rattle.asn_times.specs.Moments.{IsSmallMoment};
 ghost use Rattle.asn_times.specs.Reading.{seconds_and_rest, utc_fields};
-ghost use Rattle.asn_times.specs.Utc.{full_year, utc_digits, StatesNoUtc, UtcReads, UtcWritten, IsUnwrittenUtc};
+ghost use Rattle.asn_times.specs.Utc.{full_year, utc_digits, StatesNoUtc, UtcReads, UtcWritten};
+ghost use Rattle.asn_times.specs.Utc.{IsUnwrittenUtc};
 ghost use Rattle.asn_times.specs.Written.{utc_text};
 
 use crate::digits::{push_char, push_two, read_two};

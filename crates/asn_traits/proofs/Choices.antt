@@ -2,7 +2,7 @@
 use Rattle.std.proofs.Common.{◌≡◌, rules, refl, ap, sym, ◌∙◌, Option, Some, None, List, [], ◌∷◌, subst, ℕ, zero, suc, ◌<◌, Bool, true, false, Result, Ok, Err, arith, get_or, length, option_map, if◌then◌else◌, nat_eq, IfSome, IsSome, map, ◌++◌, unwrap_or, append-nil}
 use Rattle.std.specs.Borrow.{Bor}
 use Rattle.asn_base.specs.declared.tag_tree.TagTree.{TagTree}
-use Rattle.asn_fault.specs.Stop.{Why, error_stop}
+use Rattle.asn_fault.specs.Failure.{Cause, failure_of}
 use Rattle.asn_base.specs.Tags.{smallest}
 use Rattle.asn_base.specs.declared.tag.Tag.{Tag}
 use Rattle.asn_fault.specs.declared.decode.DecodeError.{DecodeError}
@@ -11,8 +11,8 @@ use Rattle.asn_model.specs.Shape.{Shape, Alternatives, AlternativeAdditions, all
 use Rattle.asn_traits.specs.Tables.{smallest_tags, root_tags, added_tags, or_end}
 use Rattle.asn_model.specs.Tree.{Tree, Slot, slot_nodes, head_nodes, head_slot, same_identifier}
 use Rattle.asn_model.specs.Value.{Value}
-use Rattle.asn_model.specs.Says.{Says}
-use Rattle.asn_model.specs.Stops.{Stops}
+use Rattle.asn_model.specs.DecodesTo.{DecodesTo}
+use Rattle.asn_model.specs.FailsWith.{FailsWith}
 use Rattle.asn_traits.specs.Answer.{Answer, Refuses}
 use Rattle.asn_traits.specs.Opening.{IsChoice, Chosen, OpensAlternative}
 use Rattle.asn_traits.specs.Scopes.{AlternativeAnswer, NoAlternative, TagAnswer}
@@ -112,26 +112,26 @@ module _ {A : Type 0} (n : Notation) (alts : Alternatives) (added : AlternativeA
   shown_tail : (slot put : Slot) → mid ≡ put ∷ rest → mid ≡ slot ∷ after → rest ≡ after
   shown_tail slot put is shown = same_tail _ _ _ _ (sym is ∙ shown)
 
-  unknown : (t : Tree) → before ≡ Some t ∷ rest → ((type_name : List ℕ) → Stops n (Shape.choice alts added) (Some t) [] (Why.no_valid_choice type_name)) → (r : Result A DecodeError) → AlternativeAnswer n None value mid r after → Answer n (Shape.choice alts added) value before r after
+  unknown : (t : Tree) → before ≡ Some t ∷ rest → ((type_name : List ℕ) → FailsWith n (Shape.choice alts added) (Some t) [] (Cause.no_valid_choice type_name)) → (r : Result A DecodeError) → AlternativeAnswer n None value mid r after → Answer n (Shape.choice alts added) value before r after
   unknown t was stops (Ok x) h = absurd h
   unknown t was stops (Err e) h =
-      refuses_by {P = NoAlternative} {Q = Stops n (Shape.choice alts added) (head_slot before)} (λ p w k. rw (was, k.1, k.2) (stops k.0)) (error_stop e) h.1
+      refuses_by {P = NoAlternative} {Q = FailsWith n (Shape.choice alts added) (head_slot before)} (λ p w k. rw (was, k.1, k.2) (stops k.0)) (failure_of e) h.1
 
   pub choice_answer : {slot put : Slot} {o : Option (List ℕ × Shape)} → Chosen n (all_alternatives alts added) slot put o → before ≡ slot ∷ rest → mid ≡ put ∷ rest → (r : Result A DecodeError) → AlternativeAnswer n o value mid r after → Answer n (Shape.choice alts added) value before r after
   choice_answer (Chosen.is_chosen t u name a is at) was put (Ok x) (slot, v, shown, says, e) = (
     Some t,
     was ∙ ap (λ l. Some t ∷ l) (shown_tail slot (Some u) put shown),
-    subst (Says n (Shape.choice alts added) (Some t)) (sym e) (Says.says_choice alts added t name u a.0 a.1 v is at (subst (λ c. Says n a.1 c v) (shown_head slot (Some u) put shown) says)),
+    subst (DecodesTo n (Shape.choice alts added) (Some t)) (sym e) (DecodesTo.decodes_choice alts added t name u a.0 a.1 v is at (subst (λ c. DecodesTo n a.1 c v) (shown_head slot (Some u) put shown) says)),
   )
   choice_answer (Chosen.is_chosen t u name a is at) was put (Err e) h =
-      refuses_by {P = Stops n a.1 (head_slot mid)} {Q = Stops n (Shape.choice alts added) (head_slot before)} (λ p w k. rw was (Stops.stops_payload alts added t name u a.0 a.1 p w is at (rw put at k))) (error_stop e) h
-  choice_answer (Chosen.is_unknown t u name is at) was put r h = unknown t was (λ r. Stops.stops_unnamed alts added t name u r is at) r h
-  choice_answer (Chosen.is_bare t is) was put r h = unknown t was (λ r. Stops.stops_no_member alts added t r is) r h
-  choice_answer (Chosen.is_free slot put (Some a) is) was at (Ok x) (s, v, shown, says, e) = (slot, was ∙ ap (λ l. slot ∷ l) (shown_tail s put at shown), Says.says_free _ slot _ is)
+      refuses_by {P = FailsWith n a.1 (head_slot mid)} {Q = FailsWith n (Shape.choice alts added) (head_slot before)} (λ p w k. rw was (FailsWith.fails_payload alts added t name u a.0 a.1 p w is at (rw put at k))) (failure_of e) h
+  choice_answer (Chosen.is_unknown t u name is at) was put r h = unknown t was (λ r. FailsWith.fails_unnamed alts added t name u r is at) r h
+  choice_answer (Chosen.is_bare t is) was put r h = unknown t was (λ r. FailsWith.fails_no_member alts added t r is) r h
+  choice_answer (Chosen.is_free slot put (Some a) is) was at (Ok x) (s, v, shown, says, e) = (slot, was ∙ ap (λ l. slot ∷ l) (shown_tail s put at shown), DecodesTo.decodes_free _ slot _ is)
   choice_answer (Chosen.is_free slot put None is) was at (Ok x) h = absurd h
   choice_answer (Chosen.is_free slot put o is) was at (Err e) h = Refuses.refuses_free is
 
--- An opened choice has put the slot of the alternative whose tag is answered.
+-- An opened choice has put the slot of the alternative whose tag is returned.
 pub opened_by_place : (n : Notation) (alts : Alternatives) (added : AlternativeAdditions) (before mid : List Slot) (names : List (List ℕ)) (place : Option ℕ) (tag : Tag)
     → tag ≡ place_tag (all_alternatives alts added) place → names ≡ identifiers (all_alternatives alts added) → tags_distinct (tags (all_alternatives alts added)) ≡ true
     → alternative_tagged (all_alternatives alts added) end_tag ≡ None

@@ -2,12 +2,12 @@
 use Rattle.std.proofs.Common.{◌≡◌, ℕ, ◌+◌, ◌<◌, ◌≤◌, List, [], ◌∷◌, ◌++◌, map, take, drop, get_or, length, Some, ap, refl, sym, ◌∙◌, subst, suc, inl, inr, drop-cons}
 use Rattle.std.proofs.lemmas.List.{map_push, take_more, take_all, take-append-drop}
 use Rattle.asn_fault.specs.declared.encode.EncodeError.{EncodeError}
-use Rattle.asn_fault.specs.Unwritten.{WhyUnwritten, encode_why}
+use Rattle.asn_fault.specs.EncodeCause.{EncodeCause, encode_cause}
 use Rattle.asn_model.specs.Notation.{Notation}
 use Rattle.asn_model.specs.Shape.{Shape}
 use Rattle.asn_model.specs.Value.{Value, Values, values, Fits, FitsEach}
-use Rattle.asn_model.specs.Writable.{Writable, WritableEach, Blocks, BlocksEach}
-use Rattle.asn_traits.specs.Writing.{Frame, push, close, as_list, present_values, Turns, Written, CannotWrite}
+use Rattle.asn_model.specs.Writable.{Writable, WritableEach, FirstUnencodable, EachFirstUnencodable}
+use Rattle.asn_traits.specs.Writing.{Frame, push, close, as_list, present_values, Maps, Written, FailsToEncode}
 
 abbrev pub slots_of : {T : Type 0} → (T → Value) → List T → Frame
 slots_of f xs = map (λ x. Some (f x)) xs
@@ -24,9 +24,9 @@ pub writable-more : {T : Type 0} (n : Notation) (f : T → Value) (xs : List T) 
 writable-more n f [] x ws w = (w, tt)
 writable-more n f (y ∷ xs) x ws w = (ws.0, writable-more n f xs x ws.1 w)
 
-pub blocks-later : {T : Type 0} (n : Notation) (f : T → Value) (xs rest : List T) (x : T) (why : WhyUnwritten) → WritableEach n (values f xs) → Blocks n (f x) why → BlocksEach n (values f (xs ++ x ∷ rest)) why
-blocks-later n f [] rest x why ws b = inl b
-blocks-later n f (y ∷ xs) rest x why ws b = inr (ws.0, blocks-later n f xs rest x why ws.1 b)
+pub blocks-later : {T : Type 0} (n : Notation) (f : T → Value) (xs rest : List T) (x : T) (cause : EncodeCause) → WritableEach n (values f xs) → FirstUnencodable n (f x) cause → EachFirstUnencodable n (values f (xs ++ x ∷ rest)) cause
+blocks-later n f [] rest x cause ws b = inl b
+blocks-later n f (y ∷ xs) rest x cause ws b = inr (ws.0, blocks-later n f xs rest x cause ws.1 b)
 
 -- The values of what h makes of the items.
 pub values-map : {A B : Type 0} (f : B → Value) (h : A → B) (xs : List A) → values f (map h xs) ≡ values (λ x. f (h x)) xs
@@ -35,11 +35,11 @@ values-map f h (x ∷ xs) = ap (Values.value (f (h x))) (values-map f h xs)
 
 -- The last frame holds these items, each of which fits and can be written.
 pub record Collected {S T : Type 0} (holds : S → List Frame → Type 0) (n : Notation) (s : Shape) (f : T → Value) (old : S) (xs : List T) (now : S) : Type 0 where
-  pub held : Turns holds (λ fs. slots_of f xs ∷ fs) old now
+  pub held : Maps holds (λ fs. slots_of f xs ∷ fs) old now
   pub fit : FitsEach s (values f xs)
   pub writable : WritableEach n (values f xs)
 
-pub collected-none : {S T : Type 0} (holds : S → List Frame → Type 0) (n : Notation) (s : Shape) (f : T → Value) (old now : S) → Turns holds (λ fs. [] ∷ fs) old now → Collected holds n s f old [] now
+pub collected-none : {S T : Type 0} (holds : S → List Frame → Type 0) (n : Notation) (s : Shape) (f : T → Value) (old now : S) → Maps holds (λ fs. [] ∷ fs) old now → Collected holds n s f old [] now
 collected-none holds n s f old now h = record { held = h; fit = FitsEach.fits_none; writable = tt }
 
 collected-push : {S T : Type 0} {holds : S → List Frame → Type 0} {n : Notation} {s : Shape} {f : T → Value} {old : S} {xs : List T} {now next : S} (x : T) → Collected holds n s f old xs now → Written holds n s (f x) now next → Collected holds n s f old (xs ++ x ∷ []) next
@@ -52,14 +52,14 @@ collected-push {S} {T} {holds} {n} {s} {f} {old} {xs} {now} {next} x c w = recor
 pub collected-more : {S T : Type 0} {holds : S → List Frame → Type 0} {n : Notation} {s : Shape} {f : T → Value} {old : S} (xs : List T) (i : ℕ) {now next : S} (x : T) → i < length xs → x ≡ get_or xs i x → Collected holds n s f old (take i xs) now → Written holds n s (f x) now next → Collected holds n s f old (take (i + 1) xs) next
 collected-more xs i x h e c w = rw (take_more xs i x h, ← e) (collected-push x c w)
 
-pub collected-all : {S T : Type 0} {holds : S → List Frame → Type 0} {n : Notation} {s : Shape} {f : T → Value} {old : S} (xs : List T) (i : ℕ) {now : S} {next : S} → length xs ≤ i → Collected holds n s f old (take i xs) now → Turns holds (close as_list) now next → Written holds n (Shape.list_of s) (Value.list (values f xs)) old next
+pub collected-all : {S T : Type 0} {holds : S → List Frame → Type 0} {n : Notation} {s : Shape} {f : T → Value} {old : S} (xs : List T) (i : ℕ) {now : S} {next : S} → length xs ≤ i → Collected holds n s f old (take i xs) now → Maps holds (close as_list) now next → Written holds n (Shape.list_of s) (Value.list (values f xs)) old next
 collected-all {S} {T} {holds} {n} {s} {f} {old} xs i {now} {next} h c e =
     let d = rw (take_all i xs h) at c in
     record { added = λ fs o. subst (λ vs. holds next (push (Some (Value.list vs)) fs)) (present-slots f xs) (e (slots_of f xs ∷ fs) (d.held fs o)); fit = Fits.fits_list d.fit; writable = d.writable }
 
-pub collected-blocks : {S T : Type 0} {holds : S → List Frame → Type 0} {n : Notation} {s : Shape} {f : T → Value} {old : S} (xs : List T) (i : ℕ) {now : S} (x : T) (e : EncodeError) → i < length xs → x ≡ get_or xs i x → Collected holds n s f old (take i xs) now → CannotWrite n (f x) e → CannotWrite n (Value.list (values f xs)) e
-collected-blocks xs i x e h is c (CannotWrite.no_memory o) = CannotWrite.no_memory o
-collected-blocks xs i x e h is c (CannotWrite.write_free o) = CannotWrite.write_free o
-collected-blocks {S} {T} {holds} {n} {s} {f} xs i x e h is c (CannotWrite.blocked b k) =
+pub collected-blocks : {S T : Type 0} {holds : S → List Frame → Type 0} {n : Notation} {s : Shape} {f : T → Value} {old : S} (xs : List T) (i : ℕ) {now : S} (x : T) (e : EncodeError) → i < length xs → x ≡ get_or xs i x → Collected holds n s f old (take i xs) now → FailsToEncode n (f x) e → FailsToEncode n (Value.list (values f xs)) e
+collected-blocks xs i x e h is c (FailsToEncode.no_memory o) = FailsToEncode.no_memory o
+collected-blocks xs i x e h is c (FailsToEncode.write_free o) = FailsToEncode.write_free o
+collected-blocks {S} {T} {holds} {n} {s} {f} xs i x e h is c (FailsToEncode.blocked b k) =
     let whole : take i xs ++ (x ∷ drop (suc i) xs) ≡ xs = ap (λ y. take i xs ++ (y ∷ drop (suc i) xs)) is ∙ (ap (λ ys. take i xs ++ ys) (sym (drop-cons xs i x h)) ∙ take-append-drop i xs) in
-    CannotWrite.blocked (subst (λ ys. BlocksEach n (values f ys) (encode_why e.kind)) whole (blocks-later n f (take i xs) (drop (suc i) xs) x (encode_why e.kind) c.writable b)) k
+    FailsToEncode.blocked (subst (λ ys. EachFirstUnencodable n (values f ys) (encode_cause e.kind)) whole (blocks-later n f (take i xs) (drop (suc i) xs) x (encode_cause e.kind) c.writable b)) k

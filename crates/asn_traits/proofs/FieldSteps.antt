@@ -2,21 +2,21 @@
 use Rattle.std.proofs.Common.{◌≡◌, refl, ℕ, List, [], ◌∷◌, ◌++◌, length, Option, Some, None, Ok, ◌⊎◌, option_map}
 use Rattle.asn_base.specs.declared.codec.Codec.{Codec}
 use Rattle.asn_base.specs.declared.tag.Tag.{Tag}
-use Rattle.asn_fault.specs.Stop.{Stop, Why, wrapped, at_root}
+use Rattle.asn_fault.specs.Failure.{Failure, Cause, wrapped, at_root}
 use Rattle.asn_fault.specs.declared.encode.EncodeError.{EncodeError}
 use Rattle.asn_model.specs.Notation.{Notation, notation_of}
 use Rattle.asn_model.specs.Shape.{Shape, Fields, Presence, field_names}
 use Rattle.asn_model.specs.Tree.{Slot, head_slot}
 use Rattle.asn_model.specs.Value.{Value, Slots}
-use Rattle.asn_model.specs.Stops.{Stops, StopsFields, Path}
+use Rattle.asn_model.specs.FailsWith.{FailsWith, FieldsFailWith, Path}
 use Rattle.asn_traits.specs.Answer.{OptionalAnswer, Refuses}
 use Rattle.asn_traits.specs.FieldAnswer.{AddsSlot, TakesSlot, WithinField}
-use Rattle.asn_traits.specs.Writing.{Frame, CannotFill}
+use Rattle.asn_traits.specs.Writing.{Frame, FailsToFill}
 use Rattle.asn_traits.proofs.Steps.{refuses_by, within_refuses}
-use Rattle.asn_traits.proofs.Taking.{Taking, taking_starts, stops_required}
+use Rattle.asn_traits.proofs.Taking.{Taking, taking_starts, fails_required}
 
 -- A field's refusal, wrapped once, is one within that field.
-pub field_refused : {n : Notation} {P : Path → Why → Type 0} (name : List ℕ) (c : Codec) → notation_of c ≡ n → (e r : Stop) → (r ≡ wrapped name c e) ⊎ (r ≡ at_root Why.out_of_memory c) → Refuses n P e
+pub field_refused : {n : Notation} {P : Path → Cause → Type 0} (name : List ℕ) (c : Codec) → notation_of c ≡ n → (e r : Failure) → (r ≡ wrapped name c e) ⊎ (r ≡ at_root Cause.out_of_memory c) → Refuses n P e
     → Refuses n (WithinField name P) r
 field_refused name c of e r is h = within_refuses name c of (λ p w k. WithinField.within_field p w k) e r is h
 
@@ -33,7 +33,7 @@ abbrev pub member : List ℕ → Option Value → Slots → Slots
 member name (Some v) vs = Slots.present name v vs
 member name None vs = Slots.absent name vs
 
-pub at_field : {name : List ℕ} {P : Path → Why → Type 0} (Q : Path → Why → Type 0) → ((p : Path) (w : Why) → P p w → Q (name ∷ p) w) → (p : Path) (w : Why) → WithinField name P p w → Q p w
+pub at_field : {name : List ℕ} {P : Path → Cause → Type 0} (Q : Path → Cause → Type 0) → ((p : Path) (w : Cause) → P p w → Q (name ∷ p) w) → (p : Path) (w : Cause) → WithinField name P p w → Q p w
 at_field Q stops p w (WithinField.within_field q v k) = stops q v k
 
 module _ {n : Notation} {fs : Fields} {before : List Slot} where
@@ -42,21 +42,21 @@ module _ {n : Notation} {fs : Fields} {before : List Slot} where
   reads_start = record { taking = λ slots rest count e. taking_starts n fs slots rest before count e }
 
   -- A field that has to be present is refused.
-  pub refuses_required : {name : List ℕ} {g : Tag} {s : Shape} {todo : Fields} {front : Slots → Slots} {now : List Slot} {e : Stop} → FieldsRead n fs before (Fields.field name g Presence.required s todo) front now
-      → Refuses n (WithinField name (Stops n s (head_slot now))) e
-      → (slots rest : List Slot) → length slots ≡ length (field_names fs) → before ≡ slots ++ rest → Refuses n (StopsFields n fs slots) e
+  pub refuses_required : {name : List ℕ} {g : Tag} {s : Shape} {todo : Fields} {front : Slots → Slots} {now : List Slot} {e : Failure} → FieldsRead n fs before (Fields.field name g Presence.required s todo) front now
+      → Refuses n (WithinField name (FailsWith n s (head_slot now))) e
+      → (slots rest : List Slot) → length slots ≡ length (field_names fs) → before ≡ slots ++ rest → Refuses n (FieldsFailWith n fs slots) e
   refuses_required {name} {g} {s} {todo} {front} {now} {e} r h slots rest count is =
-      refuses_by (at_field (StopsFields n fs slots) (stops_required n fs slots rest name g Presence.required s todo front refl now (r.taking slots rest count is))) e h
+      refuses_by (at_field (FieldsFailWith n fs slots) (fails_required n fs slots rest name g Presence.required s todo front refl now (r.taking slots rest count is))) e h
 
 module _ {S : Type 0} {holds : S → List Frame → Type 0} {n : Notation} where
   -- A field is written, and a later one is refused.
-  pub refused_after : {s : Shape} {o : Option Value} {ss : Frame} {old mid : S} {e : EncodeError} → AddsSlot holds n s old mid o → CannotFill n ss e → CannotFill n (o ∷ ss) e
-  refused_after (AddsSlot.adds_value v w) r = CannotFill.after_slot w.writable r
-  refused_after (AddsSlot.adds_nothing w) r = CannotFill.after_absent r
+  pub refused_after : {s : Shape} {o : Option Value} {ss : Frame} {old mid : S} {e : EncodeError} → AddsSlot holds n s old mid o → FailsToFill n ss e → FailsToFill n (o ∷ ss) e
+  refused_after (AddsSlot.adds_value v w) r = FailsToFill.after_slot w.writable r
+  refused_after (AddsSlot.adds_nothing w) r = FailsToFill.after_absent r
 
 -- A field is refused.
-pub refused_at : {n : Notation} {o : Option Value} {ss : Frame} {e : EncodeError} → CannotFill n (o ∷ []) e → CannotFill n (o ∷ ss) e
-refused_at (CannotFill.no_memory_left o) = CannotFill.no_memory_left o
-refused_at (CannotFill.slot_refused r) = CannotFill.slot_refused r
-refused_at (CannotFill.after_slot w r) = elim r [ CannotFill.no_memory_left o ↦ CannotFill.no_memory_left o ]
-refused_at (CannotFill.after_absent r) = elim r [ CannotFill.no_memory_left o ↦ CannotFill.no_memory_left o ]
+pub refused_at : {n : Notation} {o : Option Value} {ss : Frame} {e : EncodeError} → FailsToFill n (o ∷ []) e → FailsToFill n (o ∷ ss) e
+refused_at (FailsToFill.no_memory_left o) = FailsToFill.no_memory_left o
+refused_at (FailsToFill.slot_refused r) = FailsToFill.slot_refused r
+refused_at (FailsToFill.after_slot w r) = elim r [ FailsToFill.no_memory_left o ↦ FailsToFill.no_memory_left o ]
+refused_at (FailsToFill.after_absent r) = elim r [ FailsToFill.no_memory_left o ↦ FailsToFill.no_memory_left o ]

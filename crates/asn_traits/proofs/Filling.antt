@@ -6,7 +6,7 @@ use Rattle.asn_fault.specs.declared.encode.EncodeError.{EncodeError}
 use Rattle.asn_model.specs.Notation.{Notation}
 use Rattle.asn_model.specs.Shape.{Shape, Fields, Alternatives, AlternativeAdditions, Presence, SeqKind, FieldAdditions, all_fields, all_alternatives, alternative_tagged, tag_eq}
 use Rattle.asn_model.specs.Value.{Value, Fits, FitsFields, FitsAlternative, is_kept, may_lack}
-use Rattle.asn_traits.specs.Writing.{Frame, push, push_all, close, as_members, as_choice, named, Turns, Written, Filled, CannotWrite, ScopeRan, CannotFill, tail_names, Offered}
+use Rattle.asn_traits.specs.Writing.{Frame, push, push_all, close, as_members, as_choice, named, Maps, Written, Filled, FailsToEncode, ScopeRan, FailsToFill, tail_names, Offered}
 
 -- On a new frame the slots are the frame.
 push_all-new : (ss f : Frame) (fs : List Frame) → push_all ss (f ∷ fs) ≡ (f ++ ss) ∷ fs
@@ -19,21 +19,21 @@ fill_end {S} {holds} {n} {now} = record { added = λ fs h. h; fit = FitsFields.f
 pub fill_present : {S : Type 0} {holds : S → List Frame → Type 0} {n : Notation} {name : List ℕ} {g : Tag} {p : Presence} {s : Shape} {v : Value} {rest : Fields} {names : List (List ℕ)} {ss : Frame} {old mid new : S} → Written holds n s v old mid → is_kept p v ≡ true → Filled holds n rest names ss mid new → Filled holds n (Fields.field name g p s rest) (name ∷ names) (Some v ∷ ss) old new
 fill_present {holds = holds} {v = v} {ss = ss} {new = new} w kept f = record { added = λ fs h. f.added (push (Some v) fs) (w.added fs h); fit = FitsFields.fits_present w.fit kept f.fit; writable = (w.writable, f.writable) }
 
-pub fill_absent : {S : Type 0} {holds : S → List Frame → Type 0} {n : Notation} {name : List ℕ} {g : Tag} {p : Presence} {s : Shape} {rest : Fields} {names : List (List ℕ)} {ss : Frame} {old mid new : S} → Turns holds (push None) old mid → may_lack p ≡ true → Filled holds n rest names ss mid new → Filled holds n (Fields.field name g p s rest) (name ∷ names) (None ∷ ss) old new
+pub fill_absent : {S : Type 0} {holds : S → List Frame → Type 0} {n : Notation} {name : List ℕ} {g : Tag} {p : Presence} {s : Shape} {rest : Fields} {names : List (List ℕ)} {ss : Frame} {old mid new : S} → Maps holds (push None) old mid → may_lack p ≡ true → Filled holds n rest names ss mid new → Filled holds n (Fields.field name g p s rest) (name ∷ names) (None ∷ ss) old new
 fill_absent {holds = holds} {ss = ss} {new = new} w lack f = record { added = λ fs h. f.added (push None fs) (w fs h); fit = FitsFields.fits_absent lack f.fit; writable = f.writable }
 
 -- What a scope's refusal is for its type.
-pub refuse_members : {n : Notation} {ss : Frame} {e : EncodeError} (names : List (List ℕ)) → CannotFill n ss e → CannotWrite n (Value.members (named ss names)) e
-refuse_members names (CannotFill.no_memory_left o) = CannotWrite.no_memory o
-refuse_members names (CannotFill.slot_refused (CannotWrite.no_memory o)) = CannotWrite.no_memory o
-refuse_members names (CannotFill.slot_refused (CannotWrite.blocked b c)) = CannotWrite.blocked (inl b) c
-refuse_members names (CannotFill.slot_refused (CannotWrite.write_free o)) = CannotWrite.write_free o
-refuse_members {n} {ss} {e} names (CannotFill.after_slot w r) = elim (refuse_members (tail_names names) r) [ CannotWrite.no_memory o ↦ CannotWrite.no_memory o | CannotWrite.blocked b c ↦ CannotWrite.blocked (inr (w, b)) c | CannotWrite.write_free o ↦ CannotWrite.write_free o ]
-refuse_members names (CannotFill.after_absent r) = elim (refuse_members (tail_names names) r) [ CannotWrite.no_memory o ↦ CannotWrite.no_memory o | CannotWrite.blocked b c ↦ CannotWrite.blocked b c | CannotWrite.write_free o ↦ CannotWrite.write_free o ]
+pub refuse_members : {n : Notation} {ss : Frame} {e : EncodeError} (names : List (List ℕ)) → FailsToFill n ss e → FailsToEncode n (Value.members (named ss names)) e
+refuse_members names (FailsToFill.no_memory_left o) = FailsToEncode.no_memory o
+refuse_members names (FailsToFill.slot_refused (FailsToEncode.no_memory o)) = FailsToEncode.no_memory o
+refuse_members names (FailsToFill.slot_refused (FailsToEncode.blocked b c)) = FailsToEncode.blocked (inl b) c
+refuse_members names (FailsToFill.slot_refused (FailsToEncode.write_free o)) = FailsToEncode.write_free o
+refuse_members {n} {ss} {e} names (FailsToFill.after_slot w r) = elim (refuse_members (tail_names names) r) [ FailsToEncode.no_memory o ↦ FailsToEncode.no_memory o | FailsToEncode.blocked b c ↦ FailsToEncode.blocked (inr (w, b)) c | FailsToEncode.write_free o ↦ FailsToEncode.write_free o ]
+refuse_members names (FailsToFill.after_absent r) = elim (refuse_members (tail_names names) r) [ FailsToEncode.no_memory o ↦ FailsToEncode.no_memory o | FailsToEncode.blocked b c ↦ FailsToEncode.blocked b c | FailsToEncode.write_free o ↦ FailsToEncode.write_free o ]
 
 -- The whole scope, of a sequence or set with any additions.
 pub scope_fields : {S F : Type 0} {g : Once F (MutBor S × Unit {0}) (Result (Unit {0}) EncodeError × (MutBor S × Unit {0}))} {f : F} {holds : S → List Frame → Type 0} {names : List (List ℕ)} {old new : S} (n : Notation) (kind : SeqKind) (root : Fields) (more : FieldAdditions) (slots : Frame)
-    → (r : ScopeRan holds (FnOnceReturnsAtMut g f) old (Ok tt) (λ left. Turns holds (close (as_members names)) left new))
+    → (r : ScopeRan holds (FnOnceReturnsAtMut g f) old (Ok tt) (λ left. Maps holds (close (as_members names)) left new))
     → Filled holds n (all_fields root more) names slots r.answered.shown.now r.answered.left.now
     → Written holds n (Shape.seq kind root more) (Value.members (named slots names)) old new
 scope_fields {holds = holds} {names = names} n kind root more slots r f = record {
@@ -48,7 +48,7 @@ offered w fits = record { added = w.added; fit = fits; writable = w.writable }
 
 -- The scope of a choice.
 pub scope_choice : {S F : Type 0} {g : Once F (MutBor S × Unit {0}) (Result Tag EncodeError × (MutBor S × Unit {0}))} {f : F} {holds : S → List Frame → Type 0} {old new : S} {answer : Tag} (n : Notation) (alts : Alternatives) (added : AlternativeAdditions) (id : List ℕ) (v : Value)
-    → (r : ScopeRan holds (FnOnceReturnsAtMut g f) old (Ok answer) (λ left. Turns holds (close (as_choice id)) left new))
+    → (r : ScopeRan holds (FnOnceReturnsAtMut g f) old (Ok answer) (λ left. Maps holds (close (as_choice id)) left new))
     → Offered holds n (all_alternatives alts added) id v r.answered.shown.now r.answered.left.now
     → Written holds n (Shape.choice alts added) (Value.choice id v) old new
 scope_choice {holds = holds} n alts added id v r f = record {

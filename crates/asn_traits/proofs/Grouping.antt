@@ -1,6 +1,6 @@
 -- What two groups of fields write and read is what their fields do, one after another.
 use Rattle.std.proofs.Common.{List, ◌++◌}
-use Rattle.asn_fault.specs.Stop.{Stop}
+use Rattle.asn_fault.specs.Failure.{Failure}
 use Rattle.asn_fault.specs.declared.encode.EncodeError.{EncodeError}
 use Rattle.asn_model.specs.Notation.{Notation}
 use Rattle.asn_traits.specs.FieldAnswer.{Ahead}
@@ -29,12 +29,12 @@ pub takes_both : {n : Notation} {fs gs : Fields} {ss ts : Frame} {before mid aft
 takes_both TakesFields.takes_none b = b
 takes_both (TakesFields.takes_next slot rest allowed) b = TakesFields.takes_next slot (takes_both rest b) allowed
 
-pub refuses_first_fields : {n : Notation} {fs : Fields} {before : Ahead} {e : Stop} (gs : Fields)
+pub refuses_first_fields : {n : Notation} {fs : Fields} {before : Ahead} {e : Failure} (gs : Fields)
     → RefusesFields n fs before e → RefusesFields n (join_fields fs gs) before e
 refuses_first_fields gs (RefusesFields.refuses_field r) = RefusesFields.refuses_field r
 refuses_first_fields gs (RefusesFields.refuses_later_field slot r allowed) = RefusesFields.refuses_later_field slot (refuses_first_fields gs r) allowed
 
-pub refuses_second_fields : {n : Notation} {fs gs : Fields} {ss : Frame} {before mid : Ahead} {e : Stop}
+pub refuses_second_fields : {n : Notation} {fs gs : Fields} {ss : Frame} {before mid : Ahead} {e : Failure}
     → TakesFields n fs ss before mid → RefusesFields n gs mid e → RefusesFields n (join_fields fs gs) before e
 refuses_second_fields TakesFields.takes_none r = r
 refuses_second_fields (TakesFields.takes_next slot rest allowed) r = RefusesFields.refuses_later_field slot (refuses_second_fields rest r) allowed

@@ -3,14 +3,14 @@ use Rattle.std.proofs.Common.{◌≡◌, refl, ap, ◌∙◌, subst, ℕ, ℤ, p
 use Rattle.std.specs.Prelude.{option_map}
 use Rattle.asn_base.specs.Numbers.{signed, is_negative, magnitude}
 use Rattle.asn_base.specs.declared.codec.Codec.{Codec}
-use Rattle.asn_fault.specs.Stop.{Stop, Why, at_root}
+use Rattle.asn_fault.specs.Failure.{Failure, Cause, at_root}
 use Rattle.asn_traits.specs.Answer.{Refuses, OfPlace}
-use Rattle.asn_model.specs.Leaf.{Blame, Blamed, codec_of, as_leaf, kind_of, refine, refined, leaf, IsOwned}
+use Rattle.asn_model.specs.Leaf.{LeafFailure, IsFailureOf, codec_of, as_leaf, kind_of, refine, refined, leaf, IsOwned}
 use Rattle.asn_model.specs.Notation.{Notation, notation_of}
 use Rattle.asn_traits.specs.Opening.{IsLeaf, IsTaken, TakesLeaf}
-use Rattle.asn_model.specs.Says.{Says}
+use Rattle.asn_model.specs.DecodesTo.{DecodesTo}
 use Rattle.asn_model.specs.Shape.{Shape, all_items, is_item}
-use Rattle.asn_model.specs.Stops.{Stops}
+use Rattle.asn_model.specs.FailsWith.{FailsWith}
 use Rattle.asn_model.specs.Tree.{Tree, Slot, head_slot}
 use Rattle.asn_model.specs.Value.{Value, Fits, is_leaf_of}
 use Rattle.asn_traits.specs.Writing.{Frame, Written, Puts}
@@ -26,7 +26,7 @@ leaf_written {S} {holds} {n} {old} {new} s v w same e p =
     record { added = q.added v refl; fit = Fits.fits_leaf e; writable = q.writable }
 
 -- What a shape says of a tree, by the kind of its values.
-by_kind : (n : Notation) {r : Result Value Blame} (s : Shape) (k : LeafKind) (t : Tree) → kind_of s ≡ Some k → as_leaf n k t ≡ r → leaf n s t ≡ Some (refined (codec_of n) s r)
+by_kind : (n : Notation) {r : Result Value LeafFailure} (s : Shape) (k : LeafKind) (t : Tree) → kind_of s ≡ Some k → as_leaf n k t ≡ r → leaf n s t ≡ Some (refined (codec_of n) s r)
 by_kind n s k t is e = ap (option_map (λ j. refined (codec_of n) s (as_leaf n j t))) is ∙ ap (λ r. Some (refined (codec_of n) s r)) e
 
 -- A tree that was taken as a value of the kind.
@@ -35,17 +35,17 @@ taken t x before after was r = (Some t, was, r.kind, IsLeaf.is_leaf t x r)
 
 -- A value that was taken and is one of the shape is said.
 pub leaf_said : {n : Notation} (s : Shape) (k : LeafKind) (w : Value) (slot : Slot) (x y : OwnedLeaf) → kind_of s ≡ Some k → x ≡ y → IsLeaf n k slot x
-    → ((v : Value) → IsOwned v y → refine (codec_of n) s v ≡ Ok w) → Says n s slot w
+    → ((v : Value) → IsOwned v y → refine (codec_of n) s v ≡ Ok w) → DecodesTo n s slot w
 leaf_said {n} s k w slot x y is same (IsLeaf.is_leaf t x2 r) f =
-    Says.says_leaf s t w (by_kind n s k t is r.reads ∙ ap Some (f r.value (subst (IsOwned r.value) same r.is)))
-leaf_said s k w slot x y is same (IsLeaf.leaf_free slot2 x2 o) f = Says.says_free s slot w o
+    DecodesTo.decodes_leaf s t w (by_kind n s k t is r.reads ∙ ap Some (f r.value (subst (IsOwned r.value) same r.is)))
+leaf_said s k w slot x y is same (IsLeaf.leaf_free slot2 x2 o) f = DecodesTo.decodes_free s slot w o
 
 -- A value that was taken and is none of the shape stops.
-leaf_stops : {n : Notation} (s : Shape) (k : LeafKind) (why : Why) (slot : Slot) (x y : OwnedLeaf) → kind_of s ≡ Some k → x ≡ y → IsLeaf n k slot x
-    → ((v : Value) → IsOwned v y → refine (codec_of n) s v ≡ Err (Blame.because why)) → Stops n s slot [] why
-leaf_stops {n} s k why slot x y is same (IsLeaf.is_leaf t x2 r) f =
-    Stops.stops_leaf s t (Blame.because why) why (by_kind n s k t is r.reads ∙ ap Some (f r.value (subst (IsOwned r.value) same r.is))) (Blamed.blamed_because why)
-leaf_stops s k why slot x y is same (IsLeaf.leaf_free slot2 x2 o) f = Stops.stops_free s slot [] why o
+leaf_fails : {n : Notation} (s : Shape) (k : LeafKind) (cause : Cause) (slot : Slot) (x y : OwnedLeaf) → kind_of s ≡ Some k → x ≡ y → IsLeaf n k slot x
+    → ((v : Value) → IsOwned v y → refine (codec_of n) s v ≡ Err (LeafFailure.because cause)) → FailsWith n s slot [] cause
+leaf_fails {n} s k cause slot x y is same (IsLeaf.is_leaf t x2 r) f =
+    FailsWith.fails_leaf s t (LeafFailure.because cause) cause (by_kind n s k t is r.reads ∙ ap Some (f r.value (subst (IsOwned r.value) same r.is))) (IsFailureOf.is_because cause)
+leaf_fails s k cause slot x y is same (IsLeaf.leaf_free slot2 x2 o) f = FailsWith.fails_free s slot [] cause o
 
 -- The codec whose errors a notation has is that of the notation, or the notation is that of the other codecs.
 pub own_codec : (n : Notation) → (notation_of (codec_of n) ≡ n) ⊎ (n ≡ Notation.other)
@@ -54,27 +54,27 @@ own_codec Notation.avn = inl refl
 own_codec Notation.other = inr refl
 
 -- The same, of an error.
-pub leaf_refused : {n : Notation} (s : Shape) (k : LeafKind) (why : Why) (c : Codec) (slot : Slot) (before after : List Slot) (x y : OwnedLeaf) (e : Stop) → kind_of s ≡ Some k → x ≡ y → before ≡ slot ∷ after → IsLeaf n k slot x
-    → ((v : Value) → IsOwned v y → refine (codec_of n) s v ≡ Err (Blame.because why)) → e ≡ at_root why c → OfPlace n why c ⊎ (n ≡ Notation.other) → Refuses n (Stops n s (head_slot before)) e
-leaf_refused {n} s k why c slot before after x y e is same was taken f tells (inl of) =
-    at_no_field {P = Stops n s (head_slot before)} why c e tells of (rw was (leaf_stops s k why slot x y is same taken f))
-leaf_refused {n} s k why c slot before after x y e is same was taken f tells (inr o) = Refuses.refuses_free o
+pub leaf_refused : {n : Notation} (s : Shape) (k : LeafKind) (cause : Cause) (c : Codec) (slot : Slot) (before after : List Slot) (x y : OwnedLeaf) (e : Failure) → kind_of s ≡ Some k → x ≡ y → before ≡ slot ∷ after → IsLeaf n k slot x
+    → ((v : Value) → IsOwned v y → refine (codec_of n) s v ≡ Err (LeafFailure.because cause)) → e ≡ at_root cause c → OfPlace n cause c ⊎ (n ≡ Notation.other) → Refuses n (FailsWith n s (head_slot before)) e
+leaf_refused {n} s k cause c slot before after x y e is same was taken f tells (inl of) =
+    at_no_field {P = FailsWith n s (head_slot before)} cause c e tells of (rw was (leaf_fails s k cause slot x y is same taken f))
+leaf_refused {n} s k cause c slot before after x y e is same was taken f tells (inr o) = Refuses.refuses_free o
 
 -- A number of the type.
 pub number_said : (c : Codec) (l g k m : ℤ) (w : ℕ) (v : Value) → v ≡ Value.int k → m ≡ k → l ≤ℤ k → k ≤ℤ g → refine c (Shape.int l g w) v ≡ Ok (Value.int m)
-number_said c l g k m w v e same low high = rw (e, same) (ap (λ b. if b then Ok (Value.int k) else Err (Blame.because (Why.integer_overflow w))) (between l g k low high))
+number_said c l g k m w v e same low high = rw (e, same) (ap (λ b. if b then Ok (Value.int k) else Err (LeafFailure.because (Cause.integer_overflow w))) (between l g k low high))
 
 -- A number that is none of the type.
-pub number_refused : (c : Codec) (l g k : ℤ) (w : ℕ) (v : Value) → v ≡ Value.int k → (k <ℤ l) ⊎ (g <ℤ k) → refine c (Shape.int l g w) v ≡ Err (Blame.because (Why.integer_overflow w))
-number_refused c l g k w v e out = rw e (ap (λ b. if b then Ok (Value.int k) else Err (Blame.because (Why.integer_overflow w))) (outside l g k out))
+pub number_refused : (c : Codec) (l g k : ℤ) (w : ℕ) (v : Value) → v ≡ Value.int k → (k <ℤ l) ⊎ (g <ℤ k) → refine c (Shape.int l g w) v ≡ Err (LeafFailure.because (Cause.integer_overflow w))
+number_refused c l g k w v e out = rw e (ap (λ b. if b then Ok (Value.int k) else Err (LeafFailure.because (Cause.integer_overflow w))) (outside l g k out))
 
 -- An item of the type.
 pub item_said : (c : Codec) (items : List (List ℕ)) (added : Option (List (List ℕ))) (i j : List ℕ) (v : Value) → v ≡ Value.item i → j ≡ i → is_item (all_items items added) i ≡ true → refine c (Shape.enum items added) v ≡ Ok (Value.item j)
-item_said c items added i j v e same h = rw (e, same) (ap (λ b. if b then Ok (Value.item i) else Err (Blame.because (Why.invalid_enum_discriminant c i))) h)
+item_said c items added i j v e same h = rw (e, same) (ap (λ b. if b then Ok (Value.item i) else Err (LeafFailure.because (Cause.invalid_enum_discriminant c i))) h)
 
 -- A text that names none.
-pub item_refused : (c : Codec) (items : List (List ℕ)) (added : Option (List (List ℕ))) (i : List ℕ) (v : Value) → v ≡ Value.item i → is_item (all_items items added) i ≡ false → refine c (Shape.enum items added) v ≡ Err (Blame.because (Why.invalid_enum_discriminant c i))
-item_refused c items added i v e h = rw e (ap (λ b. if b then Ok (Value.item i) else Err (Blame.because (Why.invalid_enum_discriminant c i))) h)
+pub item_refused : (c : Codec) (items : List (List ℕ)) (added : Option (List (List ℕ))) (i : List ℕ) (v : Value) → v ≡ Value.item i → is_item (all_items items added) i ≡ false → refine c (Shape.enum items added) v ≡ Err (LeafFailure.because (Cause.invalid_enum_discriminant c i))
+item_refused c items added i v e h = rw e (ap (λ b. if b then Ok (Value.item i) else Err (LeafFailure.because (Cause.invalid_enum_discriminant c i))) h)
 
 -- The sign and the magnitude of a number are that number.
 pub signed-parts : (n : ℤ) → signed (is_negative n) (magnitude n) ≡ n

@@ -1,15 +1,15 @@
 -- Steps of reading an open list.
 use Rattle.std.proofs.Common.{◌≡◌, refl, ap, sym, ◌∙◌, List, [], ◌∷◌, ◌++◌, subst, ℕ, ◌+◌, ◌<◌, ◌≤◌, length, Ok, arith}
-use Rattle.asn_fault.specs.Stop.{Stop, Why}
+use Rattle.asn_fault.specs.Failure.{Failure, Cause}
 use Rattle.asn_model.specs.Notation.{Notation}
 use Rattle.asn_model.specs.Shape.{Shape}
 use Rattle.asn_model.specs.Tree.{Slot, slot_nodes, head_nodes, head_slot}
 use Rattle.asn_model.specs.Value.{Value, Values, values}
-use Rattle.asn_model.specs.Says.{Says, SaysEach}
-use Rattle.asn_model.specs.Stops.{Stops, StopsEach, Path}
+use Rattle.asn_model.specs.DecodesTo.{DecodesTo, EachDecodesTo}
+use Rattle.asn_model.specs.FailsWith.{FailsWith, EachFailsWith, Path}
 use Rattle.asn_traits.specs.Answer.{Answer, Refuses}
 use Rattle.asn_traits.specs.Opening.{OpensList, AllBelow, IsList}
-use Rattle.asn_traits.proofs.Steps.{refuses_by, same_head, same_tail, list_says, list_stops}
+use Rattle.asn_traits.proofs.Steps.{refuses_by, same_head, same_tail, list_decodes, list_fails}
 
 -- The values of the items and then vs.
 abbrev pub values_then : {A : Type 0} → (A → Value) → List A → Values → Values
@@ -35,8 +35,8 @@ pub record Reading {A : Type 0} (n : Notation) (s : Shape) (f : A → Value) (be
   pub left : length todo + i ≡ count
   pub below : AllBelow (slot_nodes slot) todo
   pub list : IsList n slot all
-  pub said : (vs : Values) → SaysEach n s todo vs → SaysEach n s all (values_then f items vs)
-  pub stopped : (p : Path) (w : Why) → StopsEach n s todo p w → StopsEach n s all p w
+  pub said : (vs : Values) → EachDecodesTo n s todo vs → EachDecodesTo n s all (values_then f items vs)
+  pub stopped : (p : Path) (w : Cause) → EachFailsWith n s todo p w → EachFailsWith n s all p w
 
 module _ {A : Type 0} (n : Notation) (s : Shape) (f : A → Value) (before : List Slot) (items : List A) where
   pub start : (count : ℕ) (now : List Slot) → OpensList n before (Ok count) now → Reading n s f before [] 0 count now
@@ -53,13 +53,13 @@ module _ {A : Type 0} (n : Notation) (s : Shape) (f : A → Value) (before : Lis
 
   step_at : (i count : ℕ) (now after : List Slot) (x : A) (slot : Slot) (all todo rest : List Slot) → before ≡ slot ∷ rest → now ≡ todo ++ rest
       → length todo + i ≡ count → AllBelow (slot_nodes slot) todo → IsList n slot all → i < count
-      → ((vs : Values) → SaysEach n s todo vs → SaysEach n s all (values_then f items vs)) → ((p : Path) (w : Why) → StopsEach n s todo p w → StopsEach n s all p w)
-      → (t : Slot) → now ≡ t ∷ after → Says n s t (f x)
+      → ((vs : Values) → EachDecodesTo n s todo vs → EachDecodesTo n s all (values_then f items vs)) → ((p : Path) (w : Cause) → EachFailsWith n s todo p w → EachFailsWith n s all p w)
+      → (t : Slot) → now ≡ t ∷ after → DecodesTo n s t (f x)
       → Reading n s f before (items ++ x ∷ []) (i + 1) count after
   step_at i count now after x slot all [] rest was is left below list h said stopped t shown says = absurd (omega (arith, left, h))
   step_at i count now after x slot all (u ∷ us) rest was is left below list h said stopped t shown says =
       let e : t ∷ after ≡ u ∷ (us ++ rest) = sym shown ∙ is in
-      let said_u : Says n s u (f x) = subst (λ c. Says n s c (f x)) (same_head _ _ _ _ e) says in
+      let said_u : DecodesTo n s u (f x) = subst (λ c. DecodesTo n s c (f x)) (same_head _ _ _ _ e) says in
       record {
         slot = slot;
         all = all;
@@ -70,30 +70,30 @@ module _ {A : Type 0} (n : Notation) (s : Shape) (f : A → Value) (before : Lis
         left = omega (arith, left);
         below = below.1;
         list = list;
-        said = λ vs k. subst (SaysEach n s all) (sym (then_last f items x vs)) (said (Values.value (f x) vs) (SaysEach.says_one s u us (f x) vs said_u k));
-        stopped = λ p w k. stopped p w (StopsEach.stops_later s u us (f x) p w said_u k);
+        said = λ vs k. subst (EachDecodesTo n s all) (sym (then_last f items x vs)) (said (Values.value (f x) vs) (EachDecodesTo.decodes_one s u us (f x) vs said_u k));
+        stopped = λ p w k. stopped p w (EachFailsWith.fails_later s u us (f x) p w said_u k);
       }
 
   pub step : (i count : ℕ) (now after : List Slot) (x : A) → Reading n s f before items i count now → i < count → Answer n s f now (Ok x) after → Reading n s f before (items ++ x ∷ []) (i + 1) count after
   step i count now after x r h (t, shown, says) = step_at i count now after x r.slot r.all r.todo r.rest r.was r.is r.left r.below r.list h r.said r.stopped t shown says
 
   refuse_at : (i count : ℕ) (now : List Slot) (slot : Slot) (all todo rest : List Slot) → before ≡ slot ∷ rest → now ≡ todo ++ rest
-      → length todo + i ≡ count → IsList n slot all → i < count → ((p : Path) (w : Why) → StopsEach n s todo p w → StopsEach n s all p w)
-      → (p : Path) (w : Why) → Stops n s (head_slot now) p w → Stops n (Shape.list_of s) (head_slot before) p w
+      → length todo + i ≡ count → IsList n slot all → i < count → ((p : Path) (w : Cause) → EachFailsWith n s todo p w → EachFailsWith n s all p w)
+      → (p : Path) (w : Cause) → FailsWith n s (head_slot now) p w → FailsWith n (Shape.list_of s) (head_slot before) p w
   refuse_at i count now slot all [] rest was is left list h stopped p w k = absurd (omega (arith, left, h))
   refuse_at i count now slot all (u ∷ us) rest was is left list h stopped p w k =
-      let at : Stops n s u p w = subst (λ c. Stops n s (head_slot c) p w) is k in
-      subst (λ c. Stops n (Shape.list_of s) (head_slot c) p w) (sym was) (list_stops s p w list (stopped p w (StopsEach.stops_here s u us p w at)))
+      let at : FailsWith n s u p w = subst (λ c. FailsWith n s (head_slot c) p w) is k in
+      subst (λ c. FailsWith n (Shape.list_of s) (head_slot c) p w) (sym was) (list_fails s p w list (stopped p w (EachFailsWith.fails_here s u us p w at)))
 
-  pub refuse : (i count : ℕ) (now : List Slot) (e : Stop) → Reading n s f before items i count now → i < count → Refuses n (Stops n s (head_slot now)) e → Refuses n (Stops n (Shape.list_of s) (head_slot before)) e
+  pub refuse : (i count : ℕ) (now : List Slot) (e : Failure) → Reading n s f before items i count now → i < count → Refuses n (FailsWith n s (head_slot now)) e → Refuses n (FailsWith n (Shape.list_of s) (head_slot before)) e
   refuse i count now e r h k = refuses_by (refuse_at i count now r.slot r.all r.todo r.rest r.was r.is r.left r.list h r.stopped) e k
 
   finish_at : (i count : ℕ) (now : List Slot) (slot : Slot) (all todo rest : List Slot) → before ≡ slot ∷ rest → now ≡ todo ++ rest
-      → length todo + i ≡ count → IsList n slot all → count ≤ i → ((vs : Values) → SaysEach n s todo vs → SaysEach n s all (values_then f items vs))
-      → (t : Slot) × (before ≡ t ∷ now) × Says n (Shape.list_of s) t (Value.list (values f items))
+      → length todo + i ≡ count → IsList n slot all → count ≤ i → ((vs : Values) → EachDecodesTo n s todo vs → EachDecodesTo n s all (values_then f items vs))
+      → (t : Slot) × (before ≡ t ∷ now) × DecodesTo n (Shape.list_of s) t (Value.list (values f items))
   finish_at i count now slot all [] rest was is left list h said =
-      (slot, was ∙ ap (λ r. slot ∷ r) (sym is), list_says s _ list (subst (SaysEach n s all) (then_none f items) (said Values.no_values (SaysEach.says_none s))))
+      (slot, was ∙ ap (λ r. slot ∷ r) (sym is), list_decodes s _ list (subst (EachDecodesTo n s all) (then_none f items) (said Values.no_values (EachDecodesTo.decodes_none s))))
   finish_at i count now slot all (u ∷ us) rest was is left list h said = absurd (omega (arith, left, h))
 
-  pub finish : (i count : ℕ) (now : List Slot) → Reading n s f before items i count now → count ≤ i → (t : Slot) × (before ≡ t ∷ now) × Says n (Shape.list_of s) t (Value.list (values f items))
+  pub finish : (i count : ℕ) (now : List Slot) → Reading n s f before items i count now → count ≤ i → (t : Slot) × (before ≡ t ∷ now) × DecodesTo n (Shape.list_of s) t (Value.list (values f items))
   finish i count now r h = finish_at i count now r.slot r.all r.todo r.rest r.was r.is r.left r.list h r.said

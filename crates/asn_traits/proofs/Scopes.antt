@@ -1,19 +1,19 @@
 -- A sequence is what its slots are.
 use Rattle.std.proofs.Common.{◌≡◌, refl, sym, ◌∙◌, ap, subst, ℕ, suc, List, [], ◌∷◌, ◌++◌, append-nil, map, length, Option, Some, None, option_map, unwrap_or, Result, Ok, Err}
-use Rattle.asn_fault.specs.Stop.{Stop}
+use Rattle.asn_fault.specs.Failure.{Failure}
 use Rattle.asn_model.specs.Notation.{Notation}
 use Rattle.asn_model.specs.Shape.{Shape, SeqKind, Fields, FieldAdditions, all_fields, field_names}
 use Rattle.asn_model.specs.Tree.{Slot, head_slot}
 use Rattle.asn_model.specs.Value.{Value}
-use Rattle.asn_model.specs.Says.{Says}
-use Rattle.asn_model.specs.Stops.{Stops}
+use Rattle.asn_model.specs.DecodesTo.{DecodesTo}
+use Rattle.asn_model.specs.FailsWith.{FailsWith}
 use Rattle.asn_traits.specs.Answer.{AnswerBy}
 use Rattle.asn_traits.specs.Opening.{HasMembers}
 use Rattle.asn_traits.specs.Scopes.{ScopeAnswer}
 use Rattle.asn_traits.specs.Tables.{Row, names_of, rows_of, field_rows, added_rows}
-use Rattle.asn_traits.specs.declared.types.Field.{Field}
+use Rattle.asn_traits.specs.declared.asn_type.Field.{Field}
 use Rattle.asn_model.proofs.Readables.{names-all}
-use Rattle.asn_traits.proofs.Steps.{refuses_by, members_say, members_stop}
+use Rattle.asn_traits.proofs.Steps.{refuses_by, members_decode, members_fail}
 
 names_of-rows : (fields : List Field) → map (λ (r : Row). r.name) (rows_of fields) ≡ names_of fields
 names_of-rows [] = refl
@@ -38,9 +38,9 @@ all_table_names items root additions (Some t) fs (FieldAdditions.extended_fields
 all_table_names items root additions (Some t) fs FieldAdditions.closed_fields e f is = let d : Some (rows_of (items t)) ≡ None = f in cc d
 all_table_names items root additions None fs (FieldAdditions.extended_fields more) e f is = let d : None ≡ Some (field_rows (length (field_names fs)) more) = f in cc d
 
-pub sequence_answer : {A E : Type 0} (stop : E → Stop) (n : Notation) (kind : SeqKind) (fs : Fields) (added : FieldAdditions) (value : A → Value) (before after rest slots : List Slot) (slot : Slot) (names : List (List ℕ)) (r : Result A E)
-    → names ≡ field_names (all_fields fs added) → before ≡ slot ∷ rest → HasMembers n names slot slots → ScopeAnswer stop n (all_fields fs added) value slots rest r after → AnswerBy stop n (Shape.seq kind fs added) value before r after
-sequence_answer stop n kind fs added value before after rest slots slot names (Ok x) e was has (is, vs, says, v) =
-    (slot, was ∙ ap (λ l. slot ∷ l) (sym is), subst (Says n (Shape.seq kind fs added) slot) (sym v) (members_say kind fs added vs e has says))
-sequence_answer stop n kind fs added value before after rest slots slot names (Err x) e was has h =
-    refuses_by (λ p w k. subst (λ l. Stops n (Shape.seq kind fs added) (head_slot l) p w) (sym was) (members_stop kind fs added p w e has k)) (stop x) h
+pub sequence_answer : {A E : Type 0} (failure : E → Failure) (n : Notation) (kind : SeqKind) (fs : Fields) (added : FieldAdditions) (value : A → Value) (before after rest slots : List Slot) (slot : Slot) (names : List (List ℕ)) (r : Result A E)
+    → names ≡ field_names (all_fields fs added) → before ≡ slot ∷ rest → HasMembers n names slot slots → ScopeAnswer failure n (all_fields fs added) value slots rest r after → AnswerBy failure n (Shape.seq kind fs added) value before r after
+sequence_answer failure n kind fs added value before after rest slots slot names (Ok x) e was has (is, vs, says, v) =
+    (slot, was ∙ ap (λ l. slot ∷ l) (sym is), subst (DecodesTo n (Shape.seq kind fs added) slot) (sym v) (members_decode kind fs added vs e has says))
+sequence_answer failure n kind fs added value before after rest slots slot names (Err x) e was has h =
+    refuses_by (λ p w k. subst (λ l. FailsWith n (Shape.seq kind fs added) (head_slot l) p w) (sym was) (members_fail kind fs added p w e has k)) (failure x) h

@@ -1,20 +1,20 @@
 -- How answers of parts make the answer of a whole.
 use Rattle.std.specs.Prelude.{◌≡◌, ℕ, List, ◌∷◌, map, Some, None, Result, Ok, Err, Bool, true, false, ◌⊎◌, if◌then◌else◌}
 use Rattle.std.proofs.Common.{sym, ◌∙◌, subst, inl, inr, refl}
-use Rattle.asn_fault.specs.Stop.{Stop, Why, error_stop, is_memory, wrapped, at_root}
+use Rattle.asn_fault.specs.Failure.{Failure, Cause, failure_of, is_out_of_memory, wrapped, at_root}
 use Rattle.asn_base.specs.declared.codec.Codec.{Codec}
 use Rattle.asn_fault.specs.declared.decode.DecodeError.{DecodeError}
 use Rattle.asn_model.specs.Notation.{Notation, notation_of}
 use Rattle.asn_model.specs.Shape.{Shape, SeqKind, Fields, FieldAdditions, all_fields, field_names, unfold_loop}
 use Rattle.asn_model.specs.Tree.{Slot, head_slot}
 use Rattle.asn_model.specs.Value.{Value, Values, Slots}
-use Rattle.asn_model.specs.Says.{Says, SaysEach, SaysFields}
-use Rattle.asn_model.specs.Stops.{Stops, StopsEach, StopsFields, Path}
+use Rattle.asn_model.specs.DecodesTo.{DecodesTo, EachDecodesTo, FieldsDecodeTo}
+use Rattle.asn_model.specs.FailsWith.{FailsWith, EachFailsWith, FieldsFailWith, Path}
 use Rattle.asn_traits.specs.Answer.{Answer, Refuses}
 use Rattle.asn_traits.specs.Opening.{IsList, HasMembers}
 
 -- A refusal for a reason is one for another reason that follows from it.
-pub refuses_by : {n : Notation} {P Q : Path → Why → Type 0} → ((p : Path) (w : Why) → P p w → Q p w) → (e : Stop) → Refuses n P e → Refuses n Q e
+pub refuses_by : {n : Notation} {P Q : Path → Cause → Type 0} → ((p : Path) (w : Cause) → P p w → Q p w) → (e : Failure) → Refuses n P e → Refuses n Q e
 refuses_by f e (Refuses.no_memory h) = Refuses.no_memory h
 refuses_by f e (Refuses.stopped h l c) = Refuses.stopped (f _ _ h) l c
 refuses_by f e (Refuses.refuses_free h) = Refuses.refuses_free h
@@ -25,57 +25,57 @@ same_head x y xs ys e = cc e
 pub same_tail : (x y : Slot) (xs ys : List Slot) → x ∷ xs ≡ y ∷ ys → xs ≡ ys
 same_tail x y xs ys e = cc e
 
-pub list_says : {n : Notation} {slot : Slot} {slots : List Slot} (s : Shape) (vs : Values) → IsList n slot slots → SaysEach n s slots vs → Says n (Shape.list_of s) slot (Value.list vs)
-list_says s vs (IsList.is_list t slots e) h = Says.says_list s t slots vs e h
-list_says s vs (IsList.list_free slot slots e) h = Says.says_free _ slot _ e
+pub list_decodes : {n : Notation} {slot : Slot} {slots : List Slot} (s : Shape) (vs : Values) → IsList n slot slots → EachDecodesTo n s slots vs → DecodesTo n (Shape.list_of s) slot (Value.list vs)
+list_decodes s vs (IsList.is_list t slots e) h = DecodesTo.decodes_list s t slots vs e h
+list_decodes s vs (IsList.list_free slot slots e) h = DecodesTo.decodes_free _ slot _ e
 
-pub list_stops : {n : Notation} {slot : Slot} {slots : List Slot} (s : Shape) (p : Path) (w : Why) → IsList n slot slots → StopsEach n s slots p w → Stops n (Shape.list_of s) slot p w
-list_stops s p w (IsList.is_list t slots e) h = Stops.stops_list s t slots p w e h
-list_stops s p w (IsList.list_free slot slots e) h = Stops.stops_free _ slot p w e
+pub list_fails : {n : Notation} {slot : Slot} {slots : List Slot} (s : Shape) (p : Path) (w : Cause) → IsList n slot slots → EachFailsWith n s slots p w → FailsWith n (Shape.list_of s) slot p w
+list_fails s p w (IsList.is_list t slots e) h = FailsWith.fails_list s t slots p w e h
+list_fails s p w (IsList.list_free slot slots e) h = FailsWith.fails_free _ slot p w e
 
-pub members_say : {n : Notation} {names : List (List ℕ)} {slot : Slot} {slots : List Slot} (kind : SeqKind) (fs : Fields) (added : FieldAdditions) (vs : Slots) → names ≡ field_names (all_fields fs added) → HasMembers n names slot slots → SaysFields n (all_fields fs added) slots vs → Says n (Shape.seq kind fs added) slot (Value.members vs)
-members_say {n} kind fs added vs e (HasMembers.has_members names t look is) h = Says.says_seq kind fs added t look vs is (subst (λ l. SaysFields n (all_fields fs added) (map look l) vs) e h)
-members_say kind fs added vs e (HasMembers.members_free names slot slots is) h = Says.says_free _ slot _ is
+pub members_decode : {n : Notation} {names : List (List ℕ)} {slot : Slot} {slots : List Slot} (kind : SeqKind) (fs : Fields) (added : FieldAdditions) (vs : Slots) → names ≡ field_names (all_fields fs added) → HasMembers n names slot slots → FieldsDecodeTo n (all_fields fs added) slots vs → DecodesTo n (Shape.seq kind fs added) slot (Value.members vs)
+members_decode {n} kind fs added vs e (HasMembers.has_members names t look is) h = DecodesTo.decodes_seq kind fs added t look vs is (subst (λ l. FieldsDecodeTo n (all_fields fs added) (map look l) vs) e h)
+members_decode kind fs added vs e (HasMembers.members_free names slot slots is) h = DecodesTo.decodes_free _ slot _ is
 
-pub members_stop : {n : Notation} {names : List (List ℕ)} {slot : Slot} {slots : List Slot} (kind : SeqKind) (fs : Fields) (added : FieldAdditions) (p : Path) (w : Why) → names ≡ field_names (all_fields fs added) → HasMembers n names slot slots → StopsFields n (all_fields fs added) slots p w → Stops n (Shape.seq kind fs added) slot p w
-members_stop {n} kind fs added p w e (HasMembers.has_members names t look is) h = Stops.stops_seq kind fs added t look p w is (subst (λ l. StopsFields n (all_fields fs added) (map look l) p w) e h)
-members_stop kind fs added p w e (HasMembers.members_free names slot slots is) h = Stops.stops_free _ slot p w is
+pub members_fail : {n : Notation} {names : List (List ℕ)} {slot : Slot} {slots : List Slot} (kind : SeqKind) (fs : Fields) (added : FieldAdditions) (p : Path) (w : Cause) → names ≡ field_names (all_fields fs added) → HasMembers n names slot slots → FieldsFailWith n (all_fields fs added) slots p w → FailsWith n (Shape.seq kind fs added) slot p w
+members_fail {n} kind fs added p w e (HasMembers.has_members names t look is) h = FailsWith.fails_seq kind fs added t look p w is (subst (λ l. FieldsFailWith n (all_fields fs added) (map look l) p w) e h)
+members_fail kind fs added p w e (HasMembers.members_free names slot slots is) h = FailsWith.fails_free _ slot p w is
 
-says_nothing : {n : Notation} {s : Shape} {v : Value} → Says n s None v → (r : Shape) → Says n r None v
-says_nothing (Says.says_free s slot v e) r = Says.says_free r None v e
+decodes_nothing : {n : Notation} {s : Shape} {v : Value} → DecodesTo n s None v → (r : Shape) → DecodesTo n r None v
+decodes_nothing (DecodesTo.decodes_free s slot v e) r = DecodesTo.decodes_free r None v e
 
-stops_alike : {n : Notation} {s : Shape} {p : Path} {w : Why} → Stops n s None p w → (r : Shape) → Stops n r None p w
-stops_alike (Stops.stops_absent s c e) r = Stops.stops_absent r c e
-stops_alike (Stops.stops_free s slot p w e) r = Stops.stops_free r None p w e
+fails_alike : {n : Notation} {s : Shape} {p : Path} {w : Cause} → FailsWith n s None p w → (r : Shape) → FailsWith n r None p w
+fails_alike (FailsWith.fails_absent s c e) r = FailsWith.fails_absent r c e
+fails_alike (FailsWith.fails_free s slot p w e) r = FailsWith.fails_free r None p w e
 
 -- What one turn of a loop says, the loop says.
-pub loop_says : {n : Notation} {v : Value} (body : Shape) (slot : Slot) → Says n (unfold_loop body) slot v → Says n (Shape.loop body) slot v
-loop_says body None h = says_nothing h (Shape.loop body)
-loop_says body (Some t) h = Says.says_loop body t _ h
+pub loop_decodes : {n : Notation} {v : Value} (body : Shape) (slot : Slot) → DecodesTo n (unfold_loop body) slot v → DecodesTo n (Shape.loop body) slot v
+loop_decodes body None h = decodes_nothing h (Shape.loop body)
+loop_decodes body (Some t) h = DecodesTo.decodes_loop body t _ h
 
-pub loop_stops : {n : Notation} (body : Shape) (slot : Slot) (p : Path) (w : Why) → Stops n (unfold_loop body) slot p w → Stops n (Shape.loop body) slot p w
-loop_stops body None p w h = stops_alike h (Shape.loop body)
-loop_stops body (Some t) p w h = Stops.stops_loop body t p w h
+pub loop_fails : {n : Notation} (body : Shape) (slot : Slot) (p : Path) (w : Cause) → FailsWith n (unfold_loop body) slot p w → FailsWith n (Shape.loop body) slot p w
+loop_fails body None p w h = fails_alike h (Shape.loop body)
+loop_fails body (Some t) p w h = FailsWith.fails_loop body t p w h
 
-pub loop_refuses : {n : Notation} (body : Shape) (slot : Slot) (e : Stop) → Refuses n (Stops n (unfold_loop body) slot) e → Refuses n (Stops n (Shape.loop body) slot) e
-loop_refuses body slot e h = refuses_by (loop_stops body slot) e h
+pub loop_refuses : {n : Notation} (body : Shape) (slot : Slot) (e : Failure) → Refuses n (FailsWith n (unfold_loop body) slot) e → Refuses n (FailsWith n (Shape.loop body) slot) e
+loop_refuses body slot e h = refuses_by (loop_fails body slot) e h
 
 pub loop_answer : {A : Type 0} (n : Notation) (body : Shape) (value : A → Value) (before : List Slot) (r : Result A DecodeError) (after : List Slot) → Answer n (unfold_loop body) value before r after → Answer n (Shape.loop body) value before r after
-loop_answer n body value before (Ok x) after (slot, shown, says) = (slot, shown, loop_says body slot says)
-loop_answer n body value before (Err e) after h = loop_refuses body (head_slot before) (error_stop e) h
+loop_answer n body value before (Ok x) after (slot, shown, says) = (slot, shown, loop_decodes body slot says)
+loop_answer n body value before (Err e) after h = loop_refuses body (head_slot before) (failure_of e) h
 
-memory_at_root : (c : Codec) → is_memory (at_root Why.out_of_memory c) ≡ true
+memory_at_root : (c : Codec) → is_out_of_memory (at_root Cause.out_of_memory c) ≡ true
 memory_at_root c = refl
 
-wrapped_refuses : {n : Notation} {P Q : Path → Why → Type 0} (name : List ℕ) (c : Codec) → notation_of c ≡ n → ((p : Path) (w : Why) → P p w → Q (name ∷ p) w)
-    → (e : Stop) (b : Bool) → is_memory e ≡ b → Refuses n P e → Refuses n Q (if b then at_root Why.out_of_memory c else record { path = record { name = name; codec = c } ∷ e.path; why = e.why; codec = e.codec })
+wrapped_refuses : {n : Notation} {P Q : Path → Cause → Type 0} (name : List ℕ) (c : Codec) → notation_of c ≡ n → ((p : Path) (w : Cause) → P p w → Q (name ∷ p) w)
+    → (e : Failure) (b : Bool) → is_out_of_memory e ≡ b → Refuses n P e → Refuses n Q (if b then at_root Cause.out_of_memory c else record { path = record { name = name; codec = c } ∷ e.path; cause = e.cause; codec = e.codec })
 wrapped_refuses name c of f e true is h = Refuses.no_memory refl
 wrapped_refuses name c of f e false is (Refuses.no_memory m) = let d : true ≡ false = sym m ∙ is in cc d
 wrapped_refuses name c of f e false is (Refuses.stopped h l k) = Refuses.stopped (f _ _ h) (of, l) k
 wrapped_refuses name c of f e false is (Refuses.refuses_free o) = Refuses.refuses_free o
 
 -- A refusal within a field is one for what the field's refusal is for, under the field's name.
-pub within_refuses : {n : Notation} {P Q : Path → Why → Type 0} (name : List ℕ) (c : Codec) → notation_of c ≡ n → ((p : Path) (w : Why) → P p w → Q (name ∷ p) w)
-    → (e r : Stop) → (r ≡ wrapped name c e) ⊎ (r ≡ at_root Why.out_of_memory c) → Refuses n P e → Refuses n Q r
-within_refuses {n} {P} {Q} name c of f e r (inl is) h = subst (Refuses n Q) (sym is) (wrapped_refuses name c of f e (is_memory e) refl h)
+pub within_refuses : {n : Notation} {P Q : Path → Cause → Type 0} (name : List ℕ) (c : Codec) → notation_of c ≡ n → ((p : Path) (w : Cause) → P p w → Q (name ∷ p) w)
+    → (e r : Failure) → (r ≡ wrapped name c e) ⊎ (r ≡ at_root Cause.out_of_memory c) → Refuses n P e → Refuses n Q r
+within_refuses {n} {P} {Q} name c of f e r (inl is) h = subst (Refuses n Q) (sym is) (wrapped_refuses name c of f e (is_out_of_memory e) refl h)
 within_refuses {n} {P} {Q} name c of f e r (inr is) h = subst (Refuses n Q) (sym is) (Refuses.no_memory refl)

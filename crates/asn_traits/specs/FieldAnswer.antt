@@ -1,17 +1,17 @@
 -- What reading and writing a single field answers.
 use Rattle.std.specs.Prelude.{◌≡◌, ℕ, List, ◌∷◌, Option, Some, None}
-use Rattle.asn_fault.specs.Stop.{Why}
+use Rattle.asn_fault.specs.Failure.{Cause}
 use Rattle.asn_model.specs.Notation.{Notation}
 use Rattle.asn_model.specs.Shape.{Shape}
 use Rattle.asn_model.specs.Tree.{Slot}
 use Rattle.asn_model.specs.Value.{Value}
-use Rattle.asn_model.specs.Says.{Says}
-use Rattle.asn_model.specs.Stops.{Path}
-use Rattle.asn_traits.specs.Writing.{Frame, push, tail_names, Turns, Written}
+use Rattle.asn_model.specs.DecodesTo.{DecodesTo}
+use Rattle.asn_model.specs.FailsWith.{Path}
+use Rattle.asn_traits.specs.Writing.{Frame, push, tail_names, Maps, Written}
 
--- The first pending slot is gone: it says the value, or it was absent.
+-- The first pending slot is gone: it decodes to the value, or it was absent.
 pub data TakesSlot (n : Notation) (s : Shape) (before after : List Slot) : Option Value → Type 0 where
-  takes_value : (slot : Slot) (v : Value) → before ≡ slot ∷ after → Says n s slot v → TakesSlot n s before after (Some v)
+  takes_value : (slot : Slot) (v : Value) → before ≡ slot ∷ after → DecodesTo n s slot v → TakesSlot n s before after (Some v)
   takes_nothing : before ≡ None ∷ after → TakesSlot n s before after None
 
 -- What is ahead of a reader of fields: their names, and the slots that are pending.
@@ -23,10 +23,10 @@ pub data TakesField (n : Notation) (s : Shape) : Ahead → Ahead → Option Valu
   takes_field : {names others : List (List ℕ)} {before after : List Slot} {o : Option Value} → TakesSlot n s before after o → others ≡ tail_names names → TakesField n s (Ahead.ahead names before) (Ahead.ahead others after) o
 
 -- At a place within the field of this name, for a reason that has P.
-pub data WithinField (name : List ℕ) (P : Path → Why → Type 0) : Path → Why → Type 0 where
-  within_field : (p : Path) (w : Why) → P p w → WithinField name P (name ∷ p) w
+pub data WithinField (name : List ℕ) (P : Path → Cause → Type 0) : Path → Cause → Type 0 where
+  within_field : (p : Path) (w : Cause) → P p w → WithinField name P (name ∷ p) w
 
 -- The last frame has one slot more: the value, which fits its shape and can be written, or an absent one.
 pub data AddsSlot {S : Type 0} (holds : S → List Frame → Type 0) (n : Notation) (s : Shape) (old new : S) : Option Value → Type 0 where
   adds_value : (v : Value) → Written holds n s v old new → AddsSlot holds n s old new (Some v)
-  adds_nothing : Turns holds (push None) old new → AddsSlot holds n s old new None
+  adds_nothing : Maps holds (push None) old new → AddsSlot holds n s old new None

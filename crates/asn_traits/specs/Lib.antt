@@ -10,13 +10,13 @@ pub use Rattle.asn_model.specs.Tree
 pub use Rattle.asn_model.specs.Arcs
 pub use Rattle.asn_model.specs.BitLeaves
 pub use Rattle.asn_model.specs.Leaf
-pub use Rattle.asn_model.specs.Says
-pub use Rattle.asn_model.specs.Stops
+pub use Rattle.asn_model.specs.DecodesTo
+pub use Rattle.asn_model.specs.FailsWith
 pub use Rattle.asn_model.specs.Writable
 pub use Rattle.asn_model.specs.Readable
 pub use Rattle.asn_model.specs.Writes
 pub use Rattle.asn_model.specs.Canonical
-pub use Rattle.asn_model.specs.Around
+pub use Rattle.asn_model.specs.Enclosing
 pub mod Answer
 pub mod Opening
 pub mod Scopes

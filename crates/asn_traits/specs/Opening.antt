@@ -1,13 +1,13 @@
 -- What a decoder puts before the pending slots when it opens a tree.
 use Rattle.std.specs.Prelude.{◌≡◌, ℕ, ◌<◌, List, [], ◌∷◌, ◌++◌, map, length, Option, Some, None, Result, Ok, Err}
-use Rattle.asn_fault.specs.Stop.{error_stop}
+use Rattle.asn_fault.specs.Failure.{failure_of}
 use Rattle.asn_fault.specs.declared.decode.DecodeError.{DecodeError}
 use Rattle.asn_base.specs.declared.tag.Tag.{Tag}
 use Rattle.asn_model.specs.Leaf.{answer_kind, as_leaf, kind_of, kind_of_owned, IsOwned}
 use Rattle.asn_model.specs.Notation.{Notation}
 use Rattle.asn_model.specs.Shape.{Shape, SeqKind, Fields, FieldAdditions, Alternatives, AlternativeAdditions, place_named, alternative_named, alternative_tagged, all_alternatives}
 use Rattle.asn_model.specs.Tree.{Tree, Slot, slot_nodes, head_slot, as_list, as_members, as_choice, same_identifier}
-use Rattle.asn_model.specs.Stops.{Stops}
+use Rattle.asn_model.specs.FailsWith.{FailsWith}
 use Rattle.asn_traits.specs.Answer.{Refuses}
 use Rattle.asn_model.specs.Value.{Value}
 use Rattle.asn_model.specs.declared.leaves.LeafKind.{LeafKind}
@@ -50,22 +50,22 @@ pub data IsLeaf (n : Notation) (k : LeafKind) : Slot → OwnedLeaf → Type 0 wh
 -- The first pending slot, a value of this kind, is gone, or it is none.
 abbrev pub TakesLeaf : Notation → LeafKind → List Slot → Result OwnedLeaf DecodeError → List Slot → Type 0
 TakesLeaf n k before (Ok x) after = (slot : Slot) × (before ≡ slot ∷ after) × (kind_of_owned x ≡ answer_kind k) × IsLeaf n k slot x
-TakesLeaf n k before (Err e) after = (s : Shape) → kind_of s ≡ Some k → Refuses n (Stops n s (head_slot before)) (error_stop e)
+TakesLeaf n k before (Err e) after = (s : Shape) → kind_of s ≡ Some k → Refuses n (FailsWith n s (head_slot before)) (failure_of e)
 
 -- The elements of the first pending slot stand in its place, each with fewer nodes, or it is no list.
 abbrev pub OpensList : Notation → List Slot → Result ℕ DecodeError → List Slot → Type 0
 OpensList n before (Ok count) after = (slot : Slot) × (slots : List Slot) × (rest : List Slot) × (before ≡ slot ∷ rest) × (after ≡ slots ++ rest) × (length slots ≡ count) × AllBelow (slot_nodes slot) slots × IsList n slot slots
-OpensList n before (Err e) after = (s : Shape) → Refuses n (Stops n (Shape.list_of s) (head_slot before)) (error_stop e)
+OpensList n before (Err e) after = (s : Shape) → Refuses n (FailsWith n (Shape.list_of s) (head_slot before)) (failure_of e)
 
 -- The slots of these names in the first pending slot stand in its place, or it has no members.
 abbrev pub OpensMembers : Notation → List (List ℕ) → List Slot → Result (Unit {0}) DecodeError → List Slot → Type 0
 OpensMembers n names before (Ok u) after = (slot : Slot) × (slots : List Slot) × (rest : List Slot) × (before ≡ slot ∷ rest) × (after ≡ slots ++ rest) × (length slots ≡ length names) × AllBelow (slot_nodes slot) slots × HasMembers n names slot slots
-OpensMembers n names before (Err e) after = (kind : SeqKind) (fs : Fields) (added : FieldAdditions) → Refuses n (Stops n (Shape.seq kind fs added) (head_slot before)) (error_stop e)
+OpensMembers n names before (Err e) after = (kind : SeqKind) (fs : Fields) (added : FieldAdditions) → Refuses n (FailsWith n (Shape.seq kind fs added) (head_slot before)) (failure_of e)
 
 -- A choice's payload stands in its place, or an absent slot, or it is no choice.
 abbrev pub OpensChoice : Notation → List (List ℕ) → List Slot → Result (Option ℕ) DecodeError → List Slot → Type 0
 OpensChoice n names before (Ok place) after = (slot : Slot) × (put : Slot) × (rest : List Slot) × (before ≡ slot ∷ rest) × (after ≡ put ∷ rest) × (slot_nodes put < slot_nodes slot) × IsChoice n names slot place put
-OpensChoice n names before (Err e) after = (alts : Alternatives) (added : AlternativeAdditions) → Refuses n (Stops n (Shape.choice alts added) (head_slot before)) (error_stop e)
+OpensChoice n names before (Err e) after = (alts : Alternatives) (added : AlternativeAdditions) → Refuses n (FailsWith n (Shape.choice alts added) (head_slot before)) (failure_of e)
 
 -- What a choice's slot and the slot put for it say of the alternative.
 pub data Chosen (n : Notation) (alts : Alternatives) : Slot → Slot → Option (List ℕ × Shape) → Type 0 where
@@ -78,4 +78,4 @@ pub data Chosen (n : Notation) (alts : Alternatives) : Slot → Slot → Option 
 abbrev pub OpensAlternative : Notation → Alternatives → AlternativeAdditions → List Slot → Result Tag DecodeError → List Slot → Type 0
 OpensAlternative n alts added before (Ok tag) after = (slot : Slot) × (put : Slot) × (rest : List Slot) × (before ≡ slot ∷ rest) × (after ≡ put ∷ rest) × (slot_nodes put < slot_nodes slot)
     × Chosen n (all_alternatives alts added) slot put (alternative_tagged (all_alternatives alts added) tag)
-OpensAlternative n alts added before (Err e) after = Refuses n (Stops n (Shape.choice alts added) (head_slot before)) (error_stop e)
+OpensAlternative n alts added before (Err e) after = Refuses n (FailsWith n (Shape.choice alts added) (head_slot before)) (failure_of e)

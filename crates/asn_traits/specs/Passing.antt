@@ -1,16 +1,16 @@
 -- Writing and reading fields, one after another.
 use Rattle.std.specs.Prelude.{◌≡◌, ℕ, List, [], ◌∷◌, Option, Some, None, Bool, true, is_some}
 use Rattle.asn_base.specs.declared.tag.Tag.{Tag}
-use Rattle.asn_fault.specs.Stop.{Stop, Why}
+use Rattle.asn_fault.specs.Failure.{Failure, Cause}
 use Rattle.asn_fault.specs.declared.encode.EncodeError.{EncodeError}
-use Rattle.asn_traits.specs.Answer.{OptionalStops, Refuses}
+use Rattle.asn_traits.specs.Answer.{OptionalFailsWith, Refuses}
 use Rattle.asn_traits.specs.FieldAnswer.{AddsSlot, Ahead, TakesField, WithinField}
 use Rattle.asn_model.specs.Notation.{Notation}
 use Rattle.asn_model.specs.Shape.{Shape, Fields, Presence}
-use Rattle.asn_model.specs.Stops.{Stops, Path}
+use Rattle.asn_model.specs.FailsWith.{FailsWith, Path}
 use Rattle.asn_model.specs.Tree.{Slot, head_slot}
 use Rattle.asn_model.specs.Value.{Value, is_kept}
-use Rattle.asn_traits.specs.Writing.{Frame, CannotFill, head_name}
+use Rattle.asn_traits.specs.Writing.{Frame, FailsToFill, head_name}
 
 -- The presence allows the slot.
 abbrev pub allows : Presence → Option Value → Bool
@@ -26,7 +26,7 @@ pub data AddsFields {S : Type 0} (holds : S → List Frame → Type 0) (n : Nota
 
 -- One of the slots is refused, after those before it are added.
 pub data RefusesAdding {S : Type 0} (holds : S → List Frame → Type 0) (n : Notation) : Fields → Frame → S → EncodeError → Type 0 where
-  refuses_slot : {name : List ℕ} {g : Tag} {p : Presence} {s : Shape} {rest : Fields} {o : Option Value} {ss : Frame} {old : S} {e : EncodeError} → CannotFill n (o ∷ []) e → RefusesAdding holds n (Fields.field name g p s rest) (o ∷ ss) old e
+  refuses_slot : {name : List ℕ} {g : Tag} {p : Presence} {s : Shape} {rest : Fields} {o : Option Value} {ss : Frame} {old : S} {e : EncodeError} → FailsToFill n (o ∷ []) e → RefusesAdding holds n (Fields.field name g p s rest) (o ∷ ss) old e
   refuses_later_slot : {name : List ℕ} {g : Tag} {p : Presence} {s : Shape} {rest : Fields} {o : Option Value} {ss : Frame} {old mid : S} {e : EncodeError} → AddsSlot holds n s old mid o → RefusesAdding holds n rest ss mid e → RefusesAdding holds n (Fields.field name g p s rest) (o ∷ ss) old e
 
 -- The fields are taken, one after another.
@@ -35,11 +35,11 @@ pub data TakesFields (n : Notation) : Fields → Frame → Ahead → Ahead → T
   takes_next : {name : List ℕ} {g : Tag} {p : Presence} {s : Shape} {rest : Fields} {o : Option Value} {ss : Frame} {before mid after : Ahead} → TakesField n s before mid o → TakesFields n rest ss mid after → allows p o ≡ true → TakesFields n (Fields.field name g p s rest) (o ∷ ss) before after
 
 -- Why a field is refused.
-abbrev pub FieldStops : Notation → Presence → Shape → List Slot → Path → Why → Type 0
-FieldStops n Presence.required s before = Stops n s (head_slot before)
-FieldStops n p s before = OptionalStops n s before
+abbrev pub FieldFailsWith : Notation → Presence → Shape → List Slot → Path → Cause → Type 0
+FieldFailsWith n Presence.required s before = FailsWith n s (head_slot before)
+FieldFailsWith n p s before = OptionalFailsWith n s before
 
 -- One of the fields is refused, under the first name ahead, after those before it are taken.
-pub data RefusesFields (n : Notation) : Fields → Ahead → Stop → Type 0 where
-  refuses_field : {name : List ℕ} {g : Tag} {p : Presence} {s : Shape} {rest : Fields} {names : List (List ℕ)} {before : List Slot} {e : Stop} → Refuses n (WithinField (head_name names) (FieldStops n p s before)) e → RefusesFields n (Fields.field name g p s rest) (Ahead.ahead names before) e
-  refuses_later_field : {name : List ℕ} {g : Tag} {p : Presence} {s : Shape} {rest : Fields} {o : Option Value} {before mid : Ahead} {e : Stop} → TakesField n s before mid o → RefusesFields n rest mid e → allows p o ≡ true → RefusesFields n (Fields.field name g p s rest) before e
+pub data RefusesFields (n : Notation) : Fields → Ahead → Failure → Type 0 where
+  refuses_field : {name : List ℕ} {g : Tag} {p : Presence} {s : Shape} {rest : Fields} {names : List (List ℕ)} {before : List Slot} {e : Failure} → Refuses n (WithinField (head_name names) (FieldFailsWith n p s before)) e → RefusesFields n (Fields.field name g p s rest) (Ahead.ahead names before) e
+  refuses_later_field : {name : List ℕ} {g : Tag} {p : Presence} {s : Shape} {rest : Fields} {o : Option Value} {before mid : Ahead} {e : Failure} → TakesField n s before mid o → RefusesFields n rest mid e → allows p o ≡ true → RefusesFields n (Fields.field name g p s rest) before e

@@ -4,9 +4,9 @@ use Rattle.asn_base.specs.Tags.{smallest}
 use Rattle.asn_base.specs.declared.tag.Tag.{Tag}
 use Rattle.asn_base.specs.declared.tag_tree.TagTree.{TagTree}
 use Rattle.asn_model.specs.Shape.{Fields, FieldAdditions, Alternatives, AlternativeAdditions, Presence, field_names, tags, end_tag}
-use Rattle.asn_traits.specs.declared.types.Field.{Field}
-use Rattle.asn_traits.specs.declared.types.Presence.{Presence as PresenceKind}
-use Rattle.asn_traits.specs.declared.types.Presence.TheVariants as kind
+use Rattle.asn_traits.specs.declared.asn_type.Field.{Field}
+use Rattle.asn_traits.specs.declared.asn_type.Presence.{Presence as PresenceKind}
+use Rattle.asn_traits.specs.declared.asn_type.Presence.TheVariants as kind
 
 -- The names in a table of fields.
 abbrev pub names_of : List Field → List (List ℕ)
@@ -52,7 +52,7 @@ or_end None = end_tag
 abbrev pub root_tags : Alternatives → List (Option Tag)
 root_tags alts = map Some (tags alts)
 
--- Those of the added alternatives, if there is an extension marker.
+-- Those of the extension additions, if there is an extension marker.
 abbrev pub added_tags : AlternativeAdditions → Option (List (Option Tag))
 added_tags AlternativeAdditions.closed_alternatives = None
 added_tags (AlternativeAdditions.extended_alternatives alts) = Some (root_tags alts)

@@ -3,8 +3,8 @@ use Rattle.std.specs.Prelude.{◌≡◌, ◌⊎◌, ℕ, List, Result, Ok, Err, 
 use Rattle.std.specs.Global.{Global}
 use Rattle.asn_base.specs.declared.codec.Codec.{Codec}
 use Rattle.asn_base.specs.declared.codec.Codec.TheVariants.{Ber}
-use Rattle.asn_fault.specs.Stop.{Stop, Why, at_root, error_stop, is_memory}
-use Rattle.asn_fault.specs.Unwritten.{WhyUnwritten, encode_why}
+use Rattle.asn_fault.specs.Failure.{Failure, Cause, at_root, failure_of, is_out_of_memory}
+use Rattle.asn_fault.specs.EncodeCause.{EncodeCause, encode_cause}
 use Rattle.asn_fault.specs.declared.decode.DecodeError.{DecodeError}
 use Rattle.asn_fault.specs.declared.encode.EncodeError.{EncodeError}
 use Rattle.asn_fault.specs.declared.encode.EncodeErrorKind.TheVariants.{OutOfMemory}
@@ -15,46 +15,46 @@ use Rattle.asn_times.specs.declared.faults.TimeFault.{TimeFault}
 use Rattle.asn_times.specs.declared.faults.TimeFault.TheVariants as time
 use Rattle.asn_base.specs.declared.tag.Tag.{Tag}
 use Rattle.asn_model.specs.CharacterStrings.{outside_alphabet}
-use Rattle.asn_model.specs.Leaf.{Blame, refine}
+use Rattle.asn_model.specs.Leaf.{LeafFailure, refine}
 use Rattle.asn_model.specs.Notation.{Notation, notation_of}
 use Rattle.asn_model.specs.Shape.{Shape}
 use Rattle.asn_model.specs.Value.{Value}
 use Rattle.asn_model.specs.Writable.{outside_years}
 use Rattle.asn_traits.specs.Answer.{OfPlace}
-use Rattle.asn_traits.specs.Writing.{CannotWrite, Frame, Puts}
+use Rattle.asn_traits.specs.Writing.{FailsToEncode, Frame, Puts}
 
 -- The text is no value of the shape, and the error says so.
-pub record IsNoText (s : Shape) (text : List ℕ) (codec : Codec) (e : Stop) : Type 0 where
-  pub why : Why
+pub record IsNoText (s : Shape) (text : List ℕ) (codec : Codec) (e : Failure) : Type 0 where
+  pub cause : Cause
   pub place : Codec
-  pub refused : (c : Codec) → refine c s (Value.text text) ≡ Err (Blame.because why)
-  pub is : e ≡ at_root why place
-  pub of : OfPlace (notation_of codec) why place
+  pub refused : (c : Codec) → refine c s (Value.text text) ≡ Err (LeafFailure.because cause)
+  pub is : e ≡ at_root cause place
+  pub of : OfPlace (notation_of codec) cause place
 
 -- What a type makes of a text for a decoder of this codec: the value of the shape that the text is, or the refusal of the text, or of memory.
 abbrev pub MakesOfText : {A : Type 0} → Shape → (A → Value) → Codec → List ℕ → Result A DecodeError → Type 0
 MakesOfText s value codec text (Ok x) = (c : Codec) → refine c s (Value.text text) ≡ Ok (value x)
-MakesOfText s value codec text (Err e) = IsNoText s text codec (error_stop e) ⊎ (is_memory (error_stop e) ≡ true)
+MakesOfText s value codec text (Err e) = IsNoText s text codec (failure_of e) ⊎ (is_out_of_memory (failure_of e) ≡ true)
 
 -- The error refuses a text for this fault of the string type with this tag, or memory.
-abbrev pub IsStringRefusal : Tag → StringFault → Codec → Stop → Type 0
-IsStringRefusal tag (Alphabet place) codec e = (e ≡ at_root (outside_alphabet tag place) codec) ⊎ (e ≡ at_root Why.out_of_memory codec)
-IsStringRefusal tag string.OutOfMemory codec e = e ≡ at_root Why.out_of_memory codec
+abbrev pub IsStringRefusal : Tag → StringFault → Codec → Failure → Type 0
+IsStringRefusal tag (Alphabet place) codec e = (e ≡ at_root (outside_alphabet tag place) codec) ⊎ (e ≡ at_root Cause.out_of_memory codec)
+IsStringRefusal tag string.OutOfMemory codec e = e ≡ at_root Cause.out_of_memory codec
 
 -- The time that was read of a text, or the refusal of the text.
 abbrev pub IsTimeOf : {A : Type 0} → Result A TimeFault → List ℕ → Result A DecodeError → Type 0
 IsTimeOf (Ok time) text r = r ≡ Ok time
 IsTimeOf (Err fault) text (Ok time) = ⊥
-IsTimeOf (Err fault) text (Err e) = error_stop e ≡ at_root (Why.invalid_date text) Ber
+IsTimeOf (Err fault) text (Err e) = failure_of e ≡ at_root (Cause.invalid_date text) Ber
 
 -- The error says why a value isn't written, or memory ran out.
-abbrev pub TellsUnwritten : Notation → WhyUnwritten → EncodeError → Type 0
-TellsUnwritten n why e = (e.kind ≡ OutOfMemory) ⊎ ((encode_why e.kind ≡ why) × (notation_of e.codec ≡ n))
+abbrev pub TellsUnwritten : Notation → EncodeCause → EncodeError → Type 0
+TellsUnwritten n cause e = (e.kind ≡ OutOfMemory) ⊎ ((encode_cause e.kind ≡ cause) × (notation_of e.codec ≡ n))
 
 -- The text that was written for a time is put, or the error says why it has none, or why it isn't put.
 abbrev pub IsPutTime : {S : Type 0} → (S → List Frame → Type 0) → Notation → Result (String Global) TimeFault → S → Result (Unit {0}) EncodeError → S → Type 0
 IsPutTime holds n (Ok text) old (Ok u) new = Puts holds n (Value.text (string_bytes text)) old new
-IsPutTime holds n (Ok text) old (Err e) new = CannotWrite n (Value.text (string_bytes text)) e
+IsPutTime holds n (Ok text) old (Err e) new = FailsToEncode n (Value.text (string_bytes text)) e
 IsPutTime holds n (Err fault) old (Ok u) new = ⊥
 IsPutTime holds n (Err time.OutOfMemory) old (Err e) new = e.kind ≡ OutOfMemory
 IsPutTime holds n (Err fault) old (Err e) new = TellsUnwritten n outside_years e

@@ -2,11 +2,11 @@
 use Rattle.std.specs.Prelude.{◌≡◌, ℕ, List, [], ◌∷◌, Option, Some, None}
 use Rattle.asn_fault.specs.declared.encode.EncodeError.{EncodeError}
 use Rattle.asn_fault.specs.declared.encode.EncodeErrorKind.TheVariants.{OutOfMemory}
-use Rattle.asn_fault.specs.Unwritten.{encode_why}
+use Rattle.asn_fault.specs.EncodeCause.{encode_cause}
 use Rattle.asn_model.specs.Canonical.{canonical_tree}
 use Rattle.asn_model.specs.Notation.{Notation, notation_of}
 use Rattle.asn_model.specs.Shape.{Shape, Fields, Alternatives, shape_under, field_names}
-use Rattle.asn_model.specs.Writable.{Writable, WritableSlots, Blocks}
+use Rattle.asn_model.specs.Writable.{Writable, WritableSlots, FirstUnencodable}
 use Rattle.asn_model.specs.Value.{Value, Values, Slots, Fits, FitsFields, FitsAlternative, value_under}
 pub use Rattle.asn_slots.specs.Frames.{push, close}
 pub use Rattle.asn_slots.specs.Slots.{last_present}
@@ -61,27 +61,27 @@ as_choice i (None ∷ ss) = None
 as_choice i (Some v ∷ ss) = Some (Value.choice i v)
 
 -- Memory is out, or the value has a part that the notation cannot write, or the codec is neither notation.
-pub data CannotWrite (n : Notation) (v : Value) (e : EncodeError) : Type 0 where
-  no_memory : e.kind ≡ OutOfMemory → CannotWrite n v e
-  blocked : Blocks n v (encode_why e.kind) → notation_of e.codec ≡ n → CannotWrite n v e
-  write_free : n ≡ Notation.other → CannotWrite n v e
+pub data FailsToEncode (n : Notation) (v : Value) (e : EncodeError) : Type 0 where
+  no_memory : e.kind ≡ OutOfMemory → FailsToEncode n v e
+  blocked : FirstUnencodable n v (encode_cause e.kind) → notation_of e.codec ≡ n → FailsToEncode n v e
+  write_free : n ≡ Notation.other → FailsToEncode n v e
 
 -- The same, under constraints that fix this size, or none.
-abbrev pub CannotWriteUnder : Notation → Option ℕ → Shape → Value → EncodeError → Type 0
-CannotWriteUnder n size s v e = CannotWrite n (value_under size s v) e
+abbrev pub FailsToEncodeUnder : Notation → Option ℕ → Shape → Value → EncodeError → Type 0
+FailsToEncodeUnder n size s v e = FailsToEncode n (value_under size s v) e
 
 -- Whatever frames the old state holds, the new state holds these frames turned by f.
-abbrev pub Turns : {S : Type 0} → (S → List Frame → Type 0) → (List Frame → List Frame) → S → S → Type 0
-Turns holds f old new = (fs : List Frame) → holds old fs → holds new (f fs)
+abbrev pub Maps : {S : Type 0} → (S → List Frame → Type 0) → (List Frame → List Frame) → S → S → Type 0
+Maps holds f old new = (fs : List Frame) → holds old fs → holds new (f fs)
 
 -- The last frame has one more slot, any value that is written as this one is, which can be written.
 pub record Puts {S : Type 0} (holds : S → List Frame → Type 0) (n : Notation) (v : Value) (old new : S) : Type 0 where
-  pub added : (w : Value) → canonical_tree n w ≡ canonical_tree n v → Turns holds (push (Some w)) old new
+  pub added : (w : Value) → canonical_tree n w ≡ canonical_tree n v → Maps holds (push (Some w)) old new
   pub writable : Writable n v
 
 -- The last frame has one more slot, the value, which fits its shape and can be written.
 pub record Written {S : Type 0} (holds : S → List Frame → Type 0) (n : Notation) (s : Shape) (v : Value) (old new : S) : Type 0 where
-  pub added : Turns holds (push (Some v)) old new
+  pub added : Maps holds (push (Some v)) old new
   pub fit : Fits s v
   pub writable : Writable n v
 
@@ -89,29 +89,29 @@ pub record Written {S : Type 0} (holds : S → List Frame → Type 0) (n : Notat
 abbrev pub WrittenUnder : {S : Type 0} → (S → List Frame → Type 0) → Notation → Option ℕ → Shape → Value → S → S → Type 0
 WrittenUnder holds n size s v old new = Written holds n (shape_under size s) (value_under size s v) old new
 
--- A scope ran from a new empty frame on the old ones, answered this, and what it left is so.
+-- A scope ran from a new empty frame on the old ones, returned this, and what it left is so.
 pub record ScopeRan {S R : Type 0} (holds : S → List Frame → Type 0) (ran : S → R → S → Type 0) (old : S) (answer : R) (Left : S → Type 0) : Type 0 where
   pub start : S
   pub end : S
-  pub opened : Turns holds (λ fs. [] ∷ fs) old start
+  pub opened : Maps holds (λ fs. [] ∷ fs) old start
   pub answered : ran start answer end
   pub left : Left end
 
 -- The last frame has these slots more, which fit the fields and can be written.
 pub record Filled {S : Type 0} (holds : S → List Frame → Type 0) (n : Notation) (all : Fields) (names : List (List ℕ)) (slots : Frame) (old new : S) : Type 0 where
-  pub added : Turns holds (push_all slots) old new
+  pub added : Maps holds (push_all slots) old new
   pub fit : FitsFields all (named slots names)
   pub writable : WritableSlots n (named slots names)
 
 -- Memory is out, or the first of the slots that cannot be written is refused.
-pub data CannotFill (n : Notation) : Frame → EncodeError → Type 0 where
-  no_memory_left : {ss : Frame} {e : EncodeError} → e.kind ≡ OutOfMemory → CannotFill n ss e
-  slot_refused : {v : Value} {ss : Frame} {e : EncodeError} → CannotWrite n v e → CannotFill n (Some v ∷ ss) e
-  after_slot : {v : Value} {ss : Frame} {e : EncodeError} → Writable n v → CannotFill n ss e → CannotFill n (Some v ∷ ss) e
-  after_absent : {ss : Frame} {e : EncodeError} → CannotFill n ss e → CannotFill n (None ∷ ss) e
+pub data FailsToFill (n : Notation) : Frame → EncodeError → Type 0 where
+  no_memory_left : {ss : Frame} {e : EncodeError} → e.kind ≡ OutOfMemory → FailsToFill n ss e
+  slot_refused : {v : Value} {ss : Frame} {e : EncodeError} → FailsToEncode n v e → FailsToFill n (Some v ∷ ss) e
+  after_slot : {v : Value} {ss : Frame} {e : EncodeError} → Writable n v → FailsToFill n ss e → FailsToFill n (Some v ∷ ss) e
+  after_absent : {ss : Frame} {e : EncodeError} → FailsToFill n ss e → FailsToFill n (None ∷ ss) e
 
 -- The last frame has one more slot, the payload, which fits its alternative and can be written.
 pub record Offered {S : Type 0} (holds : S → List Frame → Type 0) (n : Notation) (all : Alternatives) (id : List ℕ) (v : Value) (old new : S) : Type 0 where
-  pub added : Turns holds (push (Some v)) old new
+  pub added : Maps holds (push (Some v)) old new
   pub fit : FitsAlternative all id v
   pub writable : Writable n v

@@ -4,10 +4,11 @@
 ghost use Rattle.asn_traits.specs.Chosen.{Chosen, IsChosen, chosen_value};
 ghost use Rattle.asn_model.specs.Readable.{is_readable};
 ghost use Rattle.asn_traits.specs.Scopes.{TagAnswer};
-ghost use Rattle.asn_model.specs.Shape.{Shape as AbstractShape, Alternatives, AlternativeAdditions, all_alternatives, identifiers};
+ghost use Rattle.asn_model.specs.Shape.{Shape as AbstractShape, Alternatives, AlternativeAdditions};
+ghost use Rattle.asn_model.specs.Shape.{all_alternatives, identifiers};
 ghost use Rattle.asn_model.specs.ShapeView.{shape_view};
 ghost use Rattle.asn_traits.specs.Tables.{added_tags, root_tags, smallest_tags};
-ghost use Rattle.asn_traits.specs.Writing.{CannotWrite, Written};
+ghost use Rattle.asn_traits.specs.Writing.{FailsToEncode, Written};
 ghost use Rattle.std.specs.Prelude.{◌≡◌, IfErr, IfOk, OnOk, map, option_map, refl, true};
 
 use crate::{Choice, ChoiceKind, DecodeChoice, Decoder, Encoder, OfKind, Shape};
@@ -69,7 +70,7 @@ pub trait ChoicePayload: OfKind<Kind = ChoiceKind> {
     fn write_alternative<E: Encoder>(&self, encoder: &mut E) -> Result<(), EncodeError>
         ensures written { OnOk result (Written E.holds E.notation (chosen self.now).shape
             (chosen self.now).payload encoder.old encoder.new) }
-        ensures refused { IfErr result (CannotWrite E.notation (chosen self.now).payload) };
+        ensures refused { IfErr result (FailsToEncode E.notation (chosen self.now).payload) };
 
     /// Decodes the payload of the alternative of this tag from the first pending slot.
     ///
@@ -102,7 +103,7 @@ pub fn write_choice<T: ChoicePayload, E: Encoder>(
     ensures written { OnOk result
         (Written E.holds E.notation (AbstractShape.choice T.alternatives T.additions)
         (chosen_value (T.chosen value.now)) encoder.old encoder.new) }
-    ensures refused { IfErr result (CannotWrite E.notation (chosen_value (T.chosen value.now))) }
+    ensures refused { IfErr result (FailsToEncode E.notation (chosen_value (T.chosen value.now))) }
 {
     // The tag is known before the payload is encoded, and the closure returns it again.
     let tag = value.alternative_tag();
@@ -114,7 +115,7 @@ pub fn write_choice<T: ChoicePayload, E: Encoder>(
                 (Written E.holds E.notation (T.chosen value.entry.now).shape
                 (T.chosen value.entry.now).payload encoder.entry.now encoder.exit.now) }
             ensures refused { IfErr result
-                (CannotWrite E.notation (T.chosen value.entry.now).payload) }
+                (FailsToEncode E.notation (T.chosen value.entry.now).payload) }
         {
             value.write_alternative(encoder)?;
             Ok(tag)

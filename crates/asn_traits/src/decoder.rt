@@ -3,19 +3,23 @@
 //!
 //! A codec writes the calls without a body. The calls that have a bound of this crate's are final,
 //! and are proved here once for every codec.
-ghost use Rattle.asn_fault.specs.Stop.{Why, at_root, error_stop};
+ghost use Rattle.asn_fault.specs.Failure.{Cause, at_root, failure_of};
 ghost use Rattle.asn_model.specs.Fixed.{fixed_size};
 ghost use Rattle.asn_model.specs.Leaf.{codec_of};
 ghost use Rattle.asn_model.specs.Notation.{Notation, notation_of};
-ghost use Rattle.asn_model.specs.Shape.{are_distinct, Shape, Alphabet, all_alternatives, all_fields, field_names};
+ghost use Rattle.asn_model.specs.Shape.{are_distinct, Shape, Alphabet, all_alternatives};
+ghost use Rattle.asn_model.specs.Shape.{all_fields, field_names};
 ghost use Rattle.asn_model.specs.Tree.{Slot, head_nodes, slot_nodes};
 ghost use Rattle.asn_model.specs.Value.{Value, values};
-ghost use Rattle.asn_traits.specs.Answer.{Answer, AnswerBy, AnswerUnder, AtRoot, Refuses, TakesAbsent, OptionalAnswer};
-ghost use Rattle.asn_traits.specs.Opening.{TakesLeaf, OpensList, OpensMembers, OpensChoice, OpensAlternative, AllBelow};
+ghost use Rattle.asn_traits.specs.Answer.{Answer, AnswerBy, AnswerUnder, AtRoot, Refuses};
+ghost use Rattle.asn_traits.specs.Answer.{TakesAbsent, OptionalAnswer};
+ghost use Rattle.asn_traits.specs.Opening.{TakesLeaf, OpensList, OpensMembers, OpensChoice};
+ghost use Rattle.asn_traits.specs.Opening.{OpensAlternative, AllBelow};
 ghost use Rattle.asn_traits.specs.Scopes.{ScopeAnswer, TagAnswer};
 ghost use Rattle.asn_traits.specs.Tables.{names_of};
 ghost use Rattle.asn_traits.specs.TextTypes.{no_teletex};
-ghost use Rattle.std.specs.Prelude.{None, true, ◌≡◌, ℕ, pos, List, ◌∷◌, ◌++◌, ◌<◌, map, length, string_bytes, IfErr, IsErr};
+ghost use Rattle.std.specs.Prelude.{None, true, ◌≡◌, ℕ, pos, List, ◌∷◌, ◌++◌, ◌<◌, map, length};
+ghost use Rattle.std.specs.Prelude.{string_bytes, IfErr, IsErr};
 
 use crate::integer_type::beyond_128_bits;
 use crate::tables::{listed, listed_fields, tag_at};
@@ -62,8 +66,8 @@ pub trait Decoder {
 
     /// Returns the error that a text names no item of a type.
     fn no_item(&self, text: String) -> DecodeError
-        ensures { error_stop result ≡ at_root
-            (Why.invalid_enum_discriminant (codec_of notation) (string_bytes text))
+        ensures { failure_of result ≡ at_root
+            (Cause.invalid_enum_discriminant (codec_of notation) (string_bytes text))
             (codec_of notation) };
 
     /// Takes the first pending slot if it is absent, and returns whether it was. A present one
@@ -265,7 +269,8 @@ pub trait Decoder {
         tag: Tag,
         constraints: &Constraints,
     ) -> Result<PrintableString, DecodeError>
-        ensures { Answer notation (Shape.text Alphabet.printable) Value.text (pending self.old) result
+        ensures { Answer notation (Shape.text Alphabet.printable) Value.text (pending self.old)
+            result
             (pending self.new) }
     {
         self.decode_text::<PrintableString>(tag, constraints)
@@ -363,7 +368,7 @@ pub trait Decoder {
     ) -> Result<TeletexString, DecodeError>
         ensures never { IsErr result }
         ensures refused { IfErr result (λ e. Refuses notation
-            (AtRoot (λ why. why ≡ Why.custom no_teletex)) (error_stop e)) }
+            (AtRoot (λ cause. cause ≡ Cause.custom no_teletex)) (failure_of e)) }
     {
         match String::from_str(self.allocator(), NO_TELETEX) {
             Ok(msg) => Err(DecodeError::custom(msg, self.codec())),
@@ -374,8 +379,8 @@ pub trait Decoder {
     /// Refuses a REAL with `RealNotSupported`, always, and where nothing is pending too.
     final fn decode_real(&mut self, tag: Tag, constraints: &Constraints) -> Result<(), DecodeError>
         ensures never { IsErr result }
-        ensures refused { IfErr result (λ e. error_stop e
-            ≡ at_root Why.real_not_supported e.codec) }
+        ensures refused { IfErr result (λ e. failure_of e
+            ≡ at_root Cause.real_not_supported e.codec) }
         ensures codec { IfErr result (λ e. notation_of e.codec ≡ notation) }
     {
         Err(DecodeError::real_not_supported(self.codec()))
@@ -423,9 +428,9 @@ pub trait Decoder {
             → pending p.now ≡ slots ++ rest
             → length slots ≡ length (field_names (all_fields C.fields C.added))
             → F.post decode_fn p r q
-            → ScopeAnswer E.stop notation (all_fields C.fields C.added) C.value_of slots rest r
+            → ScopeAnswer E.failure notation (all_fields C.fields C.added) C.value_of slots rest r
             (pending q.now) }
-        ensures { AnswerBy E.stop notation (Shape.seq C.kind C.fields C.added) C.value_of
+        ensures { AnswerBy E.failure notation (Shape.seq C.kind C.fields C.added) C.value_of
             (pending self.old) result (pending self.new) }
     {
         // The fields are found by the names in the type's tables.

@@ -7,15 +7,20 @@ ghost use Rattle.asn_base.specs.ObjectIdentifiers.{is_object_identifier};
 ghost use Rattle.asn_model.specs.Fixed.{fixed_size};
 ghost use Rattle.asn_model.specs.Leaf.{leaf_value};
 ghost use Rattle.asn_model.specs.Notation.{Notation, notation_of};
-ghost use Rattle.asn_model.specs.Shape.{Shape, Alphabet, all_alternatives, all_fields, field_names, alternative_tagged};
-ghost use Rattle.asn_fault.specs.Unwritten.{WhyUnwritten};
+ghost use Rattle.asn_model.specs.Shape.{Shape, Alphabet, all_alternatives, all_fields, field_names};
+ghost use Rattle.asn_model.specs.Shape.{alternative_tagged};
+ghost use Rattle.asn_fault.specs.EncodeCause.{EncodeCause};
 ghost use Rattle.asn_model.specs.Writable.{no_unicode};
 ghost use Rattle.asn_traits.specs.Tables.{names_of};
 ghost use Rattle.asn_traits.specs.TextTypes.{TellsUnwritten, no_teletex};
 ghost use Rattle.asn_model.specs.Value.{Value, values};
-ghost use Rattle.asn_traits.specs.Writing.{Frame, push, close, as_list, as_members, as_choice, Written, WrittenUnder, CannotWrite, CannotWriteUnder, ScopeRan, Turns, Puts};
+ghost use Rattle.asn_traits.specs.Writing.{Frame, push, close, as_list, as_members, as_choice};
+ghost use Rattle.asn_traits.specs.Writing.{Written, WrittenUnder, FailsToEncode};
+ghost use Rattle.asn_traits.specs.Writing.{FailsToEncodeUnder, ScopeRan, Maps, Puts};
 ghost use Rattle.std.specs.Fn.{FnOnceReturnsAtMut};
-ghost use Rattle.std.specs.Prelude.{◌≡◌, ◌⊎◌, pos, ◌∷◌, ◌++◌, [], ℕ, List, Option, Some, None, Ok, Err, true, map, option_map, OnOk, IfErr, IfSome, IsErr, IsOk, IsSome, ⊤};
+ghost use Rattle.std.specs.Prelude.{◌≡◌, ◌⊎◌, pos, ◌∷◌, ◌++◌, [], ℕ, List, Option, Some, None, Ok};
+ghost use Rattle.std.specs.Prelude.{Err, true, map, option_map, OnOk, IfErr, IfSome, IsErr, IsOk};
+ghost use Rattle.std.specs.Prelude.{IsSome, ⊤};
 
 use crate::tables::{identifier_of, listed, listed_fields};
 use crate::texts::NO_TELETEX;
@@ -57,7 +62,7 @@ pub trait Encoder {
     /// Puts a value without parts into the last frame. All calls for such values go through it.
     fn put_leaf(&mut self, leaf: Leaf<'_>) -> Result<(), EncodeError>
         ensures put { OnOk result (Puts holds notation (leaf_value leaf.entry) self.old self.new) }
-        ensures refused { IfErr result (CannotWrite notation (leaf_value leaf.entry)) };
+        ensures refused { IfErr result (FailsToEncode notation (leaf_value leaf.entry)) };
 
     /// Returns the refusal of a text that stops being Unicode after so many octets or 16-bit units.
     /// Memory may run out.
@@ -70,7 +75,7 @@ pub trait Encoder {
     ///
     /// `OutOfMemory` alone.
     fn encode_absent(&mut self) -> Result<(), EncodeError>
-        ensures written { OnOk result (Turns holds (push None) self.old self.new) }
+        ensures written { OnOk result (Maps holds (push None) self.old self.new) }
         ensures refused { IfErr result (λ e. e.kind ≡ EncodeErrorKind.OutOfMemory) };
 
     /// Opens an empty frame, which takes the slots until it is closed.
@@ -79,7 +84,7 @@ pub trait Encoder {
     ///
     /// `OutOfMemory` alone.
     fn open_frame(&mut self) -> Result<(), EncodeError>
-        ensures opened { OnOk result (Turns holds (λ fs. [] ∷ fs) self.old self.new) }
+        ensures opened { OnOk result (Maps holds (λ fs. [] ∷ fs) self.old self.new) }
         ensures refused { IfErr result (λ e. e.kind ≡ EncodeErrorKind.OutOfMemory) };
 
     /// Closes the last frame, and puts it into the one before it as a list of its present values.
@@ -88,7 +93,7 @@ pub trait Encoder {
     ///
     /// `OutOfMemory` alone.
     fn close_list(&mut self) -> Result<(), EncodeError>
-        ensures closed { OnOk result (Turns holds (close as_list) self.old self.new) }
+        ensures closed { OnOk result (Maps holds (close as_list) self.old self.new) }
         ensures refused { IfErr result (λ e. e.kind ≡ EncodeErrorKind.OutOfMemory) };
 
     /// Closes the last frame, and puts it into the one before it as members, by the names of these
@@ -98,7 +103,7 @@ pub trait Encoder {
     ///
     /// `OutOfMemory` alone.
     fn close_members(&mut self, root: &[Field], additions: &[Field]) -> Result<(), EncodeError>
-        ensures closed { OnOk result (Turns holds (close
+        ensures closed { OnOk result (Maps holds (close
             (as_members (names_of root.now ++ names_of additions.now))) self.old self.new) }
         ensures refused { IfErr result (λ e. e.kind ≡ EncodeErrorKind.OutOfMemory) };
 
@@ -109,7 +114,7 @@ pub trait Encoder {
     ///
     /// `OutOfMemory` alone.
     fn close_choice(&mut self, identifier: &'static str) -> Result<(), EncodeError>
-        ensures closed { OnOk result (Turns holds (close
+        ensures closed { OnOk result (Maps holds (close
             (as_choice identifier.now)) self.old self.new) }
         ensures refused { IfErr result (λ e. e.kind ≡ EncodeErrorKind.OutOfMemory) };
 
@@ -122,7 +127,7 @@ pub trait Encoder {
     ) -> Result<(), EncodeError>
         ensures written { OnOk result (Written holds notation Shape.boolean
             (Value.boolean value) self.old self.new) }
-        ensures refused { IfErr result (CannotWrite notation (Value.boolean value)) }
+        ensures refused { IfErr result (FailsToEncode notation (Value.boolean value)) }
     {
         self.put_leaf(Leaf::Boolean(value))
     }
@@ -131,7 +136,7 @@ pub trait Encoder {
     final fn encode_null(&mut self, tag: Tag, identifier: Identifier) -> Result<(), EncodeError>
         ensures written { OnOk result
             (Written holds notation Shape.null Value.null self.old self.new) }
-        ensures refused { IfErr result (CannotWrite notation Value.null) }
+        ensures refused { IfErr result (FailsToEncode notation Value.null) }
     {
         self.put_leaf(Leaf::Null)
     }
@@ -147,7 +152,7 @@ pub trait Encoder {
         ensures written { OnOk result (Written holds notation
             (Shape.int I.LEAST (pos I.GREATEST) I.WIDTH)
             (Value.int (I.number value.now)) self.old self.new) }
-        ensures refused { IfErr result (CannotWrite notation (Value.int (I.number value.now))) }
+        ensures refused { IfErr result (FailsToEncode notation (Value.int (I.number value.now))) }
     {
         let (negative, magnitude) = value.parts();
         self.put_leaf(Leaf::Number(WholeNumber {
@@ -166,7 +171,7 @@ pub trait Encoder {
     ) -> Result<(), EncodeError>
         ensures written { OnOk result (Written holds notation (Shape.text Alphabet.utf8)
             (Value.text value.now) self.old self.new) }
-        ensures refused { IfErr result (CannotWrite notation (Value.text value.now)) }
+        ensures refused { IfErr result (FailsToEncode notation (Value.text value.now)) }
     {
         self.put_leaf(Leaf::Text(value))
     }
@@ -180,7 +185,7 @@ pub trait Encoder {
     ) -> Result<(), EncodeError>
         ensures written { OnOk result (Written holds notation (Shape.enum T.items T.added)
             (Value.item (T.item value.now)) self.old self.new) }
-        ensures refused { IfErr result (CannotWrite notation (Value.item (T.item value.now))) }
+        ensures refused { IfErr result (FailsToEncode notation (Value.item (T.item value.now))) }
     {
         self.put_leaf(Leaf::Item(value.identifier()))
     }
@@ -195,7 +200,7 @@ pub trait Encoder {
     ) -> Result<(), EncodeError>
         ensures written { OnOk result (Written holds notation Shape.octets
             (Value.octets value.now) self.old self.new) }
-        ensures refused { IfErr result (CannotWrite notation (Value.octets value.now)) }
+        ensures refused { IfErr result (FailsToEncode notation (Value.octets value.now)) }
     {
         // A law: the bytes of a slice are octets.
         are_octets(value);
@@ -211,7 +216,7 @@ pub trait Encoder {
     ) -> Result<(), EncodeError>
         ensures written { OnOk result (Written holds notation Shape.any
             (Value.octets value.now) self.old self.new) }
-        ensures refused { IfErr result (CannotWrite notation (Value.octets value.now)) }
+        ensures refused { IfErr result (FailsToEncode notation (Value.octets value.now)) }
     {
         let octets = value.as_bytes();
         are_octets(octets);
@@ -229,7 +234,7 @@ pub trait Encoder {
         ensures put { OnOk result (Puts holds notation (Value.arcs value.now) self.old self.new) }
         ensures written { is_object_identifier value.now ≡ true → OnOk result
             (Written holds notation Shape.oid (Value.arcs value.now) self.old self.new) }
-        ensures refused { IfErr result (CannotWrite notation (Value.arcs value.now)) }
+        ensures refused { IfErr result (FailsToEncode notation (Value.arcs value.now)) }
     {
         are_arcs(value);
         self.put_leaf(Leaf::Arcs(value))
@@ -245,7 +250,7 @@ pub trait Encoder {
     ) -> Result<(), EncodeError>
         ensures written { OnOk result (WrittenUnder holds notation (fixed_size constraints.now)
             (Shape.bits None) (Value.bits value.now None) self.old self.new) }
-        ensures refused { IfErr result (CannotWriteUnder notation (fixed_size constraints.now)
+        ensures refused { IfErr result (FailsToEncodeUnder notation (fixed_size constraints.now)
             (Shape.bits None) (Value.bits value.now None)) }
     {
         self.put_leaf(Leaf::Bits(value, fixed_size(constraints)))
@@ -261,7 +266,7 @@ pub trait Encoder {
     ) -> Result<(), EncodeError>
         ensures written { OnOk result (Written holds notation (Shape.text Alphabet.numeric)
             (Value.text value.now) self.old self.new) }
-        ensures refused { IfErr result (CannotWrite notation (Value.text value.now)) }
+        ensures refused { IfErr result (FailsToEncode notation (Value.text value.now)) }
     {
         value.put_text(self)
     }
@@ -276,7 +281,7 @@ pub trait Encoder {
     ) -> Result<(), EncodeError>
         ensures written { OnOk result (Written holds notation (Shape.text Alphabet.printable)
             (Value.text value.now) self.old self.new) }
-        ensures refused { IfErr result (CannotWrite notation (Value.text value.now)) }
+        ensures refused { IfErr result (FailsToEncode notation (Value.text value.now)) }
     {
         value.put_text(self)
     }
@@ -291,7 +296,7 @@ pub trait Encoder {
     ) -> Result<(), EncodeError>
         ensures written { OnOk result (Written holds notation (Shape.text Alphabet.visible)
             (Value.text value.now) self.old self.new) }
-        ensures refused { IfErr result (CannotWrite notation (Value.text value.now)) }
+        ensures refused { IfErr result (FailsToEncode notation (Value.text value.now)) }
     {
         value.put_text(self)
     }
@@ -306,7 +311,7 @@ pub trait Encoder {
     ) -> Result<(), EncodeError>
         ensures written { OnOk result (Written holds notation (Shape.text Alphabet.ia5)
             (Value.text value.now) self.old self.new) }
-        ensures refused { IfErr result (CannotWrite notation (Value.text value.now)) }
+        ensures refused { IfErr result (FailsToEncode notation (Value.text value.now)) }
     {
         value.put_text(self)
     }
@@ -321,7 +326,7 @@ pub trait Encoder {
     ) -> Result<(), EncodeError>
         ensures written { OnOk result (Written holds notation (Shape.text Alphabet.general)
             (Value.text value.now) self.old self.new) }
-        ensures refused { IfErr result (CannotWrite notation (Value.text value.now)) }
+        ensures refused { IfErr result (FailsToEncode notation (Value.text value.now)) }
     {
         value.put_text(self)
     }
@@ -336,7 +341,7 @@ pub trait Encoder {
     ) -> Result<(), EncodeError>
         ensures written { OnOk result (Written holds notation (Shape.text Alphabet.graphic)
             (Value.text value.now) self.old self.new) }
-        ensures refused { IfErr result (CannotWrite notation (Value.text value.now)) }
+        ensures refused { IfErr result (FailsToEncode notation (Value.text value.now)) }
     {
         value.put_text(self)
     }
@@ -351,7 +356,7 @@ pub trait Encoder {
     ) -> Result<(), EncodeError>
         ensures written { OnOk result (Written holds notation Shape.bmp
             (Value.units value.now) self.old self.new) }
-        ensures refused { IfErr result (CannotWrite notation (Value.units value.now)) }
+        ensures refused { IfErr result (FailsToEncode notation (Value.units value.now)) }
     {
         value.put_text(self)
     }
@@ -365,7 +370,7 @@ pub trait Encoder {
     ) -> Result<(), EncodeError>
         ensures written { OnOk result (Written holds notation Shape.utc (Value.utc value.now)
             self.old self.new) }
-        ensures refused { IfErr result (CannotWrite notation (Value.utc value.now)) }
+        ensures refused { IfErr result (FailsToEncode notation (Value.utc value.now)) }
     {
         value.put_text(self)
     }
@@ -379,7 +384,7 @@ pub trait Encoder {
     ) -> Result<(), EncodeError>
         ensures written { OnOk result (Written holds notation Shape.gen (Value.gen value.now)
             self.old self.new) }
-        ensures refused { IfErr result (CannotWrite notation (Value.gen value.now)) }
+        ensures refused { IfErr result (FailsToEncode notation (Value.gen value.now)) }
     {
         value.put_text(self)
     }
@@ -393,7 +398,7 @@ pub trait Encoder {
     ) -> Result<(), EncodeError>
         ensures written { OnOk result (Written holds notation Shape.day (Value.day value.now)
             self.old self.new) }
-        ensures refused { IfErr result (CannotWrite notation (Value.day value.now)) }
+        ensures refused { IfErr result (FailsToEncode notation (Value.day value.now)) }
     {
         value.put_text(self)
     }
@@ -408,7 +413,7 @@ pub trait Encoder {
     ) -> Result<(), EncodeError>
         ensures never { IsErr result }
         ensures refused { IfErr result (TellsUnwritten notation
-            (WhyUnwritten.custom no_teletex)) }
+            (EncodeCause.custom no_teletex)) }
     {
         match String::from_str(self.allocator(), NO_TELETEX) {
             Ok(msg) => Err(EncodeError::custom(msg, self.codec())),
@@ -440,7 +445,7 @@ pub trait Encoder {
         Self: Sized,
         ensures written { OnOk result (Written holds notation T.shape_of
             (T.value_of value.now) self.old self.new) }
-        ensures refused { IfErr result (CannotWrite notation (T.value_of value.now)) }
+        ensures refused { IfErr result (FailsToEncode notation (T.value_of value.now)) }
     {
         value.encode(self)
     }
@@ -458,7 +463,7 @@ pub trait Encoder {
         Self: Sized,
         ensures written { OnOk result (Written holds notation T.shape_of
             (T.value_of value.now) self.old self.new) }
-        ensures refused { IfErr result (CannotWrite notation (T.value_of value.now)) }
+        ensures refused { IfErr result (FailsToEncode notation (T.value_of value.now)) }
     {
         value.encode(self)
     }
@@ -475,7 +480,7 @@ pub trait Encoder {
     ) -> Result<(), EncodeError>
     where
         Self: Sized,
-        ensures written { OnOk result (Turns holds (push None) self.old self.new) }
+        ensures written { OnOk result (Maps holds (push None) self.old self.new) }
         ensures refused { IfErr result (λ e. e.kind ≡ EncodeErrorKind.OutOfMemory) }
     {
         self.encode_absent()
@@ -489,7 +494,7 @@ pub trait Encoder {
     final fn encode_none<T: Encode>(&mut self, identifier: Identifier) -> Result<(), EncodeError>
     where
         Self: Sized,
-        ensures written { OnOk result (Turns holds (push None) self.old self.new) }
+        ensures written { OnOk result (Maps holds (push None) self.old self.new) }
         ensures refused { IfErr result (λ e. e.kind ≡ EncodeErrorKind.OutOfMemory) }
     {
         self.encode_absent()
@@ -506,7 +511,7 @@ pub trait Encoder {
         Self: Sized,
         ensures written { OnOk result (Written holds notation T.shape_of
             (T.value_of value.now) self.old self.new) }
-        ensures refused { IfErr result (CannotWrite notation (T.value_of value.now)) }
+        ensures refused { IfErr result (FailsToEncode notation (T.value_of value.now)) }
     {
         value.encode(self)
     }
@@ -523,7 +528,7 @@ pub trait Encoder {
         Self: Sized,
         ensures written { OnOk result (Written holds notation (Shape.list_of T.shape_of)
             (Value.list (values T.value_of value.now)) self.old self.new) }
-        ensures refused { IfErr result (CannotWrite notation
+        ensures refused { IfErr result (FailsToEncode notation
             (Value.list (values T.value_of value.now))) }
     {
         self.open_frame()?;
@@ -550,7 +555,7 @@ pub trait Encoder {
         Self: Sized,
         requires { F.IsAlwaysCallable encoder_scope }
         ensures written { OnOk result (ScopeRan holds (FnOnceReturnsAtMut F.FnOnce encoder_scope)
-            self.old (Ok tt) (λ left. Turns holds (close
+            self.old (Ok tt) (λ left. Maps holds (close
             (as_members (field_names (all_fields C.fields C.added)))) left self.new)) }
         ensures refused { IfErr result (λ e. (e.kind ≡ EncodeErrorKind.OutOfMemory)
             ⊎ ScopeRan holds (FnOnceReturnsAtMut F.FnOnce encoder_scope) self.old (Err e)
@@ -584,7 +589,7 @@ pub trait Encoder {
         ensures written { OnOk result
             (IfSome (alternative_tagged (all_alternatives C.alternatives C.added) tag)
             (λ a. (answer : _) × ScopeRan holds (FnOnceReturnsAtMut F.FnOnce encode_fn) self.old
-            (Ok answer) (λ left. Turns holds (close (as_choice a.0)) left self.new))) }
+            (Ok answer) (λ left. Maps holds (close (as_choice a.0)) left self.new))) }
         ensures listed { IsOk result → IsSome
             (alternative_tagged (all_alternatives C.alternatives C.added) tag) }
         ensures refused { IfErr result (λ e. (e.kind ≡ EncodeErrorKind.OutOfMemory)
@@ -615,7 +620,7 @@ pub trait Encode: AsnType {
     fn encode<E: Encoder>(&self, encoder: &mut E) -> Result<(), EncodeError>
         ensures written { OnOk result (Written E.holds E.notation Self.shape_of
             (Self.value_of self.now) encoder.old encoder.new) }
-        ensures refused { IfErr result (CannotWrite E.notation (Self.value_of self.now)) }
+        ensures refused { IfErr result (FailsToEncode E.notation (Self.value_of self.now)) }
     {
         self.encode_with_tag(encoder, Self::TAG)
     }
@@ -624,7 +629,7 @@ pub trait Encode: AsnType {
     fn encode_with_tag<E: Encoder>(&self, encoder: &mut E, tag: Tag) -> Result<(), EncodeError>
         ensures written { OnOk result (Written E.holds E.notation Self.shape_of
             (Self.value_of self.now) encoder.old encoder.new) }
-        ensures refused { IfErr result (CannotWrite E.notation (Self.value_of self.now)) }
+        ensures refused { IfErr result (FailsToEncode E.notation (Self.value_of self.now)) }
     {
         let constraints = Self::constraint_table();
         self.encode_with_tag_and_constraints(encoder, tag, &constraints, Self::IDENTIFIER)
@@ -639,7 +644,7 @@ pub trait Encode: AsnType {
         ensures written { OnOk result (WrittenUnder E.holds E.notation
             (fixed_size constraints.now) Self.shape_of (Self.value_of self.now)
             encoder.old encoder.new) }
-        ensures refused { IfErr result (CannotWriteUnder E.notation
+        ensures refused { IfErr result (FailsToEncodeUnder E.notation
             (fixed_size constraints.now) Self.shape_of (Self.value_of self.now)) }
     {
         self.encode_with_tag_and_constraints(encoder, Self::TAG, constraints, Self::IDENTIFIER)
@@ -657,6 +662,6 @@ pub trait Encode: AsnType {
         ensures written { OnOk result (WrittenUnder E.holds E.notation
             (fixed_size constraints.now) Self.shape_of (Self.value_of self.now)
             encoder.old encoder.new) }
-        ensures refused { IfErr result (CannotWriteUnder E.notation
+        ensures refused { IfErr result (FailsToEncodeUnder E.notation
             (fixed_size constraints.now) Self.shape_of (Self.value_of self.now)) };
 }

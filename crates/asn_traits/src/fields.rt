@@ -2,14 +2,14 @@
 //! each field before, found by its name in the text; so a field is the first pending slot, present
 //! or absent, and its name is the next of `FieldNames`.
 ghost use Rattle.asn_base.specs.declared.codec.Codec.{Codec};
-ghost use Rattle.asn_fault.specs.Stop.{Why, at_root, error_stop, wrapped};
-ghost use Rattle.asn_traits.specs.Answer.{OptionalStops, Refuses};
+ghost use Rattle.asn_fault.specs.Failure.{Cause, at_root, failure_of, wrapped};
+ghost use Rattle.asn_traits.specs.Answer.{OptionalFailsWith, Refuses};
 ghost use Rattle.asn_traits.specs.FieldAnswer.{AddsSlot, TakesField, WithinField};
 ghost use Rattle.asn_traits.specs.FieldAnswer.Ahead.{ahead};
 ghost use Rattle.asn_model.specs.Notation.{notation_of};
-ghost use Rattle.asn_model.specs.Stops.{Stops};
+ghost use Rattle.asn_model.specs.FailsWith.{FailsWith};
 ghost use Rattle.asn_model.specs.Tree.{head_slot};
-ghost use Rattle.asn_traits.specs.Writing.{CannotFill, head_name};
+ghost use Rattle.asn_traits.specs.Writing.{FailsToFill, head_name};
 ghost use Rattle.std.specs.Prelude.{◌≡◌, ◌⊎◌, Some, [], ◌∷◌, option_map, IfOk, OnOk, IfErr};
 
 use crate::{Decode, Decoder, Encode, Encoder, FieldNames};
@@ -20,8 +20,8 @@ use asn_fault::{DecodeError, EncodeError};
 /// memory stays as it is.
 fn within_field<D: Decoder>(decoder: &D, name: &'static str, error: DecodeError) -> DecodeError
     ensures { (codec : Codec) × (notation_of codec ≡ D.notation)
-        × ((error_stop result ≡ wrapped name.now codec (error_stop error))
-        ⊎ (error_stop result ≡ at_root Why.out_of_memory codec)) }
+        × ((failure_of result ≡ wrapped name.now codec (failure_of error))
+        ⊎ (failure_of result ≡ at_root Cause.out_of_memory codec)) }
 {
     DecodeError::field_error(decoder.allocator(), name, error, decoder.codec())
 }
@@ -41,7 +41,7 @@ pub fn read_field<T: Decode, D: Decoder>(
         (ahead names.old (D.pending decoder.old)) (ahead names.new (D.pending decoder.new))
         (Some (T.value_of x))) }
     ensures refused { IfErr result (λ e. Refuses D.notation (WithinField (head_name names.old)
-        (Stops D.notation T.shape_of (head_slot (D.pending decoder.old)))) (error_stop e)) }
+        (FailsWith D.notation T.shape_of (head_slot (D.pending decoder.old)))) (failure_of e)) }
 {
     // The name is taken first, since an error in the field names it too.
     let name = names.take_first();
@@ -65,7 +65,7 @@ pub fn read_optional_field<T: Decode, D: Decoder>(
         (ahead names.old (D.pending decoder.old)) (ahead names.new (D.pending decoder.new))
         (option_map T.value_of x)) }
     ensures refused { IfErr result (λ e. Refuses D.notation (WithinField (head_name names.old)
-        (OptionalStops D.notation T.shape_of (D.pending decoder.old))) (error_stop e)) }
+        (OptionalFailsWith D.notation T.shape_of (D.pending decoder.old))) (failure_of e)) }
 {
     // The name is taken where the slot is absent, too: names and slots go along together.
     let name = names.take_first();
@@ -83,7 +83,7 @@ pub fn read_optional_field<T: Decode, D: Decoder>(
 pub fn write_field<T: Encode, E: Encoder>(encoder: &mut E, value: &T) -> Result<(), EncodeError>
     ensures written { OnOk result (AddsSlot E.holds E.notation T.shape_of encoder.old encoder.new
         (Some (T.value_of value.now))) }
-    ensures refused { IfErr result (CannotFill E.notation (Some (T.value_of value.now) ∷ [])) }
+    ensures refused { IfErr result (FailsToFill E.notation (Some (T.value_of value.now) ∷ [])) }
 {
     encoder.encode_some::<T>(value, Identifier::EMPTY)
 }
@@ -100,7 +100,7 @@ pub fn write_optional_field<T: Encode, E: Encoder>(
 ) -> Result<(), EncodeError>
     ensures written { OnOk result (AddsSlot E.holds E.notation T.shape_of encoder.old encoder.new
         (option_map T.value_of value.now)) }
-    ensures refused { IfErr result (CannotFill E.notation (option_map T.value_of value.now ∷ [])) }
+    ensures refused { IfErr result (FailsToFill E.notation (option_map T.value_of value.now ∷ [])) }
 {
     match value {
         Some(value) => encoder.encode_some::<T>(value, Identifier::EMPTY),

@@ -1,6 +1,6 @@
 //! Describes groups of fields, for a SEQUENCE of more fields than one function is proved with: the
 //! tactics find the proof of about eight calls in a row.
-ghost use Rattle.asn_fault.specs.Stop.{error_stop};
+ghost use Rattle.asn_fault.specs.Failure.{failure_of};
 ghost use Rattle.asn_traits.specs.FieldAnswer.Ahead.{ahead};
 ghost use Rattle.asn_traits.specs.Passing.{AddsFields, RefusesAdding, RefusesFields, TakesFields};
 ghost use Rattle.asn_model.specs.Shape.{Fields as AbstractFields, join_fields};
@@ -45,7 +45,7 @@ pub trait FieldGroup: Sized + Drop {
             (ahead names.old (D.pending decoder.old))
             (ahead names.new (D.pending decoder.new))) }
         ensures refused { IfErr result (λ e. RefusesFields D.notation group
-            (ahead names.old (D.pending decoder.old)) (error_stop e)) };
+            (ahead names.old (D.pending decoder.old)) (failure_of e)) };
 }
 
 /// Encodes the fields of two groups, one group after the other: the body of `write_fields` for a
@@ -85,7 +85,7 @@ pub fn read_groups<A: FieldGroup, B: FieldGroup, D: Decoder>(
         (A.group_slots x.0 ++ B.group_slots x.1) (ahead names.old (D.pending decoder.old))
         (ahead names.new (D.pending decoder.new))) }
     ensures refused { IfErr result (λ e. RefusesFields D.notation (join_fields A.group B.group)
-        (ahead names.old (D.pending decoder.old)) (error_stop e)) }
+        (ahead names.old (D.pending decoder.old)) (failure_of e)) }
 {
     let first = A::read_group(decoder, names)?;
     let second = B::read_group(decoder, names)?;

@@ -3,7 +3,8 @@
 //! X.680, section 19.
 ghost use Rattle.asn_base.specs.Numbers.{OfParts, signed, is_negative, magnitude};
 ghost use Rattle.asn_model.specs.Readable.{has_128_bits};
-ghost use Rattle.std.specs.Prelude.{◌≡◌, ◌⊎◌, Bool, ℕ, ℤ, pos, negsuc, ◌-◌, ◌^◌, ◌≤◌, ◌<◌, ◌<ℤ◌, ◌≤ℤ◌, IfSome, true, refl};
+ghost use Rattle.std.specs.Prelude.{◌≡◌, ◌⊎◌, Bool, ℕ, ℤ, pos, negsuc, ◌-◌, ◌^◌, ◌≤◌, ◌<◌, ◌<ℤ◌};
+ghost use Rattle.std.specs.Prelude.{◌≤ℤ◌, IfSome, true, refl};
 
 /// Describes an integer type: every whole number from `LEAST` to `GREATEST`, in `WIDTH` bits.
 pub trait IntegerType: Copy {

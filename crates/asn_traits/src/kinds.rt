@@ -10,7 +10,7 @@ ghost use Rattle.asn_model.specs.Readable.{is_readable};
 ghost use Rattle.asn_model.specs.Shape.{Shape as AbstractShape, SeqKind, all_fields, shape_under};
 ghost use Rattle.asn_model.specs.ShapeView.{shape_view};
 ghost use Rattle.asn_model.specs.Value.{Value, value_under};
-ghost use Rattle.asn_traits.specs.Writing.{CannotWriteUnder, WrittenUnder, members_value};
+ghost use Rattle.asn_traits.specs.Writing.{FailsToEncodeUnder, WrittenUnder, members_value};
 ghost use Rattle.std.specs.Prelude.{◌≡◌, ℕ, Option, pos, true, refl, IfErr, IfOk, OnOk};
 
 use crate::{
@@ -110,7 +110,7 @@ pub trait EncodeKind<T: AsnType> {
     ) -> Result<(), EncodeError>
         ensures written { OnOk result (WrittenUnder E.holds E.notation (fixed_size constraints.now)
             T.shape_of (T.value_of value.now) encoder.old encoder.new) }
-        ensures refused { IfErr result (CannotWriteUnder E.notation (fixed_size constraints.now)
+        ensures refused { IfErr result (FailsToEncodeUnder E.notation (fixed_size constraints.now)
             T.shape_of (T.value_of value.now)) };
 }
 

@@ -6,6 +6,7 @@
 #![tactic(auto)]
 
 mod alternative;
+mod asn_type;
 mod bit_string;
 mod decoder;
 mod encoder;
@@ -16,14 +17,13 @@ mod integer_type;
 mod kinds;
 mod object_identifier;
 mod octet_string;
-mod plain;
 mod sequence;
 mod shape_parts;
+mod std_types;
 mod strings;
 mod tables;
 mod texts;
 mod times;
-mod types;
 
 pub use alternative::{ChoicePayload, write_choice};
 pub use asn_base::TagTree;
@@ -31,6 +31,7 @@ pub use asn_model::{
     Alphabet, AlternativeShape, FieldShape, Leaf, LeafKind, OwnedLeaf, Plain, PresenceShape,
     SeqKind, Shape, is_readable, laws,
 };
+pub use asn_type::{AsnType, Choice, Constructed, Enumerated, Field, Fields, Presence};
 pub use decoder::{Decode, DecodeChoice, Decoder};
 pub use encoder::{Encode, Encoder};
 pub use field_names::FieldNames;
@@ -46,4 +47,3 @@ pub use shape_parts::{AlternativeShapes, FieldShapes, enumerated_shape};
 pub use strings::{NamedSet, OctetsSet, TextSet};
 pub use tables::{field_name, place_of, place_of_field};
 pub use texts::{TextKind, TextType};
-pub use types::{AsnType, Choice, Constructed, Enumerated, Field, Fields, Presence};

@@ -1,16 +1,18 @@
 //! Describes a SEQUENCE by its fields (X.680, section 25). A type implements `SequenceFields`,
 //! with one call a field to encode it and one to decode it; what every SEQUENCE has is given here
 //! once.
-ghost use Rattle.asn_fault.specs.Stop.{error_stop};
+ghost use Rattle.asn_fault.specs.Failure.{failure_of};
 ghost use Rattle.asn_traits.specs.Answer.{Answer};
 ghost use Rattle.asn_traits.specs.FieldAnswer.Ahead.{ahead};
 ghost use Rattle.asn_traits.specs.Passing.{AddsFields, RefusesAdding, RefusesFields, TakesFields};
 ghost use Rattle.asn_model.specs.Readable.{is_readable};
 ghost use Rattle.asn_traits.specs.Scopes.{ScopeAnswers};
-ghost use Rattle.asn_model.specs.Shape.{Shape as AbstractShape, SeqKind, Fields as AbstractFields, FieldAdditions, all_fields, field_names};
+ghost use Rattle.asn_model.specs.Shape.{Shape as AbstractShape, SeqKind, Fields as AbstractFields};
+ghost use Rattle.asn_model.specs.Shape.{FieldAdditions, all_fields, field_names};
 ghost use Rattle.asn_model.specs.ShapeView.{shape_view};
 ghost use Rattle.asn_traits.specs.Tables.{added_rows, field_rows, rows_of};
-ghost use Rattle.asn_traits.specs.Writing.{CannotFill, CannotWrite, Filled, Frame, Written, members_value};
+ghost use Rattle.asn_traits.specs.Writing.{FailsToFill, FailsToEncode, Filled, Frame, Written};
+ghost use Rattle.asn_traits.specs.Writing.{members_value};
 ghost use Rattle.std.specs.Prelude.{◌≡◌, IfErr, IfOk, OnOk, option_map, refl, true};
 
 use crate::tables::listed;
@@ -81,7 +83,7 @@ pub trait SequenceFields: OfKind<Kind = SequenceKind> {
             (ahead names.old (D.pending decoder.old))
             (ahead names.new (D.pending decoder.new))) }
         ensures refused { IfErr result (λ e. RefusesFields D.notation (all_fields fields added)
-            (ahead names.old (D.pending decoder.old)) (error_stop e)) };
+            (ahead names.old (D.pending decoder.old)) (failure_of e)) };
 
     // The shape can be read.
     ghost readable: { is_readable (AbstractShape.seq SeqKind.sequence fields added) ≡ true };
@@ -102,7 +104,7 @@ pub fn write_sequence<T: SequenceFields, E: Encoder>(
     ensures written { OnOk result (Written E.holds E.notation
         (AbstractShape.seq SeqKind.sequence T.fields T.added)
         (members_value (all_fields T.fields T.added) (T.slots value.now)) encoder.old encoder.new) }
-    ensures refused { IfErr result (CannotWrite E.notation
+    ensures refused { IfErr result (FailsToEncode E.notation
         (members_value (all_fields T.fields T.added) (T.slots value.now))) }
 {
     encoder.encode_sequence::<T, _>(
@@ -111,7 +113,7 @@ pub fn write_sequence<T: SequenceFields, E: Encoder>(
             ensures written { OnOk result (Filled E.holds E.notation (all_fields T.fields T.added)
                 (field_names (all_fields T.fields T.added)) (T.slots value.entry.now)
                 encoder.entry.now encoder.exit.now) }
-            ensures refused { IfErr result (CannotFill E.notation (T.slots value.entry.now)) }
+            ensures refused { IfErr result (FailsToFill E.notation (T.slots value.entry.now)) }
         {
             match value.write_fields(encoder) {
                 Ok(()) => Ok(()),

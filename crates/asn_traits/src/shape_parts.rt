@@ -1,7 +1,11 @@
 //! Puts the shapes of a type's parts together, for its call `shape`: one call a field, alternative
 //! or list of items, in the order of the type.
-ghost use Rattle.asn_model.specs.Shape.{Shape as AbstractShape, SeqKind as AbstractKind, Fields as AbstractFields, FieldAdditions, Presence as AbstractPresence, Alternatives, AlternativeAdditions, closed_seq, closed_choice};
-ghost use Rattle.asn_model.specs.ShapeView.{shape_view, field_views, alternative_views, with_last_field, with_last_alternative, presence_view};
+ghost use Rattle.asn_model.specs.Shape.{Shape as AbstractShape, SeqKind as AbstractKind};
+ghost use Rattle.asn_model.specs.Shape.{Fields as AbstractFields, FieldAdditions};
+ghost use Rattle.asn_model.specs.Shape.{Presence as AbstractPresence, Alternatives};
+ghost use Rattle.asn_model.specs.Shape.{AlternativeAdditions, closed_seq, closed_choice};
+ghost use Rattle.asn_model.specs.ShapeView.{shape_view, field_views, alternative_views};
+ghost use Rattle.asn_model.specs.ShapeView.{with_last_field, with_last_alternative, presence_view};
 ghost use Rattle.std.specs.Prelude.{◌≡◌, IfOk, OnOk, map, option_map, string_bytes};
 
 use crate::{AlternativeShape, AsnType, FieldShape, PresenceShape, SeqKind, Shape};

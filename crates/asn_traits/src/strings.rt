@@ -5,10 +5,10 @@ ghost use Rattle.asn_model.specs.CharacterStrings.{outside_alphabet, universal_t
 ghost use Rattle.asn_model.specs.Shape.{Alphabet as AbstractAlphabet, Shape as AbstractShape};
 ghost use Rattle.asn_model.specs.ShapeView.{alphabet_view};
 ghost use Rattle.asn_model.specs.Value.{Value};
-ghost use Rattle.asn_fault.specs.Stop.{Why, at_root, error_stop};
+ghost use Rattle.asn_fault.specs.Failure.{Cause, at_root, failure_of};
 ghost use Rattle.asn_strings.specs.Alphabets.{all_within};
 ghost use Rattle.asn_traits.specs.TextTypes.{IsStringRefusal};
-ghost use Rattle.avn_grammar.specs.Chars.{every};
+ghost use Rattle.avn_grammar.specs.Chars.{all};
 ghost use Rattle.avn_grammar.specs.WellFormed.{is_octet};
 ghost use Rattle.std.specs.Prelude.{◌≡◌, ◌⊎◌, ℕ, List, chars, refl, true};
 ghost use Rattle.std.specs.Str.{is_utf8};
@@ -54,7 +54,7 @@ pub trait TextSet: NamedSet {
 /// A character set whose strings are octets.
 pub trait OctetsSet: NamedSet + Utf8Octets {
     // Octets within the set are a value of the string type.
-    ghost is_value: { (octets : List ℕ) → every is_octet octets ≡ true
+    ghost is_value: { (octets : List ℕ) → all is_octet octets ≡ true
         → all_within Self.alphabet octets ≡ true → is_string_of Self.name octets ≡ true };
 }
 
@@ -201,8 +201,8 @@ impl OctetsSet for Graphic {
 /// Returns the refusal of a text with a character outside the alphabet of the string type with this
 /// tag, at this place. Memory may run out.
 fn outside_alphabet(alloc: Global, tag: Tag, place: usize, codec: Codec) -> DecodeError
-    ensures { (error_stop result ≡ at_root (outside_alphabet tag place) codec)
-        ⊎ (error_stop result ≡ at_root Why.out_of_memory codec) }
+    ensures { (failure_of result ≡ at_root (outside_alphabet tag place) codec)
+        ⊎ (failure_of result ≡ at_root Cause.out_of_memory codec) }
 {
     match format!(in alloc; "character outside the alphabet at place {place}") {
         Ok(msg) => DecodeError::string_conversion_failed(tag, msg, codec),
@@ -212,7 +212,7 @@ fn outside_alphabet(alloc: Global, tag: Tag, place: usize, codec: Codec) -> Deco
 
 /// Returns the refusal of a text for this fault. Memory may run out.
 fn string_refusal(alloc: Global, tag: Tag, fault: StringFault, codec: Codec) -> DecodeError
-    ensures { IsStringRefusal tag fault codec (error_stop result) }
+    ensures { IsStringRefusal tag fault codec (failure_of result) }
 {
     match fault {
         StringFault::Alphabet { place } => outside_alphabet(alloc, tag, place, codec),

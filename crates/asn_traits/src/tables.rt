@@ -2,11 +2,13 @@
 //! has a part for the root and one for the extension additions, which are looked through as one
 //! list, in order; the cost of a look-up is the length of that list.
 ghost use Rattle.asn_base.specs.Tags.{smallest};
-ghost use Rattle.asn_model.specs.Shape.{tag_eq, is_tag, name_tagged, place_named, class_number, end_tag};
+ghost use Rattle.asn_model.specs.Shape.{tag_eq, is_tag, name_tagged, place_named, class_number};
+ghost use Rattle.asn_model.specs.Shape.{end_tag};
 ghost use Rattle.asn_traits.specs.Tables.{names_of, smallest_tags, or_end};
 ghost use Rattle.asn_model.specs.Tree.{same_identifier};
 ghost use Rattle.asn_traits.specs.Writing.{head_name};
-ghost use Rattle.std.specs.Prelude.{◌≡◌, ◌+◌, ◌<◌, ◌++◌, [], map, length, drop, option_map, get_or, Option, Some, None, IfSome, unwrap_or};
+ghost use Rattle.std.specs.Prelude.{◌≡◌, ◌+◌, ◌<◌, ◌++◌, [], map, length, drop, option_map, get_or};
+ghost use Rattle.std.specs.Prelude.{Option, Some, None, IfSome, unwrap_or};
 ghost use Rattle.std.specs.Str.{bytes_eq};
 
 use crate::{Field, Fields};

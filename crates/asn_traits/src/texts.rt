@@ -6,7 +6,7 @@ ghost use Rattle.asn_model.specs.ShapeView.{shape_view};
 ghost use Rattle.asn_model.specs.Value.{Value, value_under};
 ghost use Rattle.asn_traits.specs.OwnTag.{HasTags};
 ghost use Rattle.asn_traits.specs.TextTypes.{MakesOfText};
-ghost use Rattle.asn_traits.specs.Writing.{CannotWrite, Written};
+ghost use Rattle.asn_traits.specs.Writing.{FailsToEncode, Written};
 ghost use Rattle.std.specs.Prelude.{◌≡◌, ℕ, IfErr, OnOk, Option, Some, string_bytes, true};
 
 use crate::{DecodeKind, Decoder, DescribeKind, EncodeKind, Encoder, LeafKind, OfKind, Shape};
@@ -53,7 +53,7 @@ pub trait TextType: OfKind<Kind = TextKind> {
     fn put_text<E: Encoder>(&self, encoder: &mut E) -> Result<(), EncodeError>
         ensures written { OnOk result (Written E.holds E.notation shape (value self.now)
             encoder.old encoder.new) }
-        ensures refused { IfErr result (CannotWrite E.notation (value self.now)) };
+        ensures refused { IfErr result (FailsToEncode E.notation (value self.now)) };
 
     // Constraints on sizes change nothing.
     ghost any_size: { (n : Option ℕ) → shape_under n shape ≡ shape };

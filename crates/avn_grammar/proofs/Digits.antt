@@ -5,39 +5,39 @@ use Rattle.std.specs.Str.{IsAscii}
 use Rattle.std.specs.Char.{is_whitespace}
 use Rattle.std.specs.Fmt.{decimal}
 use Rattle.std.proofs.lemmas.Fmt.{decimal_by_steps_wide}
-use Rattle.avn_grammar.specs.Chars.{front, past, is_digit, begins, every, inside, solid}
+use Rattle.avn_grammar.specs.Chars.{take_while, skip_while, is_digit, starts_with, all, is_not_apostrophe, without_whitespace}
 use Rattle.avn_grammar.specs.Octets.{is_hex, hex_value, are_pairs, octets_of, is_bit, hex_digit, hex_text, bit_digit, bit_text}
 use Rattle.avn_grammar.specs.WellFormed.{is_digits, is_octet, is_arc}
 use Rattle.avn_grammar.proofs.RunsBefore.{ascii-every, begins-over}
 
-pub every-weaken : (p q : ℕ → Bool) → ((c : ℕ) → p c ≡ true → q c ≡ true) → (xs : List ℕ) → every p xs ≡ true → every q xs ≡ true
+pub every-weaken : (p q : ℕ → Bool) → ((c : ℕ) → p c ≡ true → q c ≡ true) → (xs : List ℕ) → all p xs ≡ true → all q xs ≡ true
 every-weaken p q f [] h = refl
-every-weaken p q f (c ∷ xs) h = let k = and_parts (p c) (every p xs) h in and_from (q c) (every q xs) (f c k.0) (every-weaken p q f xs k.1)
+every-weaken p q f (c ∷ xs) h = let k = and_parts (p c) (all p xs) h in and_from (q c) (all q xs) (f c k.0) (every-weaken p q f xs k.1)
 
-pub every-append : (p : ℕ → Bool) (xs ys : List ℕ) → every p xs ≡ true → every p ys ≡ true → every p (xs ++ ys) ≡ true
+pub every-append : (p : ℕ → Bool) (xs ys : List ℕ) → all p xs ≡ true → all p ys ≡ true → all p (xs ++ ys) ≡ true
 every-append p [] ys a b = b
-every-append p (c ∷ xs) ys a b = let k = and_parts (p c) (every p xs) a in and_from (p c) (every p (xs ++ ys)) k.0 (every-append p xs ys k.1 b)
+every-append p (c ∷ xs) ys a b = let k = and_parts (p c) (all p xs) a in and_from (p c) (all p (xs ++ ys)) k.0 (every-append p xs ys k.1 b)
 
-pub every-take : (p : ℕ → Bool) (n : ℕ) (xs : List ℕ) → every p xs ≡ true → every p (take n xs) ≡ true
+pub every-take : (p : ℕ → Bool) (n : ℕ) (xs : List ℕ) → all p xs ≡ true → all p (take n xs) ≡ true
 every-take p zero xs h = refl
 every-take p (suc n) [] h = refl
-every-take p (suc n) (c ∷ xs) h = let k = and_parts (p c) (every p xs) h in and_from (p c) (every p (take n xs)) k.0 (every-take p n xs k.1)
+every-take p (suc n) (c ∷ xs) h = let k = and_parts (p c) (all p xs) h in and_from (p c) (all p (take n xs)) k.0 (every-take p n xs k.1)
 
-pub every-front : (p : ℕ → Bool) (u : List ℕ) → every p (front p u) ≡ true
+pub every-front : (p : ℕ → Bool) (u : List ℕ) → all p (take_while p u) ≡ true
 every-front p [] = refl
-every-front p (c ∷ u) = elim (p c) as (λ b. p c ≡ b → every p (cond b (c ∷ front p u) []) ≡ true) [ true ↦ λ h. and_from (p c) (every p (front p u)) h (every-front p u) | false ↦ λ h. refl ] refl
+every-front p (c ∷ u) = elim (p c) as (λ b. p c ≡ b → all p (cond b (c ∷ take_while p u) []) ≡ true) [ true ↦ λ h. and_from (p c) (all p (take_while p u)) h (every-front p u) | false ↦ λ h. refl ] refl
 
-pub begins-front : (p : ℕ → Bool) (u : List ℕ) → begins p u ≡ true → begins p (front p u) ≡ true
+pub begins-front : (p : ℕ → Bool) (u : List ℕ) → starts_with p u ≡ true → starts_with p (take_while p u) ≡ true
 begins-front p [] h = h
-begins-front p (c ∷ u) h = ap (begins p) (cond-true (p c) (c ∷ front p u) [] h) ∙ h
+begins-front p (c ∷ u) h = ap (starts_with p) (cond-true (p c) (c ∷ take_while p u) [] h) ∙ h
 
-pub front-past : (p : ℕ → Bool) (u : List ℕ) → front p u ++ past p u ≡ u
+pub front-past : (p : ℕ → Bool) (u : List ℕ) → take_while p u ++ skip_while p u ≡ u
 front-past p [] = refl
-front-past p (c ∷ u) = elim (p c) as (λ b. cond b (c ∷ front p u) [] ++ cond b (past p u) (c ∷ u) ≡ c ∷ u) [ true ↦ ap (λ x. c ∷ x) (front-past p u) | false ↦ refl ]
+front-past p (c ∷ u) = elim (p c) as (λ b. cond b (c ∷ take_while p u) [] ++ cond b (skip_while p u) (c ∷ u) ≡ c ∷ u) [ true ↦ ap (λ x. c ∷ x) (front-past p u) | false ↦ refl ]
 
-solid-every : (xs : List ℕ) → every (λ c. not (is_whitespace c)) xs ≡ true → solid xs ≡ xs
+solid-every : (xs : List ℕ) → all (λ c. not (is_whitespace c)) xs ≡ true → without_whitespace xs ≡ xs
 solid-every [] h = refl
-solid-every (c ∷ xs) h = let k = and_parts (not (is_whitespace c)) (every (λ c. not (is_whitespace c)) xs) h in cond-true (not (is_whitespace c)) (c ∷ solid xs) (solid xs) k.0 ∙ ap (λ x. c ∷ x) (solid-every xs k.1)
+solid-every (c ∷ xs) h = let k = and_parts (not (is_whitespace c)) (all (λ c. not (is_whitespace c)) xs) h in cond-true (not (is_whitespace c)) (c ∷ without_whitespace xs) (without_whitespace xs) k.0 ∙ ap (λ x. c ∷ x) (solid-every xs k.1)
 
 low : ℕ → Bool
 low c = nat_lt c 128
@@ -47,17 +47,17 @@ unfolding low
 low-lt c h = ltb-true c 128 h
 
 -- Hexadecimal digits.
-digit-passes : (q : ℕ → Bool) (n : ℕ) → ((n : ℕ) → n < 16 → q (hex_digit n) ≡ true) → (os : List ℕ) → every is_octet os ≡ true → every q (hex_text os) ≡ true
+digit-passes : (q : ℕ → Bool) (n : ℕ) → ((n : ℕ) → n < 16 → q (hex_digit n) ≡ true) → (os : List ℕ) → all is_octet os ≡ true → all q (hex_text os) ≡ true
 digit-passes q n f [] h = refl
 digit-passes q n f (o ∷ os) h =
-    let k = and_parts (is_octet o) (every is_octet os) h in
+    let k = and_parts (is_octet o) (all is_octet os) h in
     let l : o < 256 = ltb-true o 256 k.0 in
-    and_from (q (hex_digit (o / 16))) (q (hex_digit (o % 16)) && every q (hex_text os)) (f (o / 16) (omega (arith, l))) (and_from (q (hex_digit (o % 16))) (every q (hex_text os)) (f (o % 16) (omega arith)) (digit-passes q n f os k.1))
+    and_from (q (hex_digit (o / 16))) (q (hex_digit (o % 16)) && all q (hex_text os)) (f (o / 16) (omega (arith, l))) (and_from (q (hex_digit (o % 16))) (all q (hex_text os)) (f (o % 16) (omega arith)) (digit-passes q n f os k.1))
 
-hex-pairs : (os : List ℕ) → every is_octet os ≡ true → are_pairs (hex_text os) ≡ true
+hex-pairs : (os : List ℕ) → all is_octet os ≡ true → are_pairs (hex_text os) ≡ true
 hex-pairs [] h = refl
 hex-pairs (o ∷ os) h =
-    let k = and_parts (is_octet o) (every is_octet os) h in
+    let k = and_parts (is_octet o) (all is_octet os) h in
     let l : o < 256 = ltb-true o 256 k.0 in
     and_from (is_hex (hex_digit (o / 16)) && is_hex (hex_digit (o % 16))) (are_pairs (hex_text os))
     (and_from (is_hex (hex_digit (o / 16))) (is_hex (hex_digit (o % 16))) (agree_below_at (λ n. is_hex (hex_digit n)) (λ n. true) 16 (o / 16) refl (omega (arith, l))) (agree_below_at (λ n. is_hex (hex_digit n)) (λ n. true) 16 (o % 16) refl (omega arith)))
@@ -66,10 +66,10 @@ hex-pairs (o ∷ os) h =
 hex-value : (n : ℕ) → n < 16 → hex_value (hex_digit n) ≡ n
 hex-value n h = eqb-true (hex_value (hex_digit n)) n (agree_below_at (λ n. hex_value (hex_digit n) == n) (λ n. true) 16 n refl h)
 
-hex-octets : (os : List ℕ) → every is_octet os ≡ true → octets_of (hex_text os) ≡ os
+hex-octets : (os : List ℕ) → all is_octet os ≡ true → octets_of (hex_text os) ≡ os
 hex-octets [] h = refl
 hex-octets (o ∷ os) h =
-    let k = and_parts (is_octet o) (every is_octet os) h in
+    let k = and_parts (is_octet o) (all is_octet os) h in
     let l : o < 256 = ltb-true o 256 k.0 in
     let a = hex-value (o / 16) (omega (arith, l)) in
     let b = hex-value (o % 16) (omega arith) in
@@ -77,16 +77,16 @@ hex-octets (o ∷ os) h =
     ap (λ x. x ∷ octets_of (hex_text os)) e ∙ ap (λ x. o ∷ x) (hex-octets os k.1)
 
 pub record Hex (xs os : List ℕ) : Type 0 where
-  pub within : every inside xs ≡ true
-  pub whole : solid xs ≡ xs
+  pub within : all is_not_apostrophe xs ≡ true
+  pub whole : without_whitespace xs ≡ xs
   pub pairs : are_pairs xs ≡ true
   pub says : octets_of xs ≡ os
   pub ascii : IsAscii xs
 
-pub hex_of : (os : List ℕ) → every is_octet os ≡ true → Hex (hex_text os) os
+pub hex_of : (os : List ℕ) → all is_octet os ≡ true → Hex (hex_text os) os
 unfolding low
 hex_of os h = record {
-  within = digit-passes inside 0 (λ n l. agree_below_at (λ n. inside (hex_digit n)) (λ n. true) 16 n refl l) os h;
+  within = digit-passes is_not_apostrophe 0 (λ n l. agree_below_at (λ n. is_not_apostrophe (hex_digit n)) (λ n. true) 16 n refl l) os h;
   whole = solid-every (hex_text os) (digit-passes (λ c. not (is_whitespace c)) 0 (λ n l. agree_below_at (λ n. not (is_whitespace (hex_digit n))) (λ n. true) 16 n refl l) os h);
   pairs = hex-pairs os h;
   says = hex-octets os h;
@@ -98,14 +98,14 @@ bit-passes : (q : ℕ → Bool) → q 48 ≡ true → q 49 ≡ true → (c : ℕ
 bit-passes q a b c h = elim (or_cases (c == 48) (c == 49) h) [ inl k ↦ ap q (eqb-true c 48 k) ∙ a | inr k ↦ ap q (eqb-true c 49 k) ∙ b ]
 
 pub record Bits (xs : List ℕ) : Type 0 where
-  pub within : every inside xs ≡ true
-  pub whole : solid xs ≡ xs
+  pub within : all is_not_apostrophe xs ≡ true
+  pub whole : without_whitespace xs ≡ xs
   pub ascii : IsAscii xs
 
-pub bits_of : (xs : List ℕ) → every is_bit xs ≡ true → Bits xs
+pub bits_of : (xs : List ℕ) → all is_bit xs ≡ true → Bits xs
 unfolding low
 bits_of xs h = record {
-  within = every-weaken is_bit inside (bit-passes inside refl refl) xs h;
+  within = every-weaken is_bit is_not_apostrophe (bit-passes is_not_apostrophe refl refl) xs h;
   whole = solid-every xs (every-weaken is_bit (λ c. not (is_whitespace c)) (bit-passes (λ c. not (is_whitespace c)) refl refl) xs h);
   ascii = ascii-every low low-lt xs (every-weaken is_bit low (bit-passes low refl refl) xs h);
 }
@@ -113,7 +113,7 @@ bits_of xs h = record {
 digit-bit : (weight o : ℕ) → is_bit (bit_digit weight o) ≡ true
 digit-bit weight o = agree_below_at (λ n. is_bit (48 + n)) (λ n. true) 2 ((o / weight) % 2) refl (omega arith)
 
-pub bit_text-bits : (os : List ℕ) → every is_bit (bit_text os) ≡ true
+pub bit_text-bits : (os : List ℕ) → all is_bit (bit_text os) ≡ true
 unfolding bit_text
 bit_text-bits [] = refl
 bit_text-bits (o ∷ os) =
@@ -129,9 +129,9 @@ pub digits-decimal : (n : ℕ) → n < 10 ^ 64 → is_digits (decimal n) ≡ tru
 digits-decimal n h = decimal_by_steps_wide (λ n ds. is_digits ds ≡ true)
     (λ n l. agree_below_at (λ n. is_digits ((48 + n) ∷ [])) (λ n. true) 10 n refl l)
     (λ n ds l e.
-    let k = and_parts (begins is_digit ds) (every is_digit ds) e in
+    let k = and_parts (starts_with is_digit ds) (all is_digit ds) e in
     let d : is_digit (48 + n % 10) ≡ true = agree_below_at (λ n. is_digit (48 + n)) (λ n. true) 10 (n % 10) refl (omega arith) in
-    and_from (begins is_digit (ds ++ ((48 + n % 10) ∷ []))) (every is_digit (ds ++ ((48 + n % 10) ∷ []))) (begins-over is_digit ds ((48 + n % 10) ∷ []) k.0) (every-append is_digit ds ((48 + n % 10) ∷ []) k.1 (and_from (is_digit (48 + n % 10)) true d refl)))
+    and_from (starts_with is_digit (ds ++ ((48 + n % 10) ∷ []))) (all is_digit (ds ++ ((48 + n % 10) ∷ []))) (begins-over is_digit ds ((48 + n % 10) ∷ []) k.0) (every-append is_digit ds ((48 + n % 10) ∷ []) k.1 (and_from (is_digit (48 + n % 10)) true d refl)))
     n h
 
 pub arc-lt : (a : ℕ) → is_arc a ≡ true → a < 2 ^ 64

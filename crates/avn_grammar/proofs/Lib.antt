@@ -6,7 +6,7 @@ pub mod Packing
 pub mod PrintedTokens
 pub mod OneTree
 pub mod Refusals
-pub mod DeepStands
+pub mod DeepParses
 pub mod ReadPrinted
 pub mod DeepPrinted
 pub mod WholePrinted

@@ -1,24 +1,24 @@
 -- A whole text has at most one answer.
 use Rattle.std.proofs.Common.{◌≡◌, ℕ, List, refl, sym, ap, ◌∙◌}
 use Rattle.std.specs.Char.{is_whitespace}
-use Rattle.avn_grammar.specs.Chars.{past, spelled}
+use Rattle.avn_grammar.specs.Chars.{skip_while, utf8_of}
 use Rattle.avn_grammar.specs.Tree.{Tree}
-use Rattle.avn_grammar.specs.Grammar.{Reads}
-use Rattle.avn_grammar.specs.Depth.{Deep}
-use Rattle.avn_grammar.specs.Unread.{Found, found_here, found_past, Unread, no_value, more_follows}
-use Rattle.avn_grammar.proofs.OneTree.{same_stands}
-use Rattle.avn_grammar.proofs.DeepStands.{deep_stands}
+use Rattle.avn_grammar.specs.Grammar.{ParsesWhole}
+use Rattle.avn_grammar.specs.Depth.{ExceedsDepth}
+use Rattle.avn_grammar.specs.ParseFailure.{Found, found_here, found_past, ParseFailure, no_value, more_follows}
+use Rattle.avn_grammar.proofs.OneTree.{same_parses}
+use Rattle.avn_grammar.proofs.DeepParses.{deep_parses}
 
-pub reads-deep : {limit : ℕ} {u : List ℕ} {t : Tree} → Reads limit u t → Deep limit 0 u → ⊥
-reads-deep {t = t} r d = deep_stands d t r.0 r.1
+pub reads-deep : {limit : ℕ} {u : List ℕ} {t : Tree} → ParsesWhole limit u t → ExceedsDepth limit 0 u → ⊥
+reads-deep {t = t} r d = deep_parses d t r.0 r.1
 
-pub reads-unread : {limit : ℕ} {u found : List ℕ} {t : Tree} → Reads limit u t → Unread limit u found → ⊥
+pub reads-unread : {limit : ℕ} {u found : List ℕ} {t : Tree} → ParsesWhole limit u t → ParseFailure limit u found → ⊥
 reads-unread {t = t} r (no_value h f) = h.0 t r.0 r.1
-reads-unread r (more_follows v s n) = n (ap (past is_whitespace) (sym (same_stands r.1 s).1) ∙ r.2)
+reads-unread r (more_follows v s n) = n (ap (skip_while is_whitespace) (sym (same_parses r.1 s).1) ∙ r.2)
 
-pub unread-deep : {limit : ℕ} {u found : List ℕ} → Unread limit u found → Deep limit 0 u → ⊥
+pub unread-deep : {limit : ℕ} {u found : List ℕ} → ParseFailure limit u found → ExceedsDepth limit 0 u → ⊥
 unread-deep (no_value h f) d = h.1 d
-unread-deep (more_follows {rest = r} t s n) d = deep_stands d t r s
+unread-deep (more_follows {rest = r} t s n) d = deep_parses d t r s
 
 pub same_found : {u e f : List ℕ} → Found u e → Found u f → e ≡ f
 same_found (found_here n) (found_here m) = refl
@@ -26,8 +26,8 @@ same_found (found_here n) (found_past l c f) = absurd (n l c)
 same_found (found_past l c f) (found_here n) = absurd (n l c)
 same_found (found_past l c f) (found_past k d g) = same_found f g
 
-pub same_unread : {limit : ℕ} {u e f : List ℕ} → Unread limit u e → Unread limit u f → e ≡ f
-same_unread (no_value h f) (no_value k g) = ap spelled (same_found f g)
+pub same_unread : {limit : ℕ} {u e f : List ℕ} → ParseFailure limit u e → ParseFailure limit u f → e ≡ f
+same_unread (no_value h f) (no_value k g) = ap utf8_of (same_found f g)
 same_unread (no_value h f) (more_follows {rest = r} t s n) = absurd (h.0 t r s)
 same_unread (more_follows {rest = r} t s n) (no_value h f) = absurd (h.0 t r s)
-same_unread (more_follows t s n) (more_follows v k m) = ap spelled (same_stands s k).1
+same_unread (more_follows t s n) (more_follows v k m) = ap utf8_of (same_parses s k).1

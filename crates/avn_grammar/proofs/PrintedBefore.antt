@@ -6,7 +6,7 @@ use Rattle.std.specs.Char.{encode_utf8}
 use lib.Utf8.{scalars, scalar}
 use Rattle.std.proofs.lemmas.Str.{chars-append, chars-IsAscii, IsUtf8-from_ascii, IsUtf8-from_is_utf8, encodes-chars, scalars-chars, chars-encodes, inside_one}
 use Rattle.std.proofs.lemmas.Slice.Eq.{bytes_eq-Decides}
-use Rattle.avn_grammar.specs.Chars.{is_digit, is_name, is_letter, begins, doubled, every, front, past}
+use Rattle.avn_grammar.specs.Chars.{is_digit, is_name, is_letter, starts_with, quote_is_doubled, all, take_while, skip_while}
 use Rattle.avn_grammar.specs.Grammar.{is_real_keyword}
 use Rattle.avn_grammar.specs.Octets.{is_bit, hex_text, bit_text}
 use Rattle.avn_grammar.specs.Print.{print, print_rows, print_fields, indent, separator, has_fields, hex_quoted, bits_quoted, arc_text}
@@ -58,7 +58,7 @@ unfoldable mutual
 mutual
   unfolding print put
 
-  pub print-put : (d : ℕ) (t : Tree) (v : List ℕ) → print d t ++ v ≡ put doubled d t v
+  pub print-put : (d : ℕ) (t : Tree) (v : List ℕ) → print d t ++ v ≡ put quote_is_doubled d t v
   print-put d (boolean true) v = refl
   print-put d (boolean false) v = refl
   print-put d null v = refl
@@ -76,9 +76,9 @@ mutual
       ]
   print-put d (oid arcs) v = ap (λ x. 123 ∷ x) (append_assoc (arc_text arcs) (32 ∷ 125 ∷ []) v ∙ arcs-put arcs (32 ∷ 125 ∷ v))
   print-put d (enumerated id) v = refl
-  print-put d (char_string text) v = ap (λ x. 34 ∷ x) (append_assoc (doubled text) (34 ∷ []) v)
+  print-put d (char_string text) v = ap (λ x. 34 ∷ x) (append_assoc (quote_is_doubled text) (34 ∷ []) v)
   print-put d (sequence fs) v =
-      elim (has_fields fs) as (λ b. cond b ((123 ∷ []) ++ print_fields (suc d) 0 fs ++ (10 ∷ []) ++ indent d ++ (125 ∷ [])) (codes "{}") ++ v ≡ cond b (123 ∷ put_fields doubled (suc d) 0 fs (10 ∷ (indent d ++ (125 ∷ v)))) (123 ∷ 125 ∷ v)) [
+      elim (has_fields fs) as (λ b. cond b ((123 ∷ []) ++ print_fields (suc d) 0 fs ++ (10 ∷ []) ++ indent d ++ (125 ∷ [])) (codes "{}") ++ v ≡ cond b (123 ∷ put_fields quote_is_doubled (suc d) 0 fs (10 ∷ (indent d ++ (125 ∷ v)))) (123 ∷ 125 ∷ v)) [
         | true ↦ simp append_assoc (ap (λ x. 123 ∷ x) (fields-put (suc d) 0 fs (10 ∷ (indent d ++ (125 ∷ v)))))
         | false ↦ refl
       ]
@@ -86,15 +86,15 @@ mutual
   print-put d (sequence_of (tree t ts)) v = simp append_assoc (ap (λ x. 123 ∷ x) (sym (simp append_assoc at (sym (rows-put (suc d) 0 (tree t ts) (10 ∷ (indent d ++ (125 ∷ v))))))))
   print-put d (choice id t) v = simp append_assoc (ap (λ x. id ++ (32 ∷ 58 ∷ 32 ∷ x)) (print-put d t v))
 
-  pub rows-put : (d i : ℕ) (ts : Trees) (v : List ℕ) → print_rows d i ts ++ v ≡ put_rows doubled d i ts v
+  pub rows-put : (d i : ℕ) (ts : Trees) (v : List ℕ) → print_rows d i ts ++ v ≡ put_rows quote_is_doubled d i ts v
   rows-put d i no_trees v = refl
   rows-put d i (tree t ts) v =
-      simp append_assoc (ap (λ x. separator i ++ (indent d ++ (print d t ++ x))) (rows-put d (suc i) ts v) ∙ ap (λ x. separator i ++ (indent d ++ x)) (print-put d t (put_rows doubled d (suc i) ts v)))
+      simp append_assoc (ap (λ x. separator i ++ (indent d ++ (print d t ++ x))) (rows-put d (suc i) ts v) ∙ ap (λ x. separator i ++ (indent d ++ x)) (print-put d t (put_rows quote_is_doubled d (suc i) ts v)))
 
-  pub fields-put : (d i : ℕ) (fs : Fields) (v : List ℕ) → print_fields d i fs ++ v ≡ put_fields doubled d i fs v
+  pub fields-put : (d i : ℕ) (fs : Fields) (v : List ℕ) → print_fields d i fs ++ v ≡ put_fields quote_is_doubled d i fs v
   fields-put d i no_fields v = refl
   fields-put d i (field id t fs) v =
-      simp append_assoc (ap (λ x. separator i ++ (indent d ++ (id ++ (32 ∷ (print d t ++ x))))) (fields-put d (suc i) fs v) ∙ ap (λ x. separator i ++ (indent d ++ (id ++ (32 ∷ x)))) (print-put d t (put_fields doubled d (suc i) fs v)))
+      simp append_assoc (ap (λ x. separator i ++ (indent d ++ (id ++ (32 ∷ (print d t ++ x))))) (fields-put d (suc i) fs v) ∙ ap (λ x. separator i ++ (indent d ++ (id ++ (32 ∷ x)))) (print-put d t (put_fields quote_is_doubled d (suc i) fs v)))
   fields-put d i (absent id fs) v = fields-put d i fs v
 
 -- Characters.
@@ -108,43 +108,43 @@ nil-right (x ∷ xs) = ap (λ y. x ∷ y) (nil-right xs)
 chars-cons : (c : ℕ) (xs : List ℕ) → c < 128 → chars (c ∷ xs) ≡ c ∷ chars xs
 chars-cons c xs h = chars-plain (c ∷ []) xs (ascii-cons c [] h ascii-nil)
 
-pub doubled-over : (xs ys : List ℕ) → ((k : ℕ) → k < length xs → get_or xs k 0 ≢ 34) → doubled (xs ++ ys) ≡ xs ++ doubled ys
+pub doubled-over : (xs ys : List ℕ) → ((k : ℕ) → k < length xs → get_or xs k 0 ≢ 34) → quote_is_doubled (xs ++ ys) ≡ xs ++ quote_is_doubled ys
 doubled-over [] ys h = refl
 doubled-over (c ∷ xs) ys h =
-    cond-false (c == 34) (34 ∷ 34 ∷ doubled (xs ++ ys)) (c ∷ doubled (xs ++ ys)) (false_from_ne_true (c == 34) (λ e. h 0 (omega arith) (eqb-true c 34 e)))
+    cond-false (c == 34) (34 ∷ 34 ∷ quote_is_doubled (xs ++ ys)) (c ∷ quote_is_doubled (xs ++ ys)) (false_from_ne_true (c == 34) (λ e. h 0 (omega arith) (eqb-true c 34 e)))
     ∙ ap (λ x. c ∷ x) (doubled-over xs ys (λ k l. h (suc k) (omega arith)))
 
 -- Doubling a text's bytes is doubling its characters.
-doubled-encodes : (cs : List ℕ) → doubled (encode_utf8_all cs) ≡ encode_utf8_all (doubled cs)
+doubled-encodes : (cs : List ℕ) → quote_is_doubled (encode_utf8_all cs) ≡ encode_utf8_all (quote_is_doubled cs)
 unfolding encode_utf8
 doubled-encodes [] = refl
 doubled-encodes (c ∷ cs) = elim (cases_Bool (c == 34)) [
   | inl h ↦
       let e : c ≡ 34 = eqb-true c 34 h in
-      ap (λ x. doubled (encode_utf8 x ++ encode_utf8_all cs)) e ∙ ap (λ x. 34 ∷ 34 ∷ x) (doubled-encodes cs) ∙ ap (λ b. encode_utf8_all (cond b (34 ∷ 34 ∷ doubled cs) (c ∷ doubled cs))) (sym h)
+      ap (λ x. quote_is_doubled (encode_utf8 x ++ encode_utf8_all cs)) e ∙ ap (λ x. 34 ∷ 34 ∷ x) (doubled-encodes cs) ∙ ap (λ b. encode_utf8_all (cond b (34 ∷ 34 ∷ quote_is_doubled cs) (c ∷ quote_is_doubled cs))) (sym h)
   | inr h ↦
       doubled-over (encode_utf8 c) (encode_utf8_all cs) (λ k l e. let f = inside_one c [] (encode_utf8 c) k (nil-right (encode_utf8 c)) l (omega arith) in eqb-false c 34 h (f ∙ e))
-      ∙ ap (λ x. encode_utf8 c ++ x) (doubled-encodes cs) ∙ ap (λ b. encode_utf8_all (cond b (34 ∷ 34 ∷ doubled cs) (c ∷ doubled cs))) (sym h)
+      ∙ ap (λ x. encode_utf8 c ++ x) (doubled-encodes cs) ∙ ap (λ b. encode_utf8_all (cond b (34 ∷ 34 ∷ quote_is_doubled cs) (c ∷ quote_is_doubled cs))) (sym h)
 ]
 
-scalars-doubled : (cs : List ℕ) → scalars cs ≡ true → scalars (doubled cs) ≡ true
+scalars-doubled : (cs : List ℕ) → scalars cs ≡ true → scalars (quote_is_doubled cs) ≡ true
 scalars-doubled [] h = refl
 scalars-doubled (c ∷ cs) h =
     let k = and_parts (scalar c) (scalars cs) h in
-    cond_both (c == 34) (34 ∷ 34 ∷ doubled cs) (c ∷ doubled cs) (λ x. scalars x ≡ true) (λ e. scalars-doubled cs k.1) (λ e. ap (λ b. b && scalars (doubled cs)) k.0 ∙ scalars-doubled cs k.1)
+    cond_both (c == 34) (34 ∷ 34 ∷ quote_is_doubled cs) (c ∷ quote_is_doubled cs) (λ x. scalars x ≡ true) (λ e. scalars-doubled cs k.1) (λ e. ap (λ b. b && scalars (quote_is_doubled cs)) k.0 ∙ scalars-doubled cs k.1)
 
-chars-doubled : (text ys : List ℕ) → IsUtf8 text → chars (doubled text ++ ys) ≡ doubled (chars text) ++ chars ys
+chars-doubled : (text ys : List ℕ) → IsUtf8 text → chars (quote_is_doubled text ++ ys) ≡ quote_is_doubled (chars text) ++ chars ys
 chars-doubled text ys u =
-    let e : doubled text ≡ encode_utf8_all (doubled (chars text)) = ap doubled (sym (encodes-chars text u)) ∙ doubled-encodes (chars text) in
+    let e : quote_is_doubled text ≡ encode_utf8_all (quote_is_doubled (chars text)) = ap quote_is_doubled (sym (encodes-chars text u)) ∙ doubled-encodes (chars text) in
     let s = scalars-doubled (chars text) (scalars-chars text u) in
-    chars-append (doubled text) ys (doubled (chars text), (s, sym e)) ∙ ap (λ x. chars x ++ chars ys) e ∙ ap (λ x. x ++ chars ys) (chars-encodes (doubled (chars text)) s)
+    chars-append (quote_is_doubled text) ys (quote_is_doubled (chars text), (s, sym e)) ∙ ap (λ x. chars x ++ chars ys) e ∙ ap (λ x. x ++ chars ys) (chars-encodes (quote_is_doubled (chars text)) s)
 
 -- The content of a text in quotes, in characters.
 abbrev pub shown : List ℕ → List ℕ
-shown text = doubled (chars text)
+shown text = quote_is_doubled (chars text)
 
 pub ascii-identifier : (id : List ℕ) → is_identifier id ≡ true → IsAscii id
-ascii-identifier id h = ascii-every is_name name-low id (and_parts (begins is_letter id) (every is_name id) h).1
+ascii-identifier id h = ascii-every is_name name-low id (and_parts (starts_with is_letter id) (all is_name id) h).1
 
 pub ascii-number : (n : List ℕ) → is_number n ≡ true → IsAscii n
 ascii-number [] h = ascii-nil
@@ -152,14 +152,14 @@ ascii-number (c ∷ n) h = elim (cases_Bool (c == 45)) [
   | inl e ↦
       let k : is_digits n ≡ true = ap is_digits (sym (cond-true (c == 45) n (c ∷ n) e)) ∙ h in
       let f : c ≡ 45 = eqb-true c 45 e in
-      ascii-cons c n (omega (arith, f)) (ascii-every is_digit digit-low n (and_parts (begins is_digit n) (every is_digit n) k).1)
+      ascii-cons c n (omega (arith, f)) (ascii-every is_digit digit-low n (and_parts (starts_with is_digit n) (all is_digit n) k).1)
   | inr e ↦
       let k : is_digits (c ∷ n) ≡ true = ap is_digits (sym (cond-false (c == 45) n (c ∷ n) e)) ∙ h in
-      ascii-every is_digit digit-low (c ∷ n) (and_parts (begins is_digit (c ∷ n)) (every is_digit (c ∷ n)) k).1
+      ascii-every is_digit digit-low (c ∷ n) (and_parts (starts_with is_digit (c ∷ n)) (all is_digit (c ∷ n)) k).1
 ]
 
-ascii-same : (n m : List ℕ) → bytes_eq n m ≡ true → every is_name m ≡ true → IsAscii n
-ascii-same n m h k = let e : n ≡ m = (bytes_eq-Decides n m).0 h in ascii-every is_name name-low n (ap (every is_name) e ∙ k)
+ascii-same : (n m : List ℕ) → bytes_eq n m ≡ true → all is_name m ≡ true → IsAscii n
+ascii-same n m h k = let e : n ≡ m = (bytes_eq-Decides n m).0 h in ascii-every is_name name-low n (ap (all is_name) e ∙ k)
 
 pub ascii-real_keyword : (n : List ℕ) → is_real_keyword n ≡ true → IsAscii n
 ascii-real_keyword n h = elim (or_cases (bytes_eq n (codes "PLUS-INFINITY") || bytes_eq n (codes "MINUS-INFINITY")) (bytes_eq n (codes "NOT-A-NUMBER")) h) [
@@ -183,44 +183,44 @@ ascii-fraction [] h = ascii-nil
 ascii-fraction (c ∷ f) h =
     let k = and_parts (c == 46) (is_digits f) h in
     let e : c ≡ 46 = eqb-true c 46 k.0 in
-    ascii-cons c f (omega (arith, e)) (ascii-every is_digit digit-low f (and_parts (begins is_digit f) (every is_digit f) k.1).1)
+    ascii-cons c f (omega (arith, e)) (ascii-every is_digit digit-low f (and_parts (starts_with is_digit f) (all is_digit f) k.1).1)
 
-ascii-unsigned : (m : List ℕ) → is_fraction (past is_digit m) ≡ true → IsAscii m
-ascii-unsigned m h = subst IsAscii (front-past is_digit m) (IsAscii-append (front is_digit m) (past is_digit m) (ascii-every is_digit digit-low (front is_digit m) (every-front is_digit m)) (ascii-fraction (past is_digit m) h))
+ascii-unsigned : (m : List ℕ) → is_fraction (skip_while is_digit m) ≡ true → IsAscii m
+ascii-unsigned m h = subst IsAscii (front-past is_digit m) (IsAscii-append (take_while is_digit m) (skip_while is_digit m) (ascii-every is_digit digit-low (take_while is_digit m) (every-front is_digit m)) (ascii-fraction (skip_while is_digit m) h))
 
 pub ascii-decimal : (n : List ℕ) → is_decimal n ≡ true → IsAscii n
 ascii-decimal [] h = ascii-nil
 ascii-decimal (c ∷ n) h = elim (cases_Bool (c == 45)) [
   | inl e ↦
       let f : c ≡ 45 = eqb-true c 45 e in
-      let k : begins is_digit n && is_fraction (past is_digit n) ≡ true = ap (λ x. begins is_digit x && is_fraction (past is_digit x)) (sym (cond-true (c == 45) n (c ∷ n) e)) ∙ h in
-      ascii-cons c n (omega (arith, f)) (ascii-unsigned n (and_parts (begins is_digit n) (is_fraction (past is_digit n)) k).1)
+      let k : starts_with is_digit n && is_fraction (skip_while is_digit n) ≡ true = ap (λ x. starts_with is_digit x && is_fraction (skip_while is_digit x)) (sym (cond-true (c == 45) n (c ∷ n) e)) ∙ h in
+      ascii-cons c n (omega (arith, f)) (ascii-unsigned n (and_parts (starts_with is_digit n) (is_fraction (skip_while is_digit n)) k).1)
   | inr e ↦
-      let k : begins is_digit (c ∷ n) && is_fraction (past is_digit (c ∷ n)) ≡ true = ap (λ x. begins is_digit x && is_fraction (past is_digit x)) (sym (cond-false (c == 45) n (c ∷ n) e)) ∙ h in
-      ascii-unsigned (c ∷ n) (and_parts (begins is_digit (c ∷ n)) (is_fraction (past is_digit (c ∷ n))) k).1
+      let k : starts_with is_digit (c ∷ n) && is_fraction (skip_while is_digit (c ∷ n)) ≡ true = ap (λ x. starts_with is_digit x && is_fraction (skip_while is_digit x)) (sym (cond-false (c == 45) n (c ∷ n) e)) ∙ h in
+      ascii-unsigned (c ∷ n) (and_parts (starts_with is_digit (c ∷ n)) (is_fraction (skip_while is_digit (c ∷ n))) k).1
 ]
 
-chars-hex : (octets v : List ℕ) → every is_octet octets ≡ true → chars (39 ∷ (hex_text octets ++ (39 ∷ 72 ∷ v))) ≡ 39 ∷ (hex_text octets ++ (39 ∷ 72 ∷ chars v))
+chars-hex : (octets v : List ℕ) → all is_octet octets ≡ true → chars (39 ∷ (hex_text octets ++ (39 ∷ 72 ∷ v))) ≡ 39 ∷ (hex_text octets ++ (39 ∷ 72 ∷ chars v))
 chars-hex octets v h =
     chars-cons 39 (hex_text octets ++ (39 ∷ 72 ∷ v)) (omega arith)
     ∙ ap (λ x. 39 ∷ x) (chars-plain (hex_text octets) (39 ∷ 72 ∷ v) (hex_of octets h).ascii ∙ ap (λ x. hex_text octets ++ x) (chars-cons 39 (72 ∷ v) (omega arith) ∙ ap (λ x. 39 ∷ x) (chars-cons 72 v (omega arith))))
 
-chars-bits : (bits v : List ℕ) → every is_bit bits ≡ true → chars (39 ∷ (bits ++ (39 ∷ 66 ∷ v))) ≡ 39 ∷ (bits ++ (39 ∷ 66 ∷ chars v))
+chars-bits : (bits v : List ℕ) → all is_bit bits ≡ true → chars (39 ∷ (bits ++ (39 ∷ 66 ∷ v))) ≡ 39 ∷ (bits ++ (39 ∷ 66 ∷ chars v))
 chars-bits bits v h =
     chars-cons 39 (bits ++ (39 ∷ 66 ∷ v)) (omega arith)
     ∙ ap (λ x. 39 ∷ x) (chars-plain bits (39 ∷ 66 ∷ v) (bits_of bits h).ascii ∙ ap (λ x. bits ++ x) (chars-cons 39 (66 ∷ v) (omega arith) ∙ ap (λ x. 39 ∷ x) (chars-cons 66 v (omega arith))))
 
-chars-arcs : (arcs v : List ℕ) → every is_arc arcs ≡ true → chars (put_arcs arcs v) ≡ put_arcs arcs (chars v)
+chars-arcs : (arcs v : List ℕ) → all is_arc arcs ≡ true → chars (put_arcs arcs v) ≡ put_arcs arcs (chars v)
 unfolding put_arcs
 chars-arcs [] v h = refl
 chars-arcs (a ∷ arcs) v h =
-    let k = and_parts (is_arc a) (every is_arc arcs) h in
+    let k = and_parts (is_arc a) (all is_arc arcs) h in
     chars-cons 32 (decimal a ++ put_arcs arcs v) (omega arith) ∙ ap (λ x. 32 ∷ x) (chars-plain (decimal a) (put_arcs arcs v) (IsAscii-decimal a (arc-lt a k.0)) ∙ ap (λ x. decimal a ++ x) (chars-arcs arcs v k.1))
 
 mutual
   unfolding put is_well_formed
 
-  pub chars-put : (d : ℕ) (t : Tree) (v : List ℕ) → is_well_formed t ≡ true → chars (put doubled d t v) ≡ put shown d t (chars v)
+  pub chars-put : (d : ℕ) (t : Tree) (v : List ℕ) → is_well_formed t ≡ true → chars (put quote_is_doubled d t v) ≡ put shown d t (chars v)
   chars-put d (boolean true) v h = chars-plain (codes "TRUE") v (ascii-every is_name name-low (codes "TRUE") refl)
   chars-put d (boolean false) v h = chars-plain (codes "FALSE") v (ascii-every is_name name-low (codes "FALSE") refl)
   chars-put d null v h = chars-plain (codes "NULL") v (ascii-every is_name name-low (codes "NULL") refl)
@@ -231,7 +231,7 @@ mutual
   ])
   chars-put d (octet_string octets) v h = chars-hex octets v h
   chars-put d (bit_string octets n) v h =
-      let k = and_parts (every is_octet octets) (length octets == (n + 7) / 8) h in
+      let k = and_parts (all is_octet octets) (length octets == (n + 7) / 8) h in
       elim (n == 0) as (λ b. chars (cond b (39 ∷ 39 ∷ 72 ∷ v) (cond (n % 8 == 0) (39 ∷ (hex_text octets ++ (39 ∷ 72 ∷ v))) (39 ∷ (take n (bit_text octets) ++ (39 ∷ 66 ∷ v)))))
       ≡ cond b (39 ∷ 39 ∷ 72 ∷ chars v) (cond (n % 8 == 0) (39 ∷ (hex_text octets ++ (39 ∷ 72 ∷ chars v))) (39 ∷ (take n (bit_text octets) ++ (39 ∷ 66 ∷ chars v))))) [
         | true ↦ chars-hex [] v refl
@@ -243,38 +243,38 @@ mutual
   chars-put d (oid arcs) v h = chars-cons 123 (put_arcs arcs (32 ∷ 125 ∷ v)) (omega arith) ∙ ap (λ x. 123 ∷ x) (chars-arcs arcs (32 ∷ 125 ∷ v) h ∙ ap (put_arcs arcs) (chars-cons 32 (125 ∷ v) (omega arith) ∙ ap (λ x. 32 ∷ x) (chars-cons 125 v (omega arith))))
   chars-put d (enumerated id) v h = chars-plain id v (ascii-identifier id (and_parts (is_identifier id) (not (is_keyword id)) h).0)
   chars-put d (char_string text) v h =
-      chars-cons 34 (doubled text ++ (34 ∷ v)) (omega arith) ∙ ap (λ x. 34 ∷ x) (chars-doubled text (34 ∷ v) (IsUtf8-from_is_utf8 text h) ∙ ap (λ x. doubled (chars text) ++ x) (chars-cons 34 v (omega arith)))
+      chars-cons 34 (quote_is_doubled text ++ (34 ∷ v)) (omega arith) ∙ ap (λ x. 34 ∷ x) (chars-doubled text (34 ∷ v) (IsUtf8-from_is_utf8 text h) ∙ ap (λ x. quote_is_doubled (chars text) ++ x) (chars-cons 34 v (omega arith)))
   chars-put d (sequence fs) v h =
-      elim (has_fields fs) as (λ b. chars (cond b (123 ∷ put_fields doubled (suc d) 0 fs (10 ∷ (indent d ++ (125 ∷ v)))) (123 ∷ 125 ∷ v)) ≡ cond b (123 ∷ put_fields shown (suc d) 0 fs (10 ∷ (indent d ++ (125 ∷ chars v)))) (123 ∷ 125 ∷ chars v)) [
-        | true ↦ chars-cons 123 (put_fields doubled (suc d) 0 fs (10 ∷ (indent d ++ (125 ∷ v)))) (omega arith) ∙ ap (λ x. 123 ∷ x) (chars-fields (suc d) 0 fs (10 ∷ (indent d ++ (125 ∷ v))) h ∙ ap (put_fields shown (suc d) 0 fs) (chars-close d v))
+      elim (has_fields fs) as (λ b. chars (cond b (123 ∷ put_fields quote_is_doubled (suc d) 0 fs (10 ∷ (indent d ++ (125 ∷ v)))) (123 ∷ 125 ∷ v)) ≡ cond b (123 ∷ put_fields shown (suc d) 0 fs (10 ∷ (indent d ++ (125 ∷ chars v)))) (123 ∷ 125 ∷ chars v)) [
+        | true ↦ chars-cons 123 (put_fields quote_is_doubled (suc d) 0 fs (10 ∷ (indent d ++ (125 ∷ v)))) (omega arith) ∙ ap (λ x. 123 ∷ x) (chars-fields (suc d) 0 fs (10 ∷ (indent d ++ (125 ∷ v))) h ∙ ap (put_fields shown (suc d) 0 fs) (chars-close d v))
         | false ↦ chars-cons 123 (125 ∷ v) (omega arith) ∙ ap (λ x. 123 ∷ x) (chars-cons 125 v (omega arith))
       ]
   chars-put d (sequence_of no_trees) v h = chars-cons 123 (125 ∷ v) (omega arith) ∙ ap (λ x. 123 ∷ x) (chars-cons 125 v (omega arith))
   chars-put d (sequence_of (tree t ts)) v h =
-      chars-cons 123 (put_rows doubled (suc d) 0 (tree t ts) (10 ∷ (indent d ++ (125 ∷ v)))) (omega arith) ∙ ap (λ x. 123 ∷ x) (chars-rows (suc d) 0 (tree t ts) (10 ∷ (indent d ++ (125 ∷ v))) h ∙ ap (put_rows shown (suc d) 0 (tree t ts)) (chars-close d v))
+      chars-cons 123 (put_rows quote_is_doubled (suc d) 0 (tree t ts) (10 ∷ (indent d ++ (125 ∷ v)))) (omega arith) ∙ ap (λ x. 123 ∷ x) (chars-rows (suc d) 0 (tree t ts) (10 ∷ (indent d ++ (125 ∷ v))) h ∙ ap (put_rows shown (suc d) 0 (tree t ts)) (chars-close d v))
   chars-put d (choice id t) v h =
       let k = and_parts (is_identifier id) (is_well_formed t) h in
-      chars-plain id (32 ∷ 58 ∷ 32 ∷ put doubled d t v) (ascii-identifier id k.0)
-      ∙ ap (λ x. id ++ x) (chars-plain (32 ∷ 58 ∷ 32 ∷ []) (put doubled d t v) (ascii-cons 32 (58 ∷ 32 ∷ []) (omega arith) (ascii-cons 58 (32 ∷ []) (omega arith) (ascii-cons 32 [] (omega arith) ascii-nil))) ∙ ap (λ x. 32 ∷ 58 ∷ 32 ∷ x) (chars-put d t v k.1))
+      chars-plain id (32 ∷ 58 ∷ 32 ∷ put quote_is_doubled d t v) (ascii-identifier id k.0)
+      ∙ ap (λ x. id ++ x) (chars-plain (32 ∷ 58 ∷ 32 ∷ []) (put quote_is_doubled d t v) (ascii-cons 32 (58 ∷ 32 ∷ []) (omega arith) (ascii-cons 58 (32 ∷ []) (omega arith) (ascii-cons 32 [] (omega arith) ascii-nil))) ∙ ap (λ x. 32 ∷ 58 ∷ 32 ∷ x) (chars-put d t v k.1))
 
-  pub chars-rows : (d i : ℕ) (ts : Trees) (v : List ℕ) → are_well_formed ts ≡ true → chars (put_rows doubled d i ts v) ≡ put_rows shown d i ts (chars v)
+  pub chars-rows : (d i : ℕ) (ts : Trees) (v : List ℕ) → are_well_formed ts ≡ true → chars (put_rows quote_is_doubled d i ts v) ≡ put_rows shown d i ts (chars v)
   chars-rows d i no_trees v h = refl
   chars-rows d i (tree t ts) v h =
       let k = and_parts (is_well_formed t) (are_well_formed ts) h in
-      let w = put_rows doubled d (suc i) ts v in
-      chars-separator i (indent d ++ put doubled d t w)
-      ∙ ap (λ x. separator i ++ x) (chars-indent d (put doubled d t w) ∙ ap (λ x. indent d ++ x) (chars-put d t w k.0 ∙ ap (put shown d t) (chars-rows d (suc i) ts v k.1)))
+      let w = put_rows quote_is_doubled d (suc i) ts v in
+      chars-separator i (indent d ++ put quote_is_doubled d t w)
+      ∙ ap (λ x. separator i ++ x) (chars-indent d (put quote_is_doubled d t w) ∙ ap (λ x. indent d ++ x) (chars-put d t w k.0 ∙ ap (put shown d t) (chars-rows d (suc i) ts v k.1)))
 
-  pub chars-fields : (d i : ℕ) (fs : Fields) (v : List ℕ) → are_fields_well_formed fs ≡ true → chars (put_fields doubled d i fs v) ≡ put_fields shown d i fs (chars v)
+  pub chars-fields : (d i : ℕ) (fs : Fields) (v : List ℕ) → are_fields_well_formed fs ≡ true → chars (put_fields quote_is_doubled d i fs v) ≡ put_fields shown d i fs (chars v)
   chars-fields d i no_fields v h = refl
   chars-fields d i (field id t fs) v h =
       let k = and_parts (is_identifier id) (is_well_formed t && are_fields_well_formed fs) h in
       let l = and_parts (is_well_formed t) (are_fields_well_formed fs) k.1 in
-      let w = put_fields doubled d (suc i) fs v in
-      chars-separator i (indent d ++ (id ++ (32 ∷ put doubled d t w)))
-      ∙ ap (λ x. separator i ++ x) (chars-indent d (id ++ (32 ∷ put doubled d t w))
-      ∙ ap (λ x. indent d ++ x) (chars-plain id (32 ∷ put doubled d t w) (ascii-identifier id k.0)
-      ∙ ap (λ x. id ++ x) (chars-cons 32 (put doubled d t w) (omega arith) ∙ ap (λ x. 32 ∷ x) (chars-put d t w l.0 ∙ ap (put shown d t) (chars-fields d (suc i) fs v l.1)))))
+      let w = put_fields quote_is_doubled d (suc i) fs v in
+      chars-separator i (indent d ++ (id ++ (32 ∷ put quote_is_doubled d t w)))
+      ∙ ap (λ x. separator i ++ x) (chars-indent d (id ++ (32 ∷ put quote_is_doubled d t w))
+      ∙ ap (λ x. indent d ++ x) (chars-plain id (32 ∷ put quote_is_doubled d t w) (ascii-identifier id k.0)
+      ∙ ap (λ x. id ++ x) (chars-cons 32 (put quote_is_doubled d t w) (omega arith) ∙ ap (λ x. 32 ∷ x) (chars-put d t w l.0 ∙ ap (put shown d t) (chars-fields d (suc i) fs v l.1)))))
   chars-fields d i (absent id fs) v h = chars-fields d i fs v (and_parts (is_identifier id) (are_fields_well_formed fs) h).1
 
 -- The characters of a printed text and of what follows it.

@@ -3,7 +3,7 @@ use Rattle.std.proofs.Common.{◌≡◌, [], ◌∷◌, ◌++◌, true, false, r
 use Rattle.std.specs.Fmt.{digits}
 use Rattle.std.specs.Char.{encode_utf8}
 use Rattle.avn_grammar.specs.Tree.{boolean, null, integer, real, octet_string, bit_string, oid, enumerated, char_string, sequence, sequence_of, choice, no_trees, tree, no_fields, field, absent}
-use Rattle.avn_grammar.specs.Chars.{solid}
+use Rattle.avn_grammar.specs.Chars.{without_whitespace}
 use Rattle.avn_grammar.specs.Octets.{are_pairs, octets_of, packed, bit_text}
 use Rattle.avn_grammar.specs.Grammar.{number_tree, past_number, word, word_of}
 use Rattle.avn_grammar.specs.Print.{print}
@@ -26,7 +26,7 @@ after_real = refl
 pub after_point : past_number (codes "12.x") ≡ codes ".x"
 after_point = refl
 
-pub either_case : octets_of (solid (codes " 01 fF ")) ≡ 1 ∷ 255 ∷ []
+pub either_case : octets_of (without_whitespace (codes " 01 fF ")) ≡ 1 ∷ 255 ∷ []
 either_case = refl
 
 pub odd_digits : are_pairs (codes "012") ≡ false
@@ -78,9 +78,9 @@ pub none_present : print 3 (sequence (absent (codes "z") no_fields)) ≡ codes "
 unfolding print
 none_present = refl
 
-pub quotes_doubled : print 0 (choice (codes "c") (char_string (codes "a\"b"))) ≡ codes "c : \"a\"\"b\""
+pub quote_is_doubled : print 0 (choice (codes "c") (char_string (codes "a\"b"))) ≡ codes "c : \"a\"\"b\""
 unfolding print
-quotes_doubled = refl
+quote_is_doubled = refl
 
 -- Well-formed trees.
 pub signed : is_well_formed (real (codes "-0.50")) ≡ true

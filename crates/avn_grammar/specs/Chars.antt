@@ -1,6 +1,6 @@
 -- The characters of the notation. A text is the list of its characters.
-use Rattle.avn_grammar.specs.declared.chars.Lead.{Lead}
-use Rattle.avn_grammar.specs.declared.chars.Lead.TheVariants.{AtEnd, Space, Letter, Digit, Minus, Quote, Apostrophe, OpenBrace, CloseBrace, Comma, Colon, Underscore, Other}
+use Rattle.avn_grammar.specs.declared.chars.CharClass.{CharClass}
+use Rattle.avn_grammar.specs.declared.chars.CharClass.TheVariants.{AtEnd, Space, Letter, Digit, Minus, Quote, Apostrophe, OpenBrace, CloseBrace, Comma, Colon, Underscore, Other}
 use Rattle.std.specs.Prelude.{ℕ, List, [], ◌∷◌, Bool, true, false, cond, ◌&&◌, ◌||◌, ◌==◌, nat_le, not, filter}
 use Rattle.std.specs.Char.{is_whitespace}
 use Rattle.std.specs.Str.{encode_utf8_all}
@@ -22,15 +22,15 @@ abbrev pub is_name : ℕ → Bool
 is_name c = is_letter c || is_digit c || (c == 45) || (c == 95)
 
 -- What a character is to the grammar.
-unfoldable pub lead_of : ℕ → Lead
-lead_of c =
+unfoldable pub class_of_char : ℕ → CharClass
+class_of_char c =
     cond (is_space c) Space (cond (is_letter c) Letter (cond (is_digit c) Digit (cond (c == 45) Minus (cond (c == 34) Quote (cond (c == 39) Apostrophe (cond (c == 123) OpenBrace
     (cond (c == 125) CloseBrace (cond (c == 44) Comma (cond (c == 58) Colon (cond (c == 95) Underscore Other))))))))))
 
 -- What a text begins with.
-abbrev pub lead : List ℕ → Lead
-lead [] = AtEnd
-lead (c ∷ cs) = lead_of c
+abbrev pub class_of_next : List ℕ → CharClass
+class_of_next [] = AtEnd
+class_of_next (c ∷ cs) = class_of_char c
 
 -- The text without its first character.
 abbrev pub tail : List ℕ → List ℕ
@@ -38,33 +38,33 @@ tail [] = []
 tail (c ∷ cs) = cs
 
 -- The longest front of a text whose characters all pass.
-abbrev pub front : (ℕ → Bool) → List ℕ → List ℕ
-front p [] = []
-front p (c ∷ cs) = cond (p c) (c ∷ front p cs) []
+abbrev pub take_while : (ℕ → Bool) → List ℕ → List ℕ
+take_while p [] = []
+take_while p (c ∷ cs) = cond (p c) (c ∷ take_while p cs) []
 
 -- What follows the longest front of a text whose characters all pass.
-abbrev pub past : (ℕ → Bool) → List ℕ → List ℕ
-past p [] = []
-past p (c ∷ cs) = cond (p c) (past p cs) (c ∷ cs)
+abbrev pub skip_while : (ℕ → Bool) → List ℕ → List ℕ
+skip_while p [] = []
+skip_while p (c ∷ cs) = cond (p c) (skip_while p cs) (c ∷ cs)
 
 -- The text without its leading white space.
 abbrev pub skip : List ℕ → List ℕ
-skip u = past is_space u
+skip u = skip_while is_space u
 
 -- The first character is there and passes.
-abbrev pub begins : (ℕ → Bool) → List ℕ → Bool
-begins p [] = false
-begins p (c ∷ cs) = p c
+abbrev pub starts_with : (ℕ → Bool) → List ℕ → Bool
+starts_with p [] = false
+starts_with p (c ∷ cs) = p c
 
 -- All characters pass.
-abbrev pub every : (ℕ → Bool) → List ℕ → Bool
-every p [] = true
-every p (c ∷ cs) = p c && every p cs
+abbrev pub all : (ℕ → Bool) → List ℕ → Bool
+all p [] = true
+all p (c ∷ cs) = p c && all p cs
 
 -- The text with each quote doubled.
-abbrev pub doubled : List ℕ → List ℕ
-doubled [] = []
-doubled (c ∷ cs) = cond (c == 34) (34 ∷ 34 ∷ doubled cs) (c ∷ doubled cs)
+abbrev pub quote_is_doubled : List ℕ → List ℕ
+quote_is_doubled [] = []
+quote_is_doubled (c ∷ cs) = cond (c == 34) (34 ∷ 34 ∷ quote_is_doubled cs) (c ∷ quote_is_doubled cs)
 
 -- The text begins with a point and a digit.
 abbrev pub has_fraction : List ℕ → Bool
@@ -73,13 +73,13 @@ has_fraction (c ∷ []) = false
 has_fraction (c ∷ d ∷ cs) = (c == 46) && is_digit d
 
 -- A character that may stand between apostrophes.
-abbrev pub inside : ℕ → Bool
-inside c = not (c == 39)
+abbrev pub is_not_apostrophe : ℕ → Bool
+is_not_apostrophe c = not (c == 39)
 
 -- The text without its Unicode white space.
-abbrev pub solid : List ℕ → List ℕ
-solid cs = filter (λ c. not (is_whitespace c)) cs
+abbrev pub without_whitespace : List ℕ → List ℕ
+without_whitespace cs = filter (λ c. not (is_whitespace c)) cs
 
 -- The UTF-8 bytes of characters.
-abbrev pub spelled : List ℕ → List ℕ
-spelled cs = encode_utf8_all cs
+abbrev pub utf8_of : List ℕ → List ℕ
+utf8_of cs = encode_utf8_all cs

@@ -1,29 +1,29 @@
 -- How deep values are looked for, in a text and in the printed text of a tree.
 use Rattle.std.specs.Prelude.{◌≡◌, ◌≢◌, ℕ, suc, ◌≤◌, ◌<◌, List, [], ◌∷◌, ◌++◌, cond, max}
-use Rattle.avn_grammar.specs.declared.chars.Lead.TheVariants as is
-use Rattle.avn_grammar.specs.Chars.{lead, tail, skip}
+use Rattle.avn_grammar.specs.declared.chars.CharClass.TheVariants as is
+use Rattle.avn_grammar.specs.Chars.{class_of_next, tail, skip}
 use Rattle.avn_grammar.specs.Tree.{Tree, Trees, Fields, boolean, null, integer, real, octet_string, bit_string, oid, enumerated, char_string, sequence, sequence_of, choice, no_trees, tree, no_fields, field, absent}
-use Rattle.avn_grammar.specs.Grammar.{is_real_keyword, Item, AllIntegers, Ident, ComesAfterWord, BeginsNumber, ItemStands}
+use Rattle.avn_grammar.specs.Grammar.{is_real_keyword, Item, AllIntegers, Ident, ComesAfterWord, BeginsNumber, ItemParses}
 
 mutual
   -- The value that is looked for at the front of the text, or one within it, is looked for at a level above the limit before any other fault.
-  pub data Deep (limit : ℕ) : ℕ → List ℕ → Type 0 where
-    too_deep : {level : ℕ} {u : List ℕ} → limit < level → Deep limit level u
-    deep_payload : {level : ℕ} {u id r : List ℕ} → level ≤ limit → Ident (skip u) id r → lead (skip r) ≡ is.Colon → Deep limit (suc level) (tail (skip r)) → Deep limit level u
-    deep_braces : {level : ℕ} {u : List ℕ} → level ≤ limit → lead (skip u) ≡ is.OpenBrace → lead (skip (tail (skip u))) ≢ is.CloseBrace → ItemsDeep limit (suc level) [] (tail (skip u)) → Deep limit level u
+  pub data ExceedsDepth (limit : ℕ) : ℕ → List ℕ → Type 0 where
+    too_deep : {level : ℕ} {u : List ℕ} → limit < level → ExceedsDepth limit level u
+    deep_payload : {level : ℕ} {u id r : List ℕ} → level ≤ limit → Ident (skip u) id r → class_of_next (skip r) ≡ is.Colon → ExceedsDepth limit (suc level) (tail (skip r)) → ExceedsDepth limit level u
+    deep_braces : {level : ℕ} {u : List ℕ} → level ≤ limit → class_of_next (skip u) ≡ is.OpenBrace → class_of_next (skip (tail (skip u))) ≢ is.CloseBrace → ItemsExceedDepth limit (suc level) [] (tail (skip u)) → ExceedsDepth limit level u
 
   -- The value that the item at the front of the text looks for is looked for too deep.
-  pub data ItemDeep (limit : ℕ) : ℕ → List ℕ → Type 0 where
-    deep_choice : {m : ℕ} {u id r : List ℕ} → Ident (skip u) id r → lead (skip r) ≡ is.Colon → Deep limit m (tail (skip r)) → ItemDeep limit m u
-    deep_field : {m : ℕ} {u id r : List ℕ} → Ident (skip u) id r → lead (skip r) ≢ is.Colon → (ComesAfterWord (lead (skip r)) → ⊥) → Deep limit m r → ItemDeep limit m u
-    deep_value : {m : ℕ} {u : List ℕ} → lead (skip u) ≢ is.Letter → Deep limit m (skip u) → ItemDeep limit m u
+  pub data ItemExceedsDepth (limit : ℕ) : ℕ → List ℕ → Type 0 where
+    deep_choice : {m : ℕ} {u id r : List ℕ} → Ident (skip u) id r → class_of_next (skip r) ≡ is.Colon → ExceedsDepth limit m (tail (skip r)) → ItemExceedsDepth limit m u
+    deep_field : {m : ℕ} {u id r : List ℕ} → Ident (skip u) id r → class_of_next (skip r) ≢ is.Colon → (ComesAfterWord (class_of_next (skip r)) → ⊥) → ExceedsDepth limit m r → ItemExceedsDepth limit m u
+    deep_value : {m : ℕ} {u : List ℕ} → class_of_next (skip u) ≢ is.Letter → ExceedsDepth limit m (skip u) → ItemExceedsDepth limit m u
 
   -- After the items before, further items stand, and the next one is too deep.
-  pub data ItemsDeep (limit : ℕ) : ℕ → List Item → List ℕ → Type 0 where
-    deep_here : {m : ℕ} {before : List Item} {u : List ℕ} → ItemDeep limit m u → ItemsDeep limit m before u
-    deep_after_comma : {m : ℕ} {before : List Item} {u r : List ℕ} {x : Item} → ItemStands limit m u x r → lead (skip r) ≡ is.Comma → ItemsDeep limit m (before ++ (x ∷ [])) (tail (skip r)) → ItemsDeep limit m before u
-    deep_after_number : {m : ℕ} {before : List Item} {u r : List ℕ} {x : Item} → ItemStands limit m u x r → AllIntegers (before ++ (x ∷ [])) → BeginsNumber (lead (skip r)) → ItemsDeep limit m (before ++ (x ∷ [])) (skip r)
-        → ItemsDeep limit m before u
+  pub data ItemsExceedDepth (limit : ℕ) : ℕ → List Item → List ℕ → Type 0 where
+    deep_here : {m : ℕ} {before : List Item} {u : List ℕ} → ItemExceedsDepth limit m u → ItemsExceedDepth limit m before u
+    deep_after_comma : {m : ℕ} {before : List Item} {u r : List ℕ} {x : Item} → ItemParses limit m u x r → class_of_next (skip r) ≡ is.Comma → ItemsExceedDepth limit m (before ++ (x ∷ [])) (tail (skip r)) → ItemsExceedDepth limit m before u
+    deep_after_number : {m : ℕ} {before : List Item} {u r : List ℕ} {x : Item} → ItemParses limit m u x r → AllIntegers (before ++ (x ∷ [])) → BeginsNumber (class_of_next (skip r)) → ItemsExceedDepth limit m (before ++ (x ∷ [])) (skip r)
+        → ItemsExceedDepth limit m before u
 
 unfoldable mutual
   -- The highest level at which a value is looked for in the printed text of the tree, which is looked for at the level.

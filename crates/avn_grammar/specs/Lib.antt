@@ -3,7 +3,7 @@ pub mod Chars
 pub mod Octets
 pub mod Grammar
 pub mod Depth
-pub mod Unread
+pub mod ParseFailure
 pub mod Print
 pub mod WellFormed
 pub mod Normal

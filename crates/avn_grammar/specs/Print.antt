@@ -2,7 +2,7 @@
 use Rattle.std.specs.Prelude.{ℕ, zero, suc, List, [], ◌∷◌, ◌++◌, Bool, true, false, cond, codes, ◌%◌, ◌==◌, take}
 use Rattle.std.specs.Fmt.{decimal}
 use Rattle.avn_grammar.specs.Tree.{Tree, Trees, Fields, boolean, null, integer, real, octet_string, bit_string, oid, enumerated, char_string, sequence, sequence_of, choice, no_trees, tree, no_fields, field, absent}
-use Rattle.avn_grammar.specs.Chars.{doubled}
+use Rattle.avn_grammar.specs.Chars.{quote_is_doubled}
 use Rattle.avn_grammar.specs.Octets.{hex_text, bit_text}
 
 -- Two spaces for each level of braces.
@@ -46,7 +46,7 @@ unfoldable mutual
   print d (bit_string octets n) = cond (n == 0) (hex_quoted []) (cond (n % 8 == 0) (hex_quoted octets) (bits_quoted (take n (bit_text octets))))
   print d (oid arcs) = (123 ∷ []) ++ arc_text arcs ++ codes " }"
   print d (enumerated id) = id
-  print d (char_string text) = (34 ∷ []) ++ doubled text ++ (34 ∷ [])
+  print d (char_string text) = (34 ∷ []) ++ quote_is_doubled text ++ (34 ∷ [])
   print d (sequence fs) = cond (has_fields fs) ((123 ∷ []) ++ print_fields (suc d) 0 fs ++ (10 ∷ []) ++ indent d ++ (125 ∷ [])) (codes "{}")
   print d (sequence_of no_trees) = codes "{}"
   print d (sequence_of (tree t ts)) = (123 ∷ []) ++ print_rows (suc d) 0 (tree t ts) ++ (10 ∷ []) ++ indent d ++ (125 ∷ [])

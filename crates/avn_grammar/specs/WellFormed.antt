@@ -2,7 +2,7 @@
 use Rattle.std.specs.Prelude.{ℕ, ◌+◌, List, [], ◌∷◌, Bool, true, false, cond, not, ◌&&◌, ◌||◌, ◌==◌, codes, ◌/◌, ◌^◌, nat_lt, length}
 use Rattle.std.specs.Str.{is_utf8, bytes_eq}
 use Rattle.avn_grammar.specs.Tree.{Tree, Trees, Fields, boolean, null, integer, real, octet_string, bit_string, oid, enumerated, char_string, sequence, sequence_of, choice, no_trees, tree, no_fields, field, absent}
-use Rattle.avn_grammar.specs.Chars.{begins, is_digit, is_letter, is_name, every, past}
+use Rattle.avn_grammar.specs.Chars.{starts_with, is_digit, is_letter, is_name, all, skip_while}
 use Rattle.avn_grammar.specs.Grammar.{is_real_keyword}
 
 -- The text without its sign.
@@ -12,7 +12,7 @@ unsigned (c ∷ cs) = cond (c == 45) cs (c ∷ cs)
 
 -- One digit or more, and nothing else.
 abbrev pub is_digits : List ℕ → Bool
-is_digits cs = begins is_digit cs && every is_digit cs
+is_digits cs = starts_with is_digit cs && all is_digit cs
 
 -- An optional `-` and digits.
 abbrev pub is_number : List ℕ → Bool
@@ -25,7 +25,7 @@ is_fraction (c ∷ cs) = (c == 46) && is_digits cs
 
 -- An optional `-`, digits, a point and digits.
 abbrev pub is_decimal : List ℕ → Bool
-is_decimal n = begins is_digit (unsigned n) && is_fraction (past is_digit (unsigned n))
+is_decimal n = starts_with is_digit (unsigned n) && is_fraction (skip_while is_digit (unsigned n))
 
 -- The number fits an octet.
 abbrev pub is_octet : ℕ → Bool
@@ -37,7 +37,7 @@ is_arc a = nat_lt a (2 ^ 32)
 
 -- An ASCII letter and then letters, digits, `-` and `_`.
 abbrev pub is_identifier : List ℕ → Bool
-is_identifier id = begins is_letter id && every is_name id
+is_identifier id = starts_with is_letter id && all is_name id
 
 -- One of the six names that mean a value of their own.
 abbrev pub is_keyword : List ℕ → Bool
@@ -50,9 +50,9 @@ unfoldable mutual
   is_well_formed null = true
   is_well_formed (integer n) = is_number n
   is_well_formed (real n) = is_number n || is_decimal n || is_real_keyword n
-  is_well_formed (octet_string octets) = every is_octet octets
-  is_well_formed (bit_string octets n) = every is_octet octets && (length octets == (n + 7) / 8)
-  is_well_formed (oid arcs) = every is_arc arcs
+  is_well_formed (octet_string octets) = all is_octet octets
+  is_well_formed (bit_string octets n) = all is_octet octets && (length octets == (n + 7) / 8)
+  is_well_formed (oid arcs) = all is_arc arcs
   is_well_formed (enumerated id) = is_identifier id && not (is_keyword id)
   is_well_formed (char_string text) = is_utf8 text
   is_well_formed (sequence fs) = are_fields_well_formed fs

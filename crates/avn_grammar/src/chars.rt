@@ -1,11 +1,11 @@
 //! Classes the characters of the notation. A reader needs no more than the class of the next
 //! character to decide what may stand there.
 ghost use Rattle.std.specs.Prelude.{◌≡◌};
-ghost use Rattle.avn_grammar.specs.Chars.{lead_of};
+ghost use Rattle.avn_grammar.specs.Chars.{class_of_char};
 
 /// Classes what a text begins with.
 #[derive(Clone, Copy, Drop, PartialEq, Eq)]
-pub enum Lead {
+pub enum CharClass {
     /// The text is empty.
     AtEnd,
     /// A space, a tab, a carriage return or a line feed begins it.
@@ -35,23 +35,23 @@ pub enum Lead {
 }
 
 /// Returns the class of a text whose first character this is. It is never `AtEnd`.
-#[tactic(auto, unfolding(crate::specs::Chars::lead_of))]
+#[tactic(auto, unfolding(crate::specs::Chars::class_of_char))]
 #[inline(always)]
-pub fn lead_of(c: char) -> Lead
-    ensures { result ≡ lead_of c }
+pub fn class_of_char(c: char) -> CharClass
+    ensures { result ≡ class_of_char c }
 {
     match c {
-        ' ' | '\t' | '\r' | '\n' => Lead::Space,
-        'A'..='Z' | 'a'..='z' => Lead::Letter,
-        '0'..='9' => Lead::Digit,
-        '-' => Lead::Minus,
-        '"' => Lead::Quote,
-        '\'' => Lead::Apostrophe,
-        '{' => Lead::OpenBrace,
-        '}' => Lead::CloseBrace,
-        ',' => Lead::Comma,
-        ':' => Lead::Colon,
-        '_' => Lead::Underscore,
-        _ => Lead::Other,
+        ' ' | '\t' | '\r' | '\n' => CharClass::Space,
+        'A'..='Z' | 'a'..='z' => CharClass::Letter,
+        '0'..='9' => CharClass::Digit,
+        '-' => CharClass::Minus,
+        '"' => CharClass::Quote,
+        '\'' => CharClass::Apostrophe,
+        '{' => CharClass::OpenBrace,
+        '}' => CharClass::CloseBrace,
+        ',' => CharClass::Comma,
+        ':' => CharClass::Colon,
+        '_' => CharClass::Underscore,
+        _ => CharClass::Other,
     }
 }

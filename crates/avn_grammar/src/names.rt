@@ -1,7 +1,7 @@
 //! Tests texts for being names of the notation: identifiers and keywords. The tests run on
 //! bytes, since every character of a name is ASCII.
 ghost use Rattle.std.specs.Prelude.{◌≡◌};
-ghost use Rattle.avn_grammar.specs.Chars.{every, is_name};
+ghost use Rattle.avn_grammar.specs.Chars.{all, is_name};
 ghost use Rattle.avn_grammar.specs.Grammar.{is_real_keyword};
 ghost use Rattle.avn_grammar.specs.WellFormed.{is_identifier, is_keyword};
 
@@ -17,7 +17,7 @@ pub fn is_identifier(text: &str) -> bool
 
 /// Returns whether every byte may stand in a name after its first character.
 fn may_follow(bytes: &[u8]) -> bool
-    ensures { result ≡ every is_name bytes.now }
+    ensures { result ≡ all is_name bytes.now }
 {
     // A byte of a character past ASCII is at least 128, and fails the test as a `char` too.
     for &byte in bytes {

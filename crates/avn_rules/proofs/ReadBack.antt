@@ -1,8 +1,8 @@
 -- What is written is read again.
 use Rattle.std.proofs.Common.{◌≡◌, subst, sym, true, Result, Ok, Err, String, Global, string_bytes, IfOk}
 use Rattle.std.specs.Str.{chars}
-use Rattle.avn_grammar.specs.Depth.{Deep}
-use Rattle.avn_grammar.specs.Grammar.{Reads}
+use Rattle.avn_grammar.specs.Depth.{ExceedsDepth}
+use Rattle.avn_grammar.specs.Grammar.{ParsesWhole}
 use Rattle.avn_grammar.specs.Normal.{normal}
 use Rattle.avn_grammar.proofs.WholePrinted.{reads_whole, sinks_whole}
 use Rattle.avn_grammar.specs.declared.limits.TheConstants.{LEVEL_LIMIT}
@@ -19,7 +19,7 @@ use Rattle.avn_rules.specs.Text.{ReadsBack}
 -- The canonical text of a value of a shape that can be read, which AVN can write, is read back.
 pub read_back : (s : Shape) (v : Value) (r : Result (String Global) EncodeError) → is_readable s ≡ true → Fits s v → Writable Notation.avn v → IfOk r (λ t. string_bytes t ≡ canonical_text Notation.avn v) → IfOk r (λ t. ReadsBack v (string_bytes t))
 read_back s v (Ok t) a fit can text = record {
-  again = λ within. subst (λ x. Reads LEVEL_LIMIT (chars x) (normal (avn_tree v))) (sym text) (reads_whole LEVEL_LIMIT 0 (avn_tree v) (well-formed a fit can) within);
-  deep = λ above. subst (λ x. Deep LEVEL_LIMIT 0 (chars x)) (sym text) (sinks_whole LEVEL_LIMIT 0 (avn_tree v) (well-formed a fit can) above);
+  again = λ within. subst (λ x. ParsesWhole LEVEL_LIMIT (chars x) (normal (avn_tree v))) (sym text) (reads_whole LEVEL_LIMIT 0 (avn_tree v) (well-formed a fit can) within);
+  deep = λ above. subst (λ x. ExceedsDepth LEVEL_LIMIT 0 (chars x)) (sym text) (sinks_whole LEVEL_LIMIT 0 (avn_tree v) (well-formed a fit can) above);
 }
 read_back s v (Err e) a fit can text = tt

@@ -3,12 +3,12 @@ use Rattle.std.proofs.Common.{◌≡◌, refl, true, ap, sym, ◌∙◌, subst, 
 use Rattle.std.specs.Prelude.{option_map}
 use Rattle.std.specs.Str.{chars}
 use Rattle.asn_base.specs.declared.codec.Codec.TheVariants.{Avn}
-use Rattle.asn_fault.specs.Stop.{Why, Stop, at_root, error_stop, is_memory}
+use Rattle.asn_fault.specs.Failure.{Cause, Failure, at_root, failure_of, is_out_of_memory}
 use Rattle.asn_fault.specs.declared.decode.DecodeError.{DecodeError}
 use Rattle.asn_traits.specs.Canonical.{avn_tree, canonical_text}
 use Rattle.asn_traits.specs.Notation.{Notation}
 use Rattle.asn_traits.specs.Root.{RootAnswer, Reads}
-use Rattle.asn_traits.specs.Says.{Says}
+use Rattle.asn_traits.specs.DecodesTo.{DecodesTo}
 use Rattle.asn_traits.specs.Shape.{Shape}
 use Rattle.asn_traits.specs.Tree.{Tree}
 use Rattle.asn_traits.specs.Value.{Value}
@@ -16,29 +16,29 @@ use Rattle.asn_traits.proofs.Whole.{root_complete}
 use Rattle.avn_grammar.specs.Print.{print}
 use Rattle.avn_grammar.specs.Tree.{Tree as AvnTree}
 use Rattle.avn_grammar.proofs.OneAnswer.{reads-unread, reads-deep}
-use Rattle.avn_grammar.proofs.OneTree.{same_stands}
+use Rattle.avn_grammar.proofs.OneTree.{same_parses}
 use Rattle.avn_grammar.specs.declared.limits.TheConstants.{LEVEL_LIMIT}
 use Rattle.avn_value.specs.Answer.{Explains}
 use Rattle.avn_rules.specs.Text.{IsAvn, NoTree, RefusesText}
 
--- Want of memory explains that a text is not read.
-pub memory_explained : {A : Type 0} (text : List ℕ) (r : Result A DecodeError) → IfErr r (λ e. error_stop e ≡ at_root Why.out_of_memory Avn) → IfErr r (λ e. NoTree text (error_stop e))
+-- Lack of memory explains that a text is not read.
+pub memory_explained : {A : Type 0} (text : List ℕ) (r : Result A DecodeError) → IfErr r (λ e. failure_of e ≡ at_root Cause.out_of_memory Avn) → IfErr r (λ e. NoTree text (failure_of e))
 memory_explained text (Ok x) h = tt
 memory_explained text (Err e) h = subst (Explains LEVEL_LIMIT (chars text)) (sym h) Explains.out_of_memory
 
 -- A refusal of the tree is one of its text.
-pub text_refused : {A : Type 0} (s : Shape) (value : A → Value) (text : List ℕ) (t : AvnTree) (r : Result A DecodeError) → IsAvn text t → RootAnswer Notation.avn s value (Tree.avn t) r → IfErr r (λ e. RefusesText s text (error_stop e))
+pub text_refused : {A : Type 0} (s : Shape) (value : A → Value) (text : List ℕ) (t : AvnTree) (r : Result A DecodeError) → IsAvn text t → RootAnswer Notation.avn s value (Tree.avn t) r → IfErr r (λ e. RefusesText s text (failure_of e))
 text_refused s value text t (Ok x) is h = tt
 text_refused s value text t (Err e) is h = RefusesText.no_value t is h
 
--- A text that says a value is read as that value.
+-- A text that decodes to a value is read as that value.
 pub text_complete : {A : Type 0} (s : Shape) (value : A → Value) (text : List ℕ) (t : AvnTree) (r : Result A DecodeError) → IsAvn text t → RootAnswer Notation.avn s value (Tree.avn t) r
-    → (u : AvnTree) (v : Value) → IsAvn text u → Says Notation.avn s (Some (Tree.avn u)) v → Reads value v r
+    → (u : AvnTree) (v : Value) → IsAvn text u → DecodesTo Notation.avn s (Some (Tree.avn u)) v → Reads value v r
 text_complete s value text t r is h u v was says =
-    root_complete Notation.avn s value (Tree.avn t) r tt h v (subst (λ x. Says Notation.avn s (Some (Tree.avn x)) v) ((same_stands was.1 is.1).0) says)
+    root_complete Notation.avn s value (Tree.avn t) r tt h v (subst (λ x. DecodesTo Notation.avn s (Some (Tree.avn x)) v) ((same_parses was.1 is.1).0) says)
 
--- A text that is a value of the notation is refused for want of memory alone.
-pub explained_memory : (text : List ℕ) {stop : Stop} {t : AvnTree} → NoTree text stop → IsAvn text t → is_memory stop ≡ true
+-- A text that is a value of the notation is refused for lack of memory alone.
+pub explained_memory : (text : List ℕ) {failure : Failure} {t : AvnTree} → NoTree text failure → IsAvn text t → is_out_of_memory failure ≡ true
 explained_memory text (Explains.unexpected_token found u) r = absurd (reads-unread r u)
 explained_memory text (Explains.exceeds_depth d) r = absurd (reads-deep r d)
 explained_memory text Explains.out_of_memory r = refl

@@ -1,16 +1,16 @@
 //! Encodes a value of a type as text of the value notation, and decodes one from it. `enc` and
 //! `de` have the two halves of the codec: each is a few primitive calls on AVN values, over which
 //! the traits of `asn_traits` encode and decode every type.
-ghost use Rattle.asn_fault.specs.Stop.{error_stop};
+ghost use Rattle.asn_fault.specs.Failure.{failure_of};
 ghost use Rattle.asn_fault.specs.declared.encode.EncodeErrorKind.TheVariants.{OutOfMemory};
 ghost use Rattle.asn_traits.specs.Canonical.{canonical_text};
 ghost use Rattle.asn_traits.specs.Notation.{Notation};
 ghost use Rattle.asn_traits.specs.Root.{Reads};
-ghost use Rattle.asn_traits.specs.Says.{Says};
+ghost use Rattle.asn_traits.specs.DecodesTo.{DecodesTo};
 ghost use Rattle.asn_traits.specs.Tree.{Tree};
 ghost use Rattle.asn_traits.specs.Value.{Value, Fits};
 ghost use Rattle.asn_traits.specs.Writable.{Writable};
-ghost use Rattle.asn_traits.specs.Writing.{CannotWrite};
+ghost use Rattle.asn_traits.specs.Writing.{FailsToEncode};
 ghost use Rattle.avn_grammar.specs.Tree.{Tree as AvnTree};
 ghost use Rattle.avn_rules.specs.Text.{IsAvn, ReadsBack, RefusesText};
 ghost use Rattle.std.specs.Prelude.{◌≡◌, Some, IfOk, IfErr, OnOk, string_bytes};
@@ -23,7 +23,7 @@ mod faults;
 mod identifiers;
 mod leaves;
 mod numbers;
-mod parts;
+mod take_apart;
 
 use asn_fault::{DecodeError, EncodeError};
 use asn_traits::{Decode, Encode};
@@ -43,7 +43,7 @@ pub fn encode<T: Encode>(alloc: Global, value: &T) -> Result<String, EncodeError
     ensures fits { OnOk result (Fits T.shape_of (T.value_of value.now)) }
     ensures writable { OnOk result (Writable Notation.avn (T.value_of value.now)) }
     // An error is that of the first part that can't be encoded.
-    ensures refused { IfErr result (CannotWrite Notation.avn (T.value_of value.now)) }
+    ensures refused { IfErr result (FailsToEncode Notation.avn (T.value_of value.now)) }
     // What can be encoded is encoded, unless memory runs out.
     ensures complete { Writable Notation.avn (T.value_of value.now)
         → IfErr result (λ e. e.kind ≡ OutOfMemory) }
@@ -63,13 +63,13 @@ pub fn encode<T: Encode>(alloc: Global, value: &T) -> Result<String, EncodeError
 pub fn decode<T: Decode>(alloc: Global, input: &str) -> Result<T, DecodeError>
     // The text is a value of the notation that decodes to the value of the result.
     ensures value { IfOk result (λ x. (t : AvnTree) × IsAvn input.now t
-        × Says Notation.avn T.shape_of (Some (Tree.avn t)) (T.value_of x)) }
+        × DecodesTo Notation.avn T.shape_of (Some (Tree.avn t)) (T.value_of x)) }
     // An error is why the text is no value of the notation, or where and why its value decodes to
     // none of the type.
-    ensures refused { IfErr result (λ e. RefusesText T.shape_of input.now (error_stop e)) }
+    ensures refused { IfErr result (λ e. RefusesText T.shape_of input.now (failure_of e)) }
     // A text that decodes to a value is read as that value, unless memory runs out.
     ensures complete { (t : AvnTree) (v : Value) → IsAvn input.now t
-        → Says Notation.avn T.shape_of (Some (Tree.avn t)) v → Reads T.value_of v result }
+        → DecodesTo Notation.avn T.shape_of (Some (Tree.avn t)) v → Reads T.value_of v result }
 {
     let mut decoder = de::Decoder::new(alloc, input)?;
     T::decode(&mut decoder)

@@ -4,7 +4,7 @@ use Rattle.std.proofs.lemmas.List.{append-nil}
 use Rattle.std.specs.Prelude.{codes}
 use Rattle.std.specs.Str.{bytes_eq}
 use Rattle.avn_grammar.specs.Tree.{Tree, boolean, null, integer, real, octet_string, bit_string, oid, enumerated, char_string, sequence, sequence_of, choice, no_trees}
-use Rattle.avn_grammar.specs.Grammar.{Item, named, bare, fields_of, trees_of, AllNamed, AllBare, IsGathered, word_of, is_real_keyword, is_integer}
+use Rattle.avn_grammar.specs.Grammar.{Item, named, bare, fields_of, trees_of, AllNamed, AllBare, AreBraceItems, word_of, is_real_keyword, is_integer}
 use Rattle.std.proofs.Common.{inl, inr}
 use Rattle.avn_value.specs.Preorder.{NamedSlot, descendants, fields_preorder, list_preorder, preorder, item_preorder, items_preorder}
 use Rattle.avn_value.specs.NodeViews.{NodeView, node_view, node_views, kind_of, text_of, octets_of, bit_length_of, arcs_of}
@@ -153,13 +153,13 @@ over-items : (xs : List Item) → AllBare xs → IsOver (sequence_of (trees_of x
 unfolding descendants
 over-items xs a = record { within = nodes-items xs a; kind = refl; text = refl; octets = refl; bits = refl; arcs = refl }
 
-pub over-gathered : (xs : List Item) (t : Tree) (k : NodeKind) → IsGathered xs t → k ≡ kind_of (Some t) → IsOver t k (items_preorder xs)
+pub over-gathered : (xs : List Item) (t : Tree) (k : NodeKind) → AreBraceItems xs t → k ≡ kind_of (Some t) → IsOver t k (items_preorder xs)
 over-gathered xs t k (inl a) e =
     subst (λ j. IsOver t j (items_preorder xs)) (sym (e ∙ ap (λ x. kind_of (Some x)) a.1)) (subst (λ x. IsOver x kind.Sequence (items_preorder xs)) (sym a.1) (over-fields xs a.0))
 over-gathered xs t k (inr a) e =
     subst (λ j. IsOver t j (items_preorder xs)) (sym (e ∙ ap (λ x. kind_of (Some x)) a.1)) (subst (λ x. IsOver x kind.SequenceOf (items_preorder xs)) (sym a.1) (over-items xs a.0))
 
-pub gathered-integer : (xs : List Item) (t : Tree) → IsGathered xs t → is_integer t ≡ false
+pub gathered-integer : (xs : List Item) (t : Tree) → AreBraceItems xs t → is_integer t ≡ false
 gathered-integer xs t (inl a) = ap is_integer a.1
 gathered-integer xs t (inr a) = ap is_integer a.1
 

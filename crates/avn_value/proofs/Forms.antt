@@ -3,7 +3,7 @@ use Rattle.std.proofs.Common.{◌≡◌, ℕ, zero, suc, ◌+◌, ◌<◌, List,
 use Rattle.std.specs.Prelude.{map, option_map}
 use Rattle.std.proofs.lemmas.Bool.{and_parts}
 use Rattle.std.proofs.lemmas.List.{take_more}
-use Rattle.avn_grammar.specs.Chars.{every}
+use Rattle.avn_grammar.specs.Chars.{all}
 use Rattle.avn_grammar.specs.Tree.{Tree, no_trees, no_fields}
 use Rattle.avn_grammar.specs.WellFormed.{is_identifier, is_well_formed, are_well_formed, are_fields_well_formed}
 use Rattle.avn_value.specs.View.{trees_in, fields_in}
@@ -15,9 +15,9 @@ and_false : (a b : Bool) → b ≡ false → (a && b) ≡ false
 and_false a b h = elim a as (λ x. (x && b) ≡ false) [ true ↦ h | false ↦ refl ]
 
 -- Every number of a list passes where each place does.
-pub every-at : (p : ℕ → Bool) (xs : List ℕ) → ((i : ℕ) → i < length xs → p (get_or xs i 0) ≡ true) → every p xs ≡ true
+pub every-at : (p : ℕ → Bool) (xs : List ℕ) → ((i : ℕ) → i < length xs → p (get_or xs i 0) ≡ true) → all p xs ≡ true
 every-at p [] h = refl
-every-at p (x ∷ xs) h = and_true (p x) (every p xs) (h 0 (omega arith)) (every-at p xs (λ i l. h (suc i) (omega arith)))
+every-at p (x ∷ xs) h = and_true (p x) (all p xs) (h 0 (omega arith)) (every-at p xs (λ i l. h (suc i) (omega arith)))
 
 module _ {A : Type 0} (see : A → Tree) where
   forms-push : (xs : List A) (x : A) → are_well_formed (trees_in (map see xs)) ≡ true → is_well_formed (see x) ≡ true → are_well_formed (trees_in (map see (xs ++ (x ∷ [])))) ≡ true

@@ -1,7 +1,7 @@
 -- Items that were read, and what may follow them.
 use Rattle.std.proofs.Common.{◌≡◌, ℕ, List, [], ◌++◌, ◌≤◌, length}
-use Rattle.avn_grammar.specs.Depth.{ItemsDeep}
-use Rattle.avn_grammar.specs.Grammar.{Item, ItemsStand}
+use Rattle.avn_grammar.specs.Depth.{ItemsExceedDepth}
+use Rattle.avn_grammar.specs.Grammar.{Item, ItemsParse}
 use Rattle.avn_value.specs.Gathering.{Holds}
 use Rattle.avn_value.specs.Preorder.{items_preorder}
 use Rattle.avn_value.specs.NodeLists.{NodeList, extended}
@@ -11,8 +11,8 @@ pub record Going (limit m : ℕ) (start now : List ℕ) (g : BraceItems) (opened
   pub before : List Item
   pub holds : Holds g before
   pub grew : nodes ≡ extended opened (items_preorder before)
-  pub completes : (xs : List Item) (rest : List ℕ) → ItemsStand limit m before now xs rest → ItemsStand limit m [] start (before ++ xs) rest
-  pub only : (ys : List Item) (rest : List ℕ) → ItemsStand limit m [] start ys rest → (xs : List Item) × (ys ≡ before ++ xs) × ItemsStand limit m before now xs rest
-  pub deeper : ItemsDeep limit m before now → ItemsDeep limit m [] start
-  pub shallower : ItemsDeep limit m [] start → ItemsDeep limit m before now
+  pub completes : (xs : List Item) (rest : List ℕ) → ItemsParse limit m before now xs rest → ItemsParse limit m [] start (before ++ xs) rest
+  pub only : (ys : List Item) (rest : List ℕ) → ItemsParse limit m [] start ys rest → (xs : List Item) × (ys ≡ before ++ xs) × ItemsParse limit m before now xs rest
+  pub deeper : ItemsExceedDepth limit m before now → ItemsExceedDepth limit m [] start
+  pub shallower : ItemsExceedDepth limit m [] start → ItemsExceedDepth limit m before now
   pub shorter : length now ≤ length start

@@ -13,7 +13,7 @@ pub mod NoToken
 pub mod NotDeep
 pub mod Going
 pub mod Steps
-pub mod Turns
+pub mod Maps
 pub mod NumberNodes
 pub mod TextNodes
 pub mod Readings

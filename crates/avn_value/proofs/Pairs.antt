@@ -2,14 +2,14 @@
 use Rattle.std.proofs.Common.{◌≡◌, ◌≢◌, ℕ, zero, suc, ◌+◌, ◌*◌, List, [], ◌∷◌, ◌++◌, Bool, true, refl, sym, ap, ◌∙◌, get_or, drop, length, arith}
 use Rattle.std.proofs.lemmas.List.{append-nil}
 use Rattle.std.proofs.lemmas.Bool.{and_parts}
-use Rattle.avn_grammar.specs.Chars.{every}
+use Rattle.avn_grammar.specs.Chars.{all}
 use Rattle.avn_grammar.specs.Octets.{octet, packed}
 use Rattle.avn_grammar.proofs.Packing.{octet-sum}
 
-pub every-drop : (p : ℕ → Bool) (n : ℕ) (xs : List ℕ) → every p xs ≡ true → every p (drop n xs) ≡ true
+pub every-drop : (p : ℕ → Bool) (n : ℕ) (xs : List ℕ) → all p xs ≡ true → all p (drop n xs) ≡ true
 every-drop p zero xs h = h
 every-drop p (suc n) [] h = refl
-every-drop p (suc n) (x ∷ xs) h = every-drop p n xs (and_parts (p x) (every p xs) h).1
+every-drop p (suc n) (x ∷ xs) h = every-drop p n xs (and_parts (p x) (all p xs) h).1
 
 packed-first : (u : List ℕ) → u ≢ [] → packed u ≡ octet (get_or u 0 48) (get_or u 1 48) (get_or u 2 48) (get_or u 3 48) (get_or u 4 48) (get_or u 5 48) (get_or u 6 48) (get_or u 7 48) ∷ packed (drop 8 u)
 unfolding packed

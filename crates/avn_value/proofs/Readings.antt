@@ -1,7 +1,7 @@
 -- Values and items that were read into nodes.
 use Rattle.std.proofs.Common.{◌≡◌, ℕ, ◌≤◌, List, [], Bool, cond, Result, Ok, Err, IfOk, ap, subst, ◌∙◌}
 use Rattle.avn_grammar.specs.Chars.{skip}
-use Rattle.avn_grammar.specs.Grammar.{Item, bare, is_integer, Token, Stands, token}
+use Rattle.avn_grammar.specs.Grammar.{Item, bare, is_integer, Token, Parses, token}
 use Rattle.avn_grammar.specs.Tree.{Tree}
 use Rattle.avn_value.specs.ReadNodes.{IsRead, IsItemRead}
 use Rattle.avn_value.specs.Preorder.{preorder}
@@ -9,7 +9,7 @@ use Rattle.avn_value.specs.NodeLists.{NodeList, extended}
 use Rattle.avn_value.specs.declared.brace_items.ItemKind.{ItemKind}
 use Rattle.avn_value.specs.declared.brace_items.ItemKind.TheVariants as kind
 
-pub value_read : {E : Type 0} (limit level : ℕ) (u w n : List ℕ) → w ≡ skip u → (s then : NodeList) (r : Result Bool E) → level ≤ limit → IfOk r (IsRead (λ t. Token w t n) s then) → IfOk r (IsRead (λ t. Stands limit level u t n) s then)
+pub value_read : {E : Type 0} (limit level : ℕ) (u w n : List ℕ) → w ≡ skip u → (s then : NodeList) (r : Result Bool E) → level ≤ limit → IfOk r (IsRead (λ t. Token w t n) s then) → IfOk r (IsRead (λ t. Parses limit level u t n) s then)
 value_read limit level u w n at s then (Err e) le k = tt
 value_read limit level u w n at s then (Ok i) le k = (k.0, token le (subst (λ y. Token y k.0 n) at k.1), k.2, k.3)
 

@@ -1,7 +1,7 @@
 -- What contracts see of a cursor.
 use Rattle.std.specs.Prelude.{ℕ, ◌+◌, ◌*◌, ◌≡◌, ◌≤◌, List, refl, length}
-use Rattle.avn_grammar.specs.declared.chars.Lead.TheVariants as is
-use Rattle.avn_grammar.specs.Chars.{lead, past, skip, is_name}
+use Rattle.avn_grammar.specs.declared.chars.CharClass.TheVariants as is
+use Rattle.avn_grammar.specs.Chars.{class_of_next, skip_while, skip, is_name}
 use Rattle.std.specs.Coded.{Coded, code_by, coded×, coded_ℕ, coded_list}
 
 -- The whole text, as bytes, the characters that are read next, those that were not looked past, which are these or what follows their blanks, and how many characters were looked at.
@@ -34,5 +34,5 @@ pub record LooksAtMost (most : ℕ) (old new : Ahead) : Type 0 where
 
 -- The text begins with an identifier, blanks and a colon.
 pub record BeginsChoice (text : List ℕ) : Type 0 where
-  pub letter : lead text ≡ is.Letter
-  pub colon : lead (skip (past is_name text)) ≡ is.Colon
+  pub letter : class_of_next text ≡ is.Letter
+  pub colon : class_of_next (skip (skip_while is_name text)) ≡ is.Colon

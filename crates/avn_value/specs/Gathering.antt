@@ -1,7 +1,7 @@
 -- The items of braces, as far as the reader knows of them.
 use Rattle.std.specs.Prelude.{◌≡◌, true, false, List, Some}
 use Rattle.avn_grammar.specs.Tree.{Tree}
-use Rattle.avn_grammar.specs.Grammar.{Item, AllIntegers, AllNamed, AllBare, IsGathered}
+use Rattle.avn_grammar.specs.Grammar.{Item, AllIntegers, AllNamed, AllBare, AreBraceItems}
 use Rattle.avn_value.specs.NodeViews.{kind_of}
 use Rattle.avn_value.specs.declared.node_kind.NodeKind.{NodeKind}
 use Rattle.avn_value.specs.declared.brace_items.BraceItems.{BraceItems}
@@ -17,4 +17,4 @@ pub record Holds (g : BraceItems) (items : List Item) : Type 0 where
 
 -- The items make a tree of the kind.
 abbrev pub MakesKind : List Item → NodeKind → Type 0
-MakesKind items k = (t : Tree) × IsGathered items t × (k ≡ kind_of (Some t))
+MakesKind items k = (t : Tree) × AreBraceItems items t × (k ≡ kind_of (Some t))

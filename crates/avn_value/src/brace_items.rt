@@ -1,6 +1,6 @@
 //! The items of braces, as far as their reader has to know of them.
 ghost use Rattle.std.specs.Prelude.{◌≡◌, [], ◌∷◌, ◌++◌, List, IfSome, IfNone, cond};
-ghost use Rattle.avn_grammar.specs.Grammar.{Item, IsGathered};
+ghost use Rattle.avn_grammar.specs.Grammar.{Item, AreBraceItems};
 ghost use Rattle.avn_value.specs.Gathering.{Holds, MakesKind};
 ghost use Rattle.avn_value.specs.NodeKinds.{HasNoContent};
 ghost use Rattle.avn_value.specs.ReadNodes.{kind_of_item};
@@ -86,7 +86,7 @@ impl BraceItems {
             → Holds self.now items → MakesKind items kind) }
         ensures plain { IfSome result HasNoContent }
         ensures none { IfNone result ((items : List Item) (tree : _)
-            → Holds self.now items → IsGathered items tree → ⊥) }
+            → Holds self.now items → AreBraceItems items tree → ⊥) }
     {
         if !self.named {
             return Some(NodeKind::SequenceOf);

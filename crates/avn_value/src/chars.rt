@@ -1,12 +1,12 @@
 // Runs of characters that pass a test.
 ghost use Rattle.std.specs.Prelude.{◌≡◌};
 ghost use Rattle.std.specs.Str.{IsAscii};
-ghost use Rattle.avn_grammar.specs.Chars.{every, past};
+ghost use Rattle.avn_grammar.specs.Chars.{all, skip_while};
 ghost use Rattle.avn_value.specs.Runs.{passes};
 
 /// The characters that are read as one run.
 #[derive(Clone, Copy, Drop)]
-pub enum Run {
+pub enum CharSet {
     /// White space between tokens.
     Blanks,
     /// ASCII digits.
@@ -25,23 +25,23 @@ pub enum Run {
 
 /// The character belongs to the run.
 #[inline(always)]
-pub fn passes(run: Run, c: char) -> bool
+pub fn passes(run: CharSet, c: char) -> bool
     ensures { result ≡ passes run c }
 {
     match run {
-        Run::Blanks => c == ' ' || c == '\t' || c == '\r' || c == '\n',
-        Run::Digits => c.is_ascii_digit(),
-        Run::Letters => c.is_ascii_alphabetic(),
-        Run::Name => c.is_ascii_alphanumeric() || c == '-' || c == '_',
-        Run::Quotes => c == '"',
-        Run::Inside => c != '\'',
-        Run::Ascii => c.is_ascii(),
+        CharSet::Blanks => c == ' ' || c == '\t' || c == '\r' || c == '\n',
+        CharSet::Digits => c.is_ascii_digit(),
+        CharSet::Letters => c.is_ascii_alphabetic(),
+        CharSet::Name => c.is_ascii_alphanumeric() || c == '-' || c == '_',
+        CharSet::Quotes => c == '"',
+        CharSet::Inside => c != '\'',
+        CharSet::Ascii => c.is_ascii(),
     }
 }
 
 /// All bytes of the text belong to the run.
-pub fn all_pass(run: Run, text: &[u8]) -> bool
-    ensures { result ≡ every (passes run) text.now }
+pub fn all_pass(run: CharSet, text: &[u8]) -> bool
+    ensures { result ≡ all (passes run) text.now }
 {
     for &byte in text {
         if !passes(run, byte as char) {
@@ -52,8 +52,8 @@ pub fn all_pass(run: Run, text: &[u8]) -> bool
 }
 
 /// What follows the longest front of the text whose bytes belong to the run.
-pub fn past_run(run: Run, text: &[u8]) -> &[u8]
-    ensures { result.now ≡ past (passes run) text.now }
+pub fn past_run(run: CharSet, text: &[u8]) -> &[u8]
+    ensures { result.now ≡ skip_while (passes run) text.now }
 {
     let mut place = 0;
     while place < text.len() && passes(run, text[place] as char) {

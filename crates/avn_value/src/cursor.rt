@@ -1,15 +1,18 @@
 // A place in a scan, and the character there.
-ghost use Rattle.std.specs.Prelude.{◌≡◌, ◌≢◌, ◌+◌, ◌≤◌, ◌∷◌, [], true, false, length, MatchOption, OnOk, string_bytes, ◌++◌, ◌*◌, ◌<◌, IfOk, take};
+ghost use Rattle.std.specs.Prelude.{◌≡◌, ◌≢◌, ◌+◌, ◌≤◌, ◌∷◌, [], true, false, length, MatchOption};
+ghost use Rattle.std.specs.Prelude.{OnOk, string_bytes, ◌++◌, ◌*◌, ◌<◌, IfOk, take};
 ghost use Rattle.std.specs.Str.{encode_utf8_all, chars, IsCharBoundary};
 ghost use Rattle.std.specs.Char.{len_utf8, is_whitespace, is_ascii};
 ghost use Rattle.asn_base.specs.Seen.{after};
-ghost use Rattle.avn_grammar.specs.Chars.{lead, tail, skip, begins, front, past, has_fraction, is_name, inside, solid};
+ghost use Rattle.avn_grammar.specs.Chars.{class_of_next, tail, skip, starts_with, take_while};
+ghost use Rattle.avn_grammar.specs.Chars.{skip_while, has_fraction, is_name, is_not_apostrophe};
+ghost use Rattle.avn_grammar.specs.Chars.{without_whitespace};
 ghost use Rattle.avn_value.specs.Ahead.{Advances, LooksAtMost, BeginsChoice};
 ghost use Rattle.avn_value.specs.Runs.{passes};
 
-use crate::chars::{Run, passes};
+use crate::chars::{CharSet, passes};
 use asn_base::{OutOfMemory, Scan};
-use avn_grammar::chars::{Lead, lead_of};
+use avn_grammar::chars::{CharClass, class_of_char};
 use std::alloc::{AllocError, Global};
 use std::marker::Model;
 use std::mem;
@@ -37,7 +40,7 @@ fn wide_width(c: char) -> usize
 
 /// Puts a character that is no white space to the end of `out`.
 fn push_solid(c: char, out: &mut Vec<char>) -> Result<(), AllocError>
-    ensures { OnOk result (out.new.items ≡ out.old.items ++ solid (c ∷ [])) }
+    ensures { OnOk result (out.new.items ≡ out.old.items ++ without_whitespace (c ∷ [])) }
 {
     if c.is_whitespace() {
         return Ok(());
@@ -106,7 +109,7 @@ impl<'a> Cursor<'a> {
 
     /// At the end of an empty text.
     #[inline(always)]
-    fn nowhere() -> Cursor<'a>
+    fn empty() -> Cursor<'a>
         ensures text { result.text ≡ [] }
         ensures rest { result.rest ≡ [] }
         ensures together { result.ahead ≡ result.rest }
@@ -124,10 +127,10 @@ impl<'a> Cursor<'a> {
     /// The cursor itself, which leaves one of an empty text. A loop over a cursor that it owns
     /// keeps the cursor's parts in registers.
     #[inline(always)]
-    pub fn lift(&mut self) -> Cursor<'a>
+    pub fn take_out(&mut self) -> Cursor<'a>
         ensures { result ≡ self.old }
     {
-        mem::replace(self, Cursor::nowhere())
+        mem::replace(self, Cursor::empty())
     }
 
     /// The scan, with its count.
@@ -160,12 +163,12 @@ impl<'a> Cursor<'a> {
 
     /// The character ahead, and past it, if it belongs to the run.
     #[inline(always)]
-    pub fn take_if(&mut self, run: Run) -> Option<char>
+    pub fn take_if(&mut self, run: CharSet) -> Option<char>
         requires { self.old.ahead ≡ self.old.rest }
         ensures advances { Advances 1 self.old self.new }
         ensures together { self.new.ahead ≡ self.new.rest }
         ensures found { MatchOption result
-            ((begins (passes run) self.old.rest ≡ false) × (self.new.rest ≡ self.old.rest))
+            ((starts_with (passes run) self.old.rest ≡ false) × (self.new.rest ≡ self.old.rest))
             (λ c. (passes run c ≡ true) × (self.old.rest ≡ c ∷ self.new.rest)) }
     {
         let c = self.kept?;
@@ -174,9 +177,9 @@ impl<'a> Cursor<'a> {
 
     /// The character ahead, if it belongs to the run.
     #[inline(always)]
-    pub fn peek_if(&self, run: Run) -> Option<char>
+    pub fn peek_if(&self, run: CharSet) -> Option<char>
         requires { self.now.ahead ≡ self.now.rest }
-        ensures { MatchOption result (begins (passes run) self.now.rest ≡ false)
+        ensures { MatchOption result (starts_with (passes run) self.now.rest ≡ false)
             (λ c. (passes run c ≡ true) × (self.now.rest ≡ c ∷ tail self.now.rest)) }
     {
         let kept = self.kept;
@@ -190,11 +193,11 @@ impl<'a> Cursor<'a> {
     #[inline(always)]
     pub fn next_ascii(&mut self) -> Option<char>
         requires together { self.old.ahead ≡ self.old.rest }
-        requires ascii { begins is_ascii self.old.rest ≡ true }
+        requires ascii { starts_with is_ascii self.old.rest ≡ true }
         ensures advances { Advances 1 self.old self.new }
         ensures together { self.new.ahead ≡ self.new.rest }
         ensures moves { self.new.rest ≡ tail self.old.rest }
-        ensures found { MatchOption result (begins is_ascii self.new.rest ≡ false)
+        ensures found { MatchOption result (starts_with is_ascii self.new.rest ≡ false)
             (λ c. (is_ascii c ≡ true) × (self.new.rest ≡ c ∷ tail self.new.rest)) }
     {
         let place = self.place + 1;
@@ -210,15 +213,15 @@ impl<'a> Cursor<'a> {
 
     /// What is ahead.
     #[inline(always)]
-    pub fn lead(&mut self) -> Lead
+    pub fn class_of_next(&mut self) -> CharClass
         requires { self.old.ahead ≡ self.old.rest }
         ensures all { self.new ≡ self.old }
         ensures stays { self.new.rest ≡ self.old.rest }
-        ensures found { result ≡ lead self.old.rest }
+        ensures found { result ≡ class_of_next self.old.rest }
     {
         match self.kept {
-            Some(c) => lead_of(c),
-            None => Lead::AtEnd,
+            Some(c) => class_of_char(c),
+            None => CharClass::AtEnd,
         }
     }
 
@@ -231,36 +234,36 @@ impl<'a> Cursor<'a> {
         ensures moves { self.new.rest ≡ skip self.old.rest }
     {
         self.mark = self.place;
-        while self.take_if(Run::Blanks).is_some() {}
+        while self.take_if(CharSet::Blanks).is_some() {}
     }
 
     /// What is ahead past blanks.
     #[inline(always)]
     #[tactic(auto, using(crate::proofs::Looking::twice))]
-    pub fn lead_past_blanks(&mut self) -> Lead
+    pub fn lead_past_blanks(&mut self) -> CharClass
         ensures advances { Advances 1 self.old self.new }
         ensures stays { self.new.rest ≡ self.old.rest }
-        ensures past { self.new.ahead ≡ skip self.old.rest }
-        ensures found { result ≡ lead (skip self.old.rest) }
+        ensures skip_while { self.new.ahead ≡ skip self.old.rest }
+        ensures found { result ≡ class_of_next (skip self.old.rest) }
     {
         let mark = self.mark;
         self.skip();
-        let found = self.lead();
+        let found = self.class_of_next();
         self.mark = mark;
         found
     }
 
     /// Past the longest run ahead, which goes to the end of `out`.
     #[inline(always)]
-    pub fn take_run(&mut self, run: Run, out: &mut String) -> Result<(), AllocError>
+    pub fn take_run(&mut self, run: CharSet, out: &mut String) -> Result<(), AllocError>
         requires { self.old.ahead ≡ self.old.rest }
         ensures advances { Advances 1 self.old self.new }
         ensures together { self.new.ahead ≡ self.new.rest }
-        ensures moves { OnOk result (self.new.rest ≡ past (passes run) self.old.rest) }
+        ensures moves { OnOk result (self.new.rest ≡ skip_while (passes run) self.old.rest) }
         ensures found { OnOk result (string_bytes out.new
-            ≡ string_bytes out.old ++ encode_utf8_all (front (passes run) self.old.rest)) }
+            ≡ string_bytes out.old ++ encode_utf8_all (take_while (passes run) self.old.rest)) }
     {
-        let (here, taken) = self.lift().after_run(run, out);
+        let (here, taken) = self.take_out().after_run(run, out);
         *self = here;
         taken
     }
@@ -268,13 +271,13 @@ impl<'a> Cursor<'a> {
     /// What `take_run` does, over a cursor that is moved in and out.
     #[inline(always)]
     #[tactic(auto, using(avn_grammar::proofs::Runs::runs))]
-    fn after_run(self, run: Run, out: &mut String) -> (Cursor<'a>, Result<(), AllocError>)
+    fn after_run(self, run: CharSet, out: &mut String) -> (Cursor<'a>, Result<(), AllocError>)
         requires { self.ahead ≡ self.rest }
         ensures advances { Advances 1 self.entry result.0 }
         ensures together { result.0.ahead ≡ result.0.rest }
-        ensures moves { OnOk result.1 (result.0.rest ≡ past (passes run) self.entry.rest) }
+        ensures moves { OnOk result.1 (result.0.rest ≡ skip_while (passes run) self.entry.rest) }
         ensures found { OnOk result.1 (string_bytes out.new
-            ≡ string_bytes out.old ++ encode_utf8_all (front (passes run) self.entry.rest)) }
+            ≡ string_bytes out.old ++ encode_utf8_all (take_while (passes run) self.entry.rest)) }
     {
         let mut here = self;
         while let Some(c) = here.peek_if(run) {
@@ -292,11 +295,11 @@ impl<'a> Cursor<'a> {
         requires { self.old.ahead ≡ self.old.rest }
         ensures advances { Advances 1 self.old self.new }
         ensures together { self.new.ahead ≡ self.new.rest }
-        ensures moves { OnOk result (self.new.rest ≡ past inside self.old.rest) }
+        ensures moves { OnOk result (self.new.rest ≡ skip_while is_not_apostrophe self.old.rest) }
         ensures found { OnOk result (out.new.items
-            ≡ out.old.items ++ solid (front inside self.old.rest)) }
+            ≡ out.old.items ++ without_whitespace (take_while is_not_apostrophe self.old.rest)) }
     {
-        let (here, taken) = self.lift().after_inside(out);
+        let (here, taken) = self.take_out().after_inside(out);
         *self = here;
         taken
     }
@@ -308,12 +311,12 @@ impl<'a> Cursor<'a> {
         requires { self.ahead ≡ self.rest }
         ensures advances { Advances 1 self.entry result.0 }
         ensures together { result.0.ahead ≡ result.0.rest }
-        ensures moves { OnOk result.1 (result.0.rest ≡ past inside self.entry.rest) }
+        ensures moves { OnOk result.1 (result.0.rest ≡ skip_while is_not_apostrophe self.entry.rest) }
         ensures found { OnOk result.1 (out.new.items
-            ≡ out.old.items ++ solid (front inside self.entry.rest)) }
+            ≡ out.old.items ++ without_whitespace (take_while is_not_apostrophe self.entry.rest)) }
     {
         let mut here = self;
-        while let Some(c) = here.peek_if(Run::Inside) {
+        while let Some(c) = here.peek_if(CharSet::Inside) {
             match push_solid(c, out) {
                 Ok(()) => {
                     let _c = here.take();
@@ -336,7 +339,7 @@ impl<'a> Cursor<'a> {
     {
         match self.kept {
             Some('.') => match self.scan.look(self.place + 1) {
-                Some(c) => passes(Run::Digits, c),
+                Some(c) => passes(CharSet::Digits, c),
                 None => false,
             },
             _ => false,
@@ -396,8 +399,8 @@ impl<'a> Cursor<'a> {
     #[tactic(auto, using(crate::proofs::Looking::whites))]
     fn is_white(&mut self) -> bool
         ensures looks { LooksAtMost (length self.old.rest + 1) self.old self.new }
-        ensures yes { result ≡ true → past is_whitespace self.old.rest ≡ [] }
-        ensures no { result ≡ false → past is_whitespace self.old.rest ≢ [] }
+        ensures yes { result ≡ true → skip_while is_whitespace self.old.rest ≡ [] }
+        ensures no { result ≡ false → skip_while is_whitespace self.old.rest ≢ [] }
     {
         self.rewind();
         while let Some(c) = self.take() {
@@ -411,8 +414,9 @@ impl<'a> Cursor<'a> {
     /// The rest, unless it is white space only.
     pub fn other_than_white(&mut self, alloc: Global) -> Result<Option<String>, OutOfMemory>
         ensures looks { LooksAtMost (2 * length self.old.rest + 2) self.old self.new }
-        ensures found { IfOk result (λ o. MatchOption o (past is_whitespace self.old.rest ≡ [])
-            (λ s. (past is_whitespace self.old.rest ≢ [])
+        ensures found { IfOk result (λ o. MatchOption o (skip_while is_whitespace self.old.rest ≡
+            [])
+            (λ s. (skip_while is_whitespace self.old.rest ≢ [])
             × (string_bytes s ≡ encode_utf8_all self.old.rest))) }
     {
         let start = self.mark;
@@ -433,18 +437,18 @@ impl<'a> Cursor<'a> {
         ensures shorter { result ≡ true → length self.new.rest < length self.old.rest }
         ensures yes { result ≡ true → BeginsChoice self.old.rest }
         ensures moves { result ≡ true
-            → self.new.rest ≡ tail (skip (past is_name self.old.rest)) }
+            → self.new.rest ≡ tail (skip (skip_while is_name self.old.rest)) }
         ensures no { result ≡ false → BeginsChoice self.old.rest → ⊥ }
         ensures stays { result ≡ false → self.new.rest ≡ self.old.rest }
     {
-        match self.lead() {
-            Lead::Letter => {}
+        match self.class_of_next() {
+            CharClass::Letter => {}
             _ => return false,
         }
         let start = self.mark;
-        self.pass_run(Run::Name);
+        self.pass_run(CharSet::Name);
         match self.lead_past_blanks() {
-            Lead::Colon => {
+            CharClass::Colon => {
                 self.skip();
                 let _colon = self.take();
                 true
@@ -458,11 +462,11 @@ impl<'a> Cursor<'a> {
 
     /// Past the longest run ahead.
     #[tactic(auto, using(avn_grammar::proofs::Runs::runs))]
-    fn pass_run(&mut self, run: Run)
+    fn pass_run(&mut self, run: CharSet)
         requires { self.old.ahead ≡ self.old.rest }
         ensures advances { Advances 1 self.old self.new }
         ensures together { self.new.ahead ≡ self.new.rest }
-        ensures moves { self.new.rest ≡ past (passes run) self.old.rest }
+        ensures moves { self.new.rest ≡ skip_while (passes run) self.old.rest }
     {
         while self.take_if(run).is_some() {}
     }

@@ -3,12 +3,10 @@
 
 mod brace_items;
 mod chars;
-mod chunk;
-mod copy;
+mod clone;
 mod cursor;
 mod digits;
 mod fault;
-mod form;
 mod node_kind;
 mod node_table;
 mod nodes;
@@ -17,9 +15,11 @@ mod parse;
 mod print;
 mod put;
 mod quoted;
+mod string_chunk;
 mod text;
 mod token;
 mod value;
+mod well_formed;
 
 pub use node_kind::NodeKind;
 pub use node_table::NodeTable;

@@ -1,17 +1,19 @@
 //! A value of the notation as a table of nodes, which contracts see as its tree.
-ghost use Rattle.std.specs.Prelude.{◌≡◌, ◌≢◌, Some, ◌<◌, ◌≤◌, ◌+◌, ◌*◌, ℕ, List, length, IfOk, IfErr, string_bytes};
+ghost use Rattle.std.specs.Prelude.{◌≡◌, ◌≢◌, Some, ◌<◌, ◌≤◌, ◌+◌, ◌*◌, ℕ, List, length, IfOk};
+ghost use Rattle.std.specs.Prelude.{IfErr, string_bytes};
 ghost use Rattle.std.specs.Str.{chars};
-ghost use Rattle.asn_fault.specs.Stop.{Why, error_stop};
-ghost use Rattle.avn_grammar.specs.Depth.{Deep};
-ghost use Rattle.avn_grammar.specs.Grammar.{Reads};
+ghost use Rattle.asn_fault.specs.Failure.{Cause, failure_of};
+ghost use Rattle.avn_grammar.specs.Depth.{ExceedsDepth};
+ghost use Rattle.avn_grammar.specs.Grammar.{ParsesWhole};
 ghost use Rattle.avn_grammar.specs.Print.{print};
 ghost use Rattle.avn_grammar.specs.Tree.{Tree, sequence, sequence_of};
-ghost use Rattle.avn_grammar.specs.Unread.{Unread};
+ghost use Rattle.avn_grammar.specs.ParseFailure.{ParseFailure};
 ghost use Rattle.avn_value.specs.Ahead.{LooksAtMost};
 ghost use Rattle.avn_value.specs.Answer.{Explains, IsTable, IsRefusal};
 ghost use Rattle.avn_value.specs.View.{tree_of, list_trees, fields_trees};
 ghost use Rattle.avn_value.specs.NodeViews.{kind_of, text_of, octets_of, bit_length_of, arcs_of};
-ghost use Rattle.avn_value.specs.Preorder.{node_at, tree_at, choice_with, node_count, slot_descendants};
+ghost use Rattle.avn_value.specs.Preorder.{node_at, tree_at, choice_with, node_count};
+ghost use Rattle.avn_value.specs.Preorder.{slot_descendants};
 
 use crate::cursor::Cursor;
 use crate::node_kind::NodeKind;
@@ -53,9 +55,9 @@ impl Model for NodeTable {
 }
 
 impl NodeTable {
-    /// Reads the value that the whole text of the scan is, in the ASN.1 value notation (X.680), where
-    /// no value is looked for at a level above `LEVEL_LIMIT`. White space may follow it. What the
-    /// scan counts rises by at most `LOOKS_PER_CHARACTER` for each character, and as many more,
+    /// Reads the value that the whole text of the scan is, in the ASN.1 value notation (X.680),
+    /// where no value is looked for at a level above `LEVEL_LIMIT`. White space may follow it. What
+    /// the scan counts rises by at most `LOOKS_PER_CHARACTER` for each character, and as many more,
     /// whatever the answer.
     ///
     /// # Errors
@@ -71,17 +73,17 @@ impl NodeTable {
         ensures looks { scan.new.looks
             ≤ scan.old.looks + LOOKS_PER_CHARACTER * (length (chars scan.old.text) + 1) }
 
-        ensures ok { IfOk result (λ table. Reads LEVEL_LIMIT (chars scan.old.text) table) }
+        ensures ok { IfOk result (λ table. ParsesWhole LEVEL_LIMIT (chars scan.old.text) table) }
         ensures err { IfErr result (λ error.
-            Explains LEVEL_LIMIT (chars scan.old.text) (error_stop error)) }
+            Explains LEVEL_LIMIT (chars scan.old.text) (failure_of error)) }
 
         // Each of the two errors comes exactly where it says, and a table else, memory aside.
-        ensures reads { (tree : Tree) → Reads LEVEL_LIMIT (chars scan.old.text) tree
+        ensures reads { (tree : Tree) → ParsesWhole LEVEL_LIMIT (chars scan.old.text) tree
             → IsTable tree result }
-        ensures unread { (found : List ℕ) → Unread LEVEL_LIMIT (chars scan.old.text) found
-            → IsRefusal (Why.unexpected_token found) result }
-        ensures deep { Deep LEVEL_LIMIT 0 (chars scan.old.text)
-            → IsRefusal Why.exceeds_max_parse_depth result }
+        ensures unread { (found : List ℕ) → ParseFailure LEVEL_LIMIT (chars scan.old.text) found
+            → IsRefusal (Cause.unexpected_token found) result }
+        ensures deep { ExceedsDepth LEVEL_LIMIT 0 (chars scan.old.text)
+            → IsRefusal Cause.exceeds_max_parse_depth result }
     {
         let mut cursor = Cursor::new(mem::replace(scan, Scan::new("")));
         let found = NodeTable::read(alloc, &mut cursor, LEVEL_LIMIT);
@@ -99,8 +101,8 @@ impl NodeTable {
         requires together { cursor.old.ahead ≡ cursor.old.rest }
         requires whole { cursor.old.rest ≡ chars cursor.old.text }
         ensures looks { LooksAtMost (4 * length cursor.old.rest + 2) cursor.old cursor.new }
-        ensures ok { IfOk result (λ table. Reads limit cursor.old.rest table) }
-        ensures err { IfErr result (λ error. Explains limit cursor.old.rest (error_stop error)) }
+        ensures ok { IfOk result (λ table. ParsesWhole limit cursor.old.rest table) }
+        ensures err { IfErr result (λ error. Explains limit cursor.old.rest (failure_of error)) }
     {
         let mut nodes = Nodes::new(alloc);
         match read_whole(alloc, &mut nodes, cursor, limit) {

@@ -1,17 +1,19 @@
 //! Nodes of a table that is being built, and what they hold.
-ghost use Rattle.std.specs.Prelude.{true, false, Some, ◌≡◌, ◌<◌, ◌≤◌, ◌++◌, ◌∷◌, [], List, length, OnOk, get_or};
+ghost use Rattle.std.specs.Prelude.{true, false, Some, ◌≡◌, ◌<◌, ◌≤◌, ◌++◌, ◌∷◌, [], List, length};
+ghost use Rattle.std.specs.Prelude.{OnOk, get_or};
 ghost use Rattle.std.specs.Str.{encode_utf8_all};
 ghost use Rattle.std.specs.Char.{encode_utf8};
-ghost use Rattle.avn_grammar.specs.Chars.{front, past};
+ghost use Rattle.avn_grammar.specs.Chars.{take_while, skip_while};
 ghost use Rattle.avn_value.specs.Ahead.{Advances};
 ghost use Rattle.avn_value.specs.Runs.{passes};
 ghost use Rattle.avn_grammar.specs.Grammar.{word_of};
 ghost use Rattle.avn_value.specs.NodeViews.{NodeView, view_at, kind_of};
 ghost use Rattle.avn_value.specs.Preorder.{preorder};
 ghost use Rattle.avn_value.specs.NodeKinds.{HasNoContent, has_text, has_octets, has_arcs};
-ghost use Rattle.avn_value.specs.NodeLists.{NodeList, no_nodes, extended, closed_node, with_leaf, with_octets, with_arcs, with_open};
+ghost use Rattle.avn_value.specs.NodeLists.{NodeList, no_nodes, extended, closed_node, with_leaf};
+ghost use Rattle.avn_value.specs.NodeLists.{with_octets, with_arcs, with_open};
 
-use crate::chars::Run;
+use crate::chars::CharSet;
 use crate::cursor::Cursor;
 use crate::node_kind::NodeKind;
 use std::alloc::{AllocError, Global};
@@ -29,7 +31,7 @@ pub struct Node {
     /// Where its content begins: in the text, the octets or the arcs, as its kind is.
     pub start: u32,
     /// Where its content ends.
-    pub stop: u32,
+    pub failure: u32,
     /// The length of a BIT STRING.
     pub bit_length: u32,
     /// The index of the first node after those within it.
@@ -120,13 +122,13 @@ impl Nodes {
     ///
     /// `AllocError` where memory is refused. The nodes are then no longer those from before.
     #[inline(always)]
-    pub fn take_run(&mut self, cursor: &mut Cursor<'_>, run: Run) -> Result<(), AllocError>
+    pub fn take_run(&mut self, cursor: &mut Cursor<'_>, run: CharSet) -> Result<(), AllocError>
         requires { cursor.old.ahead ≡ cursor.old.rest }
         ensures advances { Advances 1 cursor.old cursor.new }
         ensures together { cursor.new.ahead ≡ cursor.new.rest }
-        ensures moves { OnOk result (cursor.new.rest ≡ past (passes run) cursor.old.rest) }
+        ensures moves { OnOk result (cursor.new.rest ≡ skip_while (passes run) cursor.old.rest) }
         ensures found { OnOk result (self.new ≡ record self.old {
-          word = self.old.word ++ encode_utf8_all (front (passes run) cursor.old.rest);
+          word = self.old.word ++ encode_utf8_all (take_while (passes run) cursor.old.rest);
         }) }
     {
         match cursor.take_run(run, &mut self.text) {
@@ -192,9 +194,9 @@ impl Nodes {
         requires arcs { has_arcs kind ≡ false }
         ensures { OnOk result (self.new ≡ with_leaf kind self.old) }
     {
-        let stop = self.text.len();
+        let failure = self.text.len();
         let end = self.nodes.len() + 1;
-        if stop > GREATEST || end > GREATEST {
+        if failure > GREATEST || end > GREATEST {
             return Err(AllocError);
         }
         let node = Node {
@@ -202,13 +204,13 @@ impl Nodes {
             name_start: self.name as u32,
             name_end: self.word as u32,
             start: self.word as u32,
-            stop: stop as u32,
+            failure: failure as u32,
             bit_length: 0,
             end: end as u32,
         };
         self.nodes.push(node)?;
-        self.name = stop;
-        self.word = stop;
+        self.name = failure;
+        self.word = failure;
         Ok(())
     }
 
@@ -244,10 +246,10 @@ impl Nodes {
     {
         let start = self.octets.len();
         self.octets.extend_from_slice(octets)?;
-        let stop = self.octets.len();
+        let failure = self.octets.len();
         let end = self.nodes.len() + 1;
         let edge = self.text.len();
-        if edge > GREATEST || stop > GREATEST || end > GREATEST || bit_length > GREATEST {
+        if edge > GREATEST || failure > GREATEST || end > GREATEST || bit_length > GREATEST {
             return Err(AllocError);
         }
         let node = Node {
@@ -255,7 +257,7 @@ impl Nodes {
             name_start: self.name as u32,
             name_end: self.word as u32,
             start: start as u32,
-            stop: stop as u32,
+            failure: failure as u32,
             bit_length: bit_length as u32,
             end: end as u32,
         };
@@ -275,10 +277,10 @@ impl Nodes {
     {
         let start = self.arcs.len();
         self.arcs.extend_from_slice(arcs)?;
-        let stop = self.arcs.len();
+        let failure = self.arcs.len();
         let end = self.nodes.len() + 1;
         let edge = self.text.len();
-        if edge > GREATEST || stop > GREATEST || end > GREATEST {
+        if edge > GREATEST || failure > GREATEST || end > GREATEST {
             return Err(AllocError);
         }
         let node = Node {
@@ -286,7 +288,7 @@ impl Nodes {
             name_start: self.name as u32,
             name_end: self.word as u32,
             start: start as u32,
-            stop: stop as u32,
+            failure: failure as u32,
             bit_length: 0,
             end: end as u32,
         };
@@ -342,7 +344,7 @@ impl Nodes {
         if !node.kind.has_text() {
             return "";
         }
-        &self.text.as_str()[node.start as usize..node.stop as usize]
+        &self.text.as_str()[node.start as usize..node.failure as usize]
     }
 
     /// Returns the octets of a node, which are none where it has none.
@@ -355,7 +357,7 @@ impl Nodes {
         if !node.kind.has_octets() {
             return &[];
         }
-        &self.octets[node.start as usize..node.stop as usize]
+        &self.octets[node.start as usize..node.failure as usize]
     }
 
     /// Returns the arcs of a node, which are none where it has none.
@@ -368,10 +370,11 @@ impl Nodes {
         if !node.kind.has_arcs() {
             return &[];
         }
-        &self.arcs[node.start as usize..node.stop as usize]
+        &self.arcs[node.start as usize..node.failure as usize]
     }
 
-    /// Adds a node of the kind over those that follow it. The word is the name of the first of them.
+    /// Adds a node of the kind over those that follow it. The word is the name of the first of
+    /// them.
     ///
     /// # Errors
     ///
@@ -381,23 +384,23 @@ impl Nodes {
         requires { HasNoContent kind }
         ensures { OnOk result (self.new ≡ with_open kind self.old) }
     {
-        let stop = self.text.len();
+        let failure = self.text.len();
         let end = self.nodes.len() + 1;
-        if stop > GREATEST || end > GREATEST {
+        if failure > GREATEST || end > GREATEST {
             return Err(AllocError);
         }
         let node = Node {
             kind,
             name_start: self.name as u32,
             name_end: self.word as u32,
-            start: stop as u32,
-            stop: stop as u32,
+            start: failure as u32,
+            failure: failure as u32,
             bit_length: 0,
             end: end as u32,
         };
         self.nodes.push(node)?;
         self.name = self.word;
-        self.word = stop;
+        self.word = failure;
         Ok(())
     }
 

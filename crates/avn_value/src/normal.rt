@@ -5,9 +5,9 @@ ghost use Rattle.avn_grammar.specs.Octets.{packed, bit_text};
 ghost use Rattle.avn_grammar.specs.Normal.{normal, normal_trees, normal_fields, arc_trees};
 ghost use Rattle.avn_value.specs.View.{tree_of, list_trees, fields_trees};
 
-use crate::copy::{copy_octets, copy_text};
-use crate::form::is_number;
+use crate::clone::{copy_octets, copy_text};
 use crate::value::AvnValue;
+use crate::well_formed::is_number;
 use asn_base::OutOfMemory;
 use std::alloc::Global;
 
@@ -21,7 +21,7 @@ fn first_bits(octet: u8, count: usize) -> u8
     octet >> rest << rest
 }
 
-/// The octets of the first bits, with zeros after them. Its only error is want of memory.
+/// The octets of the first bits, with zeros after them. Its only error is lack of memory.
 fn octets_of_bits(alloc: Global, octets: &[u8], bit_length: usize) -> Result<Vec<u8>, OutOfMemory>
     requires { bit_length % 8 ≢ 0 }
     ensures { IfOk result (λ kept. kept.items ≡ packed (take bit_length (bit_text octets.now))) }
@@ -37,7 +37,7 @@ fn octets_of_bits(alloc: Global, octets: &[u8], bit_length: usize) -> Result<Vec
     Ok(kept)
 }
 
-/// The normal form of a bit string. Its only error is want of memory.
+/// The normal form of a bit string. Its only error is lack of memory.
 #[tactic(auto, unfolding(avn_grammar::specs::Normal::normal))]
 fn normal_bit_string(
     alloc: Global,
@@ -58,7 +58,7 @@ fn normal_bit_string(
     Ok(AvnValue::BitString { bytes, bit_length })
 }
 
-/// The normal form of a real number. Its only error is want of memory.
+/// The normal form of a real number. Its only error is lack of memory.
 #[tactic(auto, unfolding(avn_grammar::specs::Normal::normal))]
 fn normal_real(alloc: Global, text: &String) -> Result<AvnValue, OutOfMemory>
     ensures { IfOk result (λ form. tree_of form ≡ normal (real (string_bytes text.now))) }
@@ -71,7 +71,7 @@ fn normal_real(alloc: Global, text: &String) -> Result<AvnValue, OutOfMemory>
     }
 }
 
-/// The arcs as integers in decimal. Its only error is want of memory.
+/// The arcs as integers in decimal. Its only error is lack of memory.
 fn arc_integers(alloc: Global, arcs: &Vec<u32>) -> Result<Vec<AvnValue>, OutOfMemory>
     ensures { IfOk result (λ integers. list_trees integers.items ≡ arc_trees arcs.now.items) }
 {
@@ -169,7 +169,7 @@ impl AvnValue {
     /// arcs as integers. A bit string of whole octets is an octet string, and any other has zeros
     /// past its length. A real number without a point is an integer.
     ///
-    /// Its only error is want of memory.
+    /// Its only error is lack of memory.
     pub fn normal(&self, alloc: Global) -> Result<AvnValue, OutOfMemory>
         ensures { IfOk result (λ form. tree_of form ≡ normal (tree_of self.now)) }
     {

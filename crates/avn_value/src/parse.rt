@@ -1,12 +1,13 @@
 //! A reader of values into nodes, by descent.
-ghost use Rattle.std.specs.Prelude.{List, [], ℕ, true, false, ◌≡◌, ◌+◌, ◌*◌, ◌≤◌, ◌<◌, length, Err, IfOk, IfErr, OnOk, string_bytes};
+ghost use Rattle.std.specs.Prelude.{List, [], ℕ, true, false, ◌≡◌, ◌+◌, ◌*◌, ◌≤◌, ◌<◌, length, Err};
+ghost use Rattle.std.specs.Prelude.{IfOk, IfErr, OnOk, string_bytes};
 ghost use Rattle.std.specs.Char.{is_whitespace};
-ghost use Rattle.asn_fault.specs.Stop.{error_stop};
-ghost use Rattle.avn_grammar.specs.Chars.{past, spelled};
-ghost use Rattle.avn_grammar.specs.Depth.{Deep, ItemDeep, ItemsDeep};
-ghost use Rattle.avn_grammar.specs.Grammar.{Item, Stands, ItemStands, BracesStand, Reads};
+ghost use Rattle.asn_fault.specs.Failure.{failure_of};
+ghost use Rattle.avn_grammar.specs.Chars.{skip_while, utf8_of};
+ghost use Rattle.avn_grammar.specs.Depth.{ExceedsDepth, ItemExceedsDepth, ItemsExceedDepth};
+ghost use Rattle.avn_grammar.specs.Grammar.{Item, Parses, ItemParses, BracesParse, ParsesWhole};
 ghost use Rattle.avn_grammar.specs.Tree.{Tree};
-ghost use Rattle.avn_grammar.specs.Unread.{Found};
+ghost use Rattle.avn_grammar.specs.ParseFailure.{Found};
 ghost use Rattle.avn_value.specs.Ahead.{Advances, LooksAtMost};
 ghost use Rattle.avn_value.specs.Answer.{Explains, IsMoreOrMemory, IsFoundOrMemory};
 ghost use Rattle.avn_value.specs.NodeLists.{NodeList, extended};
@@ -23,7 +24,7 @@ use crate::quoted::quoted;
 use crate::token::{identifier, number, text};
 use asn_base::{Codec, OutOfMemory};
 use asn_fault::{AvnDecodeErrorKind, DecodeError, DecodeErrorKind};
-use avn_grammar::chars::Lead;
+use avn_grammar::chars::CharClass;
 use avn_grammar::limits::EXCERPT_LENGTH;
 use std::alloc::Global;
 
@@ -45,24 +46,24 @@ fn read_value(
     requires clear { nodes.old.word ≡ [] }
     ensures advances { Advances 2 cursor.old cursor.new }
     ensures ok { IfOk result (IsRead
-        (λ tree. Stands limit level cursor.old.rest tree cursor.new.rest) nodes.old nodes.new) }
-    ensures deep { result ≡ Err Fault.TooDeep → Deep limit level cursor.old.rest }
+        (λ tree. Parses limit level cursor.old.rest tree cursor.new.rest) nodes.old nodes.new) }
+    ensures deep { result ≡ Err Fault.TooDeep → ExceedsDepth limit level cursor.old.rest }
     ensures token { result ≡ Err Fault.UnexpectedToken
-        → Deep limit level cursor.old.rest → ⊥ }
+        → ExceedsDepth limit level cursor.old.rest → ⊥ }
     ensures none { result ≡ Err Fault.UnexpectedToken
         → (tree : Tree) (rest : List ℕ)
-        → Stands limit level cursor.old.rest tree rest → ⊥ }
+        → Parses limit level cursor.old.rest tree rest → ⊥ }
     ensures shorter { OnOk result (length cursor.new.rest < length cursor.old.rest) }
 {
     if level > limit {
         return Err(Fault::TooDeep);
     }
     cursor.skip();
-    match cursor.lead() {
-        Lead::Letter => {
+    match cursor.class_of_next() {
+        CharClass::Letter => {
             identifier(nodes, cursor)?;
             match cursor.lead_past_blanks() {
-                Lead::Colon => {
+                CharClass::Colon => {
                     cursor.skip();
                     let _colon = cursor.take();
                     let place = nodes.len();
@@ -77,10 +78,10 @@ fn read_value(
                 }
             }
         }
-        Lead::OpenBrace => {
+        CharClass::OpenBrace => {
             let _open = cursor.take();
             match cursor.lead_past_blanks() {
-                Lead::CloseBrace => {
+                CharClass::CloseBrace => {
                     cursor.skip();
                     let _close = cursor.take();
                     nodes.leaf(NodeKind::SequenceOf)?;
@@ -92,9 +93,9 @@ fn read_value(
                 }
             }
         }
-        Lead::Digit | Lead::Minus => number(nodes, cursor),
-        Lead::Quote => text(nodes, cursor),
-        Lead::Apostrophe => quoted(alloc, nodes, cursor),
+        CharClass::Digit | CharClass::Minus => number(nodes, cursor),
+        CharClass::Quote => text(nodes, cursor),
+        CharClass::Apostrophe => quoted(alloc, nodes, cursor),
         _ => Err(Fault::UnexpectedToken),
     }
 }
@@ -117,19 +118,19 @@ fn read_item(
     requires clear { nodes.old.word ≡ [] }
     ensures advances { Advances 2 cursor.old cursor.new }
     ensures ok { IfOk result (IsItemRead
-        (λ item. ItemStands limit level cursor.old.rest item cursor.new.rest)
+        (λ item. ItemParses limit level cursor.old.rest item cursor.new.rest)
         nodes.old nodes.new) }
-    ensures deep { result ≡ Err Fault.TooDeep → ItemDeep limit level cursor.old.rest }
+    ensures deep { result ≡ Err Fault.TooDeep → ItemExceedsDepth limit level cursor.old.rest }
     ensures token { result ≡ Err Fault.UnexpectedToken
-        → ItemDeep limit level cursor.old.rest → ⊥ }
+        → ItemExceedsDepth limit level cursor.old.rest → ⊥ }
     ensures none { result ≡ Err Fault.UnexpectedToken
         → (item : Item) (rest : List ℕ)
-        → ItemStands limit level cursor.old.rest item rest → ⊥ }
+        → ItemParses limit level cursor.old.rest item rest → ⊥ }
     ensures shorter { OnOk result (length cursor.new.rest < length cursor.old.rest) }
 {
     cursor.skip();
-    match cursor.lead() {
-        Lead::Letter => {}
+    match cursor.class_of_next() {
+        CharClass::Letter => {}
         _ => {
             let integer = read_value(alloc, nodes, cursor, limit, level)?;
             return Ok(ItemKind::of(integer));
@@ -137,7 +138,7 @@ fn read_item(
     }
     identifier(nodes, cursor)?;
     match cursor.lead_past_blanks() {
-        Lead::Colon => {
+        CharClass::Colon => {
             cursor.skip();
             let _colon = cursor.take();
             let place = nodes.len();
@@ -146,7 +147,7 @@ fn read_item(
             nodes.close(place, NodeKind::Choice);
             Ok(ItemKind::Bare)
         }
-        Lead::Comma | Lead::CloseBrace => {
+        CharClass::Comma | CharClass::CloseBrace => {
             nodes.word_leaf()?;
             Ok(ItemKind::Bare)
         }
@@ -176,14 +177,14 @@ fn read_items(
     requires clear { nodes.old.word ≡ [] }
     ensures advances { Advances 2 cursor.old cursor.new }
     ensures ok { OnOk result (IsRead
-        (λ tree. BracesStand limit level cursor.old.rest tree cursor.new.rest)
+        (λ tree. BracesParse limit level cursor.old.rest tree cursor.new.rest)
         nodes.old nodes.new false) }
-    ensures deep { result ≡ Err Fault.TooDeep → ItemsDeep limit level [] cursor.old.rest }
+    ensures deep { result ≡ Err Fault.TooDeep → ItemsExceedDepth limit level [] cursor.old.rest }
     ensures token { result ≡ Err Fault.UnexpectedToken
-        → ItemsDeep limit level [] cursor.old.rest → ⊥ }
+        → ItemsExceedDepth limit level [] cursor.old.rest → ⊥ }
     ensures none { result ≡ Err Fault.UnexpectedToken
         → (tree : Tree) (rest : List ℕ)
-        → BracesStand limit level cursor.old.rest tree rest → ⊥ }
+        → BracesParse limit level cursor.old.rest tree rest → ⊥ }
     ensures shorter { OnOk result (length cursor.new.rest < length cursor.old.rest) }
 {
     let place = nodes.len();
@@ -193,11 +194,11 @@ fn read_items(
         let entry = read_item(alloc, nodes, cursor, limit, level)?;
         gathered.add(entry);
         cursor.skip();
-        match cursor.lead() {
-            Lead::Comma => {
+        match cursor.class_of_next() {
+            CharClass::Comma => {
                 let _comma = cursor.take();
             }
-            Lead::CloseBrace => {
+            CharClass::CloseBrace => {
                 let _close = cursor.take();
                 match gathered.kind() {
                     Some(kind) => {
@@ -207,7 +208,7 @@ fn read_items(
                     None => return Err(Fault::UnexpectedToken),
                 }
             }
-            Lead::Digit | Lead::Minus => {
+            CharClass::Digit | CharClass::Minus => {
                 if !gathered.integers {
                     return Err(Fault::UnexpectedToken);
                 }
@@ -223,7 +224,7 @@ fn found(alloc: Global, cursor: &mut Cursor<'_>) -> Result<String, OutOfMemory>
     requires { cursor.old.ahead ≡ cursor.old.rest }
     ensures looks { LooksAtMost (2 * length cursor.old.ahead + 1) cursor.old cursor.new }
     ensures found { IfOk result (λ s. (excerpt : List ℕ)
-        × Found cursor.old.rest excerpt × (string_bytes s ≡ spelled excerpt)) }
+        × Found cursor.old.rest excerpt × (string_bytes s ≡ utf8_of excerpt)) }
 {
     loop {
         cursor.skip();
@@ -240,8 +241,8 @@ fn found(alloc: Global, cursor: &mut Cursor<'_>) -> Result<String, OutOfMemory>
 /// `UnexpectedToken` with all that follows where it is more, and `OutOfMemory`.
 fn end_of_text(alloc: Global, cursor: &mut Cursor<'_>) -> Result<(), DecodeError>
     ensures looks { LooksAtMost (2 * length cursor.old.rest + 2) cursor.old cursor.new }
-    ensures ok { OnOk result (past is_whitespace cursor.old.rest ≡ []) }
-    ensures err { IfErr result (λ e. IsMoreOrMemory cursor.old.rest (error_stop e)) }
+    ensures ok { OnOk result (skip_while is_whitespace cursor.old.rest ≡ []) }
+    ensures err { IfErr result (λ e. IsMoreOrMemory cursor.old.rest (failure_of e)) }
 {
     let Ok(found) = cursor.other_than_white(alloc) else {
         return Err(DecodeError::out_of_memory(Codec::Avn));
@@ -255,7 +256,7 @@ fn end_of_text(alloc: Global, cursor: &mut Cursor<'_>) -> Result<(), DecodeError
 /// Returns the error of a text that is no value: what was found in place of one.
 fn no_value(alloc: Global, cursor: &mut Cursor<'_>) -> DecodeError
     ensures looks { LooksAtMost (2 * length (chars cursor.old.text) + 2) cursor.old cursor.new }
-    ensures error { IsFoundOrMemory (chars cursor.old.text) (error_stop result) }
+    ensures error { IsFoundOrMemory (chars cursor.old.text) (failure_of result) }
 {
     cursor.restart();
     match found(alloc, cursor) {
@@ -280,9 +281,9 @@ pub fn read_whole(
     requires together { cursor.old.ahead ≡ cursor.old.rest }
     requires whole { cursor.old.rest ≡ chars cursor.old.text }
     ensures looks { LooksAtMost (4 * length cursor.old.rest + 2) cursor.old cursor.new }
-    ensures ok { OnOk result ((tree : Tree) × Reads limit cursor.old.rest tree
+    ensures ok { OnOk result ((tree : Tree) × ParsesWhole limit cursor.old.rest tree
         × (nodes.new ≡ extended nodes.old (preorder nodes.old.name tree))) }
-    ensures err { IfErr result (λ e. Explains limit cursor.old.rest (error_stop e)) }
+    ensures err { IfErr result (λ e. Explains limit cursor.old.rest (failure_of e)) }
 {
     match read_value(alloc, nodes, cursor, limit, 0) {
         Ok(_integer) => end_of_text(alloc, cursor),

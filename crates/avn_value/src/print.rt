@@ -1,8 +1,9 @@
 // The printed text of a value.
 ghost use Rattle.std.specs.Prelude.{◌≡◌};
 ghost use Rattle.std.specs.Fmt.{WritesOnOk};
-ghost use Rattle.avn_grammar.specs.Tree.{sequence, sequence_of, octet_string, bit_string, oid, char_string};
-ghost use Rattle.avn_grammar.specs.Chars.{doubled};
+ghost use Rattle.avn_grammar.specs.Tree.{sequence, sequence_of, octet_string, bit_string, oid};
+ghost use Rattle.avn_grammar.specs.Tree.{char_string};
+ghost use Rattle.avn_grammar.specs.Chars.{quote_is_doubled};
 ghost use Rattle.avn_grammar.specs.Print.{print, indent, separator};
 ghost use Rattle.avn_value.specs.View.{tree_of, list_trees, fields_trees};
 ghost use Rattle.avn_value.specs.Levels.{depth_of, closing_of};
@@ -58,7 +59,7 @@ fn write_close<W: fmt::Write>(
 
 /// Writes a text with each quote doubled.
 fn write_doubled<W: fmt::Write>(text: &str, f: &mut fmt::Formatter<W>) -> fmt::Result
-    ensures { WritesOnOk W.write_str_gives f.old result (doubled text.now) f.new }
+    ensures { WritesOnOk W.write_str_gives f.old result (quote_is_doubled text.now) f.new }
 {
     let mut rest = text;
     while let Some((run, after)) = rest.split_once('"') {

@@ -1,7 +1,8 @@
 // The tokens between apostrophes: octets in hexadecimal, and bits.
-ghost use Rattle.std.specs.Prelude.{◌≡◌, ◌≢◌, ◌+◌, ◌<◌, ◌≤◌, ℕ, List, [], ◌∷◌, true, false, drop, length, Err, IfOk, OnOk, MatchOption, slice_index_or};
+ghost use Rattle.std.specs.Prelude.{◌≡◌, ◌≢◌, ◌+◌, ◌<◌, ◌≤◌, ℕ, List, [], ◌∷◌, true, false, drop};
+ghost use Rattle.std.specs.Prelude.{length, Err, IfOk, OnOk, MatchOption, slice_index_or};
 ghost use Rattle.avn_grammar.specs.Tree.{Tree};
-ghost use Rattle.avn_grammar.specs.Chars.{lead, every};
+ghost use Rattle.avn_grammar.specs.Chars.{class_of_next, all};
 ghost use Rattle.avn_grammar.specs.Octets.{is_hex, hex_value, are_pairs, octets_of, is_bit, packed};
 ghost use Rattle.avn_grammar.specs.Grammar.{Token};
 ghost use Rattle.avn_value.specs.Ahead.{Advances};
@@ -13,7 +14,7 @@ use crate::cursor::Cursor;
 use crate::fault::Fault;
 use crate::node_kind::NodeKind;
 use crate::nodes::Nodes;
-use avn_grammar::chars::Lead;
+use avn_grammar::chars::CharClass;
 use std::alloc::{AllocError, Global};
 
 /// The number that a hexadecimal digit stands for, of either case.
@@ -64,7 +65,7 @@ fn octets_of_pairs(alloc: Global, digits: &[char]) -> Result<Option<Vec<u8>>, Al
 
 /// All digits are binary.
 fn are_bits(digits: &[char]) -> bool
-    ensures { result ≡ every is_bit digits.now }
+    ensures { result ≡ all is_bit digits.now }
 {
     for &digit in digits {
         if digit != '0' && digit != '1' {
@@ -76,7 +77,7 @@ fn are_bits(digits: &[char]) -> bool
 
 /// The binary digit at the place, 0 past the end.
 fn bit_at(digits: &[char], place: usize) -> u8
-    requires { every is_bit digits.now ≡ true }
+    requires { all is_bit digits.now ≡ true }
     ensures bit { result < 2 }
     ensures digit { 48 + result ≡ slice_index_or digits.now place 48 }
 {
@@ -89,7 +90,7 @@ fn bit_at(digits: &[char], place: usize) -> u8
 
 /// The octet of the first eight binary digits, with zeros past the end.
 fn octet_of_bits(digits: &[char]) -> u8
-    requires bits { every is_bit digits.now ≡ true }
+    requires bits { all is_bit digits.now ≡ true }
     requires some { digits.now ≢ [] }
     ensures { packed digits.now ≡ result ∷ packed (drop 8 digits.now) }
 {
@@ -105,7 +106,7 @@ fn octet_of_bits(digits: &[char]) -> u8
 
 /// The octets of binary digits, the last padded with zeros.
 fn octets_of_bits(alloc: Global, digits: &[char]) -> Result<Vec<u8>, AllocError>
-    requires { every is_bit digits.now ≡ true }
+    requires { all is_bit digits.now ≡ true }
     ensures { IfOk result (λ octets. octets.items ≡ packed digits.now) }
 {
     let mut octets = Vec::new(alloc);
@@ -153,7 +154,7 @@ fn closing(cursor: &mut Cursor<'_>) -> Option<Radix>
 /// than these digits and white space; and `OutOfMemory`.
 pub fn quoted(alloc: Global, nodes: &mut Nodes, cursor: &mut Cursor<'_>) -> Result<bool, Fault>
     requires together { cursor.old.ahead ≡ cursor.old.rest }
-    requires apostrophe { lead cursor.old.rest ≡ Lead.Apostrophe }
+    requires apostrophe { class_of_next cursor.old.rest ≡ CharClass.Apostrophe }
     requires clear { nodes.old.word ≡ [] }
     ensures advances { Advances 2 cursor.old cursor.new }
     ensures together { cursor.new.ahead ≡ cursor.new.rest }

@@ -2,13 +2,13 @@
 ghost use Rattle.std.specs.Prelude.{true, ◌≡◌, ◌+◌, ◌*◌, ◌≤◌, ◌<◌, ℕ, List, length, IfOk, IfErr};
 ghost use Rattle.std.specs.Str.{chars};
 ghost use Rattle.asn_base.specs.declared.codec.Codec.TheVariants.{Avn};
-ghost use Rattle.asn_fault.specs.Stop.{Why, error_stop, at_root};
-ghost use Rattle.avn_grammar.specs.Depth.{Deep, deepest};
-ghost use Rattle.avn_grammar.specs.Grammar.{Reads};
+ghost use Rattle.asn_fault.specs.Failure.{Cause, failure_of, at_root};
+ghost use Rattle.avn_grammar.specs.Depth.{ExceedsDepth, deepest};
+ghost use Rattle.avn_grammar.specs.Grammar.{ParsesWhole};
 ghost use Rattle.avn_grammar.specs.Normal.{normal};
 ghost use Rattle.avn_grammar.specs.Print.{print};
 ghost use Rattle.avn_grammar.specs.Tree.{Tree};
-ghost use Rattle.avn_grammar.specs.Unread.{Unread};
+ghost use Rattle.avn_grammar.specs.ParseFailure.{ParseFailure};
 ghost use Rattle.avn_grammar.specs.WellFormed.{is_well_formed};
 ghost use Rattle.avn_value.specs.Answer.{Explains, IsValue, IsRefusal};
 ghost use Rattle.avn_value.specs.View.{tree_of};
@@ -24,7 +24,7 @@ use std::alloc::Global;
 fn root_value(alloc: Global, table: &NodeTable) -> Result<AvnValue, DecodeError>
     ensures value { IfOk result (λ value. tree_of value ≡ table.now) }
     ensures refused { IfErr result (λ error.
-        error_stop error ≡ at_root Why.out_of_memory Avn) }
+        failure_of error ≡ at_root Cause.out_of_memory Avn) }
 {
     match table.to_value(alloc, 0) {
         Ok(value) => Ok(value),
@@ -49,17 +49,18 @@ pub fn parse_scan(alloc: Global, scan: &mut Scan<'_>) -> Result<AvnValue, Decode
     ensures looks { scan.new.looks
         ≤ scan.old.looks + LOOKS_PER_CHARACTER * (length (chars scan.old.text) + 1) }
 
-    ensures ok { IfOk result (λ value. Reads LEVEL_LIMIT (chars scan.old.text) (tree_of value)) }
+    ensures ok { IfOk result (λ value. ParsesWhole LEVEL_LIMIT (chars scan.old.text) (tree_of
+        value)) }
     ensures err { IfErr result (λ error.
-        Explains LEVEL_LIMIT (chars scan.old.text) (error_stop error)) }
+        Explains LEVEL_LIMIT (chars scan.old.text) (failure_of error)) }
 
     // Each of the two errors comes exactly where it says, and a value else, memory aside.
-    ensures reads { (tree : Tree) → Reads LEVEL_LIMIT (chars scan.old.text) tree
+    ensures reads { (tree : Tree) → ParsesWhole LEVEL_LIMIT (chars scan.old.text) tree
         → IsValue tree result }
-    ensures unread { (found : List ℕ) → Unread LEVEL_LIMIT (chars scan.old.text) found
-        → IsRefusal (Why.unexpected_token found) result }
-    ensures deep { Deep LEVEL_LIMIT 0 (chars scan.old.text)
-        → IsRefusal Why.exceeds_max_parse_depth result }
+    ensures unread { (found : List ℕ) → ParseFailure LEVEL_LIMIT (chars scan.old.text) found
+        → IsRefusal (Cause.unexpected_token found) result }
+    ensures deep { ExceedsDepth LEVEL_LIMIT 0 (chars scan.old.text)
+        → IsRefusal Cause.exceeds_max_parse_depth result }
 {
     match NodeTable::parse(alloc, scan) {
         Ok(table) => root_value(alloc, &table),
@@ -74,16 +75,16 @@ pub fn parse_scan(alloc: Global, scan: &mut Scan<'_>) -> Result<AvnValue, Decode
 ///
 /// As `parse_scan` has them.
 pub fn parse_avn(alloc: Global, input: &str) -> Result<AvnValue, DecodeError>
-    ensures ok { IfOk result (λ value. Reads LEVEL_LIMIT (chars input.now) (tree_of value)) }
+    ensures ok { IfOk result (λ value. ParsesWhole LEVEL_LIMIT (chars input.now) (tree_of value)) }
     ensures err { IfErr result (λ error.
-        Explains LEVEL_LIMIT (chars input.now) (error_stop error)) }
+        Explains LEVEL_LIMIT (chars input.now) (failure_of error)) }
 
-    ensures reads { (tree : Tree) → Reads LEVEL_LIMIT (chars input.now) tree
+    ensures reads { (tree : Tree) → ParsesWhole LEVEL_LIMIT (chars input.now) tree
         → IsValue tree result }
-    ensures unread { (found : List ℕ) → Unread LEVEL_LIMIT (chars input.now) found
-        → IsRefusal (Why.unexpected_token found) result }
-    ensures deep { Deep LEVEL_LIMIT 0 (chars input.now)
-        → IsRefusal Why.exceeds_max_parse_depth result }
+    ensures unread { (found : List ℕ) → ParseFailure LEVEL_LIMIT (chars input.now) found
+        → IsRefusal (Cause.unexpected_token found) result }
+    ensures deep { ExceedsDepth LEVEL_LIMIT 0 (chars input.now)
+        → IsRefusal Cause.exceeds_max_parse_depth result }
 
     ensures printed { (tree : Tree)
         → input.now ≡ print 0 tree → is_well_formed tree ≡ true
@@ -92,7 +93,7 @@ pub fn parse_avn(alloc: Global, input: &str) -> Result<AvnValue, DecodeError>
     ensures printed_deep { (tree : Tree)
         → input.now ≡ print 0 tree → is_well_formed tree ≡ true
         → LEVEL_LIMIT < deepest 0 tree
-        → IsRefusal Why.exceeds_max_parse_depth result }
+        → IsRefusal Cause.exceeds_max_parse_depth result }
 {
     let mut scan = Scan::new(input);
     parse_scan(alloc, &mut scan)

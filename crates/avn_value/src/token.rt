@@ -1,20 +1,20 @@
 //! The tokens of the notation, other than those between apostrophes, read into nodes.
 ghost use Rattle.std.specs.Prelude.{◌≡◌, ◌≢◌, ◌⊎◌, ◌<◌, ℕ, List, [], length, Err, IfOk, OnOk};
 ghost use Rattle.avn_grammar.specs.Tree.{Tree};
-ghost use Rattle.avn_grammar.specs.Chars.{lead, spelled};
+ghost use Rattle.avn_grammar.specs.Chars.{class_of_next, utf8_of};
 ghost use Rattle.avn_grammar.specs.Grammar.{number_tree, past_number, Token, Ident, is_integer};
 ghost use Rattle.avn_value.specs.Ahead.{Advances};
 ghost use Rattle.avn_value.specs.NodeLists.{NodeList, extended};
 ghost use Rattle.avn_value.specs.Preorder.{preorder};
 ghost use Rattle.avn_value.specs.ReadNodes.{IsRead};
 
-use crate::chars::{Run, ascii};
-use crate::chunk::{CHUNK, take_chunk};
+use crate::chars::{CharSet, ascii};
 use crate::cursor::Cursor;
 use crate::fault::Fault;
 use crate::node_kind::NodeKind;
 use crate::nodes::Nodes;
-use avn_grammar::chars::Lead;
+use crate::string_chunk::{CHUNK, take_chunk};
+use avn_grammar::chars::CharClass;
 use std::alloc::AllocError;
 
 /// Reads an identifier, whose first letter is ahead, as the pending word.
@@ -25,14 +25,14 @@ use std::alloc::AllocError;
 #[inline(always)]
 pub fn identifier(nodes: &mut Nodes, cursor: &mut Cursor<'_>) -> Result<(), AllocError>
     requires together { cursor.old.ahead ≡ cursor.old.rest }
-    requires letter { lead cursor.old.rest ≡ Lead.Letter }
+    requires letter { class_of_next cursor.old.rest ≡ CharClass.Letter }
     requires clear { nodes.old.word ≡ [] }
     ensures advances { Advances 1 cursor.old cursor.new }
     ensures together { cursor.new.ahead ≡ cursor.new.rest }
     ensures ok { OnOk result ((id : List ℕ) × Ident cursor.old.rest id cursor.new.rest
-        × (nodes.new ≡ record nodes.old { word = spelled id })) }
+        × (nodes.new ≡ record nodes.old { word = utf8_of id })) }
 {
-    nodes.take_run(cursor, Run::Name)
+    nodes.take_run(cursor, CharSet::Name)
 }
 
 /// Reads a number after its sign, which is the pending word. Returns whether it is an Integer.
@@ -45,26 +45,27 @@ fn unsigned(nodes: &mut Nodes, cursor: &mut Cursor<'_>) -> Result<bool, Fault>
     requires together { cursor.old.ahead ≡ cursor.old.rest }
     ensures advances { Advances 2 cursor.old cursor.new }
     ensures together { cursor.new.ahead ≡ cursor.new.rest }
-    ensures digit { OnOk result (lead cursor.old.rest ≡ Lead.Digit) }
+    ensures digit { OnOk result (class_of_next cursor.old.rest ≡ CharClass.Digit) }
     ensures moves { OnOk result (cursor.new.rest ≡ past_number cursor.old.rest) }
     ensures integer { IfOk result (λ integer.
         integer ≡ is_integer (number_tree nodes.old.word cursor.old.rest)) }
     ensures tree { OnOk result (nodes.new ≡ extended nodes.old
         (preorder nodes.old.name (number_tree nodes.old.word cursor.old.rest))) }
     ensures shallow { result ≢ Err Fault.TooDeep }
-    ensures none { result ≡ Err Fault.UnexpectedToken → lead cursor.old.rest ≢ Lead.Digit }
+    ensures none { result ≡ Err Fault.UnexpectedToken → class_of_next cursor.old.rest ≢
+        CharClass.Digit }
 {
-    if cursor.lead() != Lead::Digit {
+    if cursor.class_of_next() != CharClass::Digit {
         return Err(Fault::UnexpectedToken);
     }
-    nodes.take_run(cursor, Run::Digits)?;
+    nodes.take_run(cursor, CharSet::Digits)?;
     if !cursor.has_fraction() {
         nodes.leaf(NodeKind::Integer)?;
         return Ok(true);
     }
     let _point = cursor.take();
     nodes.push_char('.')?;
-    nodes.take_run(cursor, Run::Digits)?;
+    nodes.take_run(cursor, CharSet::Digits)?;
     nodes.leaf(NodeKind::Real)?;
     Ok(false)
 }
@@ -77,8 +78,8 @@ fn unsigned(nodes: &mut Nodes, cursor: &mut Cursor<'_>) -> Result<bool, Fault>
 #[inline(always)]
 pub fn number(nodes: &mut Nodes, cursor: &mut Cursor<'_>) -> Result<bool, Fault>
     requires together { cursor.old.ahead ≡ cursor.old.rest }
-    requires begins { (lead cursor.old.rest ≡ Lead.Digit)
-        ⊎ (lead cursor.old.rest ≡ Lead.Minus) }
+    requires begins { (class_of_next cursor.old.rest ≡ CharClass.Digit)
+        ⊎ (class_of_next cursor.old.rest ≡ CharClass.Minus) }
     requires clear { nodes.old.word ≡ [] }
     ensures advances { Advances 2 cursor.old cursor.new }
     ensures together { cursor.new.ahead ≡ cursor.new.rest }
@@ -89,8 +90,8 @@ pub fn number(nodes: &mut Nodes, cursor: &mut Cursor<'_>) -> Result<bool, Fault>
         → (tree : Tree) (rest : List ℕ) → Token cursor.old.rest tree rest → ⊥ }
     ensures shorter { OnOk result (length cursor.new.rest < length cursor.old.rest) }
 {
-    match cursor.lead() {
-        Lead::Minus => {
+    match cursor.class_of_next() {
+        CharClass::Minus => {
             let _minus = cursor.take();
             nodes.push_char('-')?;
             unsigned(nodes, cursor)
@@ -107,7 +108,7 @@ pub fn number(nodes: &mut Nodes, cursor: &mut Cursor<'_>) -> Result<bool, Fault>
 #[inline(always)]
 pub fn text(nodes: &mut Nodes, cursor: &mut Cursor<'_>) -> Result<bool, Fault>
     requires together { cursor.old.ahead ≡ cursor.old.rest }
-    requires quote { lead cursor.old.rest ≡ Lead.Quote }
+    requires quote { class_of_next cursor.old.rest ≡ CharClass.Quote }
     requires clear { nodes.old.word ≡ [] }
     ensures advances { Advances 2 cursor.old cursor.new }
     ensures together { cursor.new.ahead ≡ cursor.new.rest }

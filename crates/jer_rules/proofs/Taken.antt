@@ -16,7 +16,7 @@ use Rattle.asn_slots.proofs.Names.{other_bytes, other_parts, distinct_parts}
 use Rattle.asn_slots.specs.Trees.{trees_of}
 use Rattle.asn_traits.specs.Opening.{AllBelow}
 use Rattle.asn_traits.specs.Tables.{names_of}
-use Rattle.asn_traits.specs.declared.types.Field.{Field}
+use Rattle.asn_traits.specs.declared.asn_type.Field.{Field}
 use Rattle.asn_traits.specs.Shape.{is_item, are_distinct}
 use Rattle.asn_traits.specs.Tree.{Tree, Slot, slot_nodes, data_nodes, items_nodes, members_nodes, item_slots, member_slot}
 use Rattle.jer_rules.specs.Pending.{tree_of, TakesFields}

@@ -2,13 +2,13 @@
 use Rattle.std.specs.Prelude.{◌≡◌, ℕ, List, Option, Some, None, Ok, Err}
 use Rattle.serde_json.specs.Data.{Data}
 use Rattle.serde_json.specs.Written.{compact_text}
-use Rattle.asn_fault.specs.Stop.{Why}
+use Rattle.asn_fault.specs.Failure.{Cause}
 use Rattle.asn_traits.specs.Arcs.{dotted_identifier}
 use Rattle.asn_traits.specs.Value.{Value}
 
 -- What is wrong with a text that is no object identifier.
-abbrev pub no_identifier : List ℕ → Why
-no_identifier text = Why.invalid_oid_string (compact_text (Data.string text))
+abbrev pub no_identifier : List ℕ → Cause
+no_identifier text = Cause.invalid_oid_string (compact_text (Data.string text))
 
 -- The text is the object identifier of these arcs, or none.
 abbrev pub IsDotted : List ℕ → Option (List ℕ) → Type 0

@@ -4,11 +4,11 @@ use Rattle.serde_json.specs.Data.{Data, depth}
 use Rattle.serde_json.specs.Read.{read, max_depth}
 use Rattle.serde_json.specs.Written.{has_float}
 use Rattle.asn_base.specs.declared.codec.Codec.TheVariants.{Jer}
-use Rattle.asn_fault.specs.Stop.{Stop, Why, at_root, is_memory}
+use Rattle.asn_fault.specs.Failure.{Failure, Cause, at_root, is_out_of_memory}
 use Rattle.asn_traits.specs.Canonical.{jer_data}
 use Rattle.asn_traits.specs.Notation.{Notation}
 use Rattle.asn_traits.specs.Shape.{Shape}
-use Rattle.asn_traits.specs.Stops.{Stops}
+use Rattle.asn_traits.specs.FailsWith.{FailsWith}
 use Rattle.asn_traits.specs.Tree.{Tree}
 use Rattle.asn_traits.specs.Value.{Value}
 use Rattle.asn_traits.specs.Answer.{Refuses}
@@ -22,12 +22,12 @@ abbrev pub ReadsBack : Value → List ℕ → Type 0
 ReadsBack v text = depth (jer_data v) ≤ max_depth → IsJer text (jer_data v)
 
 -- The text is no JSON, or a number in it is a float, and the error says so, or memory ran out.
-pub data NoTree (text : List ℕ) (stop : Stop) : Type 0 where
-  no_json : read text ≡ None → stop ≡ at_root (Why.parser (codes "Error parsing JER JSON")) Jer → NoTree text stop
-  has_real : (d : Data) → read text ≡ Some d → has_float d ≡ true → stop ≡ at_root Why.real_not_supported Jer → NoTree text stop
-  no_memory : is_memory stop ≡ true → NoTree text stop
+pub data NoTree (text : List ℕ) (failure : Failure) : Type 0 where
+  no_json : read text ≡ None → failure ≡ at_root (Cause.parser (codes "Error parsing JER JSON")) Jer → NoTree text failure
+  has_real : (d : Data) → read text ≡ Some d → has_float d ≡ true → failure ≡ at_root Cause.real_not_supported Jer → NoTree text failure
+  no_memory : is_out_of_memory failure ≡ true → NoTree text failure
 
--- The text is no JSON value, or it is one that says no value of the shape, and the error says why.
-pub data RefusesText (s : Shape) (text : List ℕ) (stop : Stop) : Type 0 where
-  no_tree : NoTree text stop → RefusesText s text stop
-  no_value : (d : Data) → IsJer text d → Refuses Notation.jer (Stops Notation.jer s (Some (Tree.json d))) stop → RefusesText s text stop
+-- The text is no JSON value, or it is one that decodes to no value of the shape, and the error says why.
+pub data RefusesText (s : Shape) (text : List ℕ) (failure : Failure) : Type 0 where
+  no_tree : NoTree text failure → RefusesText s text failure
+  no_value : (d : Data) → IsJer text d → Refuses Notation.jer (FailsWith Notation.jer s (Some (Tree.json d))) failure → RefusesText s text failure

@@ -1,11 +1,11 @@
 //! Decodes an AVN value as a value of a type. The decoder holds the pending slots, of which each
 //! call takes the first, and takes the AVN value apart by moves as it goes.
 ghost use Rattle.asn_base.specs.declared.codec.Codec.TheVariants.{Avn};
-ghost use Rattle.asn_fault.specs.Stop.{Why, error_stop, at_root};
+ghost use Rattle.asn_fault.specs.Failure.{Cause, failure_of, at_root};
 ghost use Rattle.asn_traits.specs.Answer.{Refuses};
 ghost use Rattle.asn_traits.specs.Notation.{Notation};
 ghost use Rattle.asn_traits.specs.Shape.{Shape};
-ghost use Rattle.asn_traits.specs.Stops.{Stops};
+ghost use Rattle.asn_traits.specs.FailsWith.{FailsWith};
 ghost use Rattle.asn_traits.specs.Tree.{Tree, head_slot};
 ghost use Rattle.avn_grammar.specs.Tree.{Tree as AvnTree};
 ghost use Rattle.std.specs.Prelude.{◌≡◌, ◌∷◌, [], Some, IfOk, IfErr, MatchResult, option_map};
@@ -14,7 +14,7 @@ use super::faults::{
     end_of_input, mismatch, no_arc, no_item, no_number, no_oid, no_utf8, other_arcs,
 };
 use super::leaves::{NoLeaf, leaf_of_avn};
-use super::parts::{into_choice, into_fields, into_items, slots_of};
+use super::take_apart::{into_choice, into_fields, into_items, slots_of};
 use asn_base::Codec;
 use asn_fault::DecodeError;
 use asn_slots::Pending;
@@ -45,7 +45,7 @@ impl Decoder {
     pub fn new(alloc: Global, input: &str) -> Result<Decoder, DecodeError>
         ensures tree { IfOk result (λ d. (t : AvnTree) × IsAvn input.now t
             × (pending_of d ≡ Some (Tree.avn t) ∷ [])) }
-        ensures refused { IfErr result (λ e. NoTree input.now (error_stop e)) }
+        ensures refused { IfErr result (λ e. NoTree input.now (failure_of e)) }
     {
         let value = parse_avn(alloc, input)?;
         Decoder::from_value(alloc, value)
@@ -58,7 +58,7 @@ impl Decoder {
     /// `OutOfMemory` alone.
     pub fn from_value(alloc: Global, value: AvnValue) -> Result<Decoder, DecodeError>
         ensures tree { IfOk result (λ d. pending_of d ≡ Some (tree_of value) ∷ []) }
-        ensures refused { IfErr result (λ e. error_stop e ≡ at_root Why.out_of_memory Avn) }
+        ensures refused { IfErr result (λ e. failure_of e ≡ at_root Cause.out_of_memory Avn) }
     {
         let mut pending = Pending::new(alloc);
         match pending.put(Some(value)) {
@@ -75,8 +75,8 @@ impl Decoder {
     fn take(&mut self) -> Result<AvnValue, DecodeError>
         ensures { MatchResult result (λ v. pending_of self.old ≡ Some (tree_of v)
             ∷ pending_of self.new) (λ e. (s : Shape)
-            → Refuses Notation.avn (Stops Notation.avn s (head_slot (pending_of self.old)))
-            (error_stop e)) }
+            → Refuses Notation.avn (FailsWith Notation.avn s (head_slot (pending_of self.old)))
+            (failure_of e)) }
     {
         match self.pending.take() {
             Some(Some(value)) => Ok(value),
@@ -92,7 +92,7 @@ impl Decoder {
     /// `OutOfMemory` alone.
     fn put(&mut self, slot: Option<AvnValue>) -> Result<(), DecodeError>
         ensures { MatchResult result (λ _. pending_of self.new ≡ option_map tree_of slot
-            ∷ pending_of self.old) (λ e. error_stop e ≡ at_root Why.out_of_memory Avn) }
+            ∷ pending_of self.old) (λ e. failure_of e ≡ at_root Cause.out_of_memory Avn) }
     {
         match self.pending.put(slot) {
             Ok(()) => Ok(()),

@@ -1,14 +1,15 @@
 //! Encodes a value of a type as an AVN value. The encoder holds the open frames, each the AVN
 //! values of the slots that were added to it; closing a frame makes one AVN value of them.
 ghost use Rattle.asn_base.specs.declared.codec.Codec.TheVariants.{Avn};
-ghost use Rattle.asn_fault.specs.Unwritten.{WhyUnwritten, encode_why};
+ghost use Rattle.asn_fault.specs.EncodeCause.{EncodeCause, encode_cause};
 ghost use Rattle.asn_slots.specs.Frames.{push};
 ghost use Rattle.asn_slots.specs.Slots.{last_present};
 ghost use Rattle.asn_traits.specs.Canonical.{avn_tree, canonical_text};
 ghost use Rattle.asn_traits.specs.Notation.{Notation};
 ghost use Rattle.asn_traits.specs.Writing.{Frame};
 ghost use Rattle.avn_value.specs.View.{tree_of};
-ghost use Rattle.std.specs.Prelude.{◌≡◌, ◌⊎◌, ◌∷◌, [], Option, Some, None, OnOk, IfOk, IfErr, option_map, string_bytes};
+ghost use Rattle.std.specs.Prelude.{◌≡◌, ◌⊎◌, ◌∷◌, [], Option, Some, None, OnOk, IfOk, IfErr};
+ghost use Rattle.std.specs.Prelude.{option_map, string_bytes};
 
 use super::build::{choice_of, fields_of};
 use super::faults::no_unicode;
@@ -53,7 +54,7 @@ impl Encoder {
         // Whatever slots the root has, the AVN value is that of the last one that is present.
         ensures tree { IfOk result (λ t. (f : Frame) → Holds self (f ∷ [])
             → option_map avn_tree (last_present f) ≡ Some (tree_of t)) }
-        ensures kind { IfErr result (λ e. encode_why e.kind ≡ WhyUnwritten.no_root_value Avn) }
+        ensures kind { IfErr result (λ e. encode_cause e.kind ≡ EncodeCause.no_root_value Avn) }
         ensures codec { IfErr result (λ e. e.codec ≡ Avn) }
         ensures none { IfErr result (λ e. (f : Frame) → Holds self (f ∷ []) → last_present f
             ≡ None) }
@@ -74,7 +75,7 @@ impl Encoder {
         ensures text { IfOk result (λ s. (f : Frame) → Holds self (f ∷ [])
             → option_map (canonical_text Notation.avn) (last_present f) ≡ Some (string_bytes s)) }
         ensures refused { IfErr result (λ e. (e.kind ≡ EncodeErrorKind.OutOfMemory)
-            ⊎ ((encode_why e.kind ≡ WhyUnwritten.no_root_value Avn)
+            ⊎ ((encode_cause e.kind ≡ EncodeCause.no_root_value Avn)
             × ((f : Frame) → Holds self (f ∷ []) → last_present f ≡ None))) }
         ensures codec { IfErr result (λ e. e.codec ≡ Avn) }
     {
@@ -104,7 +105,7 @@ impl Encoder {
 
 /// Returns the error that nothing was encoded at the root.
 fn no_root_value() -> EncodeError
-    ensures kind { encode_why result.kind ≡ WhyUnwritten.no_root_value Avn }
+    ensures kind { encode_cause result.kind ≡ EncodeCause.no_root_value Avn }
     ensures codec { result.codec ≡ Avn }
 {
     EncodeError::from_kind(

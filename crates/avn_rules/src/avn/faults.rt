@@ -1,9 +1,9 @@
 // What a reader of AVN refuses by.
 ghost use Rattle.asn_base.specs.declared.codec.Codec.TheVariants.{Avn};
-ghost use Rattle.asn_fault.specs.Stop.{Why, error_stop, at_root, codec_why};
-ghost use Rattle.asn_fault.specs.Unwritten.{WhyUnwritten};
-ghost use Rattle.asn_traits.specs.Answer.{TellsBlame};
-ghost use Rattle.asn_traits.specs.Leaf.{Blame};
+ghost use Rattle.asn_fault.specs.Failure.{Cause, failure_of, at_root, codec_cause};
+ghost use Rattle.asn_fault.specs.EncodeCause.{EncodeCause};
+ghost use Rattle.asn_traits.specs.Answer.{RefusesLeaf};
+ghost use Rattle.asn_traits.specs.Leaf.{LeafFailure};
 ghost use Rattle.asn_traits.specs.Notation.{Notation};
 ghost use Rattle.asn_traits.specs.TextTypes.{TellsUnwritten};
 ghost use Rattle.asn_traits.specs.Arcs.{listed_text};
@@ -20,9 +20,9 @@ use asn_model::joined_arcs;
 use avn_value::AvnValue;
 use std::alloc::Global;
 
-/// A value is due, and there is none.
+/// A value is expected, and there is none.
 pub fn end_of_input() -> DecodeError
-    ensures { error_stop result ≡ at_root (Why.end_of_input Avn) Avn }
+    ensures { failure_of result ≡ at_root (Cause.end_of_input Avn) Avn }
 {
     DecodeError::from_kind(
         DecodeErrorKind::CodecSpecific {
@@ -34,8 +34,8 @@ pub fn end_of_input() -> DecodeError
 
 /// The AVN value is of another kind than the one that is needed. Memory may run out.
 pub fn mismatch(alloc: Global, needed: &'static str, value: &AvnValue) -> DecodeError
-    ensures { TellsBlame Notation.avn (tree_of value.now) (Blame.mismatch needed.now)
-        (error_stop result) }
+    ensures { RefusesLeaf Notation.avn (tree_of value.now) (LeafFailure.mismatch needed.now)
+        (failure_of result) }
 {
     match format!(in alloc; "{value}") {
         Ok(found) => avn_error(AvnDecodeErrorKind::AvnTypeMismatch { needed, found }),
@@ -45,23 +45,23 @@ pub fn mismatch(alloc: Global, needed: &'static str, value: &AvnValue) -> Decode
 
 /// The text names no item of the type.
 pub fn no_item(text: String) -> DecodeError
-    ensures { error_stop result ≡ at_root
-        (Why.invalid_enum_discriminant Avn (string_bytes text)) Avn }
+    ensures { failure_of result ≡ at_root
+        (Cause.invalid_enum_discriminant Avn (string_bytes text)) Avn }
 {
     avn_error(AvnDecodeErrorKind::AvnInvalidEnumDiscriminant { discriminant: text })
 }
 
 /// The text is no whole number.
 pub fn no_number(text: String) -> DecodeError
-    ensures { error_stop result ≡ at_root (Why.integer_parse_error (string_bytes text)) Avn }
+    ensures { failure_of result ≡ at_root (Cause.integer_parse_error (string_bytes text)) Avn }
 {
     avn_error(AvnDecodeErrorKind::IntegerParseError { msg: text })
 }
 
 /// The octets of a character string are no UTF-8. Memory may run out.
 pub fn no_utf8(alloc: Global) -> DecodeError
-    ensures { (error_stop result ≡ at_root (Why.custom (codes "Invalid UTF-8 in AVN string")) Avn)
-        ⊎ (error_stop result ≡ at_root Why.out_of_memory Avn) }
+    ensures { (failure_of result ≡ at_root (Cause.custom (codes "Invalid UTF-8 in AVN string")) Avn)
+        ⊎ (failure_of result ≡ at_root Cause.out_of_memory Avn) }
 {
     match String::from_str(alloc, "Invalid UTF-8 in AVN string") {
         Ok(msg) => DecodeError::custom(msg, Codec::Avn),
@@ -71,7 +71,7 @@ pub fn no_utf8(alloc: Global) -> DecodeError
 
 /// Returns the refusal to write a text that isn't Unicode. Memory may run out.
 pub fn no_unicode(alloc: Global) -> EncodeError
-    ensures { TellsUnwritten Notation.avn (WhyUnwritten.avn_encoder (codes "Invalid UTF-8"))
+    ensures { TellsUnwritten Notation.avn (EncodeCause.avn_encoder (codes "Invalid UTF-8"))
         result }
 {
     let Ok(msg) = String::from_str(alloc, "Invalid UTF-8") else {
@@ -87,8 +87,8 @@ pub fn no_unicode(alloc: Global) -> EncodeError
 
 /// The value in the place of an arc is no integer. Memory may run out.
 pub fn no_arc(alloc: Global, item: &AvnValue) -> DecodeError
-    ensures { (error_stop result ≡ at_root (no_arc item.now) Avn)
-        ⊎ (error_stop result ≡ at_root Why.out_of_memory Avn) }
+    ensures { (failure_of result ≡ at_root (no_arc item.now) Avn)
+        ⊎ (failure_of result ≡ at_root Cause.out_of_memory Avn) }
 {
     match format!(in alloc; "{item}") {
         Ok(found) => avn_error(AvnDecodeErrorKind::AvnTypeMismatch {
@@ -101,15 +101,15 @@ pub fn no_arc(alloc: Global, item: &AvnValue) -> DecodeError
 
 /// The integer is no arc.
 pub fn no_oid(text: String) -> DecodeError
-    ensures { error_stop result ≡ at_root (Why.invalid_oid (string_bytes text)) Avn }
+    ensures { failure_of result ≡ at_root (Cause.invalid_oid (string_bytes text)) Avn }
 {
     avn_error(AvnDecodeErrorKind::InvalidOid { value: text })
 }
 
 /// The arcs are those of no object identifier. Memory may run out.
 pub fn other_arcs(alloc: Global, arcs: Vec<u32>) -> DecodeError
-    ensures { (error_stop result ≡ at_root (Why.invalid_oid (listed_text arcs.items)) Avn)
-        ⊎ (error_stop result ≡ at_root Why.out_of_memory Avn) }
+    ensures { (failure_of result ≡ at_root (Cause.invalid_oid (listed_text arcs.items)) Avn)
+        ⊎ (failure_of result ≡ at_root Cause.out_of_memory Avn) }
 {
     match list_of_arcs(alloc, arcs.as_slice()) {
         Ok(value) => avn_error(AvnDecodeErrorKind::InvalidOid { value }),
@@ -117,7 +117,7 @@ pub fn other_arcs(alloc: Global, arcs: Vec<u32>) -> DecodeError
     }
 }
 
-// The arcs in brackets. Its one error is want of memory.
+// The arcs in brackets. Its one error is `OutOfMemory`.
 fn list_of_arcs(alloc: Global, arcs: &[u32]) -> Result<String, OutOfMemory>
     ensures { IfOk result (λ text. string_bytes text ≡ listed_text arcs.now) }
 {
@@ -127,7 +127,7 @@ fn list_of_arcs(alloc: Global, arcs: &[u32]) -> Result<String, OutOfMemory>
 
 // The refusal of this kind.
 fn avn_error(kind: AvnDecodeErrorKind) -> DecodeError
-    ensures { error_stop result ≡ at_root (codec_why (CodecDecodeError.Avn kind)) Avn }
+    ensures { failure_of result ≡ at_root (codec_cause (CodecDecodeError.Avn kind)) Avn }
 {
     DecodeError::from_kind(
         DecodeErrorKind::CodecSpecific {

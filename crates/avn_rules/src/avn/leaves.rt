@@ -9,7 +9,8 @@ ghost use Rattle.asn_traits.specs.Writable.{Writable};
 ghost use Rattle.avn_rules.specs.NoLeaves.{IsNoLeaf};
 ghost use Rattle.avn_rules.specs.Pending.{tree_of};
 ghost use Rattle.avn_value.specs.View.{tree_of as avn_tree_of};
-ghost use Rattle.std.specs.Prelude.{◌≡◌, true, false, IfOk, IfErr, OnOk, MatchOption, MatchResult, string_bytes};
+ghost use Rattle.std.specs.Prelude.{◌≡◌, true, false, IfOk, IfErr, OnOk, MatchOption, MatchResult};
+ghost use Rattle.std.specs.Prelude.{string_bytes};
 ghost use Rattle.std.specs.Str.{is_utf8};
 
 use super::bits::bits_of_avn;
@@ -22,7 +23,7 @@ use asn_traits::{Leaf, LeafKind, OwnedLeaf};
 use avn_value::AvnValue;
 use std::alloc::Global;
 
-/// The AVN value that is written for a value without parts. Its one error is want of memory.
+/// The AVN value that is written for a value without parts. Its one error is `OutOfMemory`.
 #[inline(always)]
 pub fn avn_of_leaf(alloc: Global, leaf: Leaf<'_>) -> Result<AvnValue, EncodeError>
     ensures avn { IfOk result (λ v. avn_tree_of v ≡ avn_tree (leaf_value leaf.entry)) }
@@ -56,7 +57,7 @@ pub fn avn_of_leaf(alloc: Global, leaf: Leaf<'_>) -> Result<AvnValue, EncodeErro
     }
 }
 
-// A copy of a text. Its one error is want of memory.
+// A copy of a text. Its one error is `OutOfMemory`.
 fn copy_of(alloc: Global, text: &str) -> Result<String, EncodeError>
     ensures copy { IfOk result (λ s. string_bytes s ≡ text.now) }
     ensures text { is_utf8 text.now ≡ true }
@@ -132,7 +133,7 @@ pub fn leaf_of_avn(alloc: Global, value: AvnValue, kind: LeafKind) -> Result<Own
 }
 
 /// Returns the octets of a value of any type: those of an octet string, and of any other value
-/// those of its printed text. Its one error is want of memory.
+/// those of its printed text. Its one error is `OutOfMemory`.
 fn any_of_avn(alloc: Global, value: AvnValue) -> Result<OwnedLeaf, NoLeaf>
     ensures { MatchResult result (IsTaken Notation.avn Any (tree_of value)) (IsNoLeaf Any value) }
 {

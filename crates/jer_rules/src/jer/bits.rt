@@ -7,14 +7,15 @@ ghost use Rattle.asn_traits.specs.Canonical.{bits_data};
 ghost use Rattle.asn_traits.specs.Notation.{Notation};
 ghost use Rattle.asn_traits.specs.Opening.{IsTaken};
 ghost use Rattle.asn_traits.specs.Value.{Value as AbstractValue};
-ghost use Rattle.asn_traits.specs.Writing.{CannotWrite};
+ghost use Rattle.asn_traits.specs.Writing.{FailsToEncode};
 ghost use Rattle.hex.specs.Hex.{decode_of, encode_upper};
 ghost use Rattle.jer_rules.specs.BitTexts.{IsDeclared, ReadsBits, bit_members};
 ghost use Rattle.jer_rules.specs.NoLeaves.{IsNoLeaf};
 ghost use Rattle.jer_rules.specs.Pending.{tree_of};
 ghost use Rattle.serde_json.specs.Data.{Data};
 ghost use Rattle.serde_json.specs.View.{view, members_view};
-ghost use Rattle.std.specs.Prelude.{◌≡◌, ◌^◌, ◌<◌, Some, None, OnOk, IfOk, IfErr, MatchResult, length};
+ghost use Rattle.std.specs.Prelude.{◌≡◌, ◌^◌, ◌<◌, Some, None, OnOk, IfOk, IfErr, MatchResult};
+ghost use Rattle.std.specs.Prelude.{length};
 
 use super::build::insert;
 use super::leaves::NoLeaf;
@@ -33,7 +34,7 @@ pub fn json_of_bits(alloc: Global, bits: &Bits, size: Option<usize>) -> Result<V
     ensures json { IfOk result (λ v. view v ≡ bits_data size bits.now) }
     ensures writable { OnOk result (LengthStands Notation.jer size (length bits.now)) }
     ensures refused { IfErr result
-        (CannotWrite Notation.jer (AbstractValue.bits bits.now size)) }
+        (FailsToEncode Notation.jer (AbstractValue.bits bits.now size)) }
 {
     match size {
         Some(size) => text_of_bits(alloc, bits, size),
@@ -50,7 +51,7 @@ fn text_of_bits(alloc: Global, bits: &Bits, size: usize) -> Result<Value, Encode
     ensures json { IfOk result (λ v. view v ≡ Data.string (encode_upper (padded bits.now))) }
     ensures writable { OnOk result (length bits.now ≡ size) }
     ensures refused { IfErr result
-        (CannotWrite Notation.jer (AbstractValue.bits bits.now (Some size))) }
+        (FailsToEncode Notation.jer (AbstractValue.bits bits.now (Some size))) }
 {
     if bits.len() != size {
         let fixed = Size {
@@ -64,7 +65,7 @@ fn text_of_bits(alloc: Global, bits: &Bits, size: usize) -> Result<Value, Encode
     }
 }
 
-/// Returns the object of bits of any number. Its one error is want of memory.
+/// Returns the object of bits of any number. Its one error is `OutOfMemory`.
 fn object_of_bits(alloc: Global, bits: &Bits) -> Result<Value, EncodeError>
     ensures json { IfOk result (λ v. view v ≡ bits_data None bits.now) }
     ensures writable { length bits.now < 2 ^ 64 }
@@ -78,7 +79,7 @@ fn object_of_bits(alloc: Global, bits: &Bits) -> Result<Value, EncodeError>
 }
 
 /// Returns the members of the object of bits, by their octets and how many they are. Its one error
-/// is want of memory.
+/// is lack of memory.
 fn members_of_bits(
     alloc: Global,
     octets: &[u8],

@@ -4,7 +4,7 @@ ghost use Rattle.asn_base.specs.Numbers.{signed};
 ghost use Rattle.asn_slots.specs.Trees.{trees_of};
 ghost use Rattle.asn_traits.specs.Notation.{Notation};
 ghost use Rattle.asn_traits.specs.Tables.{names_of};
-ghost use Rattle.asn_traits.specs.Writable.{IntStands};
+ghost use Rattle.asn_traits.specs.Writable.{IsEncodableInt};
 ghost use Rattle.jer_rules.specs.Holding.{members_onto, one_member};
 ghost use Rattle.serde_json.specs.Data.{Members, put};
 ghost use Rattle.serde_json.specs.Find.{of_integer};
@@ -19,8 +19,8 @@ use std::alloc::Global;
 /// Returns the number with this sign and magnitude, or `None` exactly where it is below -2^63 or
 /// not below 2^64.
 pub fn integer_of(negative: bool, magnitude: u128) -> Option<Number>
-    ensures { MatchOption result (IntStands Notation.jer (signed negative magnitude) → ⊥)
-        (λ n. IntStands Notation.jer (signed negative magnitude)
+    ensures { MatchOption result (IsEncodableInt Notation.jer (signed negative magnitude) → ⊥)
+        (λ n. IsEncodableInt Notation.jer (signed negative magnitude)
         × (number_view n ≡ of_integer (signed negative magnitude))) }
 {
     if magnitude > 18_446_744_073_709_551_615 {

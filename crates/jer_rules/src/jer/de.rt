@@ -1,23 +1,24 @@
 //! Decodes a JSON value as a value of a type. The decoder holds the pending slots, of which each
 //! call takes the first, and takes the JSON value apart by moves as it goes.
 ghost use Rattle.asn_base.specs.declared.codec.Codec.TheVariants.{Jer};
-ghost use Rattle.asn_fault.specs.Stop.{Why, error_stop, at_root};
+ghost use Rattle.asn_fault.specs.Failure.{Cause, failure_of, at_root};
 ghost use Rattle.asn_traits.specs.Answer.{Refuses};
 ghost use Rattle.asn_traits.specs.Notation.{Notation};
 ghost use Rattle.asn_traits.specs.Shape.{Shape, are_distinct};
-ghost use Rattle.asn_traits.specs.Stops.{Stops};
+ghost use Rattle.asn_traits.specs.FailsWith.{FailsWith};
 ghost use Rattle.asn_traits.specs.Tables.{names_of};
 ghost use Rattle.asn_traits.specs.Tree.{Tree, head_slot};
 ghost use Rattle.serde_json.specs.Data.{Data};
 ghost use Rattle.serde_json.specs.View.{members_view};
-ghost use Rattle.std.specs.Prelude.{◌≡◌, ◌∷◌, [], Some, true, IfOk, IfErr, OnOk, MatchResult, option_map};
+ghost use Rattle.std.specs.Prelude.{◌≡◌, ◌∷◌, [], Some, true, IfOk, IfErr, OnOk, MatchResult};
+ghost use Rattle.std.specs.Prelude.{option_map};
 
 use super::faults::{
     end_of_input, mismatch, no_digits, no_item, no_json, no_object, no_octets, no_oid, other_length,
 };
 use super::floats::holds_float;
 use super::leaves::{NoLeaf, leaf_of_json};
-use super::parts::{into_items, into_members, into_payload};
+use super::take_apart::{into_items, into_members, into_payload};
 use asn_base::Codec;
 use asn_fault::DecodeError;
 use asn_slots::Pending;
@@ -48,7 +49,7 @@ impl Decoder {
     pub fn new(alloc: Global, input: &str) -> Result<Decoder, DecodeError>
         ensures tree { IfOk result (λ d. (t : Data) × IsJer input.now t
             × (pending_of d ≡ Some (Tree.json t) ∷ [])) }
-        ensures refused { IfErr result (λ e. NoTree input.now (error_stop e)) }
+        ensures refused { IfErr result (λ e. NoTree input.now (failure_of e)) }
     {
         // `serde_json` has one error for a text that is no JSON and for memory that ran out.
         let value = match Value::from_str(alloc, input) {
@@ -72,7 +73,7 @@ impl Decoder {
     /// `OutOfMemory` alone.
     pub fn from_value(alloc: Global, value: Value) -> Result<Decoder, DecodeError>
         ensures tree { IfOk result (λ d. pending_of d ≡ Some (tree_of value) ∷ []) }
-        ensures refused { IfErr result (λ e. error_stop e ≡ at_root Why.out_of_memory Jer) }
+        ensures refused { IfErr result (λ e. failure_of e ≡ at_root Cause.out_of_memory Jer) }
     {
         let mut pending = Pending::new(alloc);
         match pending.put(Some(value)) {
@@ -89,7 +90,7 @@ impl Decoder {
     fn take(&mut self) -> Result<Value, DecodeError>
         ensures { MatchResult result (λ v. pending_of self.old ≡ Some
             (tree_of v) ∷ pending_of self.new) (λ e. (s : Shape) → Refuses Notation.jer
-            (Stops Notation.jer s (head_slot (pending_of self.old))) (error_stop e)) }
+            (FailsWith Notation.jer s (head_slot (pending_of self.old))) (failure_of e)) }
     {
         match self.pending.take() {
             Some(Some(value)) => Ok(value),
@@ -106,7 +107,7 @@ impl Decoder {
     fn put(&mut self, slot: Option<Value>) -> Result<(), DecodeError>
         ensures { MatchResult result
             (λ _. pending_of self.new ≡ option_map tree_of slot ∷ pending_of self.old)
-            (λ e. error_stop e ≡ at_root Why.out_of_memory Jer) }
+            (λ e. failure_of e ≡ at_root Cause.out_of_memory Jer) }
     {
         match self.pending.put(slot) {
             Ok(()) => Ok(()),
@@ -129,7 +130,7 @@ impl Decoder {
         ensures taken { OnOk result (TakesFields (names_of fields.now)
             (members_view members.old.entries) (members_view members.new.entries)
             (pending_of self.old) (pending_of self.new)) }
-        ensures refused { IfErr result (λ e. error_stop e ≡ at_root Why.out_of_memory Jer) }
+        ensures refused { IfErr result (λ e. failure_of e ≡ at_root Cause.out_of_memory Jer) }
     {
         // The last field goes first, since each is put before those that were put already.
         for field in fields.iter().rev() {

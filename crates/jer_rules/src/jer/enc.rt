@@ -1,7 +1,7 @@
 //! Encodes a value of a type as a JSON value. The encoder holds the open frames, each the JSON
 //! values of the slots that were added to it; closing a frame makes one JSON value of them.
 ghost use Rattle.asn_base.specs.declared.codec.Codec.TheVariants.{Jer};
-ghost use Rattle.asn_fault.specs.Unwritten.{WhyUnwritten, encode_why};
+ghost use Rattle.asn_fault.specs.EncodeCause.{EncodeCause, encode_cause};
 ghost use Rattle.asn_traits.specs.Canonical.{jer_data, canonical_text};
 ghost use Rattle.asn_traits.specs.Notation.{Notation};
 ghost use Rattle.asn_slots.specs.Frames.{push};
@@ -9,7 +9,8 @@ ghost use Rattle.asn_slots.specs.Slots.{last_present};
 ghost use Rattle.asn_traits.specs.Writing.{Frame};
 ghost use Rattle.jer_rules.specs.Text.{ReadsBack};
 ghost use Rattle.serde_json.specs.View.{view};
-ghost use Rattle.std.specs.Prelude.{◌≡◌, ◌⊎◌, ◌∷◌, [], Option, Some, None, OnOk, IfOk, IfErr, IfSome, option_map, string_bytes};
+ghost use Rattle.std.specs.Prelude.{◌≡◌, ◌⊎◌, ◌∷◌, [], Option, Some, None, OnOk, IfOk, IfErr};
+ghost use Rattle.std.specs.Prelude.{IfSome, option_map, string_bytes};
 
 use super::build::{choice_of, members_of};
 use super::faults::encode_error;
@@ -55,7 +56,7 @@ impl Encoder {
         ensures tree { IfOk result (λ t. (f : Frame) → Holds self (f ∷ []) → option_map jer_data
             (last_present f) ≡ Some (view t)) }
         ensures refused { IfErr result (λ e. (e.kind ≡ EncodeErrorKind.OutOfMemory)
-            ⊎ ((encode_why e.kind ≡ WhyUnwritten.no_root_value Jer)
+            ⊎ ((encode_cause e.kind ≡ EncodeCause.no_root_value Jer)
             × ((f : Frame) → Holds self (f ∷ []) → last_present f ≡ None))) }
         ensures codec { IfErr result (λ e. e.codec ≡ Jer) }
     {
@@ -78,7 +79,7 @@ impl Encoder {
         ensures reads_back { IfOk result (λ s. (f : Frame) → Holds self (f ∷ [])
             → IfSome (last_present f) (λ v. ReadsBack v (string_bytes s))) }
         ensures refused { IfErr result (λ e. (e.kind ≡ EncodeErrorKind.OutOfMemory)
-            ⊎ ((encode_why e.kind ≡ WhyUnwritten.no_root_value Jer)
+            ⊎ ((encode_cause e.kind ≡ EncodeCause.no_root_value Jer)
             × ((f : Frame) → Holds self (f ∷ []) → last_present f ≡ None))) }
         ensures codec { IfErr result (λ e. e.codec ≡ Jer) }
     {

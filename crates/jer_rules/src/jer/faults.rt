@@ -1,9 +1,9 @@
 // What a reader of JSON refuses by.
 ghost use Rattle.asn_base.specs.declared.codec.Codec.TheVariants.{Jer};
-ghost use Rattle.asn_fault.specs.Stop.{Why, error_stop, at_root, codec_why};
-ghost use Rattle.asn_traits.specs.Answer.{TellsBlame};
+ghost use Rattle.asn_fault.specs.Failure.{Cause, failure_of, at_root, codec_cause};
+ghost use Rattle.asn_traits.specs.Answer.{RefusesLeaf};
 ghost use Rattle.asn_traits.specs.BitLeaves.{another_length, held_bits, no_bits};
-ghost use Rattle.asn_traits.specs.Leaf.{Blame};
+ghost use Rattle.asn_traits.specs.Leaf.{LeafFailure};
 ghost use Rattle.asn_traits.specs.Notation.{Notation};
 ghost use Rattle.asn_traits.specs.Tree.{Tree};
 ghost use Rattle.jer_rules.specs.Identifiers.{no_identifier};
@@ -18,9 +18,9 @@ use asn_fault::{
 use serde_json::Value;
 use std::alloc::Global;
 
-/// A value is due, and there is none.
+/// A value is expected, and there is none.
 pub fn end_of_input() -> DecodeError
-    ensures { error_stop result ≡ at_root (Why.end_of_input Jer) Jer }
+    ensures { failure_of result ≡ at_root (Cause.end_of_input Jer) Jer }
 {
     DecodeError::from_kind(
         DecodeErrorKind::CodecSpecific {
@@ -32,8 +32,9 @@ pub fn end_of_input() -> DecodeError
 
 /// The JSON value is of another kind than the one that is needed. Memory may run out.
 pub fn mismatch(alloc: Global, needed: &'static str, value: &Value) -> DecodeError
-    ensures { TellsBlame Notation.jer (Tree.json (view value.now)) (Blame.mismatch needed.now)
-        (error_stop result) }
+    ensures { RefusesLeaf Notation.jer (Tree.json (view value.now)) (LeafFailure.mismatch
+        needed.now)
+        (failure_of result) }
 {
     match value.to_string(alloc) {
         Ok(found) => jer_error(JerDecodeErrorKind::TypeMismatch { needed, found }),
@@ -43,9 +44,9 @@ pub fn mismatch(alloc: Global, needed: &'static str, value: &Value) -> DecodeErr
 
 /// The JSON value is no object where members are needed. Memory may run out.
 pub fn no_object(alloc: Global) -> DecodeError
-    ensures { (error_stop result
-        ≡ at_root (Why.type_mismatch Jer (codes "object") (codes "unknown")) Jer)
-        ⊎ (error_stop result ≡ at_root Why.out_of_memory Jer) }
+    ensures { (failure_of result
+        ≡ at_root (Cause.type_mismatch Jer (codes "object") (codes "unknown")) Jer)
+        ⊎ (failure_of result ≡ at_root Cause.out_of_memory Jer) }
 {
     match String::from_str(alloc, "unknown") {
         Ok(found) => jer_error(JerDecodeErrorKind::TypeMismatch {
@@ -58,23 +59,23 @@ pub fn no_object(alloc: Global) -> DecodeError
 
 /// The text names no item of the type.
 pub fn no_item(text: String) -> DecodeError
-    ensures { error_stop result ≡ at_root
-        (Why.invalid_enum_discriminant Jer (string_bytes text)) Jer }
+    ensures { failure_of result ≡ at_root
+        (Cause.invalid_enum_discriminant Jer (string_bytes text)) Jer }
 {
     jer_error(JerDecodeErrorKind::InvalidEnumDiscriminant { discriminant: text })
 }
 
 /// The text is no hexadecimal of whole octets.
 pub fn no_octets() -> DecodeError
-    ensures { error_stop result ≡ at_root Why.invalid_jer_octet_string Jer }
+    ensures { failure_of result ≡ at_root Cause.invalid_jer_octet_string Jer }
 {
     jer_error(JerDecodeErrorKind::InvalidJerOctetString {})
 }
 
 /// The digits beside a length are no hexadecimal of whole octets. Memory may run out.
 pub fn no_digits(alloc: Global) -> DecodeError
-    ensures { (error_stop result ≡ at_root no_bits Jer)
-        ⊎ (error_stop result ≡ at_root Why.out_of_memory Jer) }
+    ensures { (failure_of result ≡ at_root no_bits Jer)
+        ⊎ (failure_of result ≡ at_root Cause.out_of_memory Jer) }
 {
     match String::from_str(alloc, "Failed to create BitString from bytes") {
         Ok(msg) => DecodeError::custom(msg, Codec::Jer),
@@ -84,8 +85,8 @@ pub fn no_digits(alloc: Global) -> DecodeError
 
 /// The octets are not as many as a length takes. Memory may run out.
 pub fn other_length(alloc: Global, octets: usize, size: usize) -> DecodeError
-    ensures { (error_stop result ≡ at_root (another_length octets size) Jer)
-        ⊎ (error_stop result ≡ at_root Why.out_of_memory Jer) }
+    ensures { (failure_of result ≡ at_root (another_length octets size) Jer)
+        ⊎ (failure_of result ≡ at_root Cause.out_of_memory Jer) }
 {
     let held = bits_held(octets, size);
     match format!(in alloc;
@@ -106,8 +107,8 @@ fn bits_held(octets: usize, size: usize) -> u128
 
 /// The text is no object identifier. Memory may run out.
 pub fn no_oid(alloc: Global, text: String) -> DecodeError
-    ensures { (error_stop result ≡ at_root (no_identifier (string_bytes text)) Jer)
-        ⊎ (error_stop result ≡ at_root Why.out_of_memory Jer) }
+    ensures { (failure_of result ≡ at_root (no_identifier (string_bytes text)) Jer)
+        ⊎ (failure_of result ≡ at_root Cause.out_of_memory Jer) }
 {
     match Value::String(text).to_string(alloc) {
         Ok(value) => jer_error(JerDecodeErrorKind::InvalidOIDString { value }),
@@ -117,8 +118,8 @@ pub fn no_oid(alloc: Global, text: String) -> DecodeError
 
 /// The text is no JSON. Memory may run out.
 pub fn no_json(alloc: Global) -> DecodeError
-    ensures { (error_stop result ≡ at_root (Why.parser (codes "Error parsing JER JSON")) Jer)
-        ⊎ (error_stop result ≡ at_root Why.out_of_memory Jer) }
+    ensures { (failure_of result ≡ at_root (Cause.parser (codes "Error parsing JER JSON")) Jer)
+        ⊎ (failure_of result ≡ at_root Cause.out_of_memory Jer) }
 {
     match String::from_str(alloc, "Error parsing JER JSON") {
         Ok(msg) => DecodeError::parser_fail(msg, Codec::Jer),
@@ -128,7 +129,7 @@ pub fn no_json(alloc: Global) -> DecodeError
 
 // The refusal of this kind.
 fn jer_error(kind: JerDecodeErrorKind) -> DecodeError
-    ensures { error_stop result ≡ at_root (codec_why (CodecDecodeError.Jer kind)) Jer }
+    ensures { failure_of result ≡ at_root (codec_cause (CodecDecodeError.Jer kind)) Jer }
 {
     DecodeError::from_kind(
         DecodeErrorKind::CodecSpecific {

@@ -37,7 +37,7 @@ pub fn identifier_of_json(alloc: Global, value: Value) -> Result<OwnedLeaf, NoLe
 ///
 /// # Errors
 ///
-/// Want of memory alone.
+/// Lack of memory alone.
 fn identifier_of(alloc: Global, text: &str) -> Result<Option<ObjectIdentifier>, OutOfMemory>
     ensures { IfOk result (IsDotted text.now) }
 {
@@ -48,7 +48,7 @@ fn identifier_of(alloc: Global, text: &str) -> Result<Option<ObjectIdentifier>, 
 }
 
 /// Returns the arcs that stand between the dots of a text. None exactly where a part is no arc. Its
-/// one error is want of memory.
+/// one error is lack of memory.
 fn arcs_of(alloc: Global, text: &str) -> Result<Option<Vec<u32>>, OutOfMemory>
     ensures { IfOk result (λ arcs. option_map (λ v. v.items) arcs
         ≡ arc_numbers (slice_split (λ c. c == 46) text.now)) }
@@ -64,7 +64,7 @@ fn arcs_of(alloc: Global, text: &str) -> Result<Option<Vec<u32>>, OutOfMemory>
     Ok(Some(arcs))
 }
 
-/// Returns the parts of a text between its dots. Its one error is want of memory.
+/// Returns the parts of a text between its dots. Its one error is `OutOfMemory`.
 fn parts_of(alloc: Global, text: &str) -> Result<Vec<&str>, AllocError>
     ensures { IfOk result (λ v. map (λ x. x.now) v.items
         ≡ slice_split (λ c. c == 46) text.now) }

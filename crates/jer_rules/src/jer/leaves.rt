@@ -5,7 +5,7 @@ ghost use Rattle.asn_traits.specs.Leaf.{leaf_value};
 ghost use Rattle.asn_traits.specs.Notation.{Notation};
 ghost use Rattle.asn_traits.specs.Opening.{IsTaken};
 ghost use Rattle.asn_traits.specs.Writable.{Writable};
-ghost use Rattle.asn_traits.specs.Writing.{CannotWrite};
+ghost use Rattle.asn_traits.specs.Writing.{FailsToEncode};
 ghost use Rattle.jer_rules.specs.NoLeaves.{IsNoLeaf};
 ghost use Rattle.jer_rules.specs.Pending.{tree_of};
 ghost use Rattle.serde_json.specs.Data.{Data};
@@ -17,7 +17,7 @@ use super::bits::{counted_bits, fixed_bits, json_of_bits};
 use super::build::integer_of;
 use super::faults::encode_error;
 use super::identifiers::identifier_of_json;
-use super::parts::whole_number;
+use super::take_apart::whole_number;
 use asn_base::Codec;
 use asn_fault::{EncodeError, JerEncodeErrorKind};
 use asn_model::joined_arcs;
@@ -33,7 +33,7 @@ use std::alloc::Global;
 pub fn json_of_leaf(alloc: Global, leaf: Leaf<'_>) -> Result<Value, EncodeError>
     ensures json { IfOk result (λ v. view v ≡ jer_data (leaf_value leaf.entry)) }
     ensures writable { OnOk result (Writable Notation.jer (leaf_value leaf.entry)) }
-    ensures refused { IfErr result (CannotWrite Notation.jer (leaf_value leaf.entry)) }
+    ensures refused { IfErr result (FailsToEncode Notation.jer (leaf_value leaf.entry)) }
 {
     match leaf {
         Leaf::Null => Ok(Value::Null),
@@ -56,7 +56,7 @@ pub fn json_of_leaf(alloc: Global, leaf: Leaf<'_>) -> Result<Value, EncodeError>
     }
 }
 
-// The JSON string of a text. Its one error is want of memory.
+// The JSON string of a text. Its one error is `OutOfMemory`.
 fn json_of_text(alloc: Global, text: &str) -> Result<Value, EncodeError>
     ensures json { IfOk result (λ v. view v ≡ Data.string text.now) }
     ensures text { is_utf8 text.now ≡ true }

@@ -1,8 +1,8 @@
-use Rattle.asn_convert.specs.Due.{Puts}
+use Rattle.asn_convert.specs.ExpectedOutput.{Outcome}
 use Rattle.asn_convert.proofs.program.written.Goals as goal
 
 pub returns-in-Ok : goal.returns-in-Ok
-returns-in-Ok g c = Puts.whole c.in-Ok.ensures.written
+returns-in-Ok g c = Outcome.whole c.in-Ok.ensures.written
 
 pub returns-in-Err : goal.returns-in-Err
-returns-in-Err g c = Puts.cut c.in-Err.ensures.cause.failed c.in-Err.ensures.front
+returns-in-Err g c = Outcome.cut c.in-Err.ensures.cause.failed c.in-Err.ensures.front

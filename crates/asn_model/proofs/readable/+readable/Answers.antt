@@ -1,5 +1,5 @@
 use Rattle.std.proofs.Common.{◌≡◌, ap, sym, ◌∙◌}
-use Rattle.asn_model.specs.Around.{loops_of}
+use Rattle.asn_model.specs.Enclosing.{loops_of}
 use Rattle.asn_model.specs.Readable.{is_readable_in, suits}
 use Rattle.asn_model.specs.ShapeView.{shape_view, presence_view}
 use Rattle.asn_model.specs.declared.shape_type.AlternativeShape.{AlternativeShape}

@@ -1,5 +1,5 @@
 use Rattle.std.proofs.Common.{◌≡◌, take, true}
-use Rattle.asn_model.specs.Around.{loops_of}
+use Rattle.asn_model.specs.Enclosing.{loops_of}
 use Rattle.asn_model.specs.Readable.{are_fields_readable, are_alternatives_readable}
 use Rattle.asn_model.specs.ShapeView.{field_views, alternative_views}
 use Rattle.asn_model.proofs.readable.+readable.Given as goal

@@ -1,7 +1,7 @@
 use Rattle.std.proofs.Common.{inl, inr}
 use Rattle.std.proofs.lemmas.Result.{on_ok_weaker, IfErr-weaker}
 use Rattle.asn_model.specs.Shape.{SeqKind, all_fields, field_names}
-use Rattle.asn_traits.specs.Writing.{CannotWrite}
+use Rattle.asn_traits.specs.Writing.{FailsToEncode}
 use Rattle.asn_traits.proofs.Filling.{scope_fields, refuse_members}
 use Rattle.asn_traits.proofs.sequence.write_sequence.Goals as goal
 
@@ -13,4 +13,4 @@ returns-clause-written g c =
 pub returns-clause-refused : goal.returns-clause-refused
 returns-clause-refused g c =
     let t = g.T.SequenceFields in
-    IfErr-weaker c.encode_sequence.result _ _ (λ e r. elim r [ inl o ↦ CannotWrite.no_memory o | inr s ↦ refuse_members (field_names (all_fields t.fields t.added)) s.answered.met.1 ]) c.encode_sequence.ensures.refused
+    IfErr-weaker c.encode_sequence.result _ _ (λ e r. elim r [ inl o ↦ FailsToEncode.no_memory o | inr s ↦ refuse_members (field_names (all_fields t.fields t.added)) s.answered.met.1 ]) c.encode_sequence.ensures.refused

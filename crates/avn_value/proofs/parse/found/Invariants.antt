@@ -1,5 +1,5 @@
 use Rattle.std.proofs.Common.{◌≡◌, ℕ, List, length}
-use Rattle.avn_grammar.specs.Unread.{Found}
+use Rattle.avn_grammar.specs.ParseFailure.{Found}
 use Rattle.avn_value.specs.Ahead.{Advances}
 use Rattle.avn_value.proofs.parse.found.Given as goal
 

@@ -1,5 +1,5 @@
 use Rattle.std.proofs.Common.{◌≡◌, length, true, false, MatchOption, sym, ap, subst, ◌∙◌, arith}
-use Rattle.avn_grammar.specs.Chars.{tail, front, past, inside, solid, every}
+use Rattle.avn_grammar.specs.Chars.{tail, take_while, skip_while, is_not_apostrophe, without_whitespace, all}
 use Rattle.avn_grammar.specs.Octets.{are_pairs, octets_of, is_bit, packed}
 use Rattle.avn_value.proofs.Tokens.{octets_read, bits_read, inside_read, inside_closed}
 use Rattle.avn_value.proofs.NoToken.{octets_none, bits_none, unclosed_none}
@@ -11,8 +11,8 @@ returns-clause-ok c =
     let r = c.closing.new.cursor.rest in
     let digits = inside_read w _ _ _ c.take-open.ensures.moves c.new-digits.ensures.items c.in_ok-take_inside.ensures.found in
     let closed = inside_closed w _ _ r _ _ c.take-open.ensures.moves c.in_ok-take_inside.ensures.moves c.in-Some.ensures.found c.in-Binary.is in
-    let bits : every is_bit (solid (front inside (tail w))) ≡ true = ap (every is_bit) (sym (c.deref-in-Binary.ensures.value ∙ digits)) ∙ sym c.are_bits.ensures ∙ c.if-not-are_bits.false in
-    let n : c.len.result ≡ length (solid (front inside (tail w))) = omega (arith, c.len.ensures, c.deref-in-Binary.ensures.len, ap length (c.deref-in-Binary.ensures.value ∙ digits)) in
+    let bits : all is_bit (without_whitespace (take_while is_not_apostrophe (tail w))) ≡ true = ap (all is_bit) (sym (c.deref-in-Binary.ensures.value ∙ digits)) ∙ sym c.are_bits.ensures ∙ c.if-not-are_bits.false in
+    let n : c.len.result ≡ length (without_whitespace (take_while is_not_apostrophe (tail w))) = omega (arith, c.len.ensures, c.deref-in-Binary.ensures.len, ap length (c.deref-in-Binary.ensures.value ∙ digits)) in
     bits_read w r _ c.len.result c.args.nodes.now _ c.requires.apostrophe closed bits (c.deref-in-Binary-3.ensures.value ∙ c.in_ok-bytes-in-Binary.ensures ∙ ap packed (c.deref-in-Binary-2.ensures.value ∙ digits)) n c.in_ok-octets_leaf-in-Binary.ensures
 
 pub returns-in-Hexadecimal-clause-none : goal.returns-in-Hexadecimal-clause-none
@@ -31,7 +31,7 @@ returns-then-not-are_bits-clause-none c = λ e.
     let r = c.closing.new.cursor.rest in
     let digits = inside_read w _ _ _ c.take-open.ensures.moves c.new-digits.ensures.items c.in_ok-take_inside.ensures.found in
     let closed = inside_closed w _ _ r _ _ c.take-open.ensures.moves c.in_ok-take_inside.ensures.moves c.in-Some.ensures.found c.in-Binary.is in
-    bits_none w r c.requires.apostrophe closed (ap (every is_bit) (sym (c.deref-in-Binary.ensures.value ∙ digits)) ∙ sym c.are_bits.ensures ∙ c.if-not-are_bits.true)
+    bits_none w r c.requires.apostrophe closed (ap (all is_bit) (sym (c.deref-in-Binary.ensures.value ∙ digits)) ∙ sym c.are_bits.ensures ∙ c.if-not-are_bits.true)
 
 pub returns-in-Some-2-clause-ok : goal.returns-in-Some-2-clause-ok
 returns-in-Some-2-clause-ok c =
@@ -47,6 +47,6 @@ returns-in-Some-2-clause-ok c =
 pub returns-in_default-clause-none : goal.returns-in_default-clause-none
 returns-in_default-clause-none c = λ e.
     let w = c.args.cursor.now.rest in
-    let moved : c.take_inside.new.self.rest ≡ past inside (tail w) = c.in_ok-take_inside.ensures.moves ∙ ap (past inside) c.take-open.ensures.moves in
+    let moved : c.take_inside.new.self.rest ≡ skip_while is_not_apostrophe (tail w) = c.in_ok-take_inside.ensures.moves ∙ ap (skip_while is_not_apostrophe) c.take-open.ensures.moves in
     let f = c.in_default.ensures.found in
     unclosed_none w c.requires.apostrophe (λ r p. f.0 r (moved ∙ p)) (λ r p. f.1 r (moved ∙ p))

@@ -1,12 +1,12 @@
 use Rattle.std.proofs.Common.{◌≡◌, ℕ, List, ◌∷◌, ◌++◌, length}
-use Rattle.avn_grammar.specs.Chars.{doubled, spelled}
+use Rattle.avn_grammar.specs.Chars.{quote_is_doubled, utf8_of}
 use Rattle.avn_value.specs.Ahead.{Advances}
 use Rattle.avn_value.proofs.token.text.Given as goal
 
 -- The characters that were read, each quote twice, stand before what is ahead.
 abbrev pub invariant-chunks : goal.invariant-chunks
 invariant-chunks l =
-    (cs : List ℕ) × (l.nodes ≡ record l.fn.nodes { word = spelled cs }) × (l.fn.cursor.rest ≡ (34 ∷ doubled cs) ++ l.cursor.rest) × (l.cursor.ahead ≡ l.cursor.rest) × Advances 2 l.fn.cursor l.cursor
+    (cs : List ℕ) × (l.nodes ≡ record l.fn.nodes { word = utf8_of cs }) × (l.fn.cursor.rest ≡ (34 ∷ quote_is_doubled cs) ++ l.cursor.rest) × (l.cursor.ahead ≡ l.cursor.rest) × Advances 2 l.fn.cursor l.cursor
 
 abbrev pub decreases-chunks : goal.decreases-chunks
 decreases-chunks l = length l.cursor.rest

@@ -1,5 +1,5 @@
 use Rattle.std.proofs.Common.{refl, ◌∙◌, string_bytes}
-use Rattle.asn_fault.specs.Stop.{Why}
+use Rattle.asn_fault.specs.Failure.{Cause}
 use Rattle.asn_model.specs.Leaf.{codec_of}
 use Rattle.asn_model.specs.Shape.{Shape}
 use Rattle.asn_model.specs.Value.{Value}
@@ -19,4 +19,4 @@ returns-in-None g c =
     let t = g.E.Enumerated in
     let n = g.Self.Decoder.notation in
     let h = c.in_ok-text.ensures in
-    leaf_refused (Shape.enum t.items t.added) Item (Why.invalid_enum_discriminant (codec_of n) (string_bytes c.in-Item.text)) _ h.0 _ _ _ _ _ refl c.in-Item.is h.1 h.3 (λ v e. item_refused (codec_of n) t.items t.added _ v e (rw c.as_str.ensures.value at c.in-None.ensures)) c.no_item.ensures (own_codec n)
+    leaf_refused (Shape.enum t.items t.added) Item (Cause.invalid_enum_discriminant (codec_of n) (string_bytes c.in-Item.text)) _ h.0 _ _ _ _ _ refl c.in-Item.is h.1 h.3 (λ v e. item_refused (codec_of n) t.items t.added _ v e (rw c.as_str.ensures.value at c.in-None.ensures)) c.no_item.ensures (own_codec n)

@@ -1,6 +1,6 @@
 use Rattle.std.proofs.Common.{inr, inl, refl, subst, ap}
 use Rattle.std.proofs.lemmas.Result.{err_from_is_err_and, on_ok_weaker}
-use Rattle.asn_traits.specs.Writing.{close, as_choice, Turns}
+use Rattle.asn_traits.specs.Writing.{close, as_choice, Maps}
 use Rattle.asn_model.specs.Shape.{all_alternatives}
 use Rattle.asn_traits.proofs.Choices.{all_tags, name_found, known, known_some, unknown_none}
 use Rattle.asn_traits.proofs.encoder.Encoder.encode_choice.Goals as goal
@@ -27,7 +27,7 @@ returns-clause-written g c =
         end = c.encode_fn.new.arg2;
         opened = c.in_ok-open_frame.ensures.opened;
         answered = record { shown = _; shows = refl; left = _; met = c.in_ok-_answer.ensures; leaves = refl };
-        left = subst (λ i. Turns g.Self.Encoder.holds (close (as_choice i)) c.encode_fn.new.arg2 c.close_choice.new.self) is e;
+        left = subst (λ i. Maps g.Self.Encoder.holds (close (as_choice i)) c.encode_fn.new.arg2 c.close_choice.new.self) is e;
       },
     ))) c.close_choice.ensures.closed
 

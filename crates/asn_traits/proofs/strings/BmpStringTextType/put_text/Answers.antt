@@ -22,4 +22,4 @@ returns-in-Ok-clause-refused g c =
     let units = c.args.self.now in
     let text = c.as_str.ensures.value ∙ c.in-Ok.ensures.text in
     let utf8 = subst (λ t. is_utf8 t ≡ true) (sym text) (units_utf8 units c.in-Ok.ensures.characters) in
-    IfErr-weaker c.put_leaf.result _ _ (λ e why. text_unwritten (Value.units units) c.as_str.result.now e utf8 why) c.put_leaf.ensures.refused
+    IfErr-weaker c.put_leaf.result _ _ (λ e cause. text_unwritten (Value.units units) c.as_str.result.now e utf8 cause) c.put_leaf.ensures.refused

@@ -2,7 +2,7 @@ use Rattle.std.proofs.Common.{◌≡◌, ap, ◌∙◌, subst, true}
 use Rattle.std.proofs.lemmas.Result.{on_ok_weaker}
 use Rattle.std.specs.Str.{IsUtf8}
 use Rattle.std.specs.Str.Lossy.{utf8_valid_len}
-use Rattle.avn_grammar.specs.Chars.{every}
+use Rattle.avn_grammar.specs.Chars.{all}
 use Rattle.avn_grammar.specs.WellFormed.{is_octet}
 use Rattle.asn_model.specs.Shape.{Shape}
 use Rattle.asn_model.specs.Value.{Value}
@@ -14,7 +14,7 @@ pub returns-in-Ok-clause-written : goal.returns-in-Ok-clause-written
 returns-in-Ok-clause-written g c =
     let octets = c.args.self.now in
     let o = c.octets-octets.ensures in
-    let fit = g.met.C.OctetsSet.is_value octets (subst (λ bs. every is_octet bs ≡ true) o.octets c.are_octets.ensures) o.within in
+    let fit = g.met.C.OctetsSet.is_value octets (subst (λ bs. all is_octet bs ≡ true) o.octets c.are_octets.ensures) o.within in
     on_ok_weaker c.put_leaf.result (leaf_written (Shape.text g.C.NamedSet.name) (Value.text octets) _ (ap Value.text (c.in-Ok.ensures.cases.0 ∙ o.octets)) fit) c.put_leaf.ensures.put
 
 pub returns-in-Err-clause-refused : goal.returns-in-Err-clause-refused

@@ -1,11 +1,11 @@
 use Rattle.std.proofs.Common.{◌≡◌, length}
-use Rattle.avn_grammar.specs.Chars.{past}
+use Rattle.avn_grammar.specs.Chars.{skip_while}
 use Rattle.avn_value.specs.Ahead.{Advances}
 use Rattle.avn_value.specs.Runs.{passes}
 use Rattle.avn_value.proofs.cursor.Cursor.pass_run.Given as goal
 
 abbrev pub invariant-loop-run : goal.invariant-loop-run
-invariant-loop-run l = Advances 1 l.initial.self l.self × (l.self.ahead ≡ l.self.rest) × (past (passes l.run) l.self.rest ≡ past (passes l.run) l.initial.self.rest)
+invariant-loop-run l = Advances 1 l.initial.self l.self × (l.self.ahead ≡ l.self.rest) × (skip_while (passes l.run) l.self.rest ≡ skip_while (passes l.run) l.initial.self.rest)
 
 abbrev pub decreases-loop-run : goal.decreases-loop-run
 decreases-loop-run l = length l.self.rest

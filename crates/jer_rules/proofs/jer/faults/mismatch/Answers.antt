@@ -1,8 +1,8 @@
 use Rattle.std.proofs.Common.{refl}
 use Rattle.asn_base.specs.declared.codec.Codec.TheVariants.{Jer}
-use Rattle.asn_traits.specs.Leaf.{Blamed}
+use Rattle.asn_traits.specs.Leaf.{IsFailureOf}
 use Rattle.asn_traits.proofs.Refusing.{at_no_field}
 use Rattle.jer_rules.proofs.jer.faults.mismatch.Goals as goal
 
 pub returns-in-Ok : goal.returns-in-Ok
-returns-in-Ok c = at_no_field _ Jer _ c.jer_error.ensures refl (refl, Blamed.blamed_mismatch _ _ c.in-Ok.ensures.text)
+returns-in-Ok c = at_no_field _ Jer _ c.jer_error.ensures refl (refl, IsFailureOf.is_mismatch _ _ c.in-Ok.ensures.text)

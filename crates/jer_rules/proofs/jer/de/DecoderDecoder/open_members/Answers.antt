@@ -5,7 +5,7 @@ use Rattle.asn_base.specs.declared.codec.Codec.TheVariants.{Jer}
 use Rattle.asn_traits.specs.Opening.{HasMembers}
 use Rattle.asn_traits.specs.Tables.{names_of}
 use Rattle.asn_traits.specs.Tree.{member_slot}
-use Rattle.asn_traits.proofs.Refusing.{no_members, tells_because_or_memory}
+use Rattle.asn_traits.proofs.Refusing.{no_members, refuses_because_or_memory}
 use Rattle.jer_rules.specs.Pending.{pending_of}
 use Rattle.jer_rules.proofs.Readings.{members-none}
 use Rattle.jer_rules.proofs.Taken.{both_distinct, both_taken, members_below}
@@ -36,4 +36,4 @@ returns c =
 pub returns-in-Err : goal.returns-in-Err
 returns-in-Err c =
     let h = c.in-Err.ensures in
-    λ kind fs added. no_members kind fs added _ _ _ _ c.in_ok-take.ensures (members-none _ h.1) (tells_because_or_memory _ Jer _ _ c.no_object.ensures refl)
+    λ kind fs added. no_members kind fs added _ _ _ _ c.in_ok-take.ensures (members-none _ h.1) (refuses_because_or_memory _ Jer _ _ c.no_object.ensures refl)

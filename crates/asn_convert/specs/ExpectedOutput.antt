@@ -1,0 +1,57 @@
+-- What is expected for an input, and when it was written.
+use Rattle.std.specs.Prelude.{◌≡◌, ◌⊎◌, ℕ, List, [], ◌∷◌, ◌++◌, codes}
+use Rattle.std.specs.Io.KnownBytes.{Appends, Keeps}
+use Rattle.asn_base.specs.declared.codec.Codec.{Codec}
+use Rattle.asn_traits.specs.Shape.{Shape}
+use Rattle.asn_codec.specs.Conversion.{Converts, Refuses, refusal_of, error_text}
+use Rattle.asn_convert.specs.Faults.{Increased, AppendsFront}
+use Rattle.asn_convert.specs.Transfer.{Transfer}
+use Rattle.asn_convert.specs.declared.status.Status.{Status}
+use Rattle.asn_convert.specs.declared.status.Status.TheVariants.{Done, Refused, WriteFault, WantOfMemory}
+use Rattle.asn_codec.specs.declared.conversion.TranscodeError.{TranscodeError}
+
+-- the bytes are the canonical text of the value that the text decodes to by the shape, and a line feed
+pub record IsAnswer (from to : Codec) (s : Shape) (text due : List ℕ) : Type 0 where
+  pub output : List ℕ
+  pub converts : Converts from to s text output
+  pub is : due ≡ output ++ 10 ∷ []
+
+-- the line that tells a fault
+abbrev pub refusal_line : TranscodeError → List ℕ
+refusal_line fault = codes "refused: " ++ error_text fault ++ 10 ∷ []
+
+-- the bytes are the line of a fault for which the text is refused by the shape
+pub record IsRefusal (from to : Codec) (s : Shape) (text due : List ℕ) : Type 0 where
+  pub fault : TranscodeError
+  pub refuses : Refuses from to s text (refusal_of fault)
+  pub is : due ≡ refusal_line fault
+
+-- the bytes are what is expected for the text, an answer or a refusal
+abbrev pub IsExpectedOutput : Codec → Codec → Shape → List ℕ → List ℕ → Type 0
+IsExpectedOutput from to s text due = IsAnswer from to s text due ⊎ IsRefusal from to s text due
+
+-- bytes with P were written, where the sink tells its bytes
+pub record Wrote (sink : Transfer) (P : List ℕ → Type 0) : Type 0 where
+  pub bytes : List ℕ
+  pub has : P bytes
+  pub appended : Appends sink.bytes_before sink.bytes_after bytes
+
+-- a front part of bytes with P was written, where the sink tells its bytes
+pub record WroteFront (sink : Transfer) (P : List ℕ → Type 0) : Type 0 where
+  pub bytes : List ℕ
+  pub has : P bytes
+  pub appended : AppendsFront sink.bytes_before sink.bytes_after bytes
+
+-- What a status says of bytes that were due: all of them were written, or a write was cut short, or memory ran out before any was.
+pub data Outcome (due : List ℕ) (status : Status) (sink : Transfer) : Status → Type 0 where
+  whole : Appends sink.bytes_before sink.bytes_after due → Outcome due status sink status
+  cut : Increased sink.faults_before sink.faults_after → AppendsFront sink.bytes_before sink.bytes_after due → Outcome due status sink WriteFault
+  unwritten : Keeps sink.bytes_before sink.bytes_after → Outcome due status sink WantOfMemory
+
+-- What a status says of the answer to a text: what was written, and why a write was cut short.
+abbrev pub Answers : Codec → Codec → Shape → List ℕ → Transfer → Status → Type 0
+Answers from to s text sink Done = Wrote sink (IsAnswer from to s text)
+Answers from to s text sink Refused = Wrote sink (IsRefusal from to s text)
+Answers from to s text sink WriteFault = Increased sink.faults_before sink.faults_after × WroteFront sink (IsExpectedOutput from to s text)
+Answers from to s text sink WantOfMemory = Keeps sink.bytes_before sink.bytes_after
+Answers from to s text sink _ = ⊥

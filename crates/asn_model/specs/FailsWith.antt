@@ -1,0 +1,50 @@
+-- Why a slot decodes to no value by a shape: the names of the fields that lead to the place, and what is wrong there.
+use Rattle.std.specs.Prelude.{◌≡◌, ℕ, List, [], ◌∷◌, map, Some, None, Err, true, false}
+use Rattle.asn_base.specs.declared.codec.Codec.{Codec}
+use Rattle.asn_base.specs.declared.tag.Tag.{Tag}
+use Rattle.asn_fault.specs.Failure.{Cause}
+use Rattle.asn_model.specs.Notation.{Notation, notation_of}
+use Rattle.asn_model.specs.Shape.{Shape, SeqKind, Fields, FieldAdditions, Alternatives, AlternativeAdditions, Presence, all_fields, all_alternatives, unfold_loop, alternative_named, field_names}
+use Rattle.asn_model.specs.Tree.{Tree, Slot, as_list, as_members, as_choice, same_identifier}
+use Rattle.asn_model.specs.Leaf.{LeafFailure, IsFailureOf, leaf, members_mismatch, list_mismatch, choice_mismatch}
+use Rattle.asn_model.specs.Value.{Value, may_lack}
+use Rattle.asn_model.specs.DecodesTo.{DecodesTo}
+
+-- The names of the fields that lead to a place.
+abbrev pub Path : Type 0
+Path = List (List ℕ)
+
+mutual
+  -- The slot decodes to no value by the shape: at this path, for this reason.
+  pub data FailsWith (n : Notation) : Shape → Slot → Path → Cause → Type 0 where
+    fails_absent : (s : Shape) (c : Codec) → notation_of c ≡ n → FailsWith n s None [] (Cause.end_of_input c)
+    fails_leaf : (s : Shape) (t : Tree) (b : LeafFailure) (w : Cause) → leaf n s t ≡ Some (Err b) → IsFailureOf n t b w → FailsWith n s (Some t) [] w
+    fails_no_members : (kind : SeqKind) (fs : Fields) (added : FieldAdditions) (t : Tree) (w : Cause) → as_members n t ≡ None → IsFailureOf n t (members_mismatch n) w → FailsWith n (Shape.seq kind fs added) (Some t) [] w
+    fails_seq : (kind : SeqKind) (fs : Fields) (added : FieldAdditions) (t : Tree) (look : List ℕ → Slot) (p : Path) (w : Cause)
+        → as_members n t ≡ Some look → FieldsFailWith n (all_fields fs added) (map look (field_names (all_fields fs added))) p w → FailsWith n (Shape.seq kind fs added) (Some t) p w
+    fails_no_list : (s : Shape) (t : Tree) (w : Cause) → as_list n t ≡ None → IsFailureOf n t (list_mismatch n) w → FailsWith n (Shape.list_of s) (Some t) [] w
+    fails_list : (s : Shape) (t : Tree) (slots : List Slot) (p : Path) (w : Cause) → as_list n t ≡ Some slots → EachFailsWith n s slots p w → FailsWith n (Shape.list_of s) (Some t) p w
+    fails_no_choice : (alts : Alternatives) (added : AlternativeAdditions) (t : Tree) (w : Cause) → as_choice n t ≡ None → IsFailureOf n t (choice_mismatch n) w → FailsWith n (Shape.choice alts added) (Some t) [] w
+    fails_no_member : (alts : Alternatives) (added : AlternativeAdditions) (t : Tree) (type_name : List ℕ) → as_choice n t ≡ Some None → FailsWith n (Shape.choice alts added) (Some t) [] (Cause.no_valid_choice type_name)
+    fails_unnamed : (alts : Alternatives) (added : AlternativeAdditions) (t : Tree) (name : List ℕ) (u : Tree) (type_name : List ℕ) → as_choice n t ≡ Some (Some (name, u)) → alternative_named same_identifier (all_alternatives alts added) name ≡ None
+        → FailsWith n (Shape.choice alts added) (Some t) [] (Cause.no_valid_choice type_name)
+    fails_payload : (alts : Alternatives) (added : AlternativeAdditions) (t : Tree) (name : List ℕ) (u : Tree) (id : List ℕ) (s : Shape) (p : Path) (w : Cause)
+        → as_choice n t ≡ Some (Some (name, u)) → alternative_named same_identifier (all_alternatives alts added) name ≡ Some (id, s) → FailsWith n s (Some u) p w → FailsWith n (Shape.choice alts added) (Some t) p w
+    fails_loop : (body : Shape) (t : Tree) (p : Path) (w : Cause) → FailsWith n (unfold_loop body) (Some t) p w → FailsWith n (Shape.loop body) (Some t) p w
+    fails_free : (s : Shape) (slot : Slot) (p : Path) (w : Cause) → n ≡ Notation.other → FailsWith n s slot p w
+
+  -- An element fails, and those before it decode to values.
+  pub data EachFailsWith (n : Notation) : Shape → List Slot → Path → Cause → Type 0 where
+    fails_here : (s : Shape) (slot : Slot) (rest : List Slot) (p : Path) (w : Cause) → FailsWith n s slot p w → EachFailsWith n s (slot ∷ rest) p w
+    fails_later : (s : Shape) (slot : Slot) (rest : List Slot) (v : Value) (p : Path) (w : Cause) → DecodesTo n s slot v → EachFailsWith n s rest p w → EachFailsWith n s (slot ∷ rest) p w
+
+  -- A field fails, and the slots of those before it decode to values or are absent.
+  pub data FieldsFailWith (n : Notation) : Fields → List Slot → Path → Cause → Type 0 where
+    field_fails : (name : List ℕ) (g : Tag) (k : Presence) (s : Shape) (fs : Fields) (t : Tree) (rest : List Slot) (p : Path) (w : Cause)
+        → FailsWith n s (Some t) p w → FieldsFailWith n (Fields.field name g k s fs) (Some t ∷ rest) (name ∷ p) w
+    field_is_missing : (name : List ℕ) (g : Tag) (k : Presence) (s : Shape) (fs : Fields) (rest : List Slot) (p : Path) (w : Cause)
+        → may_lack k ≡ false → FailsWith n s None p w → FieldsFailWith n (Fields.field name g k s fs) (None ∷ rest) (name ∷ p) w
+    after_present : (name : List ℕ) (g : Tag) (k : Presence) (s : Shape) (fs : Fields) (slot : Slot) (rest : List Slot) (v : Value) (p : Path) (w : Cause)
+        → DecodesTo n s slot v → FieldsFailWith n fs rest p w → FieldsFailWith n (Fields.field name g k s fs) (slot ∷ rest) p w
+    after_absent : (name : List ℕ) (g : Tag) (k : Presence) (s : Shape) (fs : Fields) (rest : List Slot) (p : Path) (w : Cause)
+        → may_lack k ≡ true → FieldsFailWith n fs rest p w → FieldsFailWith n (Fields.field name g k s fs) (None ∷ rest) p w

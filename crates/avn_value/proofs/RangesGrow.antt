@@ -44,12 +44,12 @@ held true x y z f = f refl
 held false x y z f = refl
 
 abbrev held_by : Node → List ℕ → List ℕ → List ℕ → List ℕ → NodeView
-held_by n ys zs name text = record { kind = n.kind; name = name; text = text; octets = cond (has_octets n.kind) (slice_range ys n.start n.failure) []; bits = n.bit_length; arcs = cond (has_arcs n.kind) (slice_range zs n.start n.failure) []; end = n.end }
+held_by n ys zs name text = record { kind = n.kind; name = name; text = text; octets = cond (has_octets n.kind) (slice_range ys n.start n.bound) []; bits = n.bit_length; arcs = cond (has_arcs n.kind) (slice_range zs n.start n.bound) []; end = n.end }
 
 pub view_of-more : (xs ys zs more : List ℕ) (n : Node) → HasRanges xs ys zs n → view_of (xs ++ more) ys zs n ≡ view_of xs ys zs n
 view_of-more xs ys zs more n k =
-    ap (λ a. held_by n ys zs a (cond (has_text n.kind) (slice_range (xs ++ more) n.start n.failure) [])) (part-more xs more n.name_start n.name_end k.name.order k.name.within)
-    ∙ ap (held_by n ys zs (slice_range xs n.name_start n.name_end)) (held (has_text n.kind) _ _ [] (λ e. let c = k.text e in part-more xs more n.start n.failure c.order c.within))
+    ap (λ a. held_by n ys zs a (cond (has_text n.kind) (slice_range (xs ++ more) n.start n.bound) [])) (part-more xs more n.name_start n.name_end k.name.order k.name.within)
+    ∙ ap (held_by n ys zs (slice_range xs n.name_start n.name_end)) (held (has_text n.kind) _ _ [] (λ e. let c = k.text e in part-more xs more n.start n.bound c.order c.within))
 
 map-same : {X Y : Type 0} (f g : X → Y) (xs : List X) (d : X) → ((i : ℕ) → i < length xs → f (get_or xs i d) ≡ g (get_or xs i d)) → map f xs ≡ map g xs
 map-same f g [] d h = refl
@@ -60,14 +60,14 @@ all_views-more xs ys zs more [] k = refl
 all_views-more xs ys zs more (n ∷ ns) k = map-same (view_of (xs ++ more) ys zs) (view_of xs ys zs) (n ∷ ns) n (λ i l. view_of-more xs ys zs more (get_or (n ∷ ns) i n) (k i n l))
 
 -- A node of a range that the text has.
-pub within_leaf : (xs ys zs : List ℕ) (n : Node) → IsCharRange xs n.name_start n.name_end → IsCharRange xs n.start n.failure → has_octets n.kind ≡ false → has_arcs n.kind ≡ false → HasRanges xs ys zs n
+pub within_leaf : (xs ys zs : List ℕ) (n : Node) → IsCharRange xs n.name_start n.name_end → IsCharRange xs n.start n.bound → has_octets n.kind ≡ false → has_arcs n.kind ≡ false → HasRanges xs ys zs n
 within_leaf xs ys zs n k l e f = record { name = k; text = λ _. l; octets = λ h. let no : ⊥ = cc in absurd no; arcs = λ h. let no : ⊥ = cc in absurd no }
 
 pub within_plain : (xs ys zs : List ℕ) (n : Node) → IsCharRange xs n.name_start n.name_end → HasNoContent n.kind → HasRanges xs ys zs n
 within_plain xs ys zs n k p = record { name = k; text = λ h. let e = p.text in let no : ⊥ = cc in absurd no; octets = λ h. let e = p.octets in let no : ⊥ = cc in absurd no; arcs = λ h. let e = p.arcs in let no : ⊥ = cc in absurd no }
 
 abbrev holding : Node → List ℕ → List ℕ → List ℕ → Bool → Bool → Bool → NodeView
-holding n xs ys zs a b c = record { kind = n.kind; name = slice_range xs n.name_start n.name_end; text = cond a (slice_range xs n.start n.failure) []; octets = cond b (slice_range ys n.start n.failure) []; bits = n.bit_length; arcs = cond c (slice_range zs n.start n.failure) []; end = n.end }
+holding n xs ys zs a b c = record { kind = n.kind; name = slice_range xs n.name_start n.name_end; text = cond a (slice_range xs n.start n.bound) []; octets = cond b (slice_range ys n.start n.bound) []; bits = n.bit_length; arcs = cond c (slice_range zs n.start n.bound) []; end = n.end }
 
 pub node_list-more : (xs ys zs more new : List ℕ) (ns : List Node) (a b : ℕ) → All (HasRanges xs ys zs) ns → IsCharRange xs a b → new ≡ xs ++ more → (s : NodeList) → node_list xs ys zs ns a b ≡ s → node_list new ys zs ns a b ≡ record s { word = s.word ++ more }
 node_list-more xs ys zs more new ns a b k l e s f =
@@ -76,7 +76,7 @@ node_list-more xs ys zs more new ns a b k l e s f =
     ∙ ap (λ n. list_as (map (view_of xs ys zs) ns) n (drop b (xs ++ more))) (part-more xs more a b l.order l.within) ∙ ap (list_as (map (view_of xs ys zs) ns) (slice_range xs a b)) (drop-append-le b xs more l.within) ∙ ap all f
 
 abbrev pub patched : Node → NodeKind → ℕ → Node
-patched n k end = record { kind = k; name_start = n.name_start; name_end = n.name_end; start = n.start; failure = n.failure; bit_length = n.bit_length; end = end }
+patched n k end = record { kind = k; name_start = n.name_start; name_end = n.name_end; start = n.start; bound = n.bound; bit_length = n.bit_length; end = end }
 
 view_of-plain : (xs ys zs : List ℕ) (n : Node) → HasNoContent n.kind → view_of xs ys zs n ≡ closed_node n.kind n.end (view_of xs ys zs n)
 view_of-plain xs ys zs n p =
@@ -91,7 +91,7 @@ closed_views xs ys zs ns i n k end before after d e l p f g =
 
 -- All nodes still lie within the buffers.
 module _ (xs ys zs : List ℕ) where
-  pub leaf_within : (ns new : List Node) (n : Node) → new ≡ ns ++ (n ∷ []) → All (HasRanges xs ys zs) ns → IsCharRange xs n.name_start n.name_end → IsCharRange xs n.start n.failure → has_octets n.kind ≡ false → has_arcs n.kind ≡ false → All (HasRanges xs ys zs) new
+  pub leaf_within : (ns new : List Node) (n : Node) → new ≡ ns ++ (n ∷ []) → All (HasRanges xs ys zs) ns → IsCharRange xs n.name_start n.name_end → IsCharRange xs n.start n.bound → has_octets n.kind ≡ false → has_arcs n.kind ≡ false → All (HasRanges xs ys zs) new
   leaf_within ns new n e k a b f g = let P : Node → Type 0 = HasRanges xs ys zs in subst (All P) (sym e) (All-push P ns n k (within_leaf xs ys zs n a b f g))
 
   pub plain_within : (ns new : List Node) (n : Node) → new ≡ ns ++ (n ∷ []) → All (HasRanges xs ys zs) ns → IsCharRange xs n.name_start n.name_end → HasNoContent n.kind → All (HasRanges xs ys zs) new
@@ -107,20 +107,20 @@ range_more : (xs more : List ℕ) (a b : ℕ) → IsRange xs a b → IsRange (xs
 range_more xs more a b k = record { order = k.order; within = omega (arith, k.within, length-append xs more) }
 
 pub within_octets : (xs ys zs more : List ℕ) (n : Node) → HasRanges xs ys zs n → HasRanges xs (ys ++ more) zs n
-within_octets xs ys zs more n k = record { name = k.name; text = k.text; octets = λ e. range_more ys more n.start n.failure (k.octets e); arcs = k.arcs }
+within_octets xs ys zs more n k = record { name = k.name; text = k.text; octets = λ e. range_more ys more n.start n.bound (k.octets e); arcs = k.arcs }
 
 pub within_arcs : (xs ys zs more : List ℕ) (n : Node) → HasRanges xs ys zs n → HasRanges xs ys (zs ++ more) n
-within_arcs xs ys zs more n k = record { name = k.name; text = k.text; octets = k.octets; arcs = λ e. range_more zs more n.start n.failure (k.arcs e) }
+within_arcs xs ys zs more n k = record { name = k.name; text = k.text; octets = k.octets; arcs = λ e. range_more zs more n.start n.bound (k.arcs e) }
 
 view_of-octets : (xs ys zs more : List ℕ) (n : Node) → HasRanges xs ys zs n → view_of xs (ys ++ more) zs n ≡ view_of xs ys zs n
 view_of-octets xs ys zs more n k =
-    ap (λ x. view_as n.kind (slice_range xs n.name_start n.name_end) (cond (has_text n.kind) (slice_range xs n.start n.failure) []) x n.bit_length (cond (has_arcs n.kind) (slice_range zs n.start n.failure) []) n.end)
-    (held (has_octets n.kind) _ _ [] (λ e. let c = k.octets e in part-more ys more n.start n.failure c.order c.within))
+    ap (λ x. view_as n.kind (slice_range xs n.name_start n.name_end) (cond (has_text n.kind) (slice_range xs n.start n.bound) []) x n.bit_length (cond (has_arcs n.kind) (slice_range zs n.start n.bound) []) n.end)
+    (held (has_octets n.kind) _ _ [] (λ e. let c = k.octets e in part-more ys more n.start n.bound c.order c.within))
 
 view_of-arcs : (xs ys zs more : List ℕ) (n : Node) → HasRanges xs ys zs n → view_of xs ys (zs ++ more) n ≡ view_of xs ys zs n
 view_of-arcs xs ys zs more n k =
-    ap (λ x. view_as n.kind (slice_range xs n.name_start n.name_end) (cond (has_text n.kind) (slice_range xs n.start n.failure) []) (cond (has_octets n.kind) (slice_range ys n.start n.failure) []) n.bit_length x n.end)
-    (held (has_arcs n.kind) _ _ [] (λ e. let c = k.arcs e in part-more zs more n.start n.failure c.order c.within))
+    ap (λ x. view_as n.kind (slice_range xs n.name_start n.name_end) (cond (has_text n.kind) (slice_range xs n.start n.bound) []) (cond (has_octets n.kind) (slice_range ys n.start n.bound) []) n.bit_length x n.end)
+    (held (has_arcs n.kind) _ _ [] (λ e. let c = k.arcs e in part-more zs more n.start n.bound c.order c.within))
 
 all_same : {P : Node → Type 0} (f g : Node → NodeView) (ns : List Node) → All P ns → ((n : Node) → P n → f n ≡ g n) → map f ns ≡ map g ns
 all_same f g [] k h = refl
@@ -151,12 +151,12 @@ pushed xs ys zs ys2 zs2 ns ms n a b m s d same e f g h =
     ∙ ap (λ x. list_as (cs ++ (d (slice_range xs a b) (length cs) ∷ [])) x (drop m xs)) (no-part xs m) ∙ ap (list_as (cs ++ (d (slice_range xs a b) (length cs) ∷ [])) []) (no-rest xs m g)
     ∙ ap (λ (x : NodeList). list_as (x.nodes ++ (d x.name (length x.nodes) ∷ [])) [] []) f
 
-module _ (xs ys zs more new : List ℕ) (ns ms : List Node) (k : NodeKind) (a b i j bits end : ℕ) (grew : ms ≡ ns ++ (record { kind = k; name_start = a; name_end = b; start = i; failure = j; bit_length = bits; end = end } ∷ [])) (all : All (HasRanges xs ys zs) ns) (name : IsCharRange xs a b) where
+module _ (xs ys zs more new : List ℕ) (ns ms : List Node) (k : NodeKind) (a b i j bits end : ℕ) (grew : ms ≡ ns ++ (record { kind = k; name_start = a; name_end = b; start = i; bound = j; bit_length = bits; end = end } ∷ [])) (all : All (HasRanges xs ys zs) ns) (name : IsCharRange xs a b) where
   pub octets_within : new ≡ ys ++ more → i ≡ length ys → j ≡ length new → has_text k ≡ false → has_arcs k ≡ false → All (HasRanges xs new zs) ms
   octets_within e f g p q =
       let P : Node → Type 0 = HasRanges xs new zs in
       let lies : IsRange new i j = record { order = omega (arith, ap (λ (x : List ℕ). length x) e, length-append ys more); within = omega arith } in
-      let here : P (record { kind = k; name_start = a; name_end = b; start = i; failure = j; bit_length = bits; end = end }) =
+      let here : P (record { kind = k; name_start = a; name_end = b; start = i; bound = j; bit_length = bits; end = end }) =
       record { name = name; text = λ h. let n : ⊥ = cc in absurd n; octets = λ _. lies; arcs = λ h. let n : ⊥ = cc in absurd n } in
       subst (All P) (sym grew) (All-push P ns _ (subst (λ x. All (HasRanges xs x zs) ns) (sym e) (all_within ns all (λ n w. within_octets xs ys zs more n w))) here)
 
@@ -174,7 +174,7 @@ module _ (xs ys zs more new : List ℕ) (ns ms : List Node) (k : NodeKind) (a b 
   arcs_within e f g p q =
       let P : Node → Type 0 = HasRanges xs ys new in
       let lies : IsRange new i j = record { order = omega (arith, ap (λ (x : List ℕ). length x) e, length-append zs more); within = omega arith } in
-      let here : P (record { kind = k; name_start = a; name_end = b; start = i; failure = j; bit_length = bits; end = end }) =
+      let here : P (record { kind = k; name_start = a; name_end = b; start = i; bound = j; bit_length = bits; end = end }) =
       record { name = name; text = λ h. let n : ⊥ = cc in absurd n; octets = λ h. let n : ⊥ = cc in absurd n; arcs = λ _. lies } in
       subst (All P) (sym grew) (All-push P ns _ (subst (λ x. All (HasRanges xs ys x) ns) (sym e) (all_within ns all (λ n w. within_arcs xs ys zs more n w))) here)
 

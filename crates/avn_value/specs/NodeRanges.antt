@@ -21,19 +21,19 @@ pub record IsRange (buffer : List ℕ) (a b : ℕ) : Type 0 where
 -- The ranges of a node lie within the buffers.
 pub record HasRanges (letters bytes numbers : List ℕ) (n : Node) : Type 0 where
   pub name : IsCharRange letters n.name_start n.name_end
-  pub text : has_text n.kind ≡ true → IsCharRange letters n.start n.failure
-  pub octets : has_octets n.kind ≡ true → IsRange bytes n.start n.failure
-  pub arcs : has_arcs n.kind ≡ true → IsRange numbers n.start n.failure
+  pub text : has_text n.kind ≡ true → IsCharRange letters n.start n.bound
+  pub octets : has_octets n.kind ≡ true → IsRange bytes n.start n.bound
+  pub arcs : has_arcs n.kind ≡ true → IsRange numbers n.start n.bound
 
 -- What a node holds.
 abbrev pub view_of : List ℕ → List ℕ → List ℕ → Node → NodeView
 view_of letters bytes numbers n = record {
   kind = n.kind;
   name = slice_range letters n.name_start n.name_end;
-  text = cond (has_text n.kind) (slice_range letters n.start n.failure) [];
-  octets = cond (has_octets n.kind) (slice_range bytes n.start n.failure) [];
+  text = cond (has_text n.kind) (slice_range letters n.start n.bound) [];
+  octets = cond (has_octets n.kind) (slice_range bytes n.start n.bound) [];
   bits = n.bit_length;
-  arcs = cond (has_arcs n.kind) (slice_range numbers n.start n.failure) [];
+  arcs = cond (has_arcs n.kind) (slice_range numbers n.start n.bound) [];
   end = n.end;
 }
 

@@ -31,7 +31,7 @@ pub struct Node {
     /// Where its content begins: in the text, the octets or the arcs, as its kind is.
     pub start: u32,
     /// Where its content ends.
-    pub failure: u32,
+    pub bound: u32,
     /// The length of a BIT STRING.
     pub bit_length: u32,
     /// The index of the first node after those within it.
@@ -194,9 +194,9 @@ impl Nodes {
         requires arcs { has_arcs kind ≡ false }
         ensures { OnOk result (self.new ≡ with_leaf kind self.old) }
     {
-        let failure = self.text.len();
+        let bound = self.text.len();
         let end = self.nodes.len() + 1;
-        if failure > GREATEST || end > GREATEST {
+        if bound > GREATEST || end > GREATEST {
             return Err(AllocError);
         }
         let node = Node {
@@ -204,13 +204,13 @@ impl Nodes {
             name_start: self.name as u32,
             name_end: self.word as u32,
             start: self.word as u32,
-            failure: failure as u32,
+            bound: bound as u32,
             bit_length: 0,
             end: end as u32,
         };
         self.nodes.push(node)?;
-        self.name = failure;
-        self.word = failure;
+        self.name = bound;
+        self.word = bound;
         Ok(())
     }
 
@@ -246,10 +246,10 @@ impl Nodes {
     {
         let start = self.octets.len();
         self.octets.extend_from_slice(octets)?;
-        let failure = self.octets.len();
+        let bound = self.octets.len();
         let end = self.nodes.len() + 1;
         let edge = self.text.len();
-        if edge > GREATEST || failure > GREATEST || end > GREATEST || bit_length > GREATEST {
+        if edge > GREATEST || bound > GREATEST || end > GREATEST || bit_length > GREATEST {
             return Err(AllocError);
         }
         let node = Node {
@@ -257,7 +257,7 @@ impl Nodes {
             name_start: self.name as u32,
             name_end: self.word as u32,
             start: start as u32,
-            failure: failure as u32,
+            bound: bound as u32,
             bit_length: bit_length as u32,
             end: end as u32,
         };
@@ -277,10 +277,10 @@ impl Nodes {
     {
         let start = self.arcs.len();
         self.arcs.extend_from_slice(arcs)?;
-        let failure = self.arcs.len();
+        let bound = self.arcs.len();
         let end = self.nodes.len() + 1;
         let edge = self.text.len();
-        if edge > GREATEST || failure > GREATEST || end > GREATEST {
+        if edge > GREATEST || bound > GREATEST || end > GREATEST {
             return Err(AllocError);
         }
         let node = Node {
@@ -288,7 +288,7 @@ impl Nodes {
             name_start: self.name as u32,
             name_end: self.word as u32,
             start: start as u32,
-            failure: failure as u32,
+            bound: bound as u32,
             bit_length: 0,
             end: end as u32,
         };
@@ -344,7 +344,7 @@ impl Nodes {
         if !node.kind.has_text() {
             return "";
         }
-        &self.text.as_str()[node.start as usize..node.failure as usize]
+        &self.text.as_str()[node.start as usize..node.bound as usize]
     }
 
     /// Returns the octets of a node, which are none where it has none.
@@ -357,7 +357,7 @@ impl Nodes {
         if !node.kind.has_octets() {
             return &[];
         }
-        &self.octets[node.start as usize..node.failure as usize]
+        &self.octets[node.start as usize..node.bound as usize]
     }
 
     /// Returns the arcs of a node, which are none where it has none.
@@ -370,7 +370,7 @@ impl Nodes {
         if !node.kind.has_arcs() {
             return &[];
         }
-        &self.arcs[node.start as usize..node.failure as usize]
+        &self.arcs[node.start as usize..node.bound as usize]
     }
 
     /// Adds a node of the kind over those that follow it. The word is the name of the first of
@@ -384,23 +384,23 @@ impl Nodes {
         requires { HasNoContent kind }
         ensures { OnOk result (self.new ≡ with_open kind self.old) }
     {
-        let failure = self.text.len();
+        let bound = self.text.len();
         let end = self.nodes.len() + 1;
-        if failure > GREATEST || end > GREATEST {
+        if bound > GREATEST || end > GREATEST {
             return Err(AllocError);
         }
         let node = Node {
             kind,
             name_start: self.name as u32,
             name_end: self.word as u32,
-            start: failure as u32,
-            failure: failure as u32,
+            start: bound as u32,
+            bound: bound as u32,
             bit_length: 0,
             end: end as u32,
         };
         self.nodes.push(node)?;
         self.name = self.word;
-        self.word = failure;
+        self.word = bound;
         Ok(())
     }
 

@@ -37,5 +37,3 @@ pub use tag_tree::TagTree;
 pub use variants::Variants;
 pub use whole_number::{Integer, WholeNumber};
 
-#[cfg(test)]
-mod tests;

@@ -26,6 +26,7 @@ use Rattle.jer_rules.specs.Text as jer
 use Rattle.jer_rules.specs.Text.{IsJer}
 use Rattle.avn_rules.specs.Text as avn
 use Rattle.avn_rules.specs.Text.{IsAvn}
+use Rattle.asn_model.specs.declared.words.TheConstants.{JER_NO_JSON}
 
 -- the text has this tree in the notation
 pub data HasTree : Notation → List ℕ → Tree → Type 0 where
@@ -63,7 +64,7 @@ no_text codec call = codec_name codec ++ (codes " is a binary-based encoding. Ca
 
 -- reading the text by the shape is refused so: it has no tree, or a number in it is a float, or it nests too deep, or its tree decodes to no value, or the codec is no text notation
 pub data IsDecodeFailure (codec : Codec) (s : Shape) (text : List ℕ) : Failure → Type 0 where
-  no_json : codec ≡ Jer → read text ≡ None → IsDecodeFailure codec s text (at_root (Cause.parser (codes "Error parsing JER JSON")) Jer)
+  no_json : codec ≡ Jer → read text ≡ None → IsDecodeFailure codec s text (at_root (Cause.parser JER_NO_JSON.now) Jer)
   has_real : (d : Data) → codec ≡ Jer → read text ≡ Some d → has_float d ≡ true → IsDecodeFailure codec s text (at_root Cause.real_not_supported Jer)
   no_avn : (found : List ℕ) → codec ≡ Avn → grammar.ParseFailure LEVEL_LIMIT (chars text) found → IsDecodeFailure codec s text (at_root (Cause.unexpected_token found) Avn)
   too_deep : codec ≡ Avn → ExceedsDepth LEVEL_LIMIT 0 (chars text) → IsDecodeFailure codec s text (at_root Cause.exceeds_max_parse_depth Avn)

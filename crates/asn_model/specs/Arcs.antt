@@ -13,6 +13,7 @@ use Rattle.asn_base.specs.declared.codec.Codec.TheVariants.{Avn}
 use Rattle.asn_fault.specs.Failure.{Cause}
 use Rattle.asn_model.specs.Digits.{digits}
 use Rattle.asn_model.specs.Value.{Value}
+use Rattle.asn_model.specs.declared.words.TheConstants.{AVN_ARC}
 
 -- The number, if it is below 2^32.
 abbrev pub if_arc : Option ℕ → Option ℕ
@@ -58,7 +59,7 @@ arc_or text None = Err (Cause.invalid_oid text)
 -- The arc that a value in braces is, or what is wrong.
 abbrev pub braced_arc : AvnTree → Result ℕ Cause
 braced_arc (AvnTree.integer text) = arc_or text (arc_number text)
-braced_arc t = Err (Cause.type_mismatch Avn (codes "OID arc (integer)") (print 0 t))
+braced_arc t = Err (Cause.type_mismatch Avn AVN_ARC.now (print 0 t))
 
 -- The arc with the arcs after it, or what is wrong with the first that is none.
 abbrev pub arc_before : Result ℕ Cause → Result (List ℕ) Cause → Result (List ℕ) Cause

@@ -9,10 +9,11 @@ use Rattle.asn_fault.specs.Failure.{Cause}
 use Rattle.asn_fault.specs.EncodeCause.{EncodeCause}
 use Rattle.asn_model.specs.Notation.{Notation}
 use Rattle.asn_model.specs.Value.{Value}
+use Rattle.asn_model.specs.declared.words.TheConstants.{JER_NO_BITS}
 
 -- What is wrong with digits that are no octets, where a length stands beside them.
 abbrev pub no_bits : Cause
-no_bits = Cause.custom (codes "Failed to create BitString from bytes")
+no_bits = Cause.custom JER_NO_BITS.now
 
 -- How many bits so many octets hold, less those of the last octet that a length leaves unused.
 abbrev pub held_bits : ℕ → ℕ → ℕ
@@ -20,7 +21,7 @@ held_bits octets size = 8 * octets - (8 - size % 8) % 8
 
 -- What is wrong with so many octets for a length.
 abbrev pub another_length : ℕ → ℕ → Cause
-another_length octets size = Cause.custom (codes "Failed to create BitString from bytes: invalid value length (was: " ++ (decimal (held_bits octets size) ++ (codes ", expected: " ++ (decimal size ++ codes ")"))))
+another_length octets size = Cause.custom (JER_NO_BITS.now ++ (codes ": invalid value length (was: " ++ (decimal (held_bits octets size) ++ (codes ", expected: " ++ (decimal size ++ codes ")")))))
 
 -- The first bits of the octets that digits say, or what is wrong where they say none, or not as many as these bits take.
 abbrev pub sized_bits : Option ℕ → ℕ → Cause → Result (List ℕ) FromHexError → Result Value Cause

@@ -8,6 +8,7 @@ use Rattle.asn_base.specs.declared.tag.Tag.{Tag}
 use Rattle.asn_fault.specs.Failure.{Cause}
 use Rattle.asn_strings.specs.Alphabets.{all_within, is_any, is_graphic, is_ia5, is_numeric, is_printable, is_visible}
 use Rattle.asn_model.specs.Shape.{Alphabet}
+use Rattle.asn_model.specs.declared.words.TheConstants.{OUTSIDE_ALPHABET}
 
 -- The characters of a type's alphabet.
 abbrev pub alphabet_of : Alphabet → ℕ → Bool
@@ -49,4 +50,4 @@ is_string_of a bytes = is_utf8 bytes && all_within (alphabet_of a) (chars bytes)
 
 -- The text has a character outside the alphabet of the type with this universal tag, and so many characters before it.
 abbrev pub outside_alphabet : Tag → ℕ → Cause
-outside_alphabet tag place = Cause.string_conversion_failed tag (codes "character outside the alphabet at place " ++ decimal place)
+outside_alphabet tag place = Cause.string_conversion_failed tag (OUTSIDE_ALPHABET.now ++ (codes " " ++ decimal place))

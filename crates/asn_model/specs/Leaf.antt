@@ -31,6 +31,7 @@ use Rattle.asn_model.specs.declared.leaves.Leaf.{Leaf}
 use Rattle.asn_model.specs.declared.leaves.Leaf.TheVariants as put
 use Rattle.asn_model.specs.declared.leaves.OwnedLeaf.{OwnedLeaf}
 use Rattle.asn_model.specs.declared.leaves.OwnedLeaf.TheVariants as got
+use Rattle.asn_model.specs.declared.words.TheConstants.{AVN_ARCS, AVN_BITS, AVN_CHOICE, AVN_ITEM, AVN_LIST, AVN_MEMBERS, AVN_NO_UTF8, AVN_NUMBER, AVN_OCTETS, AVN_STRING, BOOLEAN, JER_ARCS, JER_ARRAY, JER_BITS, JER_DATE, JER_DIGITS, JER_ITEM, JER_NUMBER, JER_OBJECT, JER_STRING, JER_TIME, JER_UNKNOWN, NULL}
 
 -- Why a tree decodes to no value: it is of another kind than what is needed, or as told.
 pub data LeafFailure : Type 0 where
@@ -59,42 +60,42 @@ mismatch_of _ j a = LeafFailure.mismatch j
 
 -- The failure of a tree that has no members.
 abbrev pub members_mismatch : Notation → LeafFailure
-members_mismatch Notation.avn = LeafFailure.mismatch (codes "sequence")
-members_mismatch _ = LeafFailure.because (Cause.type_mismatch Jer (codes "object") (codes "unknown"))
+members_mismatch Notation.avn = LeafFailure.mismatch AVN_MEMBERS.now
+members_mismatch _ = LeafFailure.because (Cause.type_mismatch Jer JER_OBJECT.now JER_UNKNOWN.now)
 
 -- The failure of a tree that is no list.
 abbrev pub list_mismatch : Notation → LeafFailure
-list_mismatch n = mismatch_of n (codes "array") (codes "sequence of")
+list_mismatch n = mismatch_of n JER_ARRAY.now AVN_LIST.now
 
 -- The failure of a tree that is no choice.
 abbrev pub choice_mismatch : Notation → LeafFailure
-choice_mismatch n = mismatch_of n (codes "object") (codes "choice (identifier : value)")
+choice_mismatch n = mismatch_of n JER_OBJECT.now AVN_CHOICE.now
 
 -- The words by which a mismatch names the kind that is needed.
 abbrev pub needed : Notation → LeafKind → List ℕ
-needed Notation.avn Null = codes "null"
-needed Notation.avn Boolean = codes "boolean"
-needed Notation.avn Number = codes "integer"
-needed Notation.avn Text = codes "character string"
-needed Notation.avn Time = codes "character string"
-needed Notation.avn Date = codes "character string"
-needed Notation.avn Item = codes "enumerated identifier"
-needed Notation.avn Octets = codes "octet string ('...'H)"
-needed Notation.avn Any = codes "octet string ('...'H)"
-needed Notation.avn Oid = codes "OID as { arc... }"
-needed Notation.avn (Bits size) = codes "bit string ('...'H or '...'B)"
-needed _ Null = codes "null"
-needed _ Boolean = codes "boolean"
-needed _ Number = codes "number (supported range -2^63..2^64)"
-needed _ Text = codes "string"
-needed _ Time = codes "time string"
-needed _ Date = codes "date string"
-needed _ Item = codes "enumerated item as string"
-needed _ Octets = codes "hex string"
-needed _ Any = codes "hex string"
-needed _ Oid = codes "number array"
-needed _ (Bits None) = codes "JSON object containing 'value' and 'length' properties."
-needed _ (Bits (Some size)) = codes "hex string"
+needed Notation.avn Null = NULL.now
+needed Notation.avn Boolean = BOOLEAN.now
+needed Notation.avn Number = AVN_NUMBER.now
+needed Notation.avn Text = AVN_STRING.now
+needed Notation.avn Time = AVN_STRING.now
+needed Notation.avn Date = AVN_STRING.now
+needed Notation.avn Item = AVN_ITEM.now
+needed Notation.avn Octets = AVN_OCTETS.now
+needed Notation.avn Any = AVN_OCTETS.now
+needed Notation.avn Oid = AVN_ARCS.now
+needed Notation.avn (Bits size) = AVN_BITS.now
+needed _ Null = NULL.now
+needed _ Boolean = BOOLEAN.now
+needed _ Number = JER_NUMBER.now
+needed _ Text = JER_STRING.now
+needed _ Time = JER_TIME.now
+needed _ Date = JER_DATE.now
+needed _ Item = JER_ITEM.now
+needed _ Octets = JER_DIGITS.now
+needed _ Any = JER_DIGITS.now
+needed _ Oid = JER_ARCS.now
+needed _ (Bits None) = JER_BITS.now
+needed _ (Bits (Some size)) = JER_DIGITS.now
 
 -- The number, or the failure.
 abbrev pub number_or : LeafFailure → Option ℤ → Result Value LeafFailure
@@ -103,7 +104,7 @@ number_or b None = Err b
 
 -- The octets as text, or the failure where they aren't UTF-8.
 abbrev pub utf8_octets : List ℕ → Result Value LeafFailure
-utf8_octets o = if is_utf8 o then Ok (Value.text o) else Err (LeafFailure.because (Cause.custom (codes "Invalid UTF-8 in AVN string")))
+utf8_octets o = if is_utf8 o then Ok (Value.text o) else Err (LeafFailure.because (Cause.custom AVN_NO_UTF8.now))
 
 -- The octets of a hexadecimal text, or the failure.
 abbrev pub octets_or : Result (List ℕ) FromHexError → Result Value LeafFailure

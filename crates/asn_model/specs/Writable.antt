@@ -1,5 +1,5 @@
 -- What a notation can write, and why it cannot.
-use Rattle.std.specs.Prelude.{◌≡◌, ◌≤ℤ◌, ◌⊎◌, ℕ, pos, negsuc, ℤ, ◌-◌, ◌^◌, length, true, false, codes}
+use Rattle.std.specs.Prelude.{◌≡◌, ◌≤ℤ◌, ◌⊎◌, ℕ, pos, negsuc, ℤ, ◌-◌, ◌^◌, length, true, false}
 use Rattle.std.specs.Str.{is_utf8}
 use Rattle.std.specs.Str.Lossy.{utf8_valid_len}
 use Rattle.asn_fault.specs.EncodeCause.{EncodeCause}
@@ -12,6 +12,7 @@ use Rattle.asn_times.specs.Utc.{IsInUtcYears}
 use Rattle.asn_model.specs.BitLeaves.{LengthStands, LengthBlocks}
 use Rattle.asn_model.specs.Notation.{Notation}
 use Rattle.asn_model.specs.Value.{Value, Values, Slots}
+use Rattle.asn_model.specs.declared.words.TheConstants.{AVN_NO_UNICODE, OUTSIDE_YEARS}
 
 -- The notation has the number.
 abbrev pub IsEncodableInt : Notation → ℤ → Type 0
@@ -46,12 +47,12 @@ abbrev mutual
 
 -- Why a text is not written that stops being Unicode after so many octets or 16-bit units.
 abbrev pub no_unicode : Notation → ℕ → EncodeCause
-no_unicode Notation.avn place = EncodeCause.avn_encoder (codes "Invalid UTF-8")
+no_unicode Notation.avn place = EncodeCause.avn_encoder AVN_NO_UNICODE.now
 no_unicode _ place = EncodeCause.invalid_character place
 
 -- Why a time is not written whose year has no place in its text.
 abbrev pub outside_years : EncodeCause
-outside_years = EncodeCause.custom (codes "time outside the years of its text")
+outside_years = EncodeCause.custom OUTSIDE_YEARS.now
 
 -- The number as an error names it.
 abbrev pub whole : ℤ → WholeNumber

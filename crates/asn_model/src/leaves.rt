@@ -5,6 +5,7 @@ ghost use Rattle.avn_grammar.specs.Chars.{all};
 ghost use Rattle.avn_grammar.specs.WellFormed.{is_octet, is_arc};
 ghost use Rattle.std.specs.Prelude.{true, ◌≡◌};
 
+use crate::words;
 use asn_base::{Bits, Codec, ObjectIdentifier, WholeNumber};
 
 /// The kinds of values without parts that the notations distinguish.
@@ -35,33 +36,26 @@ impl LeafKind {
     {
         match codec {
             Codec::Avn => match self {
-                LeafKind::Null => "null",
-                LeafKind::Boolean => "boolean",
-                LeafKind::Number => "integer",
-                LeafKind::Text => "character string",
-                LeafKind::Time => "character string",
-                LeafKind::Date => "character string",
-                LeafKind::Item => "enumerated identifier",
-                LeafKind::Octets => "octet string ('...'H)",
-                LeafKind::Any => "octet string ('...'H)",
-                LeafKind::Oid => "OID as { arc... }",
-                LeafKind::Bits(_) => "bit string ('...'H or '...'B)",
+                LeafKind::Null => words::NULL,
+                LeafKind::Boolean => words::BOOLEAN,
+                LeafKind::Number => words::AVN_NUMBER,
+                LeafKind::Text | LeafKind::Time | LeafKind::Date => words::AVN_STRING,
+                LeafKind::Item => words::AVN_ITEM,
+                LeafKind::Octets | LeafKind::Any => words::AVN_OCTETS,
+                LeafKind::Oid => words::AVN_ARCS,
+                LeafKind::Bits(_) => words::AVN_BITS,
             },
             _ => match self {
-                LeafKind::Null => "null",
-                LeafKind::Boolean => "boolean",
-                LeafKind::Number => "number (supported range -2^63..2^64)",
-                LeafKind::Text => "string",
-                LeafKind::Time => "time string",
-                LeafKind::Date => "date string",
-                LeafKind::Item => "enumerated item as string",
-                LeafKind::Octets => "hex string",
-                LeafKind::Any => "hex string",
-                LeafKind::Oid => "number array",
-                LeafKind::Bits(None) => {
-                    "JSON object containing 'value' and 'length' properties."
-                }
-                LeafKind::Bits(Some(_)) => "hex string",
+                LeafKind::Null => words::NULL,
+                LeafKind::Boolean => words::BOOLEAN,
+                LeafKind::Number => words::JER_NUMBER,
+                LeafKind::Text => words::JER_STRING,
+                LeafKind::Time => words::JER_TIME,
+                LeafKind::Date => words::JER_DATE,
+                LeafKind::Item => words::JER_ITEM,
+                LeafKind::Octets | LeafKind::Any | LeafKind::Bits(Some(_)) => words::JER_DIGITS,
+                LeafKind::Oid => words::JER_ARCS,
+                LeafKind::Bits(None) => words::JER_BITS,
             },
         }
     }

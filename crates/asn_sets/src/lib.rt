@@ -6,5 +6,3 @@ pub mod set_of;
 
 pub use set_of::SetOf;
 
-#[cfg(test)]
-mod tests;

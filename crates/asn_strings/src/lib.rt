@@ -20,5 +20,3 @@ pub use text::{
     VisibleString,
 };
 
-#[cfg(test)]
-mod tests;

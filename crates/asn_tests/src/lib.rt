@@ -4,7 +4,11 @@
 #![tactic(auto)]
 
 #[cfg(test)]
+mod alphabets;
+#[cfg(test)]
 mod avn_texts;
+#[cfg(test)]
+mod base;
 #[cfg(test)]
 mod bits;
 #[cfg(test)]
@@ -24,6 +28,10 @@ mod program;
 #[cfg(test)]
 mod samples;
 #[cfg(test)]
+mod sets;
+#[cfg(test)]
 mod slots;
 #[cfg(test)]
 mod texts;
+#[cfg(test)]
+mod times;

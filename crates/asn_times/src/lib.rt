@@ -18,5 +18,3 @@ pub use faults::TimeFault;
 pub use generalized_times::{GeneralizedTime, read_generalized, write_generalized};
 pub use utc_times::{UtcTime, read_utc, write_utc};
 
-#[cfg(test)]
-mod tests;

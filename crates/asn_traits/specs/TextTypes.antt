@@ -1,5 +1,5 @@
 -- Types whose values are texts in both notations: character strings and times.
-use Rattle.std.specs.Prelude.{◌≡◌, ◌⊎◌, ℕ, List, Result, Ok, Err, true, codes, String, string_bytes}
+use Rattle.std.specs.Prelude.{◌≡◌, ◌⊎◌, ℕ, List, Result, Ok, Err, true, String, string_bytes}
 use Rattle.std.specs.Global.{Global}
 use Rattle.asn_base.specs.declared.codec.Codec.{Codec}
 use Rattle.asn_base.specs.declared.codec.Codec.TheVariants.{Ber}
@@ -22,6 +22,7 @@ use Rattle.asn_model.specs.Value.{Value}
 use Rattle.asn_model.specs.Writable.{outside_years}
 use Rattle.asn_traits.specs.Answer.{OfPlace}
 use Rattle.asn_traits.specs.Writing.{FailsToEncode, Frame, Puts}
+use Rattle.asn_model.specs.declared.words.TheConstants.{NO_TELETEX}
 
 -- The text is no value of the shape, and the error says so.
 pub record IsNoText (s : Shape) (text : List ℕ) (codec : Codec) (e : Failure) : Type 0 where
@@ -61,4 +62,4 @@ IsPutTime holds n (Err fault) old (Err e) new = TellsUnwritten n outside_years e
 
 -- Why no TeletexString is written or read.
 abbrev pub no_teletex : List ℕ
-no_teletex = codes "TeletexString is not supported"
+no_teletex = NO_TELETEX.now

@@ -23,13 +23,13 @@ ghost use Rattle.std.specs.Prelude.{string_bytes, IfErr, IsErr};
 
 use crate::integer_type::beyond_128_bits;
 use crate::tables::{listed, listed_fields, tag_at};
-use crate::texts::NO_TELETEX;
 use crate::{
     AsnType, Choice, Constructed, Enumerated, Field, IntegerType, LeafKind, OwnedLeaf, TextType,
 };
 use asn_base::{Any, Bits, Codec, Constraints, ObjectIdentifier, Tag};
 use asn_fault::{DecodeError, Refusal};
 use asn_model::fixed_size;
+use asn_model::words::NO_TELETEX;
 use asn_strings::{
     BmpString, GeneralString, GraphicString, Ia5String, NumericString, PrintableString,
     TeletexString, VisibleString,

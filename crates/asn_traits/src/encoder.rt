@@ -23,11 +23,11 @@ ghost use Rattle.std.specs.Prelude.{Err, true, map, option_map, OnOk, IfErr, IfS
 ghost use Rattle.std.specs.Prelude.{IsSome, ⊤};
 
 use crate::tables::{identifier_of, listed, listed_fields};
-use crate::texts::NO_TELETEX;
 use crate::{AsnType, Choice, Constructed, Enumerated, Field, IntegerType, Leaf, TextType};
 use asn_base::{Any, Bits, Codec, Constraints, Identifier, Tag, WholeNumber};
 use asn_fault::{EncodeError, EncodeErrorKind};
 use asn_model::{are_arcs, are_octets, fixed_size};
+use asn_model::words::NO_TELETEX;
 use asn_strings::{
     BmpString, GeneralString, GraphicString, Ia5String, NumericString, PrintableString,
     TeletexString, VisibleString,

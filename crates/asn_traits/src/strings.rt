@@ -17,6 +17,7 @@ use crate::{Alphabet, Encoder, Leaf, LeafKind, OfKind, Shape, TextKind, TextType
 use asn_base::{Codec, Tag, TagTree};
 use asn_fault::{DecodeError, EncodeError};
 use asn_model::are_octets;
+use asn_model::words::OUTSIDE_ALPHABET;
 use asn_strings::character_sets::{General, Graphic, Ia5, Numeric, Printable, Universal, Visible};
 use asn_strings::laws::{text_is_utf8, units_are_within};
 use asn_strings::octets::Utf8Octets;
@@ -204,7 +205,7 @@ fn outside_alphabet(alloc: Global, tag: Tag, place: usize, codec: Codec) -> Deco
     ensures { (failure_of result ≡ at_root (outside_alphabet tag place) codec)
         ⊎ (failure_of result ≡ at_root Cause.out_of_memory codec) }
 {
-    match format!(in alloc; "character outside the alphabet at place {place}") {
+    match format!(in alloc; "{OUTSIDE_ALPHABET} {place}") {
         Ok(msg) => DecodeError::string_conversion_failed(tag, msg, codec),
         Err(_) => DecodeError::out_of_memory(codec),
     }

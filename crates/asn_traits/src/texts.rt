@@ -64,9 +64,6 @@ pub trait TextType: OfKind<Kind = TextKind> {
     ghost readable: { is_readable shape ≡ true };
 }
 
-/// Why no TeletexString is written or read.
-pub(crate) const NO_TELETEX: &str = "TeletexString is not supported";
-
 /// Character string types and time types.
 pub struct TextKind;
 

@@ -9,6 +9,7 @@ ghost use Rattle.std.specs.Prelude.{◌≡◌, refl, string_bytes};
 use crate::{Encoder, Leaf, LeafKind, OfKind, Shape, TextKind, TextType};
 use asn_base::{Codec, Tag, TagTree};
 use asn_fault::{BerDecodeErrorKind, DecodeError, EncodeError};
+use asn_model::words::OUTSIDE_YEARS;
 use asn_times::laws::{day_is_held, generalized_is_held, utc_is_held};
 use asn_times::{
     Date, GeneralizedTime, TimeFault, UtcTime, read_date, read_generalized, read_utc, write_date,
@@ -30,7 +31,7 @@ fn time_of<T: Drop>(read: Result<T, TimeFault>, text: String) -> Result<T, Decod
 fn outside_years(alloc: Global, codec: Codec) -> EncodeError
     ensures { TellsUnwritten (notation_of codec) outside_years result }
 {
-    match String::from_str(alloc, "time outside the years of its text") {
+    match String::from_str(alloc, OUTSIDE_YEARS) {
         Ok(msg) => EncodeError::custom(msg, codec),
         Err(_) => EncodeError::out_of_memory(codec),
     }

@@ -1,5 +1,5 @@
 -- What a text is in JER.
-use Rattle.std.specs.Prelude.{◌≡◌, ◌≤◌, ℕ, List, Some, None, true, false, codes}
+use Rattle.std.specs.Prelude.{◌≡◌, ◌≤◌, ℕ, List, Some, None, true, false}
 use Rattle.serde_json.specs.Data.{Data, depth}
 use Rattle.serde_json.specs.Read.{read, max_depth}
 use Rattle.serde_json.specs.Written.{has_float}
@@ -12,6 +12,7 @@ use Rattle.asn_traits.specs.FailsWith.{FailsWith}
 use Rattle.asn_traits.specs.Tree.{Tree}
 use Rattle.asn_traits.specs.Value.{Value}
 use Rattle.asn_traits.specs.Answer.{Refuses}
+use Rattle.asn_model.specs.declared.words.TheConstants.{JER_NO_JSON}
 
 -- The text is this JSON value, in which each number is an `i64` or a `u64`.
 abbrev pub IsJer : List ℕ → Data → Type 0
@@ -23,7 +24,7 @@ ReadsBack v text = depth (jer_data v) ≤ max_depth → IsJer text (jer_data v)
 
 -- The text is no JSON, or a number in it is a float, and the error says so, or memory ran out.
 pub data NoTree (text : List ℕ) (failure : Failure) : Type 0 where
-  no_json : read text ≡ None → failure ≡ at_root (Cause.parser (codes "Error parsing JER JSON")) Jer → NoTree text failure
+  no_json : read text ≡ None → failure ≡ at_root (Cause.parser JER_NO_JSON.now) Jer → NoTree text failure
   has_real : (d : Data) → read text ≡ Some d → has_float d ≡ true → failure ≡ at_root Cause.real_not_supported Jer → NoTree text failure
   no_memory : is_out_of_memory failure ≡ true → NoTree text failure
 

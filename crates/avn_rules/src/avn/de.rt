@@ -17,6 +17,7 @@ use super::leaves::{NoLeaf, leaf_of_avn};
 use super::take_apart::{into_choice, into_fields, into_items, slots_of};
 use asn_base::Codec;
 use asn_fault::DecodeError;
+use asn_model::words;
 use asn_slots::Pending;
 use asn_traits::{Field, LeafKind, OwnedLeaf, place_of};
 use avn_value::{AvnValue, parse_avn};
@@ -153,7 +154,7 @@ impl asn_traits::Decoder for Decoder {
                     Err(_) => Err(DecodeError::out_of_memory(Codec::Avn)),
                 }
             }
-            Err(other) => Err(mismatch(self.alloc, "sequence of", &other)),
+            Err(other) => Err(mismatch(self.alloc, words::AVN_LIST, &other)),
         }
     }
 
@@ -161,7 +162,7 @@ impl asn_traits::Decoder for Decoder {
     fn open_members(&mut self, root: &[Field], additions: &[Field]) -> Result<(), DecodeError> {
         let members = match into_fields(self.alloc, self.take()?) {
             Ok(members) => members,
-            Err(other) => return Err(mismatch(self.alloc, "sequence", &other)),
+            Err(other) => return Err(mismatch(self.alloc, words::AVN_MEMBERS, &other)),
         };
         let Ok(slots) = slots_of(self.alloc, members, root, additions) else {
             return Err(DecodeError::out_of_memory(Codec::Avn));
@@ -177,7 +178,7 @@ impl asn_traits::Decoder for Decoder {
     fn open_choice(&mut self, identifiers: &[&'static str]) -> Result<Option<usize>, DecodeError> {
         let (name, payload) = match into_choice(self.take()?) {
             Ok(choice) => choice,
-            Err(other) => return Err(mismatch(self.alloc, "choice (identifier : value)", &other)),
+            Err(other) => return Err(mismatch(self.alloc, words::AVN_CHOICE, &other)),
         };
         match place_of(identifiers, name.as_str()) {
             Some(place) => {

@@ -9,7 +9,8 @@ ghost use Rattle.asn_traits.specs.TextTypes.{TellsUnwritten};
 ghost use Rattle.asn_traits.specs.Arcs.{listed_text};
 ghost use Rattle.avn_rules.specs.NoLeaves.{no_arc};
 ghost use Rattle.avn_rules.specs.Pending.{tree_of};
-ghost use Rattle.std.specs.Prelude.{◌≡◌, ◌⊎◌, IfOk, codes, string_bytes};
+ghost use Rattle.std.specs.Prelude.{◌≡◌, ◌⊎◌, IfOk, string_bytes};
+ghost use Rattle.asn_model.specs.declared.words.TheConstants.{AVN_NO_UNICODE, AVN_NO_UTF8};
 
 use asn_base::{Codec, OutOfMemory};
 use asn_fault::{
@@ -17,6 +18,7 @@ use asn_fault::{
     DecodeErrorKind, EncodeError, EncodeErrorKind,
 };
 use asn_model::joined_arcs;
+use asn_model::words::{AVN_ARC, AVN_NO_UNICODE, AVN_NO_UTF8};
 use avn_value::AvnValue;
 use std::alloc::Global;
 
@@ -60,10 +62,10 @@ pub fn no_number(text: String) -> DecodeError
 
 /// The octets of a character string are no UTF-8. Memory may run out.
 pub fn no_utf8(alloc: Global) -> DecodeError
-    ensures { (failure_of result ≡ at_root (Cause.custom (codes "Invalid UTF-8 in AVN string")) Avn)
+    ensures { (failure_of result ≡ at_root (Cause.custom AVN_NO_UTF8.now) Avn)
         ⊎ (failure_of result ≡ at_root Cause.out_of_memory Avn) }
 {
-    match String::from_str(alloc, "Invalid UTF-8 in AVN string") {
+    match String::from_str(alloc, AVN_NO_UTF8) {
         Ok(msg) => DecodeError::custom(msg, Codec::Avn),
         Err(_) => DecodeError::out_of_memory(Codec::Avn),
     }
@@ -71,10 +73,10 @@ pub fn no_utf8(alloc: Global) -> DecodeError
 
 /// Returns the refusal to write a text that isn't Unicode. Memory may run out.
 pub fn no_unicode(alloc: Global) -> EncodeError
-    ensures { TellsUnwritten Notation.avn (EncodeCause.avn_encoder (codes "Invalid UTF-8"))
+    ensures { TellsUnwritten Notation.avn (EncodeCause.avn_encoder AVN_NO_UNICODE.now)
         result }
 {
-    let Ok(msg) = String::from_str(alloc, "Invalid UTF-8") else {
+    let Ok(msg) = String::from_str(alloc, AVN_NO_UNICODE) else {
         return EncodeError::out_of_memory(Codec::Avn);
     };
     EncodeError::from_kind(
@@ -92,7 +94,7 @@ pub fn no_arc(alloc: Global, item: &AvnValue) -> DecodeError
 {
     match format!(in alloc; "{item}") {
         Ok(found) => avn_error(AvnDecodeErrorKind::AvnTypeMismatch {
-            needed: "OID arc (integer)",
+            needed: AVN_ARC,
             found,
         }),
         Err(_) => DecodeError::out_of_memory(Codec::Avn),

@@ -21,6 +21,7 @@ use super::leaves::{NoLeaf, leaf_of_json};
 use super::take_apart::{into_items, into_members, into_payload};
 use asn_base::Codec;
 use asn_fault::DecodeError;
+use asn_model::words;
 use asn_slots::Pending;
 use asn_traits::{Field, LeafKind, OwnedLeaf};
 use serde_json::{Map, Value};
@@ -194,7 +195,7 @@ impl asn_traits::Decoder for Decoder {
                     Err(_) => Err(DecodeError::out_of_memory(Codec::Jer)),
                 }
             }
-            Err(other) => Err(mismatch(self.alloc, "array", &other)),
+            Err(other) => Err(mismatch(self.alloc, words::JER_ARRAY, &other)),
         }
     }
 
@@ -223,7 +224,7 @@ impl asn_traits::Decoder for Decoder {
                     Ok(None)
                 }
             },
-            Err(other) => Err(mismatch(self.alloc, "object", &other)),
+            Err(other) => Err(mismatch(self.alloc, words::JER_OBJECT, &other)),
         }
     }
 }

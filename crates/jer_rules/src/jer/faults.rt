@@ -8,13 +8,15 @@ ghost use Rattle.asn_traits.specs.Notation.{Notation};
 ghost use Rattle.asn_traits.specs.Tree.{Tree};
 ghost use Rattle.jer_rules.specs.Identifiers.{no_identifier};
 ghost use Rattle.serde_json.specs.View.{view};
-ghost use Rattle.std.specs.Prelude.{◌≡◌, ◌⊎◌, codes, string_bytes};
+ghost use Rattle.std.specs.Prelude.{◌≡◌, ◌⊎◌, string_bytes};
+ghost use Rattle.asn_model.specs.declared.words.TheConstants.{JER_NO_JSON, JER_OBJECT, JER_UNKNOWN};
 
 use asn_base::Codec;
 use asn_fault::{
     CodecDecodeError, CodecEncodeError, DecodeError, DecodeErrorKind, EncodeError, EncodeErrorKind,
     JerDecodeErrorKind, JerEncodeErrorKind,
 };
+use asn_model::words::{JER_NO_BITS, JER_NO_JSON, JER_OBJECT, JER_UNKNOWN};
 use serde_json::Value;
 use std::alloc::Global;
 
@@ -45,12 +47,12 @@ pub fn mismatch(alloc: Global, needed: &'static str, value: &Value) -> DecodeErr
 /// The JSON value is no object where members are needed. Memory may run out.
 pub fn no_object(alloc: Global) -> DecodeError
     ensures { (failure_of result
-        ≡ at_root (Cause.type_mismatch Jer (codes "object") (codes "unknown")) Jer)
+        ≡ at_root (Cause.type_mismatch Jer JER_OBJECT.now JER_UNKNOWN.now) Jer)
         ⊎ (failure_of result ≡ at_root Cause.out_of_memory Jer) }
 {
-    match String::from_str(alloc, "unknown") {
+    match String::from_str(alloc, JER_UNKNOWN) {
         Ok(found) => jer_error(JerDecodeErrorKind::TypeMismatch {
-            needed: "object",
+            needed: JER_OBJECT,
             found,
         }),
         Err(_) => DecodeError::out_of_memory(Codec::Jer),
@@ -77,7 +79,7 @@ pub fn no_digits(alloc: Global) -> DecodeError
     ensures { (failure_of result ≡ at_root no_bits Jer)
         ⊎ (failure_of result ≡ at_root Cause.out_of_memory Jer) }
 {
-    match String::from_str(alloc, "Failed to create BitString from bytes") {
+    match String::from_str(alloc, JER_NO_BITS) {
         Ok(msg) => DecodeError::custom(msg, Codec::Jer),
         Err(_) => DecodeError::out_of_memory(Codec::Jer),
     }
@@ -90,7 +92,7 @@ pub fn other_length(alloc: Global, octets: usize, size: usize) -> DecodeError
 {
     let held = bits_held(octets, size);
     match format!(in alloc;
-        "Failed to create BitString from bytes: invalid value length (was: {held}, expected: {size})"
+        "{JER_NO_BITS}: invalid value length (was: {held}, expected: {size})"
     ) {
         Ok(msg) => DecodeError::custom(msg, Codec::Jer),
         Err(_) => DecodeError::out_of_memory(Codec::Jer),
@@ -118,10 +120,10 @@ pub fn no_oid(alloc: Global, text: String) -> DecodeError
 
 /// The text is no JSON. Memory may run out.
 pub fn no_json(alloc: Global) -> DecodeError
-    ensures { (failure_of result ≡ at_root (Cause.parser (codes "Error parsing JER JSON")) Jer)
+    ensures { (failure_of result ≡ at_root (Cause.parser JER_NO_JSON.now) Jer)
         ⊎ (failure_of result ≡ at_root Cause.out_of_memory Jer) }
 {
-    match String::from_str(alloc, "Error parsing JER JSON") {
+    match String::from_str(alloc, JER_NO_JSON) {
         Ok(msg) => DecodeError::parser_fail(msg, Codec::Jer),
         Err(_) => DecodeError::out_of_memory(Codec::Jer),
     }

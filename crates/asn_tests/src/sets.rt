@@ -1,5 +1,5 @@
-//! Sets of octets.
-use crate::SetOf;
+// Sets of octets.
+use asn_sets::SetOf;
 use std::alloc::Global;
 use std::test::Fail;
 

@@ -1,6 +1,6 @@
-//! Tests the strings on the edges of their alphabets. The expected values come from the alphabets
-//! of X.680, section 41.
-use crate::{
+// Tests the strings on the edges of their alphabets. The expected values come from the alphabets
+// of X.680, section 41.
+use asn_strings::{
     BmpString, GeneralString, GraphicString, Ia5String, NumericString, PrintableString,
     StringFault, TeletexString, UnitFault, UniversalString, VisibleString,
 };

@@ -1,6 +1,6 @@
-//! Tests texts as they are read and written again, and the printed texts of faults. The expected
-//! texts follow from the forms of X.680 and the calendar.
-use crate::{
+// Tests texts as they are read and written again, and the printed texts of faults. The expected
+// texts follow from the forms of X.680 and the calendar.
+use asn_times::{
     Date, TimeFault, read_date, read_generalized, read_utc, write_date, write_generalized,
     write_utc,
 };

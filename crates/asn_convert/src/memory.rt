@@ -1,11 +1,11 @@
 //! Implements sources and sinks in memory: two that never fail, and two that fail at the calls
 //! that a list names, give and take small pieces, and run out of room. Tests run the whole
 //! program over them, and contracts state exactly which call fails.
-ghost use Rattle.std.specs.Prelude.{◌≡◌, ◌≤◌, ◌<◌, ◌+◌, ◌-◌, ◌^◌, ◌↔◌, ◌⊎◌, [], length, min, Some};
+ghost use Rattle.std.specs.Prelude.{◌≡◌, ◌≤◌, ◌<◌, ◌+◌, ◌-◌, ◌^◌, ◌↔◌, ◌⊎◌, [], length, min, Some, Ok};
 ghost use Rattle.std.specs.Prelude.{None, vec_len, vec_capacity, IfOk, IsErr, IsTrue, Contains};
 ghost use Rattle.std.specs.Io.{ReadsAtMost, WritesAtMost};
 ghost use Rattle.std.specs.Io.KnownBytes.{ReadConsumes, WriteAppends};
-ghost use Rattle.asn_convert.specs.Faults.{Increased, HasCause, next_count};
+ghost use Rattle.asn_convert.specs.Faults.{HasCause, next_count};
 
 use crate::io::{Failed, Sink, Source};
 use asn_base::OutOfMemory;
@@ -42,7 +42,13 @@ impl Source for SteadySource {
 
     ghost faults = { λ _. 0 };
 
-    fn read(&mut self, into: &mut [u8]) -> Result<usize, Failed> {
+    fn read(&mut self, into: &mut [u8]) -> Result<usize, Failed>
+        ensures bound { ReadsAtMost result into.new }
+        ensures bytes { ReadConsumes (Some (bytes_left self.old)) (Some (bytes_left self.new))
+            result into.new }
+        ensures cause { HasCause 0 0 result }
+        ensures steady { result ≡ Ok (min (length into.new) (length (bytes_left self.old))) }
+    {
         // The copy is as long as the shorter of the two, and 0 at the end or for an empty slice.
         let left = &self.bytes[self.at..];
         let count = into.len().min(left.len());
@@ -74,7 +80,13 @@ impl Sink for SteadySink {
 
     ghost faults = { λ _. 0 };
 
-    fn write(&mut self, from: &[u8]) -> Result<usize, Failed> {
+    fn write(&mut self, from: &[u8]) -> Result<usize, Failed>
+        ensures bound { WritesAtMost result from.now }
+        ensures bytes { WriteAppends None None result from.now }
+        ensures moves { IfOk result (λ n. 0 < length from.now → 0 < n) }
+        ensures cause { HasCause 0 0 result }
+        ensures whole { result ≡ Ok (length from.now) }
+    {
         Ok(from.len())
     }
 }
@@ -158,10 +170,11 @@ impl MemorySource {
 }
 
 /// Gives bytes as `SteadySource` does, in pieces, unless the call is to fail. The clauses after
-/// the trait's three state exactly when a call fails (`fails`) and how much it gives (`piece`).
+/// the trait's three state exactly when a call fails (`fails`), how much it gives (`gives`), and
+/// what it leaves for the next one (`piece`, `calls`).
 impl Source for MemorySource {
     ghost use Rattle.asn_convert.specs.Memory.{bytes_left};
-    ghost use Rattle.asn_convert.specs.Calls.{IsToFail};
+    ghost use Rattle.asn_convert.specs.Calls.{IsToFail, calls_after};
 
     ghost left = { λ s. Some (bytes_left s.bytes) };
 
@@ -173,7 +186,10 @@ impl Source for MemorySource {
             (Some (bytes_left self.new.bytes)) result into.new }
         ensures cause { HasCause self.old.calls.faults self.new.calls.faults result }
         ensures fails { IsErr result ↔ IsToFail self.old.calls }
-        ensures piece { IfOk result (λ n. n ≤ self.old.piece) }
+        ensures gives { IfOk result (λ n. n ≡ min (min (length into.new) self.old.piece)
+            (length (bytes_left self.old.bytes))) }
+        ensures piece { self.new.piece ≡ self.old.piece }
+        ensures calls { self.new.calls ≡ calls_after self.old.calls result }
     {
         // A call that fails takes nothing, so the next one goes on at the same byte.
         if self.calls.next_fails() {
@@ -244,9 +260,10 @@ impl MemorySink {
 }
 
 /// Takes bytes into the room that is left, unless the call is to fail. The clauses after the
-/// trait's four state exactly when a call fails (`fails`) and how much it takes (`takes`).
+/// trait's four state exactly when a call fails (`fails`), how much it takes (`takes`), and what it
+/// leaves for the next one (`piece`, `room`, `calls`).
 impl Sink for MemorySink {
-    ghost use Rattle.asn_convert.specs.Calls.{IsToFail};
+    ghost use Rattle.asn_convert.specs.Calls.{IsToFail, calls_after};
 
     ghost written = { λ s. Some s.bytes.items };
 
@@ -256,13 +273,15 @@ impl Sink for MemorySink {
         ensures bound { WritesAtMost result from.now }
         ensures bytes { WriteAppends (Some self.old.bytes.items) (Some self.new.bytes.items)
             result from.now }
-        ensures stuck { IfOk result (λ n. n ≡ 0 → 0 < length from.now
-            → Increased self.old.calls.faults self.new.calls.faults) }
+        ensures moves { IfOk result (λ n. 0 < length from.now → 0 < n) }
         ensures cause { HasCause self.old.calls.faults self.new.calls.faults result }
         ensures fails { IsErr result ↔ (IsToFail self.old.calls
             ⊎ (0 < length from.now × (self.old.room ≡ vec_len self.old.bytes))) }
         ensures takes { IfOk result (λ n. n ≡ min (min (length from.now) self.old.piece)
             (self.old.room - vec_len self.old.bytes)) }
+        ensures piece { self.new.piece ≡ self.old.piece }
+        ensures room { self.new.room ≡ self.old.room }
+        ensures calls { self.new.calls ≡ calls_after self.old.calls result }
     {
         // Without room a write fails, and doesn't take 0 bytes, which a caller might try for ever.
         let room = self.room - self.bytes.len();

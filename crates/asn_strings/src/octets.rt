@@ -1,14 +1,14 @@
 //! Defines the restricted character strings that are held as octets: GeneralString, GraphicString
 //! and TeletexString, whose octets needn't be UTF-8.
-ghost use Rattle.asn_strings.specs.Alphabets.{all_within, is_graphic, past_ascii_is_graphic};
-ghost use Rattle.asn_strings.specs.Alphabets.{place_outside};
+ghost use Rattle.asn_strings.specs.Alphabets.{all_within, is_graphic, place_outside};
+ghost use Rattle.asn_strings.specs.PastAscii.{past_ascii_is_graphic};
 ghost use Rattle.asn_strings.specs.Refusals.{refused_place};
 ghost use Rattle.std.specs.Cmp.Lexicographic.{nat_list_eq_equiv};
 ghost use Rattle.std.specs.Cmp.{partial_equiv_from_equiv};
 ghost use Rattle.std.specs.Prelude.{◌≡◌, ◌≤◌, ℕ, IfOk, IsSome, IsTrue, OnErr, OnOk, SomeIff};
 ghost use Rattle.std.specs.Prelude.{bytes_eq, chars, refl, string_bytes, true};
 
-use crate::character_sets::{General, Graphic, Teletex, first_outside};
+use crate::character_sets::{General, Graphic, Teletex, are_within, first_outside};
 use crate::{CharacterSet, StringFault};
 use std::alloc::Global;
 use std::marker::{Model, PhantomData};
@@ -79,13 +79,6 @@ impl<C: OctetSet> Model for RestrictedOctets<C> {
     ghost view = { λ s. s.octets.items };
 
     ghost invariant = { λ s. IsTrue (all_within C.alphabet s.octets.items) };
-}
-
-/// Returns whether each octet is in the alphabet of `C`, taken as the character of its number.
-pub fn are_within<C: OctetSet>(octets: &[u8]) -> bool
-    ensures { result ≡ all_within C.alphabet octets.now }
-{
-    octets.iter().all(|octet| C::contains(char::from(*octet)))
 }
 
 /// Is a GeneralString: any octets.

@@ -1,8 +1,8 @@
 -- Which alphabets have the characters and octets past ASCII.
-use Rattle.std.specs.Prelude.{◌≡◌, ◌≤◌, ℕ, true, false, refl}
+use Rattle.std.specs.Prelude.{◌≡◌, ◌≤◌, ℕ, false, refl}
 use Rattle.std.proofs.Common.{arith, inl, inr}
 use Rattle.std.proofs.lemmas.Bool.Decides.{nat_tests}
-use Rattle.asn_strings.specs.Alphabets.{HasAllOrNonePastAscii, is_any, is_graphic, is_ia5, is_numeric, is_printable, is_visible}
+use Rattle.asn_strings.specs.Alphabets.{HasAllOrNonePastAscii, is_any, is_graphic, is_ia5, is_numeric, is_printable, is_visible, past_ascii_is_graphic}
 
 numeric_lacks : (c : ℕ) → 128 ≤ c → is_numeric c ≡ false
 numeric_lacks c h = grind (arith, nat_tests)
@@ -15,9 +15,6 @@ visible_lacks c h = grind (arith, nat_tests)
 
 pub ia5_lacks : (c : ℕ) → 128 ≤ c → is_ia5 c ≡ false
 ia5_lacks c h = grind (arith, nat_tests)
-
-pub past_ascii_is_graphic : (octet : ℕ) → 128 ≤ octet → is_graphic octet ≡ true
-past_ascii_is_graphic octet h = grind (arith, nat_tests)
 
 pub numeric_past_ascii : HasAllOrNonePastAscii is_numeric
 numeric_past_ascii = inr numeric_lacks

@@ -1,7 +1,7 @@
 //! Defines the restricted character strings that are held as octets: GeneralString, GraphicString
 //! and TeletexString, whose octets needn't be UTF-8.
-ghost use Rattle.asn_strings.specs.Alphabets.{all_within, is_graphic, place_outside};
-ghost use Rattle.asn_strings.specs.PastAscii.{past_ascii_is_graphic};
+ghost use Rattle.asn_strings.specs.Alphabets.{all_within, is_graphic, past_ascii_is_graphic};
+ghost use Rattle.asn_strings.specs.Alphabets.{place_outside};
 ghost use Rattle.asn_strings.specs.Refusals.{refused_place};
 ghost use Rattle.std.specs.Cmp.Lexicographic.{nat_list_eq_equiv};
 ghost use Rattle.std.specs.Cmp.{partial_equiv_from_equiv};

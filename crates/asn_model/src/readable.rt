@@ -20,8 +20,9 @@ use crate::names::{
 use crate::tags::same_tag;
 use crate::{Alphabet, AlternativeShape, FieldShape, Plain, PresenceShape, Shape};
 use asn_base::Tag;
-use asn_strings::character_sets::{Graphic, Ia5, Numeric, Printable, Visible, is_within};
-use asn_strings::octets::are_within;
+use asn_strings::character_sets::{
+    Graphic, Ia5, Numeric, Printable, Visible, are_within, is_within,
+};
 
 /// Holds what stands around a part of a shape, the innermost first, as a chain of references on
 /// the stack: no count of loops can overflow, and none takes memory.

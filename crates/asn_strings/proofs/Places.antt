@@ -1,10 +1,13 @@
 -- The first character outside an alphabet.
-use Rattle.std.proofs.Common.{◌≡◌, ℕ, ◌<◌, Bool, true, false, cond, not, List, [], ◌∷◌, Some, None, Option, IfNone, IsTrue, length, get_or, ◌^◌, ◌↔◌, ◌∙◌, ap, arith, refl, sym, true≢false}
+use Rattle.std.proofs.Common.{◌≡◌, ℕ, ◌<◌, Bool, true, false, cond, not, ◌&&◌, List, [], ◌∷◌, Some, None, Option, IfNone, IsTrue, length, get_or, ◌^◌, ◌↔◌, ◌∙◌, ap, arith, chars, refl, subst, sym, true≢false}
 use Rattle.std.proofs.lemmas.Bool.Decides.{nat_tests}
-use Rattle.std.proofs.lemmas.List.Sums.{AllPass-from_list_all}
+use Rattle.std.proofs.lemmas.List.Elements.{All-from_get_or}
+use Rattle.std.proofs.lemmas.List.Sums.{AllPass-from_list_all, list_all-from_AllPass}
+use Rattle.std.proofs.lemmas.Str.{chars-IsAscii}
+use Rattle.std.specs.Str.{IsAscii}
 use Rattle.std.proofs.lemmas.List.Quantifiers.{position-Some}
 use Rattle.std.proofs.lemmas.Option.{none-some}
-use Rattle.std.specs.List.{prefix_len, list_all, position_or_len}
+use Rattle.std.specs.List.{fold, prefix_len, list_all, position_or_len}
 use Rattle.asn_strings.specs.Alphabets.{all_within, is_bmp, place_outside}
 
 -- All of these pass, unless one stands after the longest front that passes.
@@ -74,3 +77,21 @@ pub first_outside : (p : ℕ → Bool) (cs : List ℕ) (place : ℕ) → place_o
 first_outside p cs place e =
     let found = position-Some (λ c. not (p c)) cs place 0 e in
     (found.0, false_from_not _ found.1, λ k h. true_from_not _ (found.2 k h))
+
+-- A walk that tests each in turn, and goes on where one fails.
+pub folds_within : (p : ℕ → Bool) (cs : List ℕ) (within : Bool)
+    → fold (λ w c. w && p c) within cs ≡ (within && all_within p cs)
+folds_within p [] true = refl
+folds_within p [] false = refl
+folds_within p (c ∷ cs) true = folds_within p cs (p c)
+folds_within p (c ∷ cs) false = folds_within p cs false
+
+ascii_is_bmp : (c : ℕ) → c < 128 → is_bmp c ≡ true
+ascii_is_bmp c h = grind (arith, nat_tests)
+
+-- The characters of a text of ASCII are in the Basic Multilingual Plane.
+pub ascii_in_plane : (bs : List ℕ) → IsAscii bs → IsTrue (all_within is_bmp (chars bs))
+ascii_in_plane bs ascii =
+    subst (λ cs. list_all is_bmp cs ≡ true) (sym (chars-IsAscii bs ascii))
+    (list_all-from_AllPass is_bmp bs
+    (All-from_get_or (λ n. is_bmp n ≡ true) bs 0 (λ i l. ascii_is_bmp _ (ascii i))))

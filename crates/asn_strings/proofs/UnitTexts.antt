@@ -1,11 +1,13 @@
 -- The text of units, one unit at a time.
-use Rattle.std.proofs.Common.{◌≡◌, ℕ, ◌+◌, ◌<◌, ◌≤◌, ◌^◌, ⊎_elim, Bool, true, false, cond, not, ◌&&◌, List, [], ◌∷◌, ◌++◌, IsTrue, drop, get_or, length, encode_utf8, refl, sym, ap, ◌∙◌, arith, append_assoc, append-nil}
+use Rattle.std.proofs.Common.{◌≡◌, ℕ, ◌+◌, ◌<◌, ◌≤◌, ◌^◌, ⊎_elim, Bool, true, false, cond, not, ◌&&◌, List, [], ◌∷◌, ◌++◌, IsTrue, drop, get_or, length, encode_utf8, refl, sym, ap, ◌∙◌, arith, append_assoc, append-nil, map, ◌%◌}
 use Rattle.std.specs.Char.{IsScalar, OutOfScalarRange}
 use Rattle.std.specs.Int.{IsInRange}
 use Rattle.std.proofs.Math.Utf8.{scalar, scalar_cases}
 use Rattle.std.proofs.lemmas.Bool.Decides.{nat_tests}
 use Rattle.std.proofs.lemmas.List.{drop_more, at_drop_all}
+use Rattle.asn_strings.specs.Alphabets.{all_within, is_ia5}
 use Rattle.asn_strings.specs.Units.{has_text, is_surrogate, text_of_units, units_valid_len}
+use Rattle.asn_strings.proofs.Utf8Octets.{both}
 
 -- What is written is the text of the units before the place, which are characters.
 pub record IsTextBefore (units : List ℕ) (place : ℕ) (written : List ℕ) : Type 0 where
@@ -86,3 +88,15 @@ stopped_at units place unit written l e small out before =
     let valid : units_valid_len (drop place units) ≡ 0 =
     ap units_valid_len from ∙ ap (λ b. cond (not b) (1 + units_valid_len rest) 0) is in
     (sym before.characters ∙ characters, let v = before.valid in omega arith)
+
+remainder_same : (unit : ℕ) → is_ia5 unit ≡ true → unit % 128 ≡ unit
+remainder_same unit h = grind (arith, nat_tests)
+
+-- A unit of ASCII is its own remainder by 128.
+pub remainders_same : (units : List ℕ) → IsTrue (all_within is_ia5 units)
+    → map (λ unit. unit % 128) units ≡ units
+remainders_same [] h = refl
+remainders_same (unit ∷ units) h =
+    let passing = both (is_ia5 unit) (all_within is_ia5 units) h in
+    ap (λ u. u ∷ map (λ v. v % 128) units) (remainder_same unit passing.0)
+    ∙ ap (λ us. unit ∷ us) (remainders_same units passing.1)

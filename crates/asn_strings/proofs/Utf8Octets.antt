@@ -1,15 +1,17 @@
 -- The UTF-8 octets of characters in an alphabet that has every octet past ASCII.
-use Rattle.std.proofs.Common.{◌≡◌, ℕ, ◌<◌, ◌≤◌, ⊎_elim, Bool, true, false, not, List, [], ◌∷◌, ◌++◌, IsTrue, length, get_or, chars, encode_utf8, encode_utf8_all, IsUtf8, refl, sym, ap, subst, ◌∙◌, ◌&&◌}
+use Rattle.std.proofs.Common.{◌≡◌, ℕ, ◌<◌, ◌≤◌, ⊎_elim, Bool, true, false, not, List, [], ◌∷◌, ◌++◌, IsTrue, length, get_or, chars, encode_utf8, encode_utf8_all, IsUtf8, refl, sym, ap, subst, ◌∙◌, ◌&&◌, arith}
 use Rattle.std.proofs.lemmas.Bool.{cases_lt, false≢true}
+use Rattle.std.proofs.lemmas.List.{get_or_past}
 use Rattle.std.proofs.lemmas.List.Elements.{All-from_get_or}
-use Rattle.std.proofs.lemmas.List.Sums.{list_all-from_AllPass}
-use Rattle.std.proofs.lemmas.Str.{NoCharPasses-byte, encode_ascii, encodes-chars}
+use Rattle.std.proofs.lemmas.List.Sums.{AllPass-from_list_all, list_all-from_AllPass}
+use Rattle.std.proofs.lemmas.Str.{NoCharPasses-byte, chars-IsAscii, encode_ascii, encodes-chars}
 use Rattle.std.specs.List.{list_all}
-use Rattle.std.specs.Str.{NonePass, NoCharPasses}
-use Rattle.asn_strings.specs.Alphabets.{all_within}
+use Rattle.std.specs.Str.{IsAscii, NonePass, NoCharPasses}
+use Rattle.asn_strings.specs.Alphabets.{HasAllOrNonePastAscii, all_within}
 use Rattle.asn_strings.proofs.Places.{true_from_not}
 
-both : (b r : Bool) → (b && r) ≡ true → (b ≡ true) × (r ≡ true)
+-- Both of two tests that pass together.
+pub both : (b r : Bool) → (b && r) ≡ true → (b ≡ true) × (r ≡ true)
 both true r h = (refl, h)
 both false r h = absurd (false≢true h)
 
@@ -67,3 +69,25 @@ pub characters_within : (p : ℕ → Bool) → ((c : ℕ) → 128 ≤ c → p c 
 characters_within p past_ascii bs utf8 h =
     each_within p past_ascii (chars bs)
     (subst (λ octets. list_all p octets ≡ true) (sym (encodes-chars bs utf8)) h)
+
+-- What is in an alphabet within ASCII is in ASCII.
+pub in_ascii : (p : ℕ → Bool) → ((c : ℕ) → 128 ≤ c → p c ≡ false)
+    → (bs : List ℕ) → IsTrue (all_within p bs) → IsAscii bs
+in_ascii p lacks bs h =
+    let passes = AllPass-from_list_all p bs h in
+    let below : (i : ℕ) → i < length bs → get_or bs i 0 < 128 =
+    λ i l. ⊎_elim (λ k. k) (λ k. absurd (false≢true (sym (lacks _ k) ∙ passes i 0 l)))
+    (cases_lt (get_or bs i 0) 128) in
+    λ i. ⊎_elim (below i) (λ k. rw (get_or_past bs i 0 k) (omega arith)) (cases_lt i (length bs))
+
+-- In an alphabet within ASCII the characters of a text are its octets.
+ascii_within : (p : ℕ → Bool) → ((c : ℕ) → 128 ≤ c → p c ≡ false)
+    → (bs : List ℕ) → IsTrue (all_within p bs) → IsTrue (all_within p (chars bs))
+ascii_within p lacks bs h =
+    subst (λ cs. list_all p cs ≡ true) (sym (chars-IsAscii bs (in_ascii p lacks bs h))) h
+
+-- The characters of a text are in the alphabet, where its octets are.
+pub text_within : (p : ℕ → Bool) → HasAllOrNonePastAscii p → (bs : List ℕ) → IsUtf8 bs
+    → IsTrue (all_within p bs) → IsTrue (all_within p (chars bs))
+text_within p alike bs utf8 h =
+    ⊎_elim (λ has. characters_within p has bs utf8 h) (λ lacks. ascii_within p lacks bs h) alike

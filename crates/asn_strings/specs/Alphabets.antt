@@ -1,9 +1,9 @@
 -- The alphabets of the restricted character string types, and the first character outside one.
-use Rattle.std.specs.Prelude.{ℕ, List, Option, Bool, true, ◌||◌, ◌==◌, ◌≡◌, ◌≤◌, not, nat_lt, position, codes}
-use Rattle.std.specs.Char.{is_ascii_digit, is_ascii_alphanumeric}
-use Rattle.std.specs.Int.{is_in_range}
+use Rattle.std.specs.Prelude.{ℕ, List, Option, Bool, true, false, ◌||◌, ◌==◌, ◌≡◌, ◌≤◌, ◌⊎◌, not, nat_lt, position, codes}
 use Rattle.std.proofs.Common.{arith}
 use Rattle.std.proofs.lemmas.Bool.Decides.{nat_tests}
+use Rattle.std.specs.Char.{is_ascii_digit, is_ascii_alphanumeric}
+use Rattle.std.specs.Int.{is_in_range}
 use Rattle.std.specs.List.{list_all, list_any}
 
 -- NumericString: the digits and space.
@@ -41,6 +41,11 @@ all_within alphabet characters = list_all alphabet characters
 -- The number of characters before the first one outside the alphabet, where there is one.
 abbrev pub place_outside : (ℕ → Bool) → List ℕ → Option ℕ
 place_outside alphabet characters = position (λ c. not (alphabet c)) characters
+
+-- The alphabet has every character or octet past ASCII, or none.
+abbrev pub HasAllOrNonePastAscii : (ℕ → Bool) → Type 0
+HasAllOrNonePastAscii alphabet =
+    ((c : ℕ) → 128 ≤ c → alphabet c ≡ true) ⊎ ((c : ℕ) → 128 ≤ c → alphabet c ≡ false)
 
 -- GraphicString has every octet and character past ASCII.
 pub past_ascii_is_graphic : (octet : ℕ) → 128 ≤ octet → is_graphic octet ≡ true

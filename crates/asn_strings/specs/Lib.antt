@@ -1,3 +1,4 @@
 pub mod Alphabets
+pub mod PastAscii
 pub mod Units
 pub mod Refusals

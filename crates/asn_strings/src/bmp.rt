@@ -1,13 +1,14 @@
 //! Defines BMPString, which holds 16-bit units: the characters of the Basic Multilingual Plane in
 //! two octets each.
-ghost use Rattle.asn_strings.specs.Alphabets.{all_within, is_bmp, place_outside};
+ghost use Rattle.asn_strings.specs.Alphabets.{all_within, is_bmp, is_ia5, place_outside};
 ghost use Rattle.asn_strings.specs.Refusals.{IsUntexted, refused_place};
 ghost use Rattle.asn_strings.specs.Units.{has_text, text_of_units};
 ghost use Rattle.std.specs.Cmp.Lexicographic.{nat_list_eq_equiv};
 ghost use Rattle.std.specs.Cmp.{partial_equiv_from_equiv};
-ghost use Rattle.std.specs.Prelude.{◌≡◌, IfErr, IfOk, IsTrue, OnOk, bytes_eq, chars, string_bytes};
+ghost use Rattle.std.specs.Prelude.{◌≡◌, IfErr, IfNone, IfOk, IsTrue, OnOk, bytes_eq, chars};
+ghost use Rattle.std.specs.Prelude.{string_bytes};
+ghost use Rattle.std.specs.Str.{IsAscii};
 
-use crate::character_sets::{Bmp, first_outside};
 use crate::{StringFault, UnitFault};
 use std::alloc::{AllocError, Global};
 use std::marker::Model;
@@ -42,7 +43,12 @@ impl BmpString {
         ensures within { OnOk result (IsTrue (all_within is_bmp (chars text.now))) }
         ensures outside { refused_place result ≡ place_outside is_bmp (chars text.now) }
     {
-        if let Some(place) = first_outside::<Bmp>(text) {
+        if text.is_ascii() {
+            return Ok(BmpString {
+                units: units_of_ascii(alloc, text)?,
+            });
+        }
+        if let Some(place) = first_above_plane(text) {
             return Err(StringFault::Alphabet { place });
         }
         Ok(BmpString {
@@ -68,7 +74,11 @@ impl BmpString {
         ensures characters { OnOk result (IsTrue (has_text self.now)) }
         ensures refused { IfErr result (IsUntexted self.now) }
     {
-        text_of(alloc, self.units.as_slice())
+        let units = self.units.as_slice();
+        if are_ascii(units) {
+            return Ok(text_of_ascii(alloc, units)?);
+        }
+        text_of(alloc, units)
     }
 
     /// Returns the units.
@@ -77,6 +87,30 @@ impl BmpString {
     {
         self.units.as_slice()
     }
+}
+
+/// Returns the place of the first character above U+FFFF, counted in characters, or `None` where
+/// there is none.
+fn first_above_plane(text: &str) -> Option<usize>
+    ensures place { result ≡ place_outside is_bmp (chars text.now) }
+    ensures within { IfNone result (IsTrue (all_within is_bmp (chars text.now))) }
+{
+    text.chars().position(|character| character > '\u{FFFF}')
+}
+
+/// Returns the characters of a text of ASCII as units: its octets, one each.
+///
+/// # Errors
+///
+/// `AllocError` alone.
+fn units_of_ascii(alloc: Global, text: &str) -> Result<Vec<u16>, AllocError>
+    requires { IsAscii text.now }
+    ensures { IfOk result (λ units. units.items ≡ chars text.now) }
+{
+    text.as_bytes()
+        .iter()
+        .map(|octet| u16::from(*octet))
+        .collect(alloc)
 }
 
 /// Returns the characters of a text as units, one each, none of them above U+FFFF.
@@ -94,6 +128,41 @@ fn units_of(alloc: Global, text: &str) -> Result<Vec<u16>, AllocError>
         units.push(character as u16)?;
     }
     Ok(units)
+}
+
+/// Returns whether each unit is a character of ASCII.
+fn are_ascii(units: &[u16]) -> bool
+    ensures { result ≡ all_within is_ia5 units.now }
+{
+    units
+        .iter()
+        .fold(true, |within, unit| within & (*unit < 0x80))
+}
+
+/// Returns units of ASCII as octets, one each.
+///
+/// # Errors
+///
+/// `AllocError` alone.
+fn octets_of_ascii(alloc: Global, units: &[u16]) -> Result<Vec<u8>, AllocError>
+    requires { IsTrue (all_within is_ia5 units.now) }
+    ensures { IfOk result (λ octets. octets.items ≡ units.now) }
+{
+    // The remainder is the unit itself.
+    units.iter().map(|unit| (*unit % 0x80) as u8).collect(alloc)
+}
+
+/// Returns the text of units of ASCII.
+///
+/// # Errors
+///
+/// `AllocError` alone.
+fn text_of_ascii(alloc: Global, units: &[u16]) -> Result<String, AllocError>
+    requires { IsTrue (all_within is_ia5 units.now) }
+    ensures { IfOk result (λ s. string_bytes s ≡ units.now) }
+{
+    let octets = octets_of_ascii(alloc, units)?;
+    Ok(String::from_utf8(octets).unwrap())
 }
 
 /// Returns the text of the units.

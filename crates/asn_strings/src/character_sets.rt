@@ -1,7 +1,11 @@
 //! Defines the character sets of the restricted character string types, each as a type without
 //! values to hold, which a string type has as its parameter.
-ghost use Rattle.asn_strings.specs.Alphabets.{all_within, is_any, is_bmp, is_graphic, is_ia5};
-ghost use Rattle.asn_strings.specs.Alphabets.{is_numeric, is_printable, is_visible, place_outside};
+ghost use Rattle.asn_strings.specs.Alphabets.{HasAllOrNonePastAscii, all_within, is_any};
+ghost use Rattle.asn_strings.specs.Alphabets.{is_graphic, is_ia5, is_numeric, is_printable};
+ghost use Rattle.asn_strings.specs.Alphabets.{is_visible, place_outside};
+ghost use Rattle.asn_strings.specs.PastAscii.{any_past_ascii, graphic_past_ascii, ia5_past_ascii};
+ghost use Rattle.asn_strings.specs.PastAscii.{numeric_past_ascii, printable_past_ascii};
+ghost use Rattle.asn_strings.specs.PastAscii.{visible_past_ascii};
 ghost use Rattle.std.specs.Prelude.{◌≡◌, ℕ, Bool, IfNone, IsTrue, chars};
 
 /// States which characters a restricted character string type has.
@@ -12,6 +16,20 @@ pub trait CharacterSet: Drop {
     /// Returns whether the character is in the alphabet.
     fn contains(character: char) -> bool
         ensures { result ≡ alphabet character };
+
+    // So the octets of a text tell of each character past ASCII whether it is in the alphabet.
+    ghost alike_past_ascii: { HasAllOrNonePastAscii Self.alphabet };
+}
+
+/// Returns whether each octet is in the alphabet of `C`, taken as the character of its number.
+pub fn are_within<C: CharacterSet>(octets: &[u8]) -> bool
+    ensures { result ≡ all_within C.alphabet octets.now }
+{
+    // No test ends the walk, so a processor makes many of them at once.
+    octets.iter().fold(
+        true,
+        |within, octet| within & C::contains(char::from(*octet)),
+    )
 }
 
 /// Returns the place of the first character outside the alphabet of `C`, counted in characters,
@@ -20,6 +38,10 @@ pub fn first_outside<C: CharacterSet>(text: &str) -> Option<usize>
     ensures place { result ≡ place_outside C.alphabet (chars text.now) }
     ensures within { IfNone result (IsTrue (all_within C.alphabet (chars text.now))) }
 {
+    // The characters are looked at only where an octet may be one of a character outside.
+    if are_within::<C>(text.as_bytes()) {
+        return None;
+    }
     text.chars().position(|character| !C::contains(character))
 }
 
@@ -38,6 +60,8 @@ pub struct Numeric;
 impl CharacterSet for Numeric {
     ghost alphabet = { is_numeric };
 
+    ghost alike_past_ascii = { numeric_past_ascii };
+
     fn contains(character: char) -> bool {
         matches!(character, '0'..='9' | ' ')
     }
@@ -51,6 +75,8 @@ pub struct Printable;
 /// Tests by a pattern. `*` and `@` are not in the set.
 impl CharacterSet for Printable {
     ghost alphabet = { is_printable };
+
+    ghost alike_past_ascii = { printable_past_ascii };
 
     fn contains(character: char) -> bool {
         match character {
@@ -69,6 +95,8 @@ pub struct Visible;
 impl CharacterSet for Visible {
     ghost alphabet = { is_visible };
 
+    ghost alike_past_ascii = { visible_past_ascii };
+
     fn contains(character: char) -> bool {
         matches!(character, ' '..='~')
     }
@@ -81,6 +109,8 @@ pub struct Ia5;
 /// Tests by the first 128 code points.
 impl CharacterSet for Ia5 {
     ghost alphabet = { is_ia5 };
+
+    ghost alike_past_ascii = { ia5_past_ascii };
 
     fn contains(character: char) -> bool {
         character.is_ascii()
@@ -95,21 +125,10 @@ pub struct Graphic;
 impl CharacterSet for Graphic {
     ghost alphabet = { is_graphic };
 
+    ghost alike_past_ascii = { graphic_past_ascii };
+
     fn contains(character: char) -> bool {
         !matches!(character, '\0'..='\x1F' | '\x7F')
-    }
-}
-
-/// Is the set of BMPString: the characters of the Basic Multilingual Plane.
-#[derive(Clone, Copy)]
-pub struct Bmp;
-
-/// Tests by the last code point of the plane.
-impl CharacterSet for Bmp {
-    ghost alphabet = { is_bmp };
-
-    fn contains(character: char) -> bool {
-        character <= '\u{FFFF}'
     }
 }
 
@@ -120,6 +139,8 @@ pub struct Universal;
 /// Has every character.
 impl CharacterSet for Universal {
     ghost alphabet = { is_any };
+
+    ghost alike_past_ascii = { any_past_ascii };
 
     fn contains(_character: char) -> bool {
         true
@@ -134,6 +155,8 @@ pub struct General;
 impl CharacterSet for General {
     ghost alphabet = { is_any };
 
+    ghost alike_past_ascii = { any_past_ascii };
+
     fn contains(_character: char) -> bool {
         true
     }
@@ -147,6 +170,8 @@ pub struct Teletex;
 /// Has every octet, taken as the character of its number.
 impl CharacterSet for Teletex {
     ghost alphabet = { is_any };
+
+    ghost alike_past_ascii = { any_past_ascii };
 
     fn contains(_character: char) -> bool {
         true

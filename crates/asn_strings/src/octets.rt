@@ -8,7 +8,7 @@ ghost use Rattle.std.specs.Cmp.{partial_equiv_from_equiv};
 ghost use Rattle.std.specs.Prelude.{◌≡◌, ◌≤◌, ℕ, IfOk, IsSome, IsTrue, OnErr, OnOk, SomeIff};
 ghost use Rattle.std.specs.Prelude.{bytes_eq, chars, refl, string_bytes, true};
 
-use crate::character_sets::{General, Graphic, Teletex, first_outside};
+use crate::character_sets::{General, Graphic, Teletex, are_within, first_outside};
 use crate::{CharacterSet, StringFault};
 use std::alloc::Global;
 use std::marker::{Model, PhantomData};
@@ -79,13 +79,6 @@ impl<C: OctetSet> Model for RestrictedOctets<C> {
     ghost view = { λ s. s.octets.items };
 
     ghost invariant = { λ s. IsTrue (all_within C.alphabet s.octets.items) };
-}
-
-/// Returns whether each octet is in the alphabet of `C`, taken as the character of its number.
-pub fn are_within<C: OctetSet>(octets: &[u8]) -> bool
-    ensures { result ≡ all_within C.alphabet octets.now }
-{
-    octets.iter().all(|octet| C::contains(char::from(*octet)))
 }
 
 /// Is a GeneralString: any octets.

@@ -6,7 +6,7 @@ use Rattle.asn_fault.specs.Failure.{Cause}
 use Rattle.asn_model.specs.Notation.{Notation, notation_of}
 use Rattle.asn_model.specs.Shape.{Shape, SeqKind, Fields, FieldAdditions, Alternatives, AlternativeAdditions, Presence, all_fields, all_alternatives, unfold_loop, alternative_named, field_names}
 use Rattle.asn_model.specs.Tree.{Tree, Slot, as_list, as_members, as_choice, same_identifier}
-use Rattle.asn_model.specs.Leaf.{LeafFailure, IsFailureOf, leaf, members_mismatch, list_mismatch, choice_mismatch}
+use Rattle.asn_model.specs.Leaf.{LeafFailure, IsFailureOf, leaf, members_mismatch, list_mismatch, set_mismatch, choice_mismatch}
 use Rattle.asn_model.specs.Value.{Value, may_lack}
 use Rattle.asn_model.specs.DecodesTo.{DecodesTo}
 
@@ -24,6 +24,8 @@ mutual
         → as_members n t ≡ Some look → FieldsFailWith n (all_fields fs added) (map look (field_names (all_fields fs added))) p w → FailsWith n (Shape.seq kind fs added) (Some t) p w
     fails_no_list : (s : Shape) (t : Tree) (w : Cause) → as_list n t ≡ None → IsFailureOf n t (list_mismatch n) w → FailsWith n (Shape.list_of s) (Some t) [] w
     fails_list : (s : Shape) (t : Tree) (slots : List Slot) (p : Path) (w : Cause) → as_list n t ≡ Some slots → EachFailsWith n s slots p w → FailsWith n (Shape.list_of s) (Some t) p w
+    fails_no_set : (s : Shape) (t : Tree) (w : Cause) → as_list n t ≡ None → IsFailureOf n t (set_mismatch n) w → FailsWith n (Shape.set_of s) (Some t) [] w
+    fails_set : (s : Shape) (t : Tree) (slots : List Slot) (p : Path) (w : Cause) → as_list n t ≡ Some slots → EachFailsWith n s slots p w → FailsWith n (Shape.set_of s) (Some t) p w
     fails_no_choice : (alts : Alternatives) (added : AlternativeAdditions) (t : Tree) (w : Cause) → as_choice n t ≡ None → IsFailureOf n t (choice_mismatch n) w → FailsWith n (Shape.choice alts added) (Some t) [] w
     fails_no_member : (alts : Alternatives) (added : AlternativeAdditions) (t : Tree) (type_name : List ℕ) → as_choice n t ≡ Some None → FailsWith n (Shape.choice alts added) (Some t) [] (Cause.no_valid_choice type_name)
     fails_unnamed : (alts : Alternatives) (added : AlternativeAdditions) (t : Tree) (name : List ℕ) (u : Tree) (type_name : List ℕ) → as_choice n t ≡ Some (Some (name, u)) → alternative_named same_identifier (all_alternatives alts added) name ≡ None

@@ -66,6 +66,10 @@ members_mismatch _ = LeafFailure.because (Cause.type_mismatch Jer (codes "object
 abbrev pub list_mismatch : Notation → LeafFailure
 list_mismatch n = mismatch_of n (codes "array") (codes "sequence of")
 
+-- The failure of a tree that is no list, where a SET OF is read.
+abbrev pub set_mismatch : Notation → LeafFailure
+set_mismatch n = mismatch_of n (codes "array") (codes "set of")
+
 -- The failure of a tree that is no choice.
 abbrev pub choice_mismatch : Notation → LeafFailure
 choice_mismatch n = mismatch_of n (codes "object") (codes "choice (identifier : value)")

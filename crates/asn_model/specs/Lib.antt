@@ -1,6 +1,7 @@
 pub mod Fixed
 pub mod Notation
 pub mod Range
+pub mod Sorting
 pub mod Shape
 pub mod ShapeView
 pub mod CharacterStrings

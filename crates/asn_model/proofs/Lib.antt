@@ -4,6 +4,7 @@ pub mod Sorting
 pub mod ValueOrder
 pub mod Bags
 mod SetExamples
+mod OrderExamples
 pub mod StringFacts
 pub mod TimeFacts
 pub mod Written

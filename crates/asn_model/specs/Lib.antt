@@ -3,6 +3,7 @@ pub mod Notation
 pub mod Range
 pub mod Sorting
 pub mod Shape
+pub mod Components
 pub mod ShapeView
 pub mod CharacterStrings
 pub mod Value

@@ -4,6 +4,7 @@ use Rattle.std.proofs.lemmas.Bool.{ne_eqb}
 use Rattle.std.proofs.lemmas.Fmt.{first_decimal}
 use Rattle.std.proofs.lemmas.Int.{ints}
 use Rattle.std.specs.Cmp.Lexicographic.{slice_cmp}
+use Rattle.std.specs.List.{AllByRecursion}
 use Rattle.std.specs.Ordering.{nat_cmp, match_ordering}
 use Rattle.json.specs.Json as json
 use Rattle.json.specs.Lex.{tokens}
@@ -19,10 +20,12 @@ use Rattle.serde_json.specs.Data.{Data, Items, Members, Num, put}
 use Rattle.serde_json.specs.Find.{of_integer}
 use Rattle.serde_json.specs.Read.{number_of}
 use Rattle.serde_json.specs.Written.{outline, items_outline, members_outline, number_text, compact_text}
-use Rattle.asn_model.specs.Canonical.{jer_data, jer_items, jer_members}
+use Rattle.asn_model.specs.Canonical.{jer_data, jer_items, jer_members, canonical_text}
 use Rattle.asn_model.specs.Notation.{Notation}
-use Rattle.asn_model.specs.Value.{Value, Values, Slots}
+use Rattle.asn_model.specs.Sorting.{by_text}
+use Rattle.asn_model.specs.Value.{Value, Values, Slots, elements}
 use Rattle.asn_model.specs.Writable.{IsEncodableInt, Writable, WritableEach, WritableSlots}
+use Rattle.asn_model.proofs.Bags.{each-ordered, jer_items-sorted}
 
 tokens-compact_text : (d : Data) → tree.HasNumbers (outline d) → tokens (compact_text d) ≡ tree.json_tokens (outline d)
 tokens-compact_text d h = ap tokens (sym (print-outline d)) ∙ tokens-print _ (ArePrintable-json_tokens (outline d) h)
@@ -146,16 +149,25 @@ put-whole n d (Members.member m e ms) h k =
 length-parses : (n : ℕ) → n < 2 ^ 64 → IsEncodableInt Notation.jer (pos n)
 length-parses n h = (omega (arith, ints), omega (arith, ints, h))
 
+-- What JER writes for the value has whole numbers alone.
+abbrev IsWrittenWhole : Value → Type 0
+IsWrittenWhole v = IsWhole (jer_data v)
+
+items-of_whole : (vs : Values) → AllByRecursion IsWrittenWhole (elements vs) → ItemsAreWhole (jer_items vs)
+items-of_whole Values.no_values h = tt
+items-of_whole (Values.value v vs) h = (h.0, items-of_whole vs h.1)
+
 mutual
   written-whole : (v : Value) → Writable Notation.jer v → IsWhole (jer_data v)
   written-whole (Value.int k) h = (k, refl, h)
   written-whole (Value.bits bits None) h = ((pos (length bits), refl, length-parses (length bits) h), (tt, tt))
   written-whole (Value.members ms) h = slots-whole ms h
-  written-whole (Value.list vs) h = each-whole vs h
+  written-whole (Value.list vs) h = items-of_whole vs (each-whole vs h)
+  written-whole (Value.bag vs) h = subst ItemsAreWhole (sym (jer_items-sorted vs)) (items-of_whole _ (each-ordered IsWrittenWhole (by_text (canonical_text Notation.jer)) vs (each-whole vs h)))
   written-whole (Value.choice i v) h = (written-whole v h, tt)
   written-whole v h = tt
 
-  each-whole : (vs : Values) → WritableEach Notation.jer vs → ItemsAreWhole (jer_items vs)
+  each-whole : (vs : Values) → WritableEach Notation.jer vs → AllByRecursion IsWrittenWhole (elements vs)
   each-whole Values.no_values h = tt
   each-whole (Values.value v vs) h = (written-whole v h.0, each-whole vs h.1)
 

@@ -1,5 +1,10 @@
 pub mod Meanings
 pub mod Readables
+pub mod Sorting
+pub mod ValueOrder
+pub mod Bags
+mod SetExamples
+mod OrderExamples
 pub mod StringFacts
 pub mod TimeFacts
 pub mod Written

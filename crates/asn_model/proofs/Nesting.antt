@@ -1,9 +1,9 @@
 -- What JER writes nests no deeper than what it read.
-use Rattle.std.proofs.Common.{◌≡◌, refl, ap, subst, arith, ℕ, ℤ, suc, ◌≤◌, List, [], ◌∷◌, map, length, ◌==◌, Bool, true, false, if◌then◌else◌, Option, Some, None, Result, Ok, Err, Ordering, Less, Equal, Greater, option_map}
+use Rattle.std.proofs.Common.{◌≡◌, refl, ap, sym, subst, arith, ℕ, ℤ, suc, ◌≤◌, List, [], ◌∷◌, map, length, ◌==◌, Bool, true, false, if◌then◌else◌, Option, Some, None, Result, Ok, Err, Ordering, Less, Equal, Greater, option_map}
 use Rattle.std.specs.Ordering.{nat_cmp, match_ordering}
 use Rattle.std.specs.Cmp.Lexicographic.{slice_cmp}
 use Rattle.std.specs.Str.{chars}
-use Rattle.std.specs.List.{slice_split}
+use Rattle.std.specs.List.{AllByRecursion, slice_split}
 use Rattle.std.specs.Prelude.{codes, option_and_then}
 use Rattle.std.specs.Int.{div_ceil}
 use Rattle.hex.specs.Hex.{decode_of}
@@ -18,18 +18,20 @@ use Rattle.asn_fault.specs.Failure.{Cause}
 use Rattle.serde_json.specs.Data.{Data, Num, Items, Members, put, depth, items_depth, members_depth}
 use Rattle.serde_json.specs.Find.{as_str, get_member}
 use Rattle.serde_json.specs.Written.{compact_text}
-use Rattle.asn_model.specs.Canonical.{jer_data, jer_items, jer_members}
+use Rattle.asn_model.specs.Canonical.{jer_data, jer_items, jer_members, sorted_items, canonical_text}
 use Rattle.asn_model.specs.CharacterStrings.{alphabet_number, alphabet_of, bmp_number, universal_tag}
 use Rattle.asn_model.specs.Arcs.{arc_numbers, identifier_or}
 use Rattle.asn_model.specs.BitLeaves.{no_bits, sized_bits}
 use Rattle.asn_model.specs.Leaf.{LeafFailure, leaf, declared_bits, length_in, octets_or, or_blame, as_leaf, kind_of, refine, refined, time_or, within_alphabet}
 use Rattle.asn_model.specs.Notation.{Notation}
 use Rattle.asn_model.specs.Range.{is_between}
+use Rattle.asn_model.specs.Sorting.{by_text}
 use Rattle.asn_model.specs.DecodesTo.{DecodesTo, EachDecodesTo, FieldsDecodeTo}
 use Rattle.asn_model.specs.Shape.{Shape, Fields, all_fields, is_item, all_items, field_names}
 use Rattle.asn_model.specs.Tree.{Tree, Slot, as_list, as_members, as_choice, item_slots, member_slot}
-use Rattle.asn_model.specs.Value.{Value, Values, Slots, is_kept}
+use Rattle.asn_model.specs.Value.{Value, Values, Slots, elements, is_kept, sort_values, value_cmp}
 use Rattle.asn_model.specs.declared.leaves.LeafKind.{LeafKind}
+use Rattle.asn_model.proofs.Bags.{each-ordered, jer_items-sorted}
 use Rattle.asn_model.specs.declared.leaves.LeafKind.TheVariants.{Null, Boolean, Number, Text, Time, Date, Item, Octets, Any, Oid, Bits}
 
 -- How deep a tree of JSON nests.
@@ -203,6 +205,20 @@ kept-depth : (b : Bool) (name : List ℕ) (v : Value) (vs : Slots) (n : ℕ) →
 kept-depth true name v vs n h k = put-depth name (jer_data v) (jer_members vs) n h k
 kept-depth false name v vs n h k = k
 
+-- What JER writes for the value nests at most so deep.
+abbrev NestsWithin : ℕ → Value → Type 0
+NestsWithin n v = depth (jer_data v) ≤ n
+
+items-below : (n : ℕ) (vs : Values) → AllByRecursion (NestsWithin n) (elements vs) → items_depth (jer_items vs) ≤ n
+items-below n Values.no_values h = omega arith
+items-below n (Values.value v vs) h = omega (arith, h.0, items-below n vs h.1)
+
+-- The elements of a set nest no deeper in another order.
+set-below : (n : ℕ) (vs : Values) → AllByRecursion (NestsWithin n) (elements vs) → items_depth (sorted_items (jer_items (sort_values vs))) ≤ n
+set-below n vs h =
+    subst (λ ds. items_depth ds ≤ n) (sym (jer_items-sorted (sort_values vs)))
+    (items-below n _ (each-ordered (NestsWithin n) (by_text (canonical_text Notation.jer)) (sort_values vs) (each-ordered (NestsWithin n) value_cmp vs h)))
+
 no_other : {P : Type 0} → Notation.jer ≡ Notation.other → P
 no_other e = cc e
 
@@ -215,14 +231,17 @@ mutual
       let below = fields-depth o.inner h (looked-within look o.inner o.parts (field_names (all_fields fs more))) in omega (arith, below, o.outer)
   decodes-depth (DecodesTo.decodes_list s t slots vs e h) =
       let o = list-opened t slots e in
-      let below = each-depth o.inner h o.parts in omega (arith, below, o.outer)
+      let below = items-below o.inner vs (each-depth o.inner h o.parts) in omega (arith, below, o.outer)
+  decodes-depth (DecodesTo.decodes_set s t slots vs e h) =
+      let o = list-opened t slots e in
+      let below = set-below o.inner vs (each-depth o.inner h o.parts) in omega (arith, below, o.outer)
   decodes-depth (DecodesTo.decodes_choice alts added t name u id s v e f h) = let below = decodes-depth h in let outer = choice-opened t name u e in omega (arith, below, outer)
   decodes-depth (DecodesTo.decodes_loop body t v h) = decodes-depth h
   decodes-depth (DecodesTo.decodes_free s slot v e) = no_other e
 
-  each-depth : {s : Shape} {slots : List Slot} {vs : Values} (n : ℕ) → EachDecodesTo Notation.jer s slots vs → AllWithin n slots → items_depth (jer_items vs) ≤ n
-  each-depth n (EachDecodesTo.decodes_none s) w = omega arith
-  each-depth n (EachDecodesTo.decodes_one s slot rest v vs h hs) w = let first = decodes-depth h in let others = each-depth n hs w.1 in omega (arith, first, others, w.0)
+  each-depth : {s : Shape} {slots : List Slot} {vs : Values} (n : ℕ) → EachDecodesTo Notation.jer s slots vs → AllWithin n slots → AllByRecursion (NestsWithin n) (elements vs)
+  each-depth n (EachDecodesTo.decodes_none s) w = tt
+  each-depth n (EachDecodesTo.decodes_one s slot rest v vs h hs) w = let first = decodes-depth h in (omega (arith, first, w.0), each-depth n hs w.1)
 
   fields-depth : {fs : Fields} {slots : List Slot} {vs : Slots} (n : ℕ) → FieldsDecodeTo Notation.jer fs slots vs → AllWithin n slots → members_depth (jer_members vs) ≤ n
   fields-depth n FieldsDecodeTo.decodes_end w = omega arith

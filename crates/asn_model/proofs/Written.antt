@@ -1,5 +1,6 @@
 -- What is written decodes to the value that was written.
 use Rattle.std.proofs.Common.{◌≡◌, refl, ap, sym, ◌∙◌, subst, arith, ℕ, zero, suc, ◌<◌, nat_lt, slice_index, [], ◌-◌, ◌^◌, ℤ, pos, negsuc, ◌≤ℤ◌, List, ◌∷◌, map, Bool, true, false, not, ◌&&◌, if◌then◌else◌, Option, Some, None, Ok, Err, length}
+use Rattle.std.specs.List.{AllByRecursion}
 use Rattle.std.specs.Prelude.{option_map}
 use Rattle.std.specs.Int.Signed.{lt_z_no}
 use Rattle.std.proofs.lemmas.Float.{T_from_true}
@@ -24,18 +25,20 @@ use Rattle.asn_base.proofs.Padding.{first-padded, length-padded}
 use Rattle.asn_fault.specs.Failure.{Cause}
 use Rattle.asn_model.specs.Arcs.{dotted_text, identifier_or}
 use Rattle.asn_model.specs.BitLeaves.{another_length, no_bits, sized_bits}
-use Rattle.asn_model.specs.Canonical.{jer_data, jer_items, jer_members}
+use Rattle.asn_model.specs.Canonical.{jer_data, jer_items, jer_members, canonical_text}
 use Rattle.asn_model.specs.Leaf.{leaf, octets_or, or_blame, refined}
 use Rattle.asn_model.specs.Notation.{Notation}
 use Rattle.asn_model.specs.Readable.{is_readable, are_fields_readable, are_alternatives_readable, are_added_alternatives_readable, suits, has_alternative, are_distinguishable, are_identifiers, differ_ignoring_case, has_identifier, has_128_bits}
 use Rattle.asn_model.specs.Range.{at_most}
 use Rattle.asn_model.specs.DecodesTo.{DecodesTo, EachDecodesTo, FieldsDecodeTo}
 use Rattle.asn_model.specs.Shape.{Shape, Fields, Alternatives, AlternativeAdditions, all_alternatives, join_alternatives, field_names, identifiers, tags, has_tag, tags_distinct, end_tag, are_distinct, is_item, alternative_named}
+use Rattle.asn_model.specs.Sorting.{by_text}
 use Rattle.asn_model.specs.Tree.{Tree, Slot, item_slots, member_slot, same_identifier}
-use Rattle.asn_model.specs.Value.{Value, Values, Slots, Fits, FitsEach, FitsFields, FitsAlternative, is_leaf_of}
+use Rattle.asn_model.specs.Value.{Value, Values, Slots, Fits, FitsEach, FitsFields, FitsAlternative, elements, is_leaf_of, ordered_by}
 use Rattle.asn_model.specs.Writable.{Writable, WritableEach, WritableSlots}
 use Rattle.asn_model.specs.Writes.{Writes, Finds, value_slots, slot_names}
 use Rattle.asn_model.proofs.ArcTexts.{dotted-read}
+use Rattle.asn_model.proofs.Bags.{each-ordered, jer_items-sorted, sort-ordered_by}
 use Rattle.asn_model.proofs.BitsRead.{padded-octets}
 use Rattle.asn_model.proofs.Readables.{and-left, and-right, and-both, unfolded-readable, fields_read}
 use Rattle.asn_model.proofs.StringFacts.{string_kept, units_kept}
@@ -87,6 +90,14 @@ pub all_readable : (alts : Alternatives) (added : AlternativeAdditions) → are_
 all_readable alts AlternativeAdditions.closed_alternatives e f = e
 all_readable alts (AlternativeAdditions.extended_alternatives more) e f = alternatives_joined alts more e f
 
+-- The value's tree decodes to it.
+abbrev IsReadBack : Notation → (Value → Tree) → Shape → Value → Type 0
+IsReadBack n tree s v = DecodesTo n s (Some (tree v)) v
+
+each-decodes : (n : Notation) (tree : Value → Tree) (s : Shape) (vs : Values) → AllByRecursion (IsReadBack n tree s) (elements vs) → EachDecodesTo n s (value_slots tree vs) vs
+each-decodes n tree s Values.no_values h = EachDecodesTo.decodes_none s
+each-decodes n tree s (Values.value v vs) h = EachDecodesTo.decodes_one s _ _ v vs h.0 (each-decodes n tree s vs h.1)
+
 module _ (n : Notation) (tree : Value → Tree) (w : Writes n tree) where
   mutual
     -- The tree of a value that fits and can be written decodes to that value.
@@ -96,7 +107,12 @@ module _ (n : Notation) (tree : Value → Tree) (w : Writes n tree) where
         let read = fields_read kind fs added a in
         let m = w.members ms (ap are_distinct (slot_names-fields fit) ∙ read.distinct) in
         DecodesTo.decodes_seq kind fs added _ m.0 ms m.1 (fields_written m.0 read.parts fit can m.2)
-    decodes_written a (Fits.fits_list {s} {vs} fit) can = DecodesTo.decodes_list s _ _ vs (w.list vs) (each_written a fit can)
+    decodes_written a (Fits.fits_list {s} {vs} fit) can = DecodesTo.decodes_list s _ _ vs (w.list vs) (each-decodes n tree s vs (each_written a fit can))
+    decodes_written a (Fits.fits_set {s} {vs} fit sorted) can =
+        let by = by_text (canonical_text n) in
+        let written = ordered_by by vs in
+        subst (DecodesTo n (Shape.set_of s) (Some (tree (Value.bag vs)))) (ap Value.bag (sort-ordered_by by vs ∙ sorted))
+        (DecodesTo.decodes_set s _ _ written (w.set vs) (each-decodes n tree s written (each-ordered (IsReadBack n tree s) by vs (each_written a fit can))))
     decodes_written a (Fits.fits_choice {alts} {added} {i} {v} fit) can =
         let whole = all_alternatives alts added in
         let names = has_alternative alts && are_distinguishable whole in
@@ -108,9 +124,9 @@ module _ (n : Notation) (tree : Value → Tree) (w : Writes n tree) where
         DecodesTo.decodes_choice alts added _ i (tree v) i c.0 v (w.choice i v) c.1 c.2
     decodes_written a (Fits.fits_loop {b} {v} fit) can = DecodesTo.decodes_loop b _ v (decodes_written (unfolded-readable b a) fit can)
 
-    each_written : {s : Shape} {vs : Values} → is_readable s ≡ true → FitsEach s vs → WritableEach n vs → EachDecodesTo n s (value_slots tree vs) vs
-    each_written a (FitsEach.fits_none {s}) can = EachDecodesTo.decodes_none s
-    each_written a (FitsEach.fits_one {s} {v} {vs} fit rest) can = EachDecodesTo.decodes_one s _ _ v vs (decodes_written a fit can.0) (each_written a rest can.1)
+    each_written : {s : Shape} {vs : Values} → is_readable s ≡ true → FitsEach s vs → WritableEach n vs → AllByRecursion (IsReadBack n tree s) (elements vs)
+    each_written a (FitsEach.fits_none {s}) can = tt
+    each_written a (FitsEach.fits_one {s} {v} {vs} fit rest) can = (decodes_written a fit can.0, each_written a rest can.1)
 
     fields_written : {fs : Fields} {ms : Slots} (look : List ℕ → Slot) → are_fields_readable 0 fs ≡ true → FitsFields fs ms → WritableSlots n ms → Finds tree look ms → FieldsDecodeTo n fs (map look (field_names fs)) ms
     fields_written look a FitsFields.fits_end can f = FieldsDecodeTo.decodes_end
@@ -225,6 +241,7 @@ pub jer_writes : Writes Notation.jer jer_tree
 jer_writes = record {
   leaf = leaf-written;
   list = λ vs. ap Some (items-written vs);
+  set = λ vs. ap (λ ds. Some (item_slots ds)) (jer_items-sorted vs) ∙ ap Some (items-written (ordered_by (by_text (canonical_text Notation.jer)) vs));
   members = λ ms e. (member_slot (jer_members ms), refl, finds-written ms e);
   choice = λ i v. refl;
 }

@@ -1,6 +1,7 @@
 -- What AVN writes is well formed, and is read as a tree that decodes to the value.
 use Rattle.std.proofs.Common.{◌≡◌, refl, ap, sym, ◌∙◌, subst, arith, ℕ, ◌+◌, ◌/◌, List, [], ◌∷◌, length, Bool, true, false, not, ◌&&◌, if◌then◌else◌, Option, Some, None, Ok, Err}
 use Rattle.std.specs.Fmt.{signed_decimal}
+use Rattle.std.specs.List.{AllByRecursion}
 use Rattle.std.specs.Str.{bytes_eq}
 use Rattle.std.proofs.lemmas.Bool.{eqb-true, eq-eqb}
 use Rattle.std.proofs.lemmas.Slice.Eq.{bytes_eq-Decides}
@@ -13,16 +14,18 @@ use Rattle.avn_grammar.specs.WellFormed.{is_identifier, is_keyword, is_arc, is_w
 use Rattle.asn_base.specs.BitStrings.{padded}
 use Rattle.asn_base.specs.ObjectIdentifiers.{is_object_identifier}
 use Rattle.asn_model.specs.Arcs.{checked_identifier, listed_text}
-use Rattle.asn_model.specs.Canonical.{avn_tree, avn_trees, avn_fields}
+use Rattle.asn_model.specs.Canonical.{avn_tree, avn_trees, avn_fields, canonical_text}
 use Rattle.asn_model.specs.Leaf.{LeafFailure, leaf, number_or, or_blame, refined}
 use Rattle.asn_model.specs.Notation.{Notation}
 use Rattle.asn_model.specs.Readable.{is_readable, are_fields_readable, are_alternatives_readable, are_added_alternatives_readable, suits, has_alternative, are_distinguishable, are_identifiers, are_no_keywords, differ_ignoring_case}
 use Rattle.asn_model.specs.Shape.{Shape, Fields, Alternatives, all_items, all_alternatives, field_names, identifiers, tags, has_tag, tags_distinct, end_tag, are_distinct, is_item}
+use Rattle.asn_model.specs.Sorting.{by_text}
 use Rattle.asn_model.specs.Tree.{Tree, Slot, or_else, as_members, tree_slots, field_slot}
-use Rattle.asn_model.specs.Value.{Value, Values, Slots, Fits, FitsEach, FitsFields, FitsAlternative, is_leaf_of, is_same_size}
+use Rattle.asn_model.specs.Value.{Value, Values, Slots, Fits, FitsEach, FitsFields, FitsAlternative, elements, is_leaf_of, is_same_size, ordered_by}
 use Rattle.asn_model.specs.Writable.{Writable, WritableEach, WritableSlots}
 use Rattle.asn_model.specs.Writes.{Writes, Finds, value_slots, slot_names}
 use Rattle.asn_model.proofs.ArcTexts.{braced-read}
+use Rattle.asn_model.proofs.Bags.{avn_trees-sorted, each-ordered}
 use Rattle.asn_model.proofs.BitsRead.{bits-read, padded-octets}
 use Rattle.asn_base.proofs.Padding.{length-padded}
 use Rattle.asn_model.proofs.Ranges.{inside}
@@ -132,6 +135,7 @@ unfolding normal
 avn_writes = record {
   leaf = leaf-written;
   list = λ vs. ap Some (items-written vs);
+  set = λ vs. ap (λ ts. Some (tree_slots (normal_trees ts))) (avn_trees-sorted vs) ∙ ap Some (items-written (ordered_by (by_text (canonical_text Notation.avn)) vs));
   members = λ ms e. (field_slot (normal_fields (avn_fields ms)), members-written ms, finds-written ms e);
   choice = λ i v. refl;
 }
@@ -166,6 +170,15 @@ leaf-formed Shape.oid (Value.arcs arcs) a e can = and-left (all is_arc arcs) (is
 leaf-formed (Shape.bits m) (Value.bits bits n) a e can = and-both _ _ (padded-octets bits) (eq-eqb (length (padded bits)) ((length bits + 7) / 8) (omega (arith, length-padded bits)))
 leaf-formed s v a e can = no_leaf e
 
+-- What AVN writes for the value is well formed.
+abbrev IsFormed : Value → Type 0
+IsFormed v = is_well_formed (avn_tree v) ≡ true
+
+trees-formed : (vs : Values) → AllByRecursion IsFormed (elements vs) → are_well_formed (avn_trees vs) ≡ true
+unfolding is_well_formed
+trees-formed Values.no_values h = refl
+trees-formed (Values.value v vs) h = and-both _ _ h.0 (trees-formed vs h.1)
+
 mutual
   unfolding is_well_formed
 
@@ -173,7 +186,9 @@ mutual
   pub well-formed : {s : Shape} {v : Value} → is_readable s ≡ true → Fits s v → Writable Notation.avn v → is_well_formed (avn_tree v) ≡ true
   well-formed a (Fits.fits_leaf {s} {v} e) can = leaf-formed s v a e can
   well-formed a (Fits.fits_members {kind} {fs} {added} {ms} fit) can = let read = fields_read kind fs added a in fields-formed read.spelled read.parts fit can
-  well-formed a (Fits.fits_list fit) can = each-formed a fit can
+  well-formed a (Fits.fits_list {s} {vs} fit) can = trees-formed vs (each-formed a fit can)
+  well-formed a (Fits.fits_set {s} {vs} fit sorted) can =
+      subst (λ ts. are_well_formed ts ≡ true) (sym (avn_trees-sorted vs)) (trees-formed _ (each-ordered IsFormed (by_text (canonical_text Notation.avn)) vs (each-formed a fit can)))
   well-formed a (Fits.fits_choice {alts} {added} {i} {v} fit) can =
       let whole = all_alternatives alts added in
       let names = has_alternative alts && are_distinguishable whole in
@@ -184,9 +199,9 @@ mutual
       alternative-formed spelled parts fit can
   well-formed a (Fits.fits_loop {b} fit) can = well-formed (unfolded-readable b a) fit can
 
-  each-formed : {s : Shape} {vs : Values} → is_readable s ≡ true → FitsEach s vs → WritableEach Notation.avn vs → are_well_formed (avn_trees vs) ≡ true
-  each-formed a FitsEach.fits_none can = refl
-  each-formed a (FitsEach.fits_one fit rest) can = and-both _ _ (well-formed a fit can.0) (each-formed a rest can.1)
+  each-formed : {s : Shape} {vs : Values} → is_readable s ≡ true → FitsEach s vs → WritableEach Notation.avn vs → AllByRecursion IsFormed (elements vs)
+  each-formed a FitsEach.fits_none can = tt
+  each-formed a (FitsEach.fits_one fit rest) can = (well-formed a fit can.0, each-formed a rest can.1)
 
   fields-formed : {fs : Fields} {ms : Slots} → are_identifiers (field_names fs) ≡ true → are_fields_readable 0 fs ≡ true → FitsFields fs ms → WritableSlots Notation.avn ms → are_fields_well_formed (avn_fields ms) ≡ true
   fields-formed i a FitsFields.fits_end can = refl

@@ -1,5 +1,5 @@
 -- The one tree and the one text that each notation writes for a value.
-use Rattle.std.specs.Prelude.{ℕ, pos, Bool, List, length, Option, Some, None, codes}
+use Rattle.std.specs.Prelude.{ℕ, pos, Bool, List, [], ◌∷◌, length, Option, Some, None, codes}
 use Rattle.std.specs.Fmt.{signed_decimal}
 use Rattle.serde_json.specs.Data.{Data, Items, Members, put}
 use Rattle.serde_json.specs.Find.{of_integer}
@@ -12,6 +12,7 @@ use Rattle.asn_times.specs.Written.{day_text, generalized_text, utc_text}
 use Rattle.asn_base.specs.BitStrings.{padded}
 use Rattle.asn_model.specs.Arcs.{dotted_text}
 use Rattle.asn_model.specs.Notation.{Notation}
+use Rattle.asn_model.specs.Sorting.{sort, by_text}
 use Rattle.asn_model.specs.Tree.{Tree}
 use Rattle.asn_model.specs.Value.{Value, Values, Slots}
 
@@ -19,6 +20,20 @@ use Rattle.asn_model.specs.Value.{Value, Values, Slots}
 abbrev pub bits_data : Option ℕ → List Bool → Data
 bits_data (Some size) bs = Data.string (encode_upper (padded bs))
 bits_data None bs = Data.object (Members.member (codes "length") (Data.number (of_integer (pos (length bs)))) (Members.member (codes "value") (Data.string (encode_upper (padded bs))) Members.no_members))
+
+-- The elements of a JSON array as a list.
+abbrev pub json_list : Items → List Data
+json_list Items.no_items = []
+json_list (Items.item d ds) = d ∷ json_list ds
+
+-- The JSON array with these elements.
+abbrev pub json_items : List Data → Items
+json_items [] = Items.no_items
+json_items (d ∷ ds) = Items.item d (json_items ds)
+
+-- The elements in byte order of their texts, repeats kept.
+abbrev pub sorted_items : Items → Items
+sorted_items ds = json_items (sort (by_text compact_text) (json_list ds))
 
 abbrev mutual
   -- The JSON value that JER writes for a value.
@@ -36,6 +51,7 @@ abbrev mutual
   jer_data (Value.bits bs size) = bits_data size bs
   jer_data (Value.members ms) = Data.object (jer_members ms)
   jer_data (Value.list vs) = Data.array (jer_items vs)
+  jer_data (Value.bag vs) = Data.array (sorted_items (jer_items vs))
   jer_data (Value.choice i v) = Data.object (Members.member i (jer_data v) Members.no_members)
   jer_data v = Data.null
 
@@ -49,6 +65,20 @@ abbrev mutual
   jer_members Slots.no_slots = Members.no_members
   jer_members (Slots.absent n ms) = jer_members ms
   jer_members (Slots.present n v ms) = put n (jer_data v) (jer_members ms)
+
+-- The values of a list in braces as a list.
+abbrev pub tree_list : AvnTrees → List AvnTree
+tree_list AvnTrees.no_trees = []
+tree_list (AvnTrees.tree t ts) = t ∷ tree_list ts
+
+-- The list in braces with these values.
+abbrev pub listed_trees : List AvnTree → AvnTrees
+listed_trees [] = AvnTrees.no_trees
+listed_trees (t ∷ ts) = AvnTrees.tree t (listed_trees ts)
+
+-- The values in byte order of their texts, repeats kept.
+abbrev pub sorted_trees : AvnTrees → AvnTrees
+sorted_trees ts = listed_trees (sort (by_text (print 0)) (tree_list ts))
 
 abbrev mutual
   -- The AVN value that AVN writes for a value.
@@ -66,6 +96,7 @@ abbrev mutual
   avn_tree (Value.bits bs size) = AvnTree.bit_string (padded bs) (length bs)
   avn_tree (Value.members ms) = AvnTree.sequence (avn_fields ms)
   avn_tree (Value.list vs) = AvnTree.sequence_of (avn_trees vs)
+  avn_tree (Value.bag vs) = AvnTree.sequence_of (sorted_trees (avn_trees vs))
   avn_tree (Value.choice i v) = AvnTree.choice i (avn_tree v)
   avn_tree v = AvnTree.null
 

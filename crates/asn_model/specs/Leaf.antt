@@ -22,7 +22,7 @@ use Rattle.asn_model.specs.BitLeaves.{no_bits, sized_bits}
 use Rattle.asn_model.specs.Digits.{signed_number}
 use Rattle.asn_model.specs.Notation.{Notation}
 use Rattle.asn_model.specs.Range.{is_between}
-use Rattle.asn_model.specs.Shape.{Shape, all_items, is_item}
+use Rattle.asn_model.specs.Shape.{Shape, SeqKind, all_items, is_item}
 use Rattle.asn_model.specs.Tree.{Tree}
 use Rattle.asn_model.specs.Value.{Value}
 use Rattle.asn_model.specs.declared.leaves.LeafKind.{LeafKind}
@@ -31,7 +31,7 @@ use Rattle.asn_model.specs.declared.leaves.Leaf.{Leaf}
 use Rattle.asn_model.specs.declared.leaves.Leaf.TheVariants as put
 use Rattle.asn_model.specs.declared.leaves.OwnedLeaf.{OwnedLeaf}
 use Rattle.asn_model.specs.declared.leaves.OwnedLeaf.TheVariants as got
-use Rattle.asn_model.specs.declared.words.TheConstants.{AVN_ARCS, AVN_BITS, AVN_CHOICE, AVN_ITEM, AVN_LIST, AVN_MEMBERS, AVN_NO_UTF8, AVN_NUMBER, AVN_OCTETS, AVN_STRING, BOOLEAN, JER_ARCS, JER_ARRAY, JER_BITS, JER_DATE, JER_DIGITS, JER_ITEM, JER_NUMBER, JER_OBJECT, JER_STRING, JER_TIME, JER_UNKNOWN, NULL}
+use Rattle.asn_model.specs.declared.words.TheConstants.{AVN_ARCS, AVN_BITS, AVN_CHOICE, AVN_ITEM, AVN_LIST, AVN_MEMBERS, AVN_NO_UTF8, AVN_NUMBER, AVN_OCTETS, AVN_SET, AVN_SET_OF, AVN_STRING, BOOLEAN, JER_ARCS, JER_ARRAY, JER_BITS, JER_DATE, JER_DIGITS, JER_ITEM, JER_NUMBER, JER_OBJECT, JER_STRING, JER_TIME, JER_UNKNOWN, NULL}
 
 -- Why a tree decodes to no value: it is of another kind than what is needed, or as told.
 pub data LeafFailure : Type 0 where
@@ -58,14 +58,23 @@ abbrev pub mismatch_of : Notation → List ℕ → List ℕ → LeafFailure
 mismatch_of Notation.avn j a = LeafFailure.mismatch a
 mismatch_of _ j a = LeafFailure.mismatch j
 
+-- What is wrong with a JSON value that is no object, whatever it is.
+abbrev pub no_object : LeafFailure
+no_object = LeafFailure.because (Cause.type_mismatch Jer JER_OBJECT.now JER_UNKNOWN.now)
+
 -- The failure of a tree that has no members.
-abbrev pub members_mismatch : Notation → LeafFailure
-members_mismatch Notation.avn = LeafFailure.mismatch AVN_MEMBERS.now
-members_mismatch _ = LeafFailure.because (Cause.type_mismatch Jer JER_OBJECT.now JER_UNKNOWN.now)
+abbrev pub members_mismatch : Notation → SeqKind → LeafFailure
+members_mismatch Notation.avn SeqKind.sequence = LeafFailure.mismatch AVN_MEMBERS.now
+members_mismatch Notation.avn SeqKind.set = LeafFailure.mismatch AVN_SET.now
+members_mismatch _ kind = no_object
 
 -- The failure of a tree that is no list.
 abbrev pub list_mismatch : Notation → LeafFailure
 list_mismatch n = mismatch_of n JER_ARRAY.now AVN_LIST.now
+
+-- The failure of a tree that is no list, where a SET OF is read.
+abbrev pub set_mismatch : Notation → LeafFailure
+set_mismatch n = mismatch_of n JER_ARRAY.now AVN_SET_OF.now
 
 -- The failure of a tree that is no choice.
 abbrev pub choice_mismatch : Notation → LeafFailure
@@ -154,7 +163,7 @@ as_leaf Notation.jer Oid (Tree.json (Data.string x)) = or_blame (dotted_identifi
 as_leaf Notation.avn Oid (Tree.avn (AvnTree.oid arcs)) = or_blame (checked_identifier (Ok arcs))
 as_leaf Notation.avn Oid (Tree.avn (AvnTree.sequence_of ts)) = or_blame (checked_identifier (braced_arcs ts))
 as_leaf Notation.jer (Bits None) (Tree.json (Data.object ms)) = declared_bits (option_and_then as_str (get_member (codes "value") ms)) (option_and_then length_in (get_member (codes "length") ms))
-as_leaf Notation.jer (Bits None) (Tree.json d) = Err (members_mismatch Notation.jer)
+as_leaf Notation.jer (Bits None) (Tree.json d) = Err no_object
 as_leaf Notation.jer (Bits (Some size)) (Tree.json (Data.string x)) = or_blame (sized_bits (Some size) size Cause.invalid_jer_octet_string (decode_of x))
 as_leaf Notation.avn (Bits size) (Tree.avn (AvnTree.bit_string o n)) = Ok (Value.bits (bits_of o n) size)
 as_leaf Notation.avn (Bits size) (Tree.avn (AvnTree.octet_string o)) = Ok (Value.bits (all_bits o) size)

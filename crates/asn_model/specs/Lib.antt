@@ -1,7 +1,9 @@
 pub mod Fixed
 pub mod Notation
 pub mod Range
+pub mod Sorting
 pub mod Shape
+pub mod Components
 pub mod ShapeView
 pub mod CharacterStrings
 pub mod Value

@@ -1,7 +1,9 @@
 -- What a Rust value of an ASN.1 type stands for, and what values a shape has.
-use Rattle.std.specs.Prelude.{◌≡◌, ℕ, ℤ, ◌+◌, ◌&&◌, nat_eq, List, [], ◌∷◌, Bool, true, false, not, if◌then◌else◌, Option, Some, None}
+use Rattle.std.specs.Prelude.{◌≡◌, ℕ, ℤ, pos, ◌+◌, ◌&&◌, nat_eq, List, [], ◌∷◌, ◌++◌, Bool, true, false, not, if◌then◌else◌, Option, Some, None}
 use Rattle.std.specs.Str.{bytes_eq}
-use Rattle.std.specs.Ordering.{int_eq}
+use Rattle.std.specs.declared.cmp.Ordering.{Ordering}
+use Rattle.std.specs.Ordering.{int_cmp, int_eq, on}
+use Rattle.std.specs.Cmp.Lexicographic.{slice_cmp}
 use Rattle.avn_grammar.specs.Chars.{all}
 use Rattle.avn_grammar.specs.WellFormed.{is_octet, is_arc}
 use Rattle.asn_base.specs.ObjectIdentifiers.{is_object_identifier}
@@ -10,6 +12,7 @@ use Rattle.asn_strings.specs.Alphabets.{all_within, is_bmp}
 use Rattle.asn_times.specs.Held.{is_held_day, is_held_nanosecond, is_held_second}
 use Rattle.asn_model.specs.CharacterStrings.{is_string_of}
 use Rattle.asn_model.specs.Range.{is_between}
+use Rattle.asn_model.specs.Sorting.{sort}
 use Rattle.asn_model.specs.Shape.{Shape, SeqKind, Fields, FieldAdditions, Alternatives, AlternativeAdditions, Plain, Presence, all_fields, all_items, all_alternatives, unfold_loop, is_item}
 
 mutual
@@ -96,6 +99,77 @@ abbrev pub values : {A : Type 0} → (A → Value) → List A → Values
 values f [] = Values.no_values
 values f (x ∷ xs) = Values.value (f x) (values f xs)
 
+-- The elements as a list.
+abbrev pub elements : Values → List Value
+elements Values.no_values = []
+elements (Values.value v vs) = v ∷ elements vs
+
+-- A flag as a number.
+abbrev pub flag_number : Bool → ℤ
+flag_number b = if b then pos 1 else pos 0
+
+-- Numbers one after another: 1 before each, and 0 after the last, so that a list comes before its extensions.
+abbrev pub number_row : List ℕ → List ℤ
+number_row [] = pos 0 ∷ []
+number_row (n ∷ ns) = pos 1 ∷ pos n ∷ number_row ns
+
+-- Bits in the same way.
+abbrev pub bit_row : List Bool → List ℤ
+bit_row [] = pos 0 ∷ []
+bit_row (b ∷ bs) = pos 1 ∷ flag_number b ∷ bit_row bs
+
+-- A size: 0 where there is none, and else 1 and the size.
+abbrev pub size_row : Option ℕ → List ℤ
+size_row None = pos 0 ∷ []
+size_row (Some n) = pos 1 ∷ pos n ∷ []
+
+abbrev mutual
+  -- A value as a row of whole numbers: the number of its kind, and then its contents from left to right.
+  pub value_row : Value → List ℤ
+  value_row Value.null = pos 0 ∷ []
+  value_row (Value.boolean b) = pos 1 ∷ flag_number b ∷ []
+  value_row (Value.int n) = pos 2 ∷ n ∷ []
+  value_row (Value.bits bs size) = pos 3 ∷ (bit_row bs ++ size_row size)
+  value_row (Value.octets o) = pos 4 ∷ number_row o
+  value_row (Value.arcs a) = pos 5 ∷ number_row a
+  value_row (Value.text t) = pos 6 ∷ number_row t
+  value_row (Value.units u) = pos 7 ∷ number_row u
+  value_row (Value.utc n) = pos 8 ∷ n ∷ []
+  value_row (Value.gen n) = pos 9 ∷ n ∷ []
+  value_row (Value.day n) = pos 10 ∷ n ∷ []
+  value_row (Value.item i) = pos 11 ∷ number_row i
+  value_row (Value.members ms) = pos 12 ∷ member_row ms
+  value_row (Value.list vs) = pos 13 ∷ element_row vs
+  value_row (Value.bag vs) = pos 14 ∷ element_row vs
+  value_row (Value.choice i v) = pos 15 ∷ (number_row i ++ value_row v)
+
+  -- Elements one after another: 1 before each, and 0 after the last.
+  pub element_row : Values → List ℤ
+  element_row Values.no_values = pos 0 ∷ []
+  element_row (Values.value v vs) = pos 1 ∷ (value_row v ++ element_row vs)
+
+  -- Members in the same way: the name, and then 0 where the member is absent, and 1 before one that is present.
+  pub member_row : Slots → List ℤ
+  member_row Slots.no_slots = pos 0 ∷ []
+  member_row (Slots.absent n ms) = pos 1 ∷ (number_row n ++ pos 0 ∷ member_row ms)
+  member_row (Slots.present n v ms) = pos 1 ∷ (number_row n ++ pos 1 ∷ (value_row v ++ member_row ms))
+
+-- The one total order on values: by kind, then by contents from left to right, numbers by size, absent before present, and a list before its extensions.
+unfoldable pub value_cmp : Value → Value → Ordering
+value_cmp = on value_row (slice_cmp int_cmp)
+
+-- The values in an order, repeats kept.
+abbrev pub ordered_by : (Value → Value → Ordering) → Values → Values
+ordered_by cmp vs = values (λ v. v) (sort cmp (elements vs))
+
+-- The values in their own order, repeats kept.
+abbrev pub sort_values : Values → Values
+sort_values vs = ordered_by value_cmp vs
+
+-- The value of a SET OF with these elements, in whatever order they are.
+abbrev pub bag_of : Values → Value
+bag_of vs = Value.bag (sort_values vs)
+
 -- The value is the one that a DEFAULT names.
 abbrev pub is_plain : Plain → Value → Bool
 is_plain (Plain.boolean true) (Value.boolean c) = c
@@ -148,6 +222,8 @@ mutual
     fits_leaf : {s : Shape} {v : Value} → is_leaf_of s v ≡ true → Fits s v
     fits_members : {kind : SeqKind} {fs : Fields} {added : FieldAdditions} {ms : Slots} → FitsFields (all_fields fs added) ms → Fits (Shape.seq kind fs added) (Value.members ms)
     fits_list : {s : Shape} {vs : Values} → FitsEach s vs → Fits (Shape.list_of s) (Value.list vs)
+    -- Each multiset is one value, whose elements are in order.
+    fits_set : {s : Shape} {vs : Values} → FitsEach s vs → sort_values vs ≡ vs → Fits (Shape.set_of s) (Value.bag vs)
     fits_choice : {alts : Alternatives} {added : AlternativeAdditions} {i : List ℕ} {v : Value} → FitsAlternative (all_alternatives alts added) i v → Fits (Shape.choice alts added) (Value.choice i v)
     fits_loop : {b : Shape} {v : Value} → Fits (unfold_loop b) v → Fits (Shape.loop b) v
 

@@ -31,6 +31,7 @@ abbrev mutual
   Writable n (Value.bits bs size) = LengthStands n size (length bs)
   Writable n (Value.members ms) = WritableSlots n ms
   Writable n (Value.list vs) = WritableEach n vs
+  Writable n (Value.bag vs) = WritableEach n vs
   Writable n (Value.choice i v) = Writable n v
   Writable n _ = Unit {0}
 
@@ -59,7 +60,7 @@ abbrev pub whole : ℤ → WholeNumber
 whole n = record { negative = is_negative n; magnitude = magnitude n }
 
 abbrev mutual
-  -- The first part of the value that the notation cannot write is refused so.
+  -- The first part of the value that the notation cannot write is refused so. The elements of a SET OF have no order, so any of them may be it.
   pub FirstUnencodable : Notation → Value → EncodeCause → Type 0
   FirstUnencodable n (Value.int k) cause = (IsEncodableInt n k → ⊥) × (cause ≡ EncodeCause.exceeds_supported_int_size (whole k))
   FirstUnencodable n (Value.text t) cause = (is_utf8 t ≡ false) × (cause ≡ no_unicode n (utf8_valid_len t))
@@ -70,6 +71,7 @@ abbrev mutual
   FirstUnencodable n (Value.bits bs size) cause = LengthBlocks n size (length bs) cause
   FirstUnencodable n (Value.members ms) cause = SlotsFirstUnencodable n ms cause
   FirstUnencodable n (Value.list vs) cause = EachFirstUnencodable n vs cause
+  FirstUnencodable n (Value.bag vs) cause = SomeUnencodable n vs cause
   FirstUnencodable n (Value.choice i v) cause = FirstUnencodable n v cause
   FirstUnencodable n _ cause = ⊥
 
@@ -77,6 +79,11 @@ abbrev mutual
   pub EachFirstUnencodable : Notation → Values → EncodeCause → Type 0
   EachFirstUnencodable n Values.no_values cause = ⊥
   EachFirstUnencodable n (Values.value v vs) cause = FirstUnencodable n v cause ⊎ (Writable n v × EachFirstUnencodable n vs cause)
+
+  -- An element that cannot be written is refused so.
+  pub SomeUnencodable : Notation → Values → EncodeCause → Type 0
+  SomeUnencodable n Values.no_values cause = ⊥
+  SomeUnencodable n (Values.value v vs) cause = FirstUnencodable n v cause ⊎ SomeUnencodable n vs cause
 
   -- The first present member that cannot be written is refused so.
   pub SlotsFirstUnencodable : Notation → Slots → EncodeCause → Type 0

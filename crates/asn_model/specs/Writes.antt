@@ -1,11 +1,13 @@
 -- What makes written trees readable.
 use Rattle.std.specs.Prelude.{◌≡◌, ℕ, List, [], ◌∷◌, true, Some, None, Ok}
+use Rattle.asn_model.specs.Canonical.{canonical_text}
 use Rattle.asn_model.specs.Leaf.{leaf}
 use Rattle.asn_model.specs.Notation.{Notation}
 use Rattle.asn_model.specs.Readable.{is_readable}
 use Rattle.asn_model.specs.Shape.{Shape, are_distinct}
+use Rattle.asn_model.specs.Sorting.{by_text}
 use Rattle.asn_model.specs.Tree.{Tree, Slot, as_list, as_members, as_choice}
-use Rattle.asn_model.specs.Value.{Value, Values, Slots, is_leaf_of}
+use Rattle.asn_model.specs.Value.{Value, Values, Slots, is_leaf_of, ordered_by}
 use Rattle.asn_model.specs.Writable.{Writable}
 
 -- The trees of elements, as slots.
@@ -29,5 +31,6 @@ Finds tree look (Slots.present n v ms) = (look n ≡ Some (tree v)) × Finds tre
 pub record Writes (n : Notation) (tree : Value → Tree) : Type 0 where
   pub leaf : (s : Shape) (v : Value) → is_readable s ≡ true → is_leaf_of s v ≡ true → Writable n v → leaf n s (tree v) ≡ Some (Ok v)
   pub list : (vs : Values) → as_list n (tree (Value.list vs)) ≡ Some (value_slots tree vs)
+  pub set : (vs : Values) → as_list n (tree (Value.bag vs)) ≡ Some (value_slots tree (ordered_by (by_text (canonical_text n)) vs))
   pub members : (ms : Slots) → are_distinct (slot_names ms) ≡ true → (look : List ℕ → Slot) × (as_members n (tree (Value.members ms)) ≡ Some look) × Finds tree look ms
   pub choice : (i : List ℕ) (v : Value) → as_choice n (tree (Value.choice i v)) ≡ Some (Some (i, tree v))

@@ -90,3 +90,9 @@ pub const AVN_LIST: &str = "sequence of";
 
 /// What AVN needs for CHOICE.
 pub const AVN_CHOICE: &str = "choice (identifier : value)";
+
+/// What AVN needs for SET.
+pub const AVN_SET: &str = "set";
+
+/// What AVN needs for SET OF.
+pub const AVN_SET_OF: &str = "set of";

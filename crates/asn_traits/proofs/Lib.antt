@@ -17,6 +17,7 @@ pub mod Steps
 pub mod Refusing
 pub mod LeafValues
 pub mod TextLeaves
+pub mod ReadingOrder
 pub mod Taking
 pub mod Reading
 pub mod Choices

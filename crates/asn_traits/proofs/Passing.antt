@@ -1,27 +1,29 @@
 -- What is written and read field by field is what the SEQUENCE writes and reads.
-use Rattle.std.proofs.Common.{◌≡◌, refl, subst, ap, ◌∙◌, ℕ, List, ◌∷◌, ◌++◌, length, Option, Some, None, Bool, true, false, if◌then◌else◌}
+use Rattle.std.proofs.Common.{◌≡◌, refl, sym, subst, ap, ◌∙◌, ℕ, List, ◌∷◌, ◌++◌, length, Option, Some, None, Bool, true, false, if◌then◌else◌}
 use Rattle.std.proofs.lemmas.Int.{to_z-of_z}
-use Rattle.asn_base.specs.declared.tag.Tag.{Tag}
-use Rattle.asn_fault.specs.Failure.{Failure}
+use Rattle.std.proofs.lemmas.List.{length-map}
+use Rattle.asn_fault.specs.Failure.{Failure, Cause}
 use Rattle.asn_fault.specs.declared.encode.EncodeError.{EncodeError}
 use Rattle.asn_traits.specs.Answer.{OptionalFailsWith, Refuses}
-use Rattle.asn_traits.specs.FieldAnswer.{AddsSlot, Ahead, TakesField, TakesSlot, WithinField}
+use Rattle.asn_traits.specs.FieldAnswer.{AdditionFailsWith, AddsSlot, Ahead, TakesField, TakesSlot, WithinField}
+use Rattle.asn_model.specs.Components.{Component, Standing, component_names, reading_order}
 use Rattle.asn_model.specs.Notation.{Notation}
-use Rattle.asn_traits.specs.Passing.{allows, AddsFields, RefusesAdding, TakesFields, RefusesFields, FieldFailsWith}
+use Rattle.asn_traits.specs.Passing.{allows, AddsFields, RefusesAdding, TakesFields, RefusesFields, ComponentFailsWith}
 use Rattle.asn_traits.specs.Passing.AddsFields.{adds_none, adds_next}
 use Rattle.asn_traits.specs.Passing.RefusesAdding.{refuses_slot, refuses_later_slot}
 use Rattle.asn_traits.specs.Passing.TakesFields.{takes_none, takes_next}
 use Rattle.asn_traits.specs.Passing.RefusesFields.{refuses_field, refuses_later_field}
 use Rattle.asn_model.specs.DecodesTo.{FieldsDecodeTo}
-use Rattle.asn_model.specs.Shape.{Shape, Fields, Presence, field_names}
-use Rattle.asn_model.specs.FailsWith.{FieldsFailWith}
-use Rattle.asn_model.specs.Tree.{Slot}
+use Rattle.asn_model.specs.Shape.{Fields, FieldAdditions, Presence, SeqKind, all_fields, field_names}
+use Rattle.asn_model.specs.FailsWith.{FailsWith, FieldsFailWith, Path}
+use Rattle.asn_model.specs.Tree.{Slot, head_slot}
 use Rattle.asn_model.specs.Value.{Value, Slots, is_kept, may_lack, with_field}
 use Rattle.asn_traits.specs.Writing.{Frame, head_name, named, tail_names, Filled, FailsToFill}
-use Rattle.asn_traits.proofs.FieldSteps.{FieldsRead, reads_start, refused_at, refused_after, refuses_required, member, at_field}
+use Rattle.asn_traits.proofs.FieldSteps.{FieldsRead, reads_start, refused_at, refused_after, member, at_field}
 use Rattle.asn_traits.proofs.Filling.{fill_end, fill_present, fill_absent}
+use Rattle.asn_traits.proofs.ReadingOrder.{fields_from, fields-read, names-read}
 use Rattle.asn_traits.proofs.Steps.{refuses_by}
-use Rattle.asn_traits.proofs.Taking.{Taking, takes_present, takes_optional, taking_ends, fails_optional}
+use Rattle.asn_traits.proofs.Taking.{Taking, takes_present, takes_optional, taking_ends, fails_optional, fails_required, fails_addition}
 
 allowed-kept : (p : Presence) (v : Value) → allows p (Some v) ≡ true → is_kept p v ≡ true
 allowed-kept Presence.required v a = refl
@@ -51,12 +53,12 @@ named_member : (o : Option Value) (ss : Frame) (name : List ℕ) (names : List (
 named_member (Some v) ss name names = refl
 named_member None ss name names = refl
 
-recast : (n : Notation) (all : Fields) (slots rest after : List Slot) (todo : Fields) (front : Slots → Slots) (p : Presence) (name : List ℕ) (v : Value) → is_kept p v ≡ true → Taking n all slots rest todo (λ vs. front (with_field p name v vs)) after → Taking n all slots rest todo (λ vs. front (Slots.present name v vs)) after
+recast : (n : Notation) (all : List Component) (slots rest after : List Slot) (todo : List Component) (front : Slots → Slots) (p : Presence) (name : List ℕ) (v : Value) → is_kept p v ≡ true → Taking n all slots rest todo (λ vs. front (with_field p name v vs)) after → Taking n all slots rest todo (λ vs. front (Slots.present name v vs)) after
 recast n all slots rest after todo front p name v kept t = record {
   left = t.left;
   is = t.is;
   count = t.count;
-  said = λ vs h. subst (λ m. FieldsDecodeTo n all slots (front m)) (kept_field (is_kept p v) name v vs kept) (t.said vs h);
+  said = λ vs h. subst (λ m. FieldsDecodeTo n (fields_from all) slots (front m)) (kept_field (is_kept p v) name v vs kept) (t.said vs h);
   stopped = t.stopped;
 }
 
@@ -66,50 +68,69 @@ names_ahead (Ahead.ahead names slots) = names
 abbrev slots_ahead : Ahead → List Slot
 slots_ahead (Ahead.ahead names slots) = slots
 
-module _ {n : Notation} {all : Fields} {start : List Slot} where
-  -- A field is read.
-  reads_next : {name : List ℕ} {g : Tag} {p : Presence} {s : Shape} {todo : Fields} {front : Slots → Slots} {now after : List Slot} {o : Option Value} → FieldsRead n all start (Fields.field name g p s todo) front now
-      → TakesSlot n s now after o → allows p o ≡ true → FieldsRead n all start todo (λ vs. front (member name o vs)) after
-  reads_next {name} {g} {p} {s} {todo} {front} {now} {after} r (TakesSlot.takes_value slot v shown says) a =
-      record { taking = λ slots rest count e. recast n all slots rest after todo front p name v (allowed-kept p v a) (takes_present n all slots rest name g p s todo front (λ (u : Value). u) now after v (r.taking slots rest count e) (slot, shown, says)) }
-  reads_next {name} {g} {p} {s} {todo} {front} {now} {after} r (TakesSlot.takes_nothing shown) a =
-      record { taking = λ slots rest count e. takes_optional n all slots rest name g p s todo front (allowed-lacks p a) (λ (v : Value). v) now after None (r.taking slots rest count e) shown }
+module _ {n : Notation} {all : List Component} {start : List Slot} where
+  -- A component is read.
+  reads_next : {c : Component} {todo : List Component} {front : Slots → Slots} {now after : List Slot} {o : Option Value} → FieldsRead n all start (c ∷ todo) front now
+      → TakesSlot n c.shape now after o → allows c.presence o ≡ true → FieldsRead n all start todo (λ vs. front (member c.name o vs)) after
+  reads_next {c} {todo} {front} {now} {after} r (TakesSlot.takes_value slot v shown says) a =
+      record { taking = λ slots rest count e. recast n all slots rest after todo front c.presence c.name v (allowed-kept c.presence v a) (takes_present n all slots rest c todo front (λ (u : Value). u) now after v (r.taking slots rest count e) (slot, shown, says)) }
+  reads_next {c} {todo} {front} {now} {after} r (TakesSlot.takes_nothing shown) a =
+      record { taking = λ slots rest count e. takes_optional n all slots rest c todo front (allowed-lacks c.presence a) (λ (v : Value). v) now after None (r.taking slots rest count e) shown }
 
-  reads_rest : {fs : Fields} {ss : Frame} {now after : Ahead} {front : Slots → Slots} → FieldsRead n all start fs front (slots_ahead now) → TakesFields n fs ss now after
-      → (slots rest : List Slot) → length slots ≡ length (field_names all) → start ≡ slots ++ rest → (slots_ahead after ≡ rest) × FieldsDecodeTo n all slots (front (named ss (field_names fs)))
+  reads_rest : {cs : List Component} {ss : Frame} {now after : Ahead} {front : Slots → Slots} → FieldsRead n all start cs front (slots_ahead now) → TakesFields n cs ss now after
+      → (slots rest : List Slot) → length slots ≡ length all → start ≡ slots ++ rest → (slots_ahead after ≡ rest) × FieldsDecodeTo n (fields_from all) slots (front (named ss (component_names cs)))
   reads_rest {now = now} {front = front} r TakesFields.takes_none slots rest count is = taking_ends n all slots rest front (slots_ahead now) (r.taking slots rest count is)
-  reads_rest {front = front} r (TakesFields.takes_next {name = name} {rest = todo} {o = o} {ss = ss} (TakesField.takes_field t others) more a) slots rest count is =
+  reads_rest {front = front} r (TakesFields.takes_next {c = c} {rest = todo} {o = o} {ss = ss} (TakesField.takes_field t others) more a) slots rest count is =
       let d = reads_rest (reads_next r t a) more slots rest count is in
-      (d.0, subst (λ m. FieldsDecodeTo n all slots (front m)) (named_member o ss name (field_names todo)) d.1)
+      (d.0, subst (λ m. FieldsDecodeTo n (fields_from all) slots (front m)) (named_member o ss c.name (component_names todo)) d.1)
 
-  optional_refused : {name : List ℕ} {g : Tag} {p : Presence} {s : Shape} {todo : Fields} {front : Slots → Slots} {now : List Slot} {e : Failure} → may_lack p ≡ true → FieldsRead n all start (Fields.field name g p s todo) front now
-      → Refuses n (WithinField name (OptionalFailsWith n s now)) e
-      → (slots rest : List Slot) → length slots ≡ length (field_names all) → start ≡ slots ++ rest → Refuses n (FieldsFailWith n all slots) e
-  optional_refused {name} {g} {p} {s} {todo} {front} {now} {e} lack r h slots rest count is =
-      refuses_by (at_field (FieldsFailWith n all slots) (fails_optional n all slots rest name g p s todo front lack now (r.taking slots rest count is))) e h
+  -- A component is refused.
+  component_refused : {c : Component} {todo : List Component} {front : Slots → Slots} {now : List Slot} {e : Failure} → FieldsRead n all start (c ∷ todo) front now
+      → Refuses n (ComponentFailsWith n c.presence c.standing c.shape c.name now) e
+      → (slots rest : List Slot) → length slots ≡ length all → start ≡ slots ++ rest → Refuses n (FieldsFailWith n all slots) e
+  component_refused {c} {todo} {front} {now} {e} r h slots rest count is =
+      let taken = r.taking slots rest count is in
+      let optional = at_field (FieldsFailWith n all slots) (fails_optional n all slots rest c todo front now taken) in
+      let required = λ (needed : may_lack c.presence ≡ false) (at : c.standing ≡ Standing.root). at_field (FieldsFailWith n all slots) (fails_required n all slots rest c todo front needed now taken at) in
+      let addition = λ (needed : may_lack c.presence ≡ false) (at : c.standing ≡ Standing.addition). fails_addition n all slots rest c todo front needed now taken at in
+      by c.presence c.standing refl refl optional required addition h
+    where
+      by : (p : Presence) (at : Standing) → c.presence ≡ p → c.standing ≡ at
+          → ((q : Path) (w : Cause) → WithinField c.name (OptionalFailsWith n c.shape now) q w → FieldsFailWith n all slots q w)
+          → (may_lack c.presence ≡ false → c.standing ≡ Standing.root → (q : Path) (w : Cause) → WithinField c.name (FailsWith n c.shape (head_slot now)) q w → FieldsFailWith n all slots q w)
+          → (may_lack c.presence ≡ false → c.standing ≡ Standing.addition → (q : Path) (w : Cause) → AdditionFailsWith n c.shape c.name now q w → FieldsFailWith n all slots q w)
+          → Refuses n (ComponentFailsWith n p at c.shape c.name now) e → Refuses n (FieldsFailWith n all slots) e
+      by Presence.required Standing.root is stands optional required addition k = refuses_by (required (ap may_lack is) stands) e k
+      by Presence.required Standing.addition is stands optional required addition k = refuses_by (addition (ap may_lack is) stands) e k
+      by Presence.optional at is stands optional required addition k = refuses_by optional e k
+      by (Presence.default d) at is stands optional required addition k = refuses_by optional e k
 
-  field_refused : {name : List ℕ} {g : Tag} (p : Presence) {s : Shape} {todo : Fields} {front : Slots → Slots} {now : List Slot} {e : Failure} → FieldsRead n all start (Fields.field name g p s todo) front now
-      → Refuses n (WithinField name (FieldFailsWith n p s now)) e
-      → (slots rest : List Slot) → length slots ≡ length (field_names all) → start ≡ slots ++ rest → Refuses n (FieldsFailWith n all slots) e
-  field_refused Presence.required r h = refuses_required r h
-  field_refused Presence.optional r h = optional_refused refl r h
-  field_refused (Presence.default d) r h = optional_refused refl r h
-
-  -- The names ahead are those of the fields.
-  refuses_rest : {fs : Fields} {now : Ahead} {front : Slots → Slots} {e : Failure} → FieldsRead n all start fs front (slots_ahead now) → names_ahead now ≡ field_names fs → RefusesFields n fs now e
-      → (slots rest : List Slot) → length slots ≡ length (field_names all) → start ≡ slots ++ rest → Refuses n (FieldsFailWith n all slots) e
-  refuses_rest {e = e} r named (RefusesFields.refuses_field {p = p} {s = s} {before = now} h) =
-      field_refused p r (subst (λ ns. Refuses n (WithinField (head_name ns) (FieldFailsWith n p s now)) e) named h)
+  -- The names ahead are those of the components.
+  refuses_rest : {cs : List Component} {now : Ahead} {front : Slots → Slots} {e : Failure} → FieldsRead n all start cs front (slots_ahead now) → names_ahead now ≡ component_names cs → RefusesFields n cs now e
+      → (slots rest : List Slot) → length slots ≡ length all → start ≡ slots ++ rest → Refuses n (FieldsFailWith n all slots) e
+  refuses_rest {e = e} r named (RefusesFields.refuses_field {c = c} {before = now} h) =
+      component_refused r (subst (λ ns. Refuses n (ComponentFailsWith n c.presence c.standing c.shape (head_name ns) now) e) named h)
   refuses_rest r named (RefusesFields.refuses_later_field (TakesField.takes_field t others) more a) = refuses_rest (reads_next r t a) (others ∙ ap tail_names named) more
 
--- The slots that are taken decode to the members that they are.
-pub takes_fields : {n : Notation} {fs : Fields} {ss : Frame} {names others : List (List ℕ)} {before after : List Slot} (v : Value) → v ≡ Value.members (named ss (field_names fs)) → TakesFields n fs ss (Ahead.ahead names before) (Ahead.ahead others after)
-    → (slots rest : List Slot) → length slots ≡ length (field_names fs) → before ≡ slots ++ rest → (after ≡ rest) × (vs : Slots) × FieldsDecodeTo n fs slots vs × (v ≡ Value.members vs)
-takes_fields {fs = fs} {ss = ss} v e t slots rest count is = let d = reads_rest reads_start t slots rest count is in (d.0, named ss (field_names fs), d.1, e)
+-- There is a slot for each component.
+one_each : (fs : Fields) (added : FieldAdditions) (slots : List Slot) → length slots ≡ length (field_names (all_fields fs added)) → length slots ≡ length (reading_order SeqKind.sequence fs added)
+one_each fs added slots count = count ∙ ap length (sym (names-read fs added)) ∙ length-map (reading_order SeqKind.sequence fs added) (λ (c : Component). c.name)
 
-pub refuses_fields : {n : Notation} {fs : Fields} {names : List (List ℕ)} {before : List Slot} {e : Failure} → names ≡ field_names fs → RefusesFields n fs (Ahead.ahead names before) e
-    → (slots rest : List Slot) → length slots ≡ length (field_names fs) → before ≡ slots ++ rest → Refuses n (FieldsFailWith n fs slots) e
-refuses_fields named r = refuses_rest reads_start named r
+-- The slots that are taken decode to the members that they are.
+pub takes_fields : {n : Notation} (fs : Fields) (added : FieldAdditions) {ss : Frame} {names others : List (List ℕ)} {before after : List Slot} (v : Value) → v ≡ Value.members (named ss (field_names (all_fields fs added))) → TakesFields n (reading_order SeqKind.sequence fs added) ss (Ahead.ahead names before) (Ahead.ahead others after)
+    → (slots rest : List Slot) → length slots ≡ length (field_names (all_fields fs added)) → before ≡ slots ++ rest → (after ≡ rest) × (vs : Slots) × FieldsDecodeTo n (all_fields fs added) slots vs × (v ≡ Value.members vs)
+takes_fields {n} fs added {ss = ss} v e t slots rest count is =
+    let d = reads_rest reads_start t slots rest (one_each fs added slots count) is in
+    let read = reading_order SeqKind.sequence fs added in (
+      d.0,
+      named ss (field_names (all_fields fs added)),
+      subst (λ ns. FieldsDecodeTo n (all_fields fs added) slots (named ss ns)) (names-read fs added) (subst (λ gs. FieldsDecodeTo n gs slots (named ss (component_names read))) (fields-read fs added) d.1),
+      e,
+    )
+
+pub refuses_fields : {n : Notation} (fs : Fields) (added : FieldAdditions) {names : List (List ℕ)} {before : List Slot} {e : Failure} → names ≡ field_names (all_fields fs added) → RefusesFields n (reading_order SeqKind.sequence fs added) (Ahead.ahead names before) e
+    → (slots rest : List Slot) → length slots ≡ length (field_names (all_fields fs added)) → before ≡ slots ++ rest → Refuses n (FieldsFailWith n (reading_order SeqKind.sequence fs added) slots) e
+refuses_fields fs added named r slots rest count is = refuses_rest reads_start (named ∙ sym (names-read fs added)) r slots rest (one_each fs added slots count) is
 
 -- The steps of a writer of fields.
 pub ruleset write_steps = (adds_none, adds_next, refuses_slot, refuses_later_slot)

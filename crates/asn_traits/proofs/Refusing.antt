@@ -47,7 +47,7 @@ refuses_because_or_memory cause c t e (inl is) of = refuses_because cause c t e 
 refuses_because_or_memory {n} cause c t e (inr is) of = out_of_memory {P = AtRoot (IsFailureOf n t (LeafFailure.because cause))} c e is
 
 -- A tree that has no members.
-pub no_members : {n : Notation} (kind : SeqKind) (fs : Fields) (added : FieldAdditions) (t : Tree) (before after : List Slot) (e : Failure) → before ≡ Some t ∷ after → as_members n t ≡ None → RefusesLeaf n t (members_mismatch n) e
+pub no_members : {n : Notation} (kind : SeqKind) (fs : Fields) (added : FieldAdditions) (t : Tree) (before after : List Slot) (e : Failure) → before ≡ Some t ∷ after → as_members n t ≡ None → RefusesLeaf n t (members_mismatch n kind) e
     → Refuses n (FailsWith n (Shape.seq kind fs added) (head_slot before)) e
 no_members kind fs added t before after e was is tells = first_fails (Shape.seq kind fs added) t _ before after e was tells (λ w h. FailsWith.fails_no_members kind fs added t w is h)
 

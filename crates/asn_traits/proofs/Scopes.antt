@@ -13,6 +13,7 @@ use Rattle.asn_traits.specs.Scopes.{ScopeAnswer}
 use Rattle.asn_traits.specs.Tables.{Row, names_of, rows_of, field_rows, added_rows}
 use Rattle.asn_traits.specs.declared.asn_type.Field.{Field}
 use Rattle.asn_model.proofs.Readables.{names-all}
+use Rattle.asn_traits.proofs.ReadingOrder.{names-read}
 use Rattle.asn_traits.proofs.Steps.{refuses_by, members_decode, members_fail}
 
 names_of-rows : (fields : List Field) → map (λ (r : Row). r.name) (rows_of fields) ≡ names_of fields
@@ -39,8 +40,11 @@ all_table_names items root additions (Some t) fs FieldAdditions.closed_fields e 
 all_table_names items root additions None fs (FieldAdditions.extended_fields more) e f is = let d : None ≡ Some (field_rows (length (field_names fs)) more) = f in cc d
 
 pub sequence_answer : {A E : Type 0} (failure : E → Failure) (n : Notation) (kind : SeqKind) (fs : Fields) (added : FieldAdditions) (value : A → Value) (before after rest slots : List Slot) (slot : Slot) (names : List (List ℕ)) (r : Result A E)
-    → names ≡ field_names (all_fields fs added) → before ≡ slot ∷ rest → HasMembers n names slot slots → ScopeAnswer failure n (all_fields fs added) value slots rest r after → AnswerBy failure n (Shape.seq kind fs added) value before r after
-sequence_answer failure n kind fs added value before after rest slots slot names (Ok x) e was has (is, vs, says, v) =
+    → kind ≡ SeqKind.sequence → names ≡ field_names (all_fields fs added) → before ≡ slot ∷ rest → HasMembers n names slot slots → ScopeAnswer failure n fs added value slots rest r after → AnswerBy failure n (Shape.seq kind fs added) value before r after
+sequence_answer failure n kind fs added value before after rest slots slot names (Ok x) ordered e was has (is, vs, says, v) =
     (slot, was ∙ ap (λ l. slot ∷ l) (sym is), subst (DecodesTo n (Shape.seq kind fs added) slot) (sym v) (members_decode kind fs added vs e has says))
-sequence_answer failure n kind fs added value before after rest slots slot names (Err x) e was has h =
-    refuses_by (λ p w k. subst (λ l. FailsWith n (Shape.seq kind fs added) (head_slot l) p w) (sym was) (members_fail kind fs added p w e has k)) (failure x) h
+sequence_answer failure n kind fs added value before after rest slots slot names (Err x) ordered e was has h =
+    refuses_by
+    (λ p w k. subst (λ l. FailsWith n (Shape.seq kind fs added) (head_slot l) p w) (sym was)
+    (subst (λ m. FailsWith n (Shape.seq m fs added) slot p w) (sym ordered) (members_fail SeqKind.sequence fs added p w (e ∙ sym (names-read fs added)) has k)))
+    (failure x) h

@@ -4,6 +4,7 @@ use Rattle.std.proofs.Common.{sym, ◌∙◌, subst, inl, inr, refl}
 use Rattle.asn_fault.specs.Failure.{Failure, Cause, failure_of, is_out_of_memory, wrapped, at_root}
 use Rattle.asn_base.specs.declared.codec.Codec.{Codec}
 use Rattle.asn_fault.specs.declared.decode.DecodeError.{DecodeError}
+use Rattle.asn_model.specs.Components.{component_names, reading_order}
 use Rattle.asn_model.specs.Notation.{Notation, notation_of}
 use Rattle.asn_model.specs.Shape.{Shape, SeqKind, Fields, FieldAdditions, all_fields, field_names, unfold_loop}
 use Rattle.asn_model.specs.Tree.{Slot, head_slot}
@@ -37,8 +38,8 @@ pub members_decode : {n : Notation} {names : List (List ℕ)} {slot : Slot} {slo
 members_decode {n} kind fs added vs e (HasMembers.has_members names t look is) h = DecodesTo.decodes_seq kind fs added t look vs is (subst (λ l. FieldsDecodeTo n (all_fields fs added) (map look l) vs) e h)
 members_decode kind fs added vs e (HasMembers.members_free names slot slots is) h = DecodesTo.decodes_free _ slot _ is
 
-pub members_fail : {n : Notation} {names : List (List ℕ)} {slot : Slot} {slots : List Slot} (kind : SeqKind) (fs : Fields) (added : FieldAdditions) (p : Path) (w : Cause) → names ≡ field_names (all_fields fs added) → HasMembers n names slot slots → FieldsFailWith n (all_fields fs added) slots p w → FailsWith n (Shape.seq kind fs added) slot p w
-members_fail {n} kind fs added p w e (HasMembers.has_members names t look is) h = FailsWith.fails_seq kind fs added t look p w is (subst (λ l. FieldsFailWith n (all_fields fs added) (map look l) p w) e h)
+pub members_fail : {n : Notation} {names : List (List ℕ)} {slot : Slot} {slots : List Slot} (kind : SeqKind) (fs : Fields) (added : FieldAdditions) (p : Path) (w : Cause) → names ≡ component_names (reading_order kind fs added) → HasMembers n names slot slots → FieldsFailWith n (reading_order kind fs added) slots p w → FailsWith n (Shape.seq kind fs added) slot p w
+members_fail {n} kind fs added p w e (HasMembers.has_members names t look is) h = FailsWith.fails_seq kind fs added t look p w is (subst (λ l. FieldsFailWith n (reading_order kind fs added) (map look l) p w) e h)
 members_fail kind fs added p w e (HasMembers.members_free names slot slots is) h = FailsWith.fails_free _ slot p w is
 
 decodes_nothing : {n : Notation} {s : Shape} {v : Value} → DecodesTo n s None v → (r : Shape) → DecodesTo n r None v

@@ -1,5 +1,5 @@
 -- Values that are texts, as they are written and read.
-use Rattle.std.proofs.Common.{◌≡◌, refl, sym, ap, ◌∙◌, subst, ℕ, ℤ, List, ◌∷◌, Bool, true, false, Option, Some, None, Result, Ok, Err, ◌⊎◌, inl, inr, true≢false, String, Global, string_bytes, IfOk, IfErr, OnOk}
+use Rattle.std.proofs.Common.{◌≡◌, refl, sym, ap, ◌∙◌, subst, ℕ, ℤ, List, ◌∷◌, Bool, true, false, Some, None, Result, Ok, Err, ◌⊎◌, inl, inr, true≢false, String, Global, string_bytes, IfOk, IfErr, OnOk}
 use Rattle.std.specs.Str.{chars, is_utf8, IsUtf8}
 use Rattle.std.specs.Str.Lossy.{utf8_valid_len}
 use Rattle.std.proofs.lemmas.Str.{IsUtf8-from_is_utf8, IsUtf8-string_bytes, is_utf8-from_IsUtf8}
@@ -8,7 +8,7 @@ use Rattle.avn_grammar.specs.Tree.{Tree as AvnTree}
 use Rattle.asn_base.specs.declared.codec.Codec.{Codec}
 use Rattle.asn_base.specs.declared.codec.Codec.TheVariants.{Ber}
 use Rattle.asn_base.specs.declared.tag.Tag.{Tag}
-use Rattle.asn_fault.specs.Failure.{Failure, Cause, at_root, failure_of, is_out_of_memory}
+use Rattle.asn_fault.specs.Failure.{Failure, Cause, failure_of, is_out_of_memory}
 use Rattle.asn_fault.specs.EncodeCause.{EncodeCause}
 use Rattle.asn_fault.specs.declared.decode.DecodeError.{DecodeError}
 use Rattle.asn_fault.specs.declared.encode.EncodeError.{EncodeError}

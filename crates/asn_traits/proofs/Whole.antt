@@ -14,7 +14,7 @@ use Rattle.asn_model.specs.DecodesTo.{DecodesTo}
 use Rattle.asn_model.specs.FailsWith.{FailsWith}
 use Rattle.asn_traits.specs.Answer.{Answer, Refuses}
 use Rattle.asn_traits.specs.Root.{RootAnswer, Reads}
-use Rattle.asn_model.specs.Writable.{Writable, WritableEach, WritableSlots, FirstUnencodable, EachFirstUnencodable, SlotsFirstUnencodable}
+use Rattle.asn_model.specs.Writable.{Writable, WritableEach, WritableSlots, FirstUnencodable, EachFirstUnencodable, SomeUnencodable, SlotsFirstUnencodable}
 use Rattle.asn_traits.specs.Writing.{FailsToEncode}
 use Rattle.asn_model.proofs.Meanings.{one, apart, not_other}
 use Rattle.asn_traits.proofs.Steps.{same_head}
@@ -53,6 +53,7 @@ mutual
   not_blocked n (Value.bits bits size) cause w b = length_not_blocked n size (length bits) cause w b
   not_blocked n (Value.members ms) cause w b = slots_not_blocked n ms cause w b
   not_blocked n (Value.list vs) cause w b = each_not_blocked n vs cause w b
+  not_blocked n (Value.bag vs) cause w b = none_not_blocked n vs cause w b
   not_blocked n (Value.choice i v) cause w b = not_blocked n v cause w b
   not_blocked n v cause w b = b
 
@@ -60,6 +61,11 @@ mutual
   each_not_blocked n Values.no_values cause w b = b
   each_not_blocked n (Values.value v vs) cause w (inl b) = not_blocked n v cause w.0 b
   each_not_blocked n (Values.value v vs) cause w (inr b) = each_not_blocked n vs cause w.1 b.1
+
+  none_not_blocked : (n : Notation) (vs : Values) (cause : EncodeCause) → WritableEach n vs → SomeUnencodable n vs cause → ⊥
+  none_not_blocked n Values.no_values cause w b = b
+  none_not_blocked n (Values.value v vs) cause w (inl b) = not_blocked n v cause w.0 b
+  none_not_blocked n (Values.value v vs) cause w (inr b) = none_not_blocked n vs cause w.1 b
 
   slots_not_blocked : (n : Notation) (ms : Slots) (cause : EncodeCause) → WritableSlots n ms → SlotsFirstUnencodable n ms cause → ⊥
   slots_not_blocked n Slots.no_slots cause w b = b

@@ -1,5 +1,5 @@
 -- What reading and writing a single field answers.
-use Rattle.std.specs.Prelude.{◌≡◌, ℕ, List, ◌∷◌, Option, Some, None}
+use Rattle.std.specs.Prelude.{◌≡◌, ℕ, List, [], ◌∷◌, Option, Some, None}
 use Rattle.asn_fault.specs.Failure.{Cause}
 use Rattle.asn_model.specs.Notation.{Notation}
 use Rattle.asn_model.specs.Shape.{Shape}
@@ -7,6 +7,7 @@ use Rattle.asn_model.specs.Tree.{Slot}
 use Rattle.asn_model.specs.Value.{Value}
 use Rattle.asn_model.specs.DecodesTo.{DecodesTo}
 use Rattle.asn_model.specs.FailsWith.{Path}
+use Rattle.asn_traits.specs.Answer.{OptionalFailsWith}
 use Rattle.asn_traits.specs.Writing.{Frame, push, tail_names, Maps, Written}
 
 -- The first pending slot is gone: it decodes to the value, or it was absent.
@@ -25,6 +26,11 @@ pub data TakesField (n : Notation) (s : Shape) : Ahead → Ahead → Option Valu
 -- At a place within the field of this name, for a reason that has P.
 pub data WithinField (name : List ℕ) (P : Path → Cause → Type 0) : Path → Cause → Type 0 where
   within_field : (p : Path) (w : Cause) → P p w → WithinField name P (name ∷ p) w
+
+-- Why a required extension addition of this name is refused: it is missing, or at a place within it, for a reason that its slot has.
+pub data AdditionFailsWith (n : Notation) (s : Shape) (name : List ℕ) (before : List Slot) : Path → Cause → Type 0 where
+  addition_is_missing : (rest : List Slot) → before ≡ None ∷ rest → AdditionFailsWith n s name before [] (Cause.missing_field name)
+  addition_fails : (p : Path) (w : Cause) → OptionalFailsWith n s before p w → AdditionFailsWith n s name before (name ∷ p) w
 
 -- The last frame has one slot more: the value, which fits its shape and can be written, or an absent one.
 pub data AddsSlot {S : Type 0} (holds : S → List Frame → Type 0) (n : Notation) (s : Shape) (old new : S) : Option Value → Type 0 where

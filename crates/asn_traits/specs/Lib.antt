@@ -1,7 +1,9 @@
 pub use Rattle.asn_model.specs.Fixed
 pub use Rattle.asn_model.specs.Notation
 pub use Rattle.asn_model.specs.Range
+pub use Rattle.asn_model.specs.Sorting
 pub use Rattle.asn_model.specs.Shape
+pub use Rattle.asn_model.specs.Components
 pub use Rattle.asn_model.specs.ShapeView
 pub use Rattle.asn_model.specs.CharacterStrings
 pub use Rattle.asn_model.specs.Value

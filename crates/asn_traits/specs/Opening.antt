@@ -58,9 +58,9 @@ OpensList n before (Ok count) after = (slot : Slot) × (slots : List Slot) × (r
 OpensList n before (Err e) after = (s : Shape) → Refuses n (FailsWith n (Shape.list_of s) (head_slot before)) (failure_of e)
 
 -- The slots of these names in the first pending slot stand in its place, or it has no members.
-abbrev pub OpensMembers : Notation → List (List ℕ) → List Slot → Result (Unit {0}) DecodeError → List Slot → Type 0
-OpensMembers n names before (Ok u) after = (slot : Slot) × (slots : List Slot) × (rest : List Slot) × (before ≡ slot ∷ rest) × (after ≡ slots ++ rest) × (length slots ≡ length names) × AllBelow (slot_nodes slot) slots × HasMembers n names slot slots
-OpensMembers n names before (Err e) after = (kind : SeqKind) (fs : Fields) (added : FieldAdditions) → Refuses n (FailsWith n (Shape.seq kind fs added) (head_slot before)) (failure_of e)
+abbrev pub OpensMembers : Notation → SeqKind → List (List ℕ) → List Slot → Result (Unit {0}) DecodeError → List Slot → Type 0
+OpensMembers n kind names before (Ok u) after = (slot : Slot) × (slots : List Slot) × (rest : List Slot) × (before ≡ slot ∷ rest) × (after ≡ slots ++ rest) × (length slots ≡ length names) × AllBelow (slot_nodes slot) slots × HasMembers n names slot slots
+OpensMembers n kind names before (Err e) after = (fs : Fields) (added : FieldAdditions) → Refuses n (FailsWith n (Shape.seq kind fs added) (head_slot before)) (failure_of e)
 
 -- A choice's payload stands in its place, or an absent slot, or it is no choice.
 abbrev pub OpensChoice : Notation → List (List ℕ) → List Slot → Result (Option ℕ) DecodeError → List Slot → Type 0

@@ -4,7 +4,8 @@ use Rattle.asn_base.specs.declared.tag.Tag.{Tag}
 use Rattle.asn_fault.specs.Failure.{Failure, Cause}
 use Rattle.asn_fault.specs.declared.encode.EncodeError.{EncodeError}
 use Rattle.asn_traits.specs.Answer.{OptionalFailsWith, Refuses}
-use Rattle.asn_traits.specs.FieldAnswer.{AddsSlot, Ahead, TakesField, WithinField}
+use Rattle.asn_traits.specs.FieldAnswer.{AdditionFailsWith, AddsSlot, Ahead, TakesField, WithinField}
+use Rattle.asn_model.specs.Components.{Component, Standing}
 use Rattle.asn_model.specs.Notation.{Notation}
 use Rattle.asn_model.specs.Shape.{Shape, Fields, Presence}
 use Rattle.asn_model.specs.FailsWith.{FailsWith, Path}
@@ -29,17 +30,18 @@ pub data RefusesAdding {S : Type 0} (holds : S → List Frame → Type 0) (n : N
   refuses_slot : {name : List ℕ} {g : Tag} {p : Presence} {s : Shape} {rest : Fields} {o : Option Value} {ss : Frame} {old : S} {e : EncodeError} → FailsToFill n (o ∷ []) e → RefusesAdding holds n (Fields.field name g p s rest) (o ∷ ss) old e
   refuses_later_slot : {name : List ℕ} {g : Tag} {p : Presence} {s : Shape} {rest : Fields} {o : Option Value} {ss : Frame} {old mid : S} {e : EncodeError} → AddsSlot holds n s old mid o → RefusesAdding holds n rest ss mid e → RefusesAdding holds n (Fields.field name g p s rest) (o ∷ ss) old e
 
--- The fields are taken, one after another.
-pub data TakesFields (n : Notation) : Fields → Frame → Ahead → Ahead → Type 0 where
-  takes_none : {now : Ahead} → TakesFields n Fields.no_fields [] now now
-  takes_next : {name : List ℕ} {g : Tag} {p : Presence} {s : Shape} {rest : Fields} {o : Option Value} {ss : Frame} {before mid after : Ahead} → TakesField n s before mid o → TakesFields n rest ss mid after → allows p o ≡ true → TakesFields n (Fields.field name g p s rest) (o ∷ ss) before after
+-- The components are taken, one after another.
+pub data TakesFields (n : Notation) : List Component → Frame → Ahead → Ahead → Type 0 where
+  takes_none : {now : Ahead} → TakesFields n [] [] now now
+  takes_next : {c : Component} {rest : List Component} {o : Option Value} {ss : Frame} {before mid after : Ahead} → TakesField n c.shape before mid o → TakesFields n rest ss mid after → allows c.presence o ≡ true → TakesFields n (c ∷ rest) (o ∷ ss) before after
 
--- Why a field is refused.
-abbrev pub FieldFailsWith : Notation → Presence → Shape → List Slot → Path → Cause → Type 0
-FieldFailsWith n Presence.required s before = FailsWith n s (head_slot before)
-FieldFailsWith n p s before = OptionalFailsWith n s before
+-- Why a component of this name is refused.
+abbrev pub ComponentFailsWith : Notation → Presence → Standing → Shape → List ℕ → List Slot → Path → Cause → Type 0
+ComponentFailsWith n Presence.required Standing.root s name before = WithinField name (FailsWith n s (head_slot before))
+ComponentFailsWith n Presence.required Standing.addition s name before = AdditionFailsWith n s name before
+ComponentFailsWith n p at s name before = WithinField name (OptionalFailsWith n s before)
 
--- One of the fields is refused, under the first name ahead, after those before it are taken.
-pub data RefusesFields (n : Notation) : Fields → Ahead → Failure → Type 0 where
-  refuses_field : {name : List ℕ} {g : Tag} {p : Presence} {s : Shape} {rest : Fields} {names : List (List ℕ)} {before : List Slot} {e : Failure} → Refuses n (WithinField (head_name names) (FieldFailsWith n p s before)) e → RefusesFields n (Fields.field name g p s rest) (Ahead.ahead names before) e
-  refuses_later_field : {name : List ℕ} {g : Tag} {p : Presence} {s : Shape} {rest : Fields} {o : Option Value} {before mid : Ahead} {e : Failure} → TakesField n s before mid o → RefusesFields n rest mid e → allows p o ≡ true → RefusesFields n (Fields.field name g p s rest) before e
+-- One of the components is refused, by the first name ahead, after those before it are taken.
+pub data RefusesFields (n : Notation) : List Component → Ahead → Failure → Type 0 where
+  refuses_field : {c : Component} {rest : List Component} {names : List (List ℕ)} {before : List Slot} {e : Failure} → Refuses n (ComponentFailsWith n c.presence c.standing c.shape (head_name names) before) e → RefusesFields n (c ∷ rest) (Ahead.ahead names before) e
+  refuses_later_field : {c : Component} {rest : List Component} {o : Option Value} {before mid : Ahead} {e : Failure} → TakesField n c.shape before mid o → RefusesFields n rest mid e → allows c.presence o ≡ true → RefusesFields n (c ∷ rest) before e

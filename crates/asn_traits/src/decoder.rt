@@ -8,7 +8,8 @@ ghost use Rattle.asn_model.specs.Fixed.{fixed_size};
 ghost use Rattle.asn_model.specs.Leaf.{codec_of};
 ghost use Rattle.asn_model.specs.Notation.{Notation, notation_of};
 ghost use Rattle.asn_model.specs.Shape.{are_distinct, Shape, Alphabet, all_alternatives};
-ghost use Rattle.asn_model.specs.Shape.{all_fields, field_names};
+ghost use Rattle.asn_model.specs.Shape.{SeqKind as AbstractSeqKind, all_fields, field_names};
+ghost use Rattle.asn_model.specs.ShapeView.{kind_view};
 ghost use Rattle.asn_model.specs.Tree.{Slot, head_nodes, slot_nodes};
 ghost use Rattle.asn_model.specs.Value.{Value, values};
 ghost use Rattle.asn_traits.specs.Answer.{Answer, AnswerBy, AnswerUnder, AtRoot, Refuses};
@@ -24,7 +25,8 @@ ghost use Rattle.std.specs.Prelude.{string_bytes, IfErr, IsErr};
 use crate::integer_type::beyond_128_bits;
 use crate::tables::{listed, listed_fields, tag_at};
 use crate::{
-    AsnType, Choice, Constructed, Enumerated, Field, IntegerType, LeafKind, OwnedLeaf, TextType,
+    AsnType, Choice, Constructed, Enumerated, Field, IntegerType, LeafKind, OwnedLeaf, SeqKind,
+    TextType,
 };
 use asn_base::{Any, Bits, Codec, Constraints, ObjectIdentifier, Tag};
 use asn_fault::{DecodeError, Refusal};
@@ -86,10 +88,20 @@ pub trait Decoder {
     /// Puts the slots of these fields of the first pending slot in its place: those of the root
     /// fields, and then those of the extension additions. A field is found by its name, whatever
     /// the order in the text, and members of other names are dropped.
-    fn open_members(&mut self, root: &[Field], additions: &[Field]) -> Result<(), DecodeError>
+    ///
+    /// # Errors
+    ///
+    /// A type mismatch by the name of the kind where the slot has no members; those of `Decoder`.
+    fn open_members(
+        &mut self,
+        kind: SeqKind,
+        root: &[Field],
+        additions: &[Field],
+    ) -> Result<(), DecodeError>
         requires { are_distinct (names_of root.now ++ names_of additions.now) ≡ true }
-        ensures { OpensMembers notation (names_of root.now ++ names_of additions.now)
-            (pending self.old) result (pending self.new) };
+        ensures { OpensMembers notation (kind_view kind)
+            (names_of root.now ++ names_of additions.now) (pending self.old) result
+            (pending self.new) };
 
     /// Puts the payload of the first pending slot, a choice, in its place, and returns the place of
     /// its identifier. Where the identifier is none of these, it puts an absent slot and returns
@@ -418,6 +430,7 @@ pub trait Decoder {
         tag: Tag,
         decode_fn: F,
     ) -> Result<C, E>
+        requires sequence { C.kind ≡ AbstractSeqKind.sequence }
         // The closure may be called with these slots, each of fewer nodes than the opened one, and
         // what it returns of them is a value or an error by the same definition (`reads`).
         requires callable { (p : _) (slot : Slot) (slots rest : List Slot)
@@ -428,14 +441,14 @@ pub trait Decoder {
             → pending p.now ≡ slots ++ rest
             → length slots ≡ length (field_names (all_fields C.fields C.added))
             → F.post decode_fn p r q
-            → ScopeAnswer E.failure notation (all_fields C.fields C.added) C.value_of slots rest r
+            → ScopeAnswer E.failure notation C.fields C.added C.value_of slots rest r
             (pending q.now) }
         ensures { AnswerBy E.failure notation (Shape.seq C.kind C.fields C.added) C.value_of
             (pending self.old) result (pending self.new) }
     {
         // The fields are found by the names in the type's tables.
         let additions = listed_fields(C::extended_field_table());
-        match self.open_members(C::field_table().items, additions) {
+        match self.open_members(SeqKind::Sequence, C::field_table().items, additions) {
             Ok(()) => decode_fn(self),
             Err(error) => Err(E::of(error)),
         }

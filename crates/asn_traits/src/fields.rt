@@ -4,7 +4,8 @@
 ghost use Rattle.asn_base.specs.declared.codec.Codec.{Codec};
 ghost use Rattle.asn_fault.specs.Failure.{Cause, at_root, failure_of, wrapped};
 ghost use Rattle.asn_traits.specs.Answer.{OptionalFailsWith, Refuses};
-ghost use Rattle.asn_traits.specs.FieldAnswer.{AddsSlot, TakesField, WithinField};
+ghost use Rattle.asn_traits.specs.FieldAnswer.{AdditionFailsWith, AddsSlot, TakesField};
+ghost use Rattle.asn_traits.specs.FieldAnswer.{WithinField};
 ghost use Rattle.asn_traits.specs.FieldAnswer.Ahead.{ahead};
 ghost use Rattle.asn_model.specs.Notation.{notation_of};
 ghost use Rattle.asn_model.specs.FailsWith.{FailsWith};
@@ -71,6 +72,31 @@ pub fn read_optional_field<T: Decode, D: Decoder>(
     let name = names.take_first();
     match decoder.decode_optional::<T>() {
         Ok(value) => Ok(value),
+        Err(error) => Err(within_field(decoder, name, error)),
+    }
+}
+
+/// Decodes the first pending slot as an extension addition that has to be present, and takes its
+/// name from `names`.
+///
+/// # Errors
+///
+/// `MissingField` with that name where the slot is absent, without a `FieldError` of it; those of
+/// the field's type within `FieldError` with that name; `OutOfMemory` without the field.
+pub fn read_addition<T: Decode, D: Decoder>(
+    decoder: &mut D,
+    names: &mut FieldNames,
+) -> Result<T, DecodeError>
+    ensures read { IfOk result (λ x. TakesField D.notation T.shape_of
+        (ahead names.old (D.pending decoder.old)) (ahead names.new (D.pending decoder.new))
+        (Some (T.value_of x))) }
+    ensures refused { IfErr result (λ e. Refuses D.notation (AdditionFailsWith D.notation T.shape_of
+        (head_name names.old) (D.pending decoder.old)) (failure_of e)) }
+{
+    let name = names.take_first();
+    match decoder.decode_optional::<T>() {
+        Ok(Some(value)) => Ok(value),
+        Ok(None) => Err(DecodeError::missing_field(name, decoder.codec())),
         Err(error) => Err(within_field(decoder, name, error)),
     }
 }

@@ -3,6 +3,7 @@
 ghost use Rattle.asn_fault.specs.Failure.{failure_of};
 ghost use Rattle.asn_traits.specs.FieldAnswer.Ahead.{ahead};
 ghost use Rattle.asn_traits.specs.Passing.{AddsFields, RefusesAdding, RefusesFields, TakesFields};
+ghost use Rattle.asn_model.specs.Components.{Standing, components};
 ghost use Rattle.asn_model.specs.Shape.{Fields as AbstractFields, join_fields};
 ghost use Rattle.asn_traits.specs.Writing.{Frame};
 ghost use Rattle.std.specs.Prelude.{◌++◌, IfErr, IfOk, OnOk};
@@ -41,11 +42,12 @@ pub trait FieldGroup: Sized + Drop {
     ///
     /// Those of the first field that can't be decoded, within its `FieldError`.
     fn read_group<D: Decoder>(decoder: &mut D, names: &mut FieldNames) -> Result<Self, DecodeError>
-        ensures read { IfOk result (λ x. TakesFields D.notation group (group_slots x)
+        ensures read { IfOk result (λ x. TakesFields D.notation
+            (components Standing.root group) (group_slots x)
             (ahead names.old (D.pending decoder.old))
             (ahead names.new (D.pending decoder.new))) }
-        ensures refused { IfErr result (λ e. RefusesFields D.notation group
-            (ahead names.old (D.pending decoder.old)) (failure_of e)) };
+        ensures refused { IfErr result (λ e. RefusesFields D.notation
+            (components Standing.root group) (ahead names.old (D.pending decoder.old)) (failure_of e)) };
 }
 
 /// Encodes the fields of two groups, one group after the other: the body of `write_fields` for a
@@ -81,10 +83,11 @@ pub fn read_groups<A: FieldGroup, B: FieldGroup, D: Decoder>(
     decoder: &mut D,
     names: &mut FieldNames,
 ) -> Result<(A, B), DecodeError>
-    ensures read { IfOk result (λ x. TakesFields D.notation (join_fields A.group B.group)
-        (A.group_slots x.0 ++ B.group_slots x.1) (ahead names.old (D.pending decoder.old))
+    ensures read { IfOk result (λ x. TakesFields D.notation
+        (components Standing.root (join_fields A.group B.group)) (A.group_slots x.0 ++ B.group_slots x.1) (ahead names.old (D.pending decoder.old))
         (ahead names.new (D.pending decoder.new))) }
-    ensures refused { IfErr result (λ e. RefusesFields D.notation (join_fields A.group B.group)
+    ensures refused { IfErr result (λ e. RefusesFields D.notation
+        (components Standing.root (join_fields A.group B.group))
         (ahead names.old (D.pending decoder.old)) (failure_of e)) }
 {
     let first = A::read_group(decoder, names)?;

@@ -35,7 +35,9 @@ pub use asn_type::{AsnType, Choice, Constructed, Enumerated, Field, Fields, Pres
 pub use decoder::{Decode, DecodeChoice, Decoder};
 pub use encoder::{Encode, Encoder};
 pub use field_names::FieldNames;
-pub use fields::{read_field, read_optional_field, write_field, write_optional_field};
+pub use fields::{
+    read_addition, read_field, read_optional_field, write_field, write_optional_field,
+};
 pub use group::{FieldGroup, read_groups, write_groups};
 pub use integer_type::IntegerType;
 pub use kinds::{

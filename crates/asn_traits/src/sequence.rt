@@ -5,6 +5,7 @@ ghost use Rattle.asn_fault.specs.Failure.{failure_of};
 ghost use Rattle.asn_traits.specs.Answer.{Answer};
 ghost use Rattle.asn_traits.specs.FieldAnswer.Ahead.{ahead};
 ghost use Rattle.asn_traits.specs.Passing.{AddsFields, RefusesAdding, RefusesFields, TakesFields};
+ghost use Rattle.asn_model.specs.Components.{reading_order};
 ghost use Rattle.asn_model.specs.Readable.{is_readable};
 ghost use Rattle.asn_traits.specs.Scopes.{ScopeAnswers};
 ghost use Rattle.asn_model.specs.Shape.{Shape as AbstractShape, SeqKind, Fields as AbstractFields};
@@ -72,17 +73,20 @@ pub trait SequenceFields: OfKind<Kind = SequenceKind> {
         ensures refused { IfErr result (RefusesAdding E.holds E.notation (all_fields fields added)
             (slots self.now) encoder.old) };
 
-    /// Decodes the fields, by one call of `read_field` or `read_optional_field` for each, in order.
-    /// Each call takes the field's name from `names`.
+    /// Decodes the fields, by one call of `read_field`, `read_optional_field` or `read_addition` for
+    /// each, in order. Each call takes the field's name from `names`.
     ///
     /// # Errors
     ///
-    /// Those of the first field that can't be decoded, within its `FieldError`.
+    /// Those of the first field that can't be decoded, within its `FieldError`; `MissingField` for
+    /// a required extension addition that is absent.
     fn read_fields<D: Decoder>(decoder: &mut D, names: &mut FieldNames) -> Result<Self, DecodeError>
-        ensures read { IfOk result (λ x. TakesFields D.notation (all_fields fields added) (slots x)
+        ensures read { IfOk result (λ x. TakesFields D.notation
+            (reading_order SeqKind.sequence fields added) (slots x)
             (ahead names.old (D.pending decoder.old))
             (ahead names.new (D.pending decoder.new))) }
-        ensures refused { IfErr result (λ e. RefusesFields D.notation (all_fields fields added)
+        ensures refused { IfErr result (λ e. RefusesFields D.notation
+            (reading_order SeqKind.sequence fields added)
             (ahead names.old (D.pending decoder.old)) (failure_of e)) };
 
     // The shape can be read.
@@ -142,7 +146,7 @@ pub fn read_sequence<T: SequenceFields, D: Decoder>(
     decoder.decode_sequence(
         tag,
         |decoder: &mut D| -> Result<T, DecodeError>
-            ensures { ScopeAnswers D.notation (all_fields T.fields T.added)
+            ensures { ScopeAnswers D.notation T.fields T.added
                 (λ x. members_value (all_fields T.fields T.added) (T.slots x))
                 (D.pending decoder.old) result (D.pending decoder.new) }
         {

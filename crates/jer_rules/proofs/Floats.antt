@@ -2,6 +2,7 @@
 use Rattle.std.proofs.Common.{◌≡◌, refl, ap, sym, ◌∙◌, subst, ℕ, ℤ, pos, negsuc, List, false, ◌||◌, Ordering, Less, Equal, Greater, Option, Some, None}
 use Rattle.std.proofs.lemmas.Bool.{or_from, or_parts}
 use Rattle.std.specs.Cmp.Lexicographic.{slice_cmp}
+use Rattle.std.specs.List.{AllByRecursion}
 use Rattle.std.specs.Ordering.{nat_cmp, match_ordering}
 use Rattle.std.specs.Prelude.{option_map, IfSome, ◌≤◌}
 use Rattle.serde_json.specs.Data.{Data, Members, put, depth}
@@ -10,7 +11,9 @@ use Rattle.serde_json.specs.Find.{is_float, of_integer}
 use Rattle.serde_json.specs.Written.{compact_text, has_float, items_have_float, members_have_float}
 use Rattle.asn_traits.specs.Canonical.{jer_data, jer_items, jer_members, canonical_text}
 use Rattle.asn_traits.specs.Notation.{Notation}
-use Rattle.asn_traits.specs.Value.{Value, Values, Slots}
+use Rattle.asn_traits.specs.Sorting.{by_text}
+use Rattle.asn_traits.specs.Value.{Value, Values, Slots, elements}
+use Rattle.asn_model.proofs.Bags.{each-ordered, jer_items-sorted}
 use Rattle.jer_rules.specs.Text.{ReadsBack}
 
 ordered-false : (o : Ordering) (a b c : Members) → members_have_float a ≡ false → members_have_float b ≡ false → members_have_float c ≡ false → members_have_float (match_ordering o a b c) ≡ false
@@ -31,6 +34,14 @@ integer-false : (n : ℤ) → is_float (of_integer n) ≡ false
 integer-false (pos n) = refl
 integer-false (negsuc n) = refl
 
+-- The JSON value that is written for the value holds no float.
+abbrev IsWithoutFloat : Value → Type 0
+IsWithoutFloat v = has_float (jer_data v) ≡ false
+
+items-of_each : (vs : Values) → AllByRecursion IsWithoutFloat (elements vs) → items_have_float (jer_items vs) ≡ false
+items-of_each Values.no_values h = refl
+items-of_each (Values.value v vs) h = or_from (has_float (jer_data v)) (items_have_float (jer_items vs)) h.0 (items-of_each vs h.1)
+
 mutual
   -- The JSON value that is written holds no float.
   pub written-false : (v : Value) → has_float (jer_data v) ≡ false
@@ -38,13 +49,15 @@ mutual
   written-false (Value.bits bits None) = refl
   written-false (Value.bits bits (Some size)) = refl
   written-false (Value.members ms) = members-false ms
-  written-false (Value.list vs) = items-false vs
+  written-false (Value.list vs) = items-of_each vs (each-false vs)
+  written-false (Value.bag vs) =
+      subst (λ ds. items_have_float ds ≡ false) (sym (jer_items-sorted vs)) (items-of_each _ (each-ordered IsWithoutFloat (by_text (canonical_text Notation.jer)) vs (each-false vs)))
   written-false (Value.choice i v) = or_from (has_float (jer_data v)) false (written-false v) refl
   written-false v = refl
 
-  items-false : (vs : Values) → items_have_float (jer_items vs) ≡ false
-  items-false Values.no_values = refl
-  items-false (Values.value v vs) = or_from (has_float (jer_data v)) (items_have_float (jer_items vs)) (written-false v) (items-false vs)
+  each-false : (vs : Values) → AllByRecursion IsWithoutFloat (elements vs)
+  each-false Values.no_values = tt
+  each-false (Values.value v vs) = (written-false v, each-false vs)
 
   members-false : (ms : Slots) → members_have_float (jer_members ms) ≡ false
   members-false Slots.no_slots = refl

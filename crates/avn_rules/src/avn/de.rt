@@ -11,7 +11,7 @@ ghost use Rattle.avn_grammar.specs.Tree.{Tree as AvnTree};
 ghost use Rattle.std.specs.Prelude.{◌≡◌, ◌∷◌, [], Some, IfOk, IfErr, MatchResult, option_map};
 
 use super::faults::{
-    end_of_input, mismatch, no_arc, no_item, no_number, no_oid, no_utf8, other_arcs,
+    end_of_input, mismatch, needed_members, no_arc, no_item, no_number, no_oid, no_utf8, other_arcs,
 };
 use super::leaves::{NoLeaf, leaf_of_avn};
 use super::take_apart::{into_choice, into_fields, into_items, slots_of};
@@ -19,7 +19,7 @@ use asn_base::Codec;
 use asn_fault::DecodeError;
 use asn_model::words;
 use asn_slots::Pending;
-use asn_traits::{Field, LeafKind, OwnedLeaf, place_of};
+use asn_traits::{Field, LeafKind, OwnedLeaf, SeqKind, place_of};
 use avn_value::{AvnValue, parse_avn};
 use std::alloc::Global;
 
@@ -159,10 +159,15 @@ impl asn_traits::Decoder for Decoder {
     }
 
     // The slots of all fields are found first, extension additions last, and put at once.
-    fn open_members(&mut self, root: &[Field], additions: &[Field]) -> Result<(), DecodeError> {
+    fn open_members(
+        &mut self,
+        kind: SeqKind,
+        root: &[Field],
+        additions: &[Field],
+    ) -> Result<(), DecodeError> {
         let members = match into_fields(self.alloc, self.take()?) {
             Ok(members) => members,
-            Err(other) => return Err(mismatch(self.alloc, words::AVN_MEMBERS, &other)),
+            Err(other) => return Err(mismatch(self.alloc, needed_members(kind), &other)),
         };
         let Ok(slots) = slots_of(self.alloc, members, root, additions) else {
             return Err(DecodeError::out_of_memory(Codec::Avn));

@@ -3,8 +3,9 @@ ghost use Rattle.asn_base.specs.declared.codec.Codec.TheVariants.{Avn};
 ghost use Rattle.asn_fault.specs.Failure.{Cause, failure_of, at_root, codec_cause};
 ghost use Rattle.asn_fault.specs.EncodeCause.{EncodeCause};
 ghost use Rattle.asn_traits.specs.Answer.{RefusesLeaf};
-ghost use Rattle.asn_traits.specs.Leaf.{LeafFailure};
+ghost use Rattle.asn_traits.specs.Leaf.{LeafFailure, members_mismatch};
 ghost use Rattle.asn_traits.specs.Notation.{Notation};
+ghost use Rattle.asn_traits.specs.ShapeView.{kind_view};
 ghost use Rattle.asn_traits.specs.TextTypes.{TellsUnwritten};
 ghost use Rattle.asn_traits.specs.Arcs.{listed_text};
 ghost use Rattle.avn_rules.specs.NoLeaves.{no_arc};
@@ -18,7 +19,8 @@ use asn_fault::{
     DecodeErrorKind, EncodeError, EncodeErrorKind,
 };
 use asn_model::joined_arcs;
-use asn_model::words::{AVN_ARC, AVN_NO_UNICODE, AVN_NO_UTF8};
+use asn_model::words::{AVN_ARC, AVN_MEMBERS, AVN_NO_UNICODE, AVN_NO_UTF8, AVN_SET};
+use asn_traits::SeqKind;
 use avn_value::AvnValue;
 use std::alloc::Global;
 
@@ -42,6 +44,16 @@ pub fn mismatch(alloc: Global, needed: &'static str, value: &AvnValue) -> Decode
     match format!(in alloc; "{value}") {
         Ok(found) => avn_error(AvnDecodeErrorKind::AvnTypeMismatch { needed, found }),
         Err(_) => DecodeError::out_of_memory(Codec::Avn),
+    }
+}
+
+/// The words by which a mismatch names SEQUENCE or SET.
+pub fn needed_members(kind: SeqKind) -> &'static str
+    ensures { LeafFailure.mismatch result.now ≡ members_mismatch Notation.avn (kind_view kind) }
+{
+    match kind {
+        SeqKind::Sequence => AVN_MEMBERS,
+        SeqKind::Set => AVN_SET,
     }
 }
 

@@ -23,7 +23,7 @@ use asn_base::Codec;
 use asn_fault::DecodeError;
 use asn_model::words;
 use asn_slots::Pending;
-use asn_traits::{Field, LeafKind, OwnedLeaf};
+use asn_traits::{Field, LeafKind, OwnedLeaf, SeqKind};
 use serde_json::{Map, Value};
 use std::alloc::Global;
 
@@ -200,7 +200,12 @@ impl asn_traits::Decoder for Decoder {
     }
 
     // Extension additions go in first, since the root fields come before them.
-    fn open_members(&mut self, root: &[Field], additions: &[Field]) -> Result<(), DecodeError> {
+    fn open_members(
+        &mut self,
+        kind: SeqKind,
+        root: &[Field],
+        additions: &[Field],
+    ) -> Result<(), DecodeError> {
         let mut members = match into_members(self.take()?) {
             Ok(members) => members,
             Err(_) => return Err(no_object(self.alloc)),

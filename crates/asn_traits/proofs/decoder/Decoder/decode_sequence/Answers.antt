@@ -22,4 +22,4 @@ returns-in-Ok g c =
     let h = c.in-Ok.ensures in
     let t = g.C.Constructed in
     let names = all_table_names (λ t. t.items.now) _ _ _ t.fields t.added c.field_table.ensures c.extended_field_table.ensures c.listed_fields-additions.ensures in
-    sequence_answer _ _ t.kind t.fields t.added _ _ _ h.2 h.1 h.0 _ _ names h.3 h.7 (c.requires.reads _ _ _ h.1 h.2 h.4 (h.5 ∙ ap length names) c.decode_fn.ensures)
+    sequence_answer _ _ t.kind t.fields t.added _ _ _ h.2 h.1 h.0 _ _ c.requires.sequence names h.3 h.7 (c.requires.reads _ _ _ h.1 h.2 h.4 (h.5 ∙ ap length names) c.decode_fn.ensures)

@@ -1,4 +1,4 @@
-use Rattle.std.proofs.Common.{◌≡◌, ap, subst, sym, true}
+use Rattle.std.proofs.Common.{◌≡◌, ap, subst, true}
 use Rattle.std.proofs.lemmas.Result.{on_ok_weaker}
 use Rattle.avn_grammar.specs.Chars.{all}
 use Rattle.avn_grammar.specs.WellFormed.{is_octet}

@@ -3,6 +3,7 @@ use Rattle.std.specs.Prelude.{option_map}
 use Rattle.std.proofs.lemmas.List.{map-append, length-map}
 use Rattle.asn_slots.specs.Trees.{trees_of}
 use Rattle.asn_traits.specs.Opening.{HasMembers}
+use Rattle.asn_traits.specs.ShapeView.{kind_view}
 use Rattle.asn_traits.specs.Tables.{names_of}
 use Rattle.asn_traits.specs.Tree.{field_slot}
 use Rattle.asn_traits.proofs.Refusing.{no_members}
@@ -28,4 +29,4 @@ returns-in-Ok-put_all c =
 pub returns-in-Err : goal.returns-in-Err
 returns-in-Err c =
     let h = c.in-Err.ensures in
-    λ kind fs added. no_members kind fs added _ _ _ _ c.in_ok-take.ensures h.1 (rw h.0 at c.mismatch.ensures)
+    λ fs added. no_members (kind_view c.args.kind) fs added _ _ _ _ c.in_ok-take.ensures h.1 (rw (h.0, c.needed_members.ensures) at c.mismatch.ensures)

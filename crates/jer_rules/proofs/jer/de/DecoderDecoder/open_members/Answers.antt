@@ -3,6 +3,7 @@ use Rattle.std.proofs.lemmas.List.{length-map}
 use Rattle.serde_json.specs.View.{members_view}
 use Rattle.asn_base.specs.declared.codec.Codec.TheVariants.{Jer}
 use Rattle.asn_traits.specs.Opening.{HasMembers}
+use Rattle.asn_traits.specs.ShapeView.{kind_view}
 use Rattle.asn_traits.specs.Tables.{names_of}
 use Rattle.asn_traits.specs.Tree.{member_slot}
 use Rattle.asn_traits.proofs.Refusing.{no_members, refuses_because_or_memory}
@@ -36,4 +37,4 @@ returns c =
 pub returns-in-Err : goal.returns-in-Err
 returns-in-Err c =
     let h = c.in-Err.ensures in
-    λ kind fs added. no_members kind fs added _ _ _ _ c.in_ok-take.ensures (members-none _ h.1) (refuses_because_or_memory _ Jer _ _ c.no_object.ensures refl)
+    λ fs added. no_members (kind_view c.args.kind) fs added _ _ _ _ c.in_ok-take.ensures (members-none _ h.1) (refuses_because_or_memory _ Jer _ _ c.no_object.ensures refl)

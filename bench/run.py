@@ -15,7 +15,7 @@ each the best of ten turns in a process, and how many times as long twice the in
 With -p, the inputs are the files *.in in DIR, each a request line and a text, and the peer is PROGRAM, which takes the
 same requests: seconds and peak memory of both, and ours by its.
 
-The third table is of the string types, from JER to JER and to AVN: seconds of each on one ASCII text, by those of
+The third table is of the string types, from and to either notation: seconds of each on one ASCII text, by those of
 UTF8String on the same text.
 """
 import hashlib
@@ -64,6 +64,7 @@ INPUTS = {
     ),
 }
 
+WAYS = ("jer jer", "jer avn", "avn jer", "avn avn")
 STRINGS = (
     "NumericString PrintableString VisibleString Ia5String UniversalString GeneralString GraphicString BmpString"
 ).split()
@@ -144,15 +145,15 @@ def compare_peer(program, path, runs):
 def compare_strings(runs):
     """Prints the rows of the string types, beside UTF8String on the same text of digits."""
     path = os.path.join(OUT, "input")
-    print(f"{'string types':20} {'jer jer s':>9} {'by UTF8':>8} {'jer avn s':>10} {'by UTF8':>8}")
+    print(f"{'string types':20}" + "".join(f"  {way + ' s':>9} {'by UTF8':>7}" for way in WAYS))
     plain = {}
     for name in ["Utf8String", *STRINGS]:
         row = f"{name:20}"
-        for to in ("jer", "avn"):
-            write_input(lambda: f"jer {to} {name}\n".encode() + b'"' + b"0123456789 " * 900_000 + b'"', path)
+        for way in WAYS:
+            write_input(lambda: f"{way} {name}\n".encode() + b'"' + b"0123456789 " * 900_000 + b'"', path)
             seconds = min(measure(PROGRAM, path)[0] for _ in range(runs))
-            plain.setdefault(to, seconds)
-            row += f" {seconds:9.3f} {seconds / plain[to]:8.2f}"
+            plain.setdefault(way, seconds)
+            row += f"  {seconds:9.3f} {seconds / plain[way]:7.2f}"
         print(row, flush=True)
 
 

@@ -13,23 +13,30 @@ printable_lacks c h = grind (arith, nat_tests)
 visible_lacks : (c : ℕ) → 128 ≤ c → is_visible c ≡ false
 visible_lacks c h = grind (arith, nat_tests)
 
+-- IA5String has no character past ASCII.
 pub ia5_lacks : (c : ℕ) → 128 ≤ c → is_ia5 c ≡ false
 ia5_lacks c h = grind (arith, nat_tests)
 
+-- NumericString has none past ASCII.
 pub numeric_past_ascii : HasAllOrNonePastAscii is_numeric
 numeric_past_ascii = inr numeric_lacks
 
+-- PrintableString has none past ASCII.
 pub printable_past_ascii : HasAllOrNonePastAscii is_printable
 printable_past_ascii = inr printable_lacks
 
+-- VisibleString has none past ASCII.
 pub visible_past_ascii : HasAllOrNonePastAscii is_visible
 visible_past_ascii = inr visible_lacks
 
+-- IA5String has none past ASCII.
 pub ia5_past_ascii : HasAllOrNonePastAscii is_ia5
 ia5_past_ascii = inr ia5_lacks
 
+-- GraphicString has all past ASCII.
 pub graphic_past_ascii : HasAllOrNonePastAscii is_graphic
 graphic_past_ascii = inl past_ascii_is_graphic
 
+-- UniversalString, GeneralString and TeletexString have all past ASCII.
 pub any_past_ascii : HasAllOrNonePastAscii is_any
 any_past_ascii = inl (λ _ _. refl)

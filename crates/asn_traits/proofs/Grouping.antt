@@ -1,13 +1,14 @@
 -- What two groups of fields write and read is what their fields do, one after another.
-use Rattle.std.proofs.Common.{List, ◌++◌, subst, sym}
+use Rattle.std.proofs.Common.{List, ◌++◌, Some, None, ap, subst, sym}
 use Rattle.asn_fault.specs.Failure.{Failure}
 use Rattle.asn_fault.specs.declared.encode.EncodeError.{EncodeError}
 use Rattle.asn_model.specs.Components.{Component, Standing, components}
 use Rattle.asn_model.specs.Notation.{Notation}
-use Rattle.asn_traits.specs.FieldAnswer.{Ahead}
-use Rattle.asn_traits.specs.Passing.{AddsFields, RefusesAdding, TakesFields, RefusesFields}
+use Rattle.asn_traits.specs.FieldAnswer.{Ahead, TakesDefault}
+use Rattle.asn_traits.specs.Passing.{may_take, AddsFields, RefusesAdding, TakesFields, RefusesFields}
 use Rattle.asn_model.specs.Shape.{Fields, join_fields}
 use Rattle.asn_traits.specs.Writing.{Frame}
+use Rattle.asn_traits.proofs.Passing.{allowed-taken}
 use Rattle.asn_traits.proofs.ReadingOrder.{components-joined}
 
 pub adds_both : {S : Type 0} {holds : S → List Frame → Type 0} {n : Notation} {fs gs : Fields} {ss ts : Frame} {old mid new : S}
@@ -30,6 +31,7 @@ all_taken : {n : Notation} {cs ds : List Component} {ss ts : Frame} {before mid 
     → TakesFields n cs ss before mid → TakesFields n ds ts mid after → TakesFields n (cs ++ ds) (ss ++ ts) before after
 all_taken TakesFields.takes_none b = b
 all_taken (TakesFields.takes_next slot rest allowed) b = TakesFields.takes_next slot (all_taken rest b) allowed
+all_taken (TakesFields.takes_default slot rest is plain) b = TakesFields.takes_default slot (all_taken rest b) is plain
 
 pub takes_both : {n : Notation} (at : Standing) (fs gs : Fields) {ss ts : Frame} {before mid after : Ahead}
     → TakesFields n (components at fs) ss before mid → TakesFields n (components at gs) ts mid after → TakesFields n (components at (join_fields fs gs)) (ss ++ ts) before after
@@ -47,7 +49,9 @@ refuses_first_fields {n} at fs gs {before} {e} r = subst (λ cs. RefusesFields n
 second_refused : {n : Notation} {cs ds : List Component} {ss : Frame} {before mid : Ahead} {e : Failure}
     → TakesFields n cs ss before mid → RefusesFields n ds mid e → RefusesFields n (cs ++ ds) before e
 second_refused TakesFields.takes_none r = r
-second_refused (TakesFields.takes_next slot rest allowed) r = RefusesFields.refuses_later_field slot (second_refused rest r) allowed
+second_refused (TakesFields.takes_next {c = c} {o = o} slot rest allowed) r = RefusesFields.refuses_later_field slot (second_refused rest r) (allowed-taken c.presence o allowed)
+second_refused (TakesFields.takes_default {v = v} (TakesDefault.takes_own slot) rest is plain) r = RefusesFields.refuses_later_field slot (second_refused rest r) (ap (λ p. may_take p (Some v)) is)
+second_refused (TakesFields.takes_default (TakesDefault.takes_standing slot same) rest is plain) r = RefusesFields.refuses_later_field slot (second_refused rest r) (ap (λ p. may_take p None) is)
 
 pub refuses_second_fields : {n : Notation} (at : Standing) (fs gs : Fields) {ss : Frame} {before mid : Ahead} {e : Failure}
     → TakesFields n (components at fs) ss before mid → RefusesFields n (components at gs) mid e → RefusesFields n (components at (join_fields fs gs)) before e

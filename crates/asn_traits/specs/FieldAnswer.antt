@@ -23,6 +23,11 @@ pub data Ahead : Type 0 where
 pub data TakesField (n : Notation) (s : Shape) : Ahead → Ahead → Option Value → Type 0 where
   takes_field : {names others : List (List ℕ)} {before after : List Slot} {o : Option Value} → TakesSlot n s before after o → others ≡ tail_names names → TakesField n s (Ahead.ahead names before) (Ahead.ahead others after) o
 
+-- The first field ahead is taken: it has the value, or it was absent and the value is the one that stands for it.
+pub data TakesDefault (n : Notation) (s : Shape) (before after : Ahead) (standing v : Value) : Type 0 where
+  takes_own : TakesField n s before after (Some v) → TakesDefault n s before after standing v
+  takes_standing : TakesField n s before after None → v ≡ standing → TakesDefault n s before after standing v
+
 -- At a place within the field of this name, for a reason that has P.
 pub data WithinField (name : List ℕ) (P : Path → Cause → Type 0) : Path → Cause → Type 0 where
   within_field : (p : Path) (w : Cause) → P p w → WithinField name P (name ∷ p) w

@@ -133,6 +133,21 @@ macro_rules! optional {
     };
 }
 
+/// Makes a field that is absent where it has its default, for a constant table:
+/// `with_default!(1, TAG, "name")`.
+#[macro_export]
+macro_rules! with_default {
+    ($index:expr, $tag:expr, $name:expr) => {
+        $crate::Field {
+            index: $index,
+            tag: $tag,
+            tag_tree: $crate::TagTree::Leaf($tag),
+            presence: $crate::Presence::Default,
+            name: $name,
+        }
+    };
+}
+
 /// Holds a table: the fields of a type, in order.
 #[derive(Clone, Copy)]
 pub struct Fields {

@@ -553,6 +553,43 @@ pub trait Decoder {
         self.decode_optional()
     }
 
+    /// Decodes an extension addition under an explicit tag and constraints, which change nothing:
+    /// `None` where the slot is absent.
+    final fn decode_extension_addition_with_explicit_tag_and_constraints<T: Decode>(
+        &mut self,
+        tag: Tag,
+        constraints: &Constraints,
+    ) -> Result<Option<T>, DecodeError>
+        ensures { OptionalAnswer notation T.shape_of T.value_of (pending self.old) result
+            (pending self.new) }
+    {
+        self.decode_optional()
+    }
+
+    /// Decodes an extension addition under a tag and constraints, which change nothing: `None`
+    /// where the slot is absent.
+    final fn decode_extension_addition_with_tag_and_constraints<T: Decode>(
+        &mut self,
+        tag: Tag,
+        constraints: &Constraints,
+    ) -> Result<Option<T>, DecodeError>
+        ensures { OptionalAnswer notation T.shape_of T.value_of (pending self.old) result
+            (pending self.new) }
+    {
+        self.decode_optional()
+    }
+
+    /// Decodes a group of extension additions (X.680, section 25.9), which is one field of a
+    /// SEQUENCE type: `None` where the slot is absent.
+    final fn decode_extension_addition_group<T: Decode + Constructed>(
+        &mut self,
+    ) -> Result<Option<T>, DecodeError>
+        ensures { OptionalAnswer notation T.shape_of T.value_of (pending self.old) result
+            (pending self.new) }
+    {
+        self.decode_optional()
+    }
+
     /// Decodes a value under an explicit tag, which changes nothing in text.
     final fn decode_explicit_prefix<T: Decode>(&mut self, tag: Tag) -> Result<T, DecodeError>
         ensures { Answer notation T.shape_of T.value_of (pending self.old) result

@@ -11,12 +11,13 @@ ghost use Rattle.asn_model.specs.Shape.{Shape, Alphabet, all_alternatives, all_f
 ghost use Rattle.asn_model.specs.Shape.{alternative_tagged};
 ghost use Rattle.asn_fault.specs.EncodeCause.{EncodeCause};
 ghost use Rattle.asn_model.specs.Writable.{no_unicode};
+ghost use Rattle.asn_traits.specs.FieldAnswer.{AddsSlot};
 ghost use Rattle.asn_traits.specs.Tables.{names_of};
 ghost use Rattle.asn_traits.specs.TextTypes.{TellsUnwritten, no_teletex};
 ghost use Rattle.asn_model.specs.Value.{Value, values};
 ghost use Rattle.asn_traits.specs.Writing.{Frame, push, close, as_list, as_members, as_choice};
 ghost use Rattle.asn_traits.specs.Writing.{Written, WrittenUnder, FailsToEncode};
-ghost use Rattle.asn_traits.specs.Writing.{FailsToEncodeUnder, ScopeRan, Maps, Puts};
+ghost use Rattle.asn_traits.specs.Writing.{FailsToEncodeUnder, FailsToFill, ScopeRan, Maps, Puts};
 ghost use Rattle.std.specs.Fn.{FnOnceReturnsAtMut};
 ghost use Rattle.std.specs.Prelude.{◌≡◌, ◌⊎◌, pos, ◌∷◌, ◌++◌, [], ℕ, List, Option, Some, None, Ok};
 ghost use Rattle.std.specs.Prelude.{Err, true, map, option_map, OnOk, IfErr, IfSome, IsErr, IsOk};
@@ -500,6 +501,48 @@ pub trait Encoder {
         self.encode_absent()
     }
 
+    /// Encodes an extension addition under a tag and constraints, which change nothing: it is
+    /// encoded by its type's own.
+    final fn encode_extension_addition<T: Encode>(
+        &mut self,
+        tag: Tag,
+        constraints: &Constraints,
+        value: &T,
+        identifier: Identifier,
+    ) -> Result<(), EncodeError>
+    where
+        Self: Sized,
+        ensures written { OnOk result (Written holds notation T.shape_of
+            (T.value_of value.now) self.old self.new) }
+        ensures refused { IfErr result (FailsToEncode notation (T.value_of value.now)) }
+    {
+        value.encode(self)
+    }
+
+    /// Encodes a group of extension additions (X.680, section 25.9), which is one field of a
+    /// SEQUENCE type, or leaves it out.
+    ///
+    /// # Errors
+    ///
+    /// Those of `Encoder` where there is a group, and else `OutOfMemory` alone.
+    final fn encode_extension_addition_group<T: Encode + Constructed>(
+        &mut self,
+        value: Option<&T>,
+        identifier: Identifier,
+    ) -> Result<(), EncodeError>
+    where
+        Self: Sized,
+        ensures written { OnOk result (AddsSlot holds notation T.shape_of self.old self.new
+            (option_map (λ v. T.value_of v.now) value.entry)) }
+        ensures refused { IfErr result (FailsToFill notation
+            (option_map (λ v. T.value_of v.now) value.entry ∷ [])) }
+    {
+        match value {
+            Some(value) => self.encode_some::<T>(value, identifier),
+            None => self.encode_none::<T>(identifier),
+        }
+    }
+
     /// Encodes a value under an explicit tag, which changes nothing in text.
     final fn encode_explicit_prefix<T: Encode>(
         &mut self,
@@ -567,6 +610,31 @@ pub trait Encoder {
             C::field_table().items,
             listed_fields(C::extended_field_table()),
         )
+    }
+
+    /// Encodes a SET as `encode_sequence` does a SEQUENCE: the closure leaves the slots in the order
+    /// in which the type lists its fields, and tags change nothing.
+    ///
+    /// # Errors
+    ///
+    /// Those of the closure, as they are; `OutOfMemory`.
+    final fn encode_set<C: Constructed, F: FnOnce(&mut Self) -> Result<(), EncodeError>>(
+        &mut self,
+        tag: Tag,
+        value: F,
+        identifier: Identifier,
+    ) -> Result<(), EncodeError>
+    where
+        Self: Sized,
+        requires { F.IsAlwaysCallable value }
+        ensures written { OnOk result (ScopeRan holds (FnOnceReturnsAtMut F.FnOnce value)
+            self.old (Ok tt) (λ left. Maps holds (close
+            (as_members (field_names (all_fields C.fields C.added)))) left self.new)) }
+        ensures refused { IfErr result (λ e. (e.kind ≡ EncodeErrorKind.OutOfMemory)
+            ⊎ ScopeRan holds (FnOnceReturnsAtMut F.FnOnce value) self.old (Err e)
+            (λ left. ⊤)) }
+    {
+        self.encode_sequence::<C, F>(tag, value, identifier)
     }
 
     /// Encodes a CHOICE: the closure starts on a new frame and leaves the payload's slot in it.

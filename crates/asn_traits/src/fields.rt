@@ -5,13 +5,14 @@ ghost use Rattle.asn_base.specs.declared.codec.Codec.{Codec};
 ghost use Rattle.asn_fault.specs.Failure.{Cause, at_root, failure_of, wrapped};
 ghost use Rattle.asn_traits.specs.Answer.{OptionalFailsWith, Refuses};
 ghost use Rattle.asn_traits.specs.FieldAnswer.{AdditionFailsWith, AddsSlot, TakesField};
-ghost use Rattle.asn_traits.specs.FieldAnswer.{WithinField};
+ghost use Rattle.asn_traits.specs.FieldAnswer.{TakesDefault, WithinField};
 ghost use Rattle.asn_traits.specs.FieldAnswer.Ahead.{ahead};
 ghost use Rattle.asn_model.specs.Notation.{notation_of};
 ghost use Rattle.asn_model.specs.FailsWith.{FailsWith};
 ghost use Rattle.asn_model.specs.Tree.{head_slot};
 ghost use Rattle.asn_traits.specs.Writing.{FailsToFill, head_name};
-ghost use Rattle.std.specs.Prelude.{◌≡◌, ◌⊎◌, Some, [], ◌∷◌, option_map, IfOk, OnOk, IfErr};
+ghost use Rattle.std.specs.Prelude.{◌≡◌, ◌⊎◌, Some, None, [], ◌∷◌, option_map, IfOk, OnOk, IfErr};
+ghost use Rattle.std.specs.Prelude.{if◌then◌else◌};
 
 use crate::{Decode, Decoder, Encode, Encoder, FieldNames};
 use asn_base::Identifier;
@@ -101,6 +102,30 @@ pub fn read_addition<T: Decode, D: Decoder>(
     }
 }
 
+/// Decodes the first pending slot as a field with a default, which is returned where the slot is
+/// absent, and takes its name from `names`.
+///
+/// # Errors
+///
+/// Those of the field's type within `FieldError` with that name; `OutOfMemory` without the field.
+pub fn read_default_field<T: Decode, D: Decoder>(
+    decoder: &mut D,
+    names: &mut FieldNames,
+    default: T,
+) -> Result<T, DecodeError>
+    ensures read { IfOk result (λ x. TakesDefault D.notation T.shape_of
+        (ahead names.old (D.pending decoder.old)) (ahead names.new (D.pending decoder.new))
+        (T.value_of default) (T.value_of x)) }
+    ensures refused { IfErr result (λ e. Refuses D.notation (WithinField (head_name names.old)
+        (OptionalFailsWith D.notation T.shape_of (D.pending decoder.old))) (failure_of e)) }
+{
+    match read_optional_field::<T, D>(decoder, names) {
+        Ok(Some(value)) => Ok(value),
+        Ok(None) => Ok(default),
+        Err(error) => Err(error),
+    }
+}
+
 /// Encodes a field that has to be present: adds its value's slot to the open frame.
 ///
 /// # Errors
@@ -131,5 +156,28 @@ pub fn write_optional_field<T: Encode, E: Encoder>(
     match value {
         Some(value) => encoder.encode_some::<T>(value, Identifier::EMPTY),
         None => encoder.encode_none::<T>(Identifier::EMPTY),
+    }
+}
+
+/// Encodes a field with a default: adds its value's slot to the open frame, or an absent one where
+/// the value is the default.
+///
+/// # Errors
+///
+/// Those of the field's type, without a `FieldError`.
+pub fn write_default_field<T: Encode, E: Encoder>(
+    encoder: &mut E,
+    value: &T,
+    is_default: bool,
+) -> Result<(), EncodeError>
+    ensures written { OnOk result (AddsSlot E.holds E.notation T.shape_of encoder.old encoder.new
+        (if is_default then None else Some (T.value_of value.now))) }
+    ensures refused { IfErr result (FailsToFill E.notation
+        ((if is_default then None else Some (T.value_of value.now)) ∷ [])) }
+{
+    if is_default {
+        encoder.encode_none::<T>(Identifier::EMPTY)
+    } else {
+        encoder.encode_some::<T>(value, Identifier::EMPTY)
     }
 }

@@ -36,7 +36,8 @@ pub use decoder::{Decode, DecodeChoice, Decoder};
 pub use encoder::{Encode, Encoder};
 pub use field_names::FieldNames;
 pub use fields::{
-    read_addition, read_field, read_optional_field, write_field, write_optional_field,
+    read_addition, read_default_field, read_field, read_optional_field, write_default_field,
+    write_field, write_optional_field,
 };
 pub use group::{FieldGroup, read_groups, write_groups};
 pub use integer_type::IntegerType;

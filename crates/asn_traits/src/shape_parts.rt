@@ -5,10 +5,11 @@ ghost use Rattle.asn_model.specs.Shape.{Fields as AbstractFields, FieldAdditions
 ghost use Rattle.asn_model.specs.Shape.{Presence as AbstractPresence, Alternatives};
 ghost use Rattle.asn_model.specs.Shape.{AlternativeAdditions, closed_seq, closed_choice};
 ghost use Rattle.asn_model.specs.ShapeView.{shape_view, field_views, alternative_views};
-ghost use Rattle.asn_model.specs.ShapeView.{with_last_field, with_last_alternative, presence_view};
+ghost use Rattle.asn_model.specs.ShapeView.{with_last_field, with_last_alternative, plain_view};
+ghost use Rattle.asn_model.specs.ShapeView.{presence_view};
 ghost use Rattle.std.specs.Prelude.{◌≡◌, IfOk, OnOk, map, option_map, string_bytes};
 
-use crate::{AlternativeShape, AsnType, FieldShape, PresenceShape, SeqKind, Shape};
+use crate::{AlternativeShape, AsnType, FieldShape, Plain, PresenceShape, SeqKind, Shape};
 use asn_base::{OutOfMemory, Tag};
 use std::alloc::Global;
 
@@ -57,6 +58,25 @@ impl FieldShapes {
             AbstractPresence.optional T.shape_of) }
     {
         self.push::<T>(name, tag, PresenceShape::Optional)
+    }
+
+    /// Adds a field of type `T` behind the others that may be absent, with the value that stands
+    /// for it then.
+    ///
+    /// # Errors
+    ///
+    /// `OutOfMemory` alone.
+    pub fn with_default<T: AsnType>(
+        &mut self,
+        name: &str,
+        tag: Tag,
+        default: Plain,
+    ) -> Result<(), OutOfMemory>
+        ensures { OnOk result (field_views self.new.items.items
+            ≡ with_last_field (field_views self.old.items.items) name.now tag
+            (AbstractPresence.default (plain_view default)) T.shape_of) }
+    {
+        self.push::<T>(name, tag, PresenceShape::Default(default))
     }
 
     /// Adds a field of type `T` behind the others, with a copy of its name and with the shape that

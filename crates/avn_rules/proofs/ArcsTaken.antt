@@ -1,20 +1,22 @@
 -- Arcs that are read one by one.
-use Rattle.std.proofs.Common.{◌≡◌, refl, ap, sym, ◌∙◌, ℕ, List, [], ◌∷◌, ◌++◌, Result, Ok, Err, append_assoc, append-nil}
-use Rattle.asn_fault.specs.Failure.{Cause}
-use Rattle.avn_value.specs.View.{tree_of, list_trees}
-use Rattle.avn_value.specs.declared.value.AvnValue.{AvnValue}
+use Rattle.std.proofs.Common.{◌≡◌, ap, sym, refl, ◌∙◌, ℕ, ◌+◌, ◌<◌, ◌≤◌, List, [], ◌∷◌, ◌++◌, length, Option, Some, Result, Ok, Err, inl, inr, append_assoc, append-nil}
+use Rattle.asn_fault.specs.Failure.{Cause, Failure}
 use Rattle.asn_traits.specs.Arcs.{arc_before, braced_arc, braced_arcs}
-use Rattle.avn_rules.specs.NoLeaves.{IsWrong}
-use Rattle.avn_rules.specs.declared.avn.leaves.NoLeaf.{NoLeaf}
-use Rattle.avn_rules.specs.declared.avn.leaves.NoLeaf.TheVariants as no
+use Rattle.avn_grammar.specs.Tree.{Tree as AvnTree, sequence_of}
+use Rattle.avn_value.specs.NodeViews.{kind_of}
+use Rattle.avn_value.specs.Preorder.{descendants, list_preorder, slot_descendants, tree_at}
+use Rattle.avn_value.specs.declared.node_kind.NodeKind.TheVariants as kind
+use Rattle.avn_rules.specs.LeafAnswer.{IsWrong}
+use Rattle.avn_rules.specs.Parts.{elements_of}
+use Rattle.avn_rules.specs.Pending.{IsPresent, avn_or_null}
+use Rattle.avn_rules.proofs.Walks.{Left, left_begun, left_first, left_more, left_done, item_is}
 
 -- The arcs with these in front, or what is wrong.
-abbrev pub arcs_after : List ℕ → Result (List ℕ) Cause → Result (List ℕ) Cause
+abbrev arcs_after : List ℕ → Result (List ℕ) Cause → Result (List ℕ) Cause
 arcs_after front (Ok arcs) = Ok (front ++ arcs)
 arcs_after front (Err w) = Err w
 
--- None are in front at first.
-pub none_before : (r : Result (List ℕ) Cause) → r ≡ arcs_after [] r
+none_before : (r : Result (List ℕ) Cause) → r ≡ arcs_after [] r
 none_before (Ok arcs) = refl
 none_before (Err w) = refl
 
@@ -22,30 +24,43 @@ one_before : (front : List ℕ) (a : ℕ) (r : Result (List ℕ) Cause) → arcs
 one_before front a (Ok arcs) = ap Ok (sym (append_assoc front (a ∷ []) arcs))
 one_before front a (Err w) = refl
 
+-- The arcs so far stand before those of the elements that are left.
+pub record ArcsLeft (root : AvnTree) (node item end : ℕ) (arcs : List ℕ) : Type 0 where
+  pub left : Left root item end
+  pub taken : braced_arcs (elements_of (tree_at root node)) ≡ arcs_after arcs (braced_arcs left.others)
+
+elements_within : (o : Option AvnTree) → kind_of o ≡ kind.SequenceOf → slot_descendants o ≡ list_preorder (elements_of o)
+unfolding descendants
+elements_within (Some (sequence_of ts)) e = refl
+elements_within o e = let n : ⊥ = cc in absurd n
+
+pub arcs_begun : (root : AvnTree) (node end : ℕ) (arcs : List ℕ) → IsPresent root node → kind_of (tree_at root node) ≡ kind.SequenceOf → end ≡ node + length (slot_descendants (tree_at root node)) + 1 → arcs ≡ [] → ArcsLeft root node (node + 1) end arcs
+unfolding left_begun
+arcs_begun root node end arcs h k e none =
+    let ts = elements_of (tree_at root node) in
+    record { left = left_begun root node end ts h.0 (elements_within (tree_at root node) k) e; taken = none_before (braced_arcs ts) ∙ ap (λ x. arcs_after x (braced_arcs ts)) (sym none) }
+
 -- One arc more.
-pub arc_more : (whole : Result (List ℕ) Cause) (front : List ℕ) (items rest : List AvnValue) (item : AvnValue) (a : ℕ) → whole ≡ arcs_after front (braced_arcs (list_trees items)) → items ≡ item ∷ rest → braced_arc (tree_of item) ≡ Ok a
-    → whole ≡ arcs_after (front ++ a ∷ []) (braced_arcs (list_trees rest))
-arc_more whole front items rest item a before is e =
-    before ∙ ap (λ l. arcs_after front (braced_arcs (list_trees l))) is
-    ∙ ap (λ r. arcs_after front (arc_before r (braced_arcs (list_trees rest)))) e ∙ one_before front a (braced_arcs (list_trees rest))
+pub arcs_more : (root : AvnTree) (node item end next a : ℕ) (arcs later : List ℕ) → ArcsLeft root node item end arcs → item < end → braced_arc (avn_or_null (tree_at root item)) ≡ Ok a → next ≡ item + length (slot_descendants (tree_at root item)) + 1 → later ≡ arcs ++ a ∷ [] → ArcsLeft root node next end later
+unfolding left_more left_first
+arcs_more root node item end next a arcs later g h is e n =
+    let f = left_first root item end g.left h in
+    let here : braced_arc f.item ≡ Ok a = sym (ap (λ o. braced_arc (avn_or_null o)) (item_is root item g.left.others f)) ∙ is in
+    record {
+      left = left_more root item end next g.left f e;
+      taken =
+          g.taken ∙ ap (λ x. arcs_after arcs (braced_arcs x)) f.is ∙ ap (λ r. arcs_after arcs (arc_before r (braced_arcs f.others))) here ∙ one_before arcs a (braced_arcs f.others)
+          ∙ ap (λ x. arcs_after x (braced_arcs f.others)) (sym n);
+    }
 
-wrong : (whole : Result (List ℕ) Cause) (front : List ℕ) (r : Result ℕ Cause) (rest : Result (List ℕ) Cause) (w : Cause) → whole ≡ arcs_after front (arc_before r rest) → r ≡ Err w → whole ≡ Err w
-wrong whole front r rest w before e = before ∙ ap (λ x. arcs_after front (arc_before x rest)) e
+-- An element that is no arc.
+pub arcs_stopped : (root : AvnTree) (node item end : ℕ) (arcs : List ℕ) (failure : Failure) → ArcsLeft root node item end arcs → item < end → IsWrong (braced_arc (avn_or_null (tree_at root item))) failure → IsWrong (braced_arcs (elements_of (tree_at root node))) failure
+arcs_stopped root node item end arcs failure g h (inr e) = inr e
+arcs_stopped root node item end arcs failure g h (inl w) =
+    let f = left_first root item end g.left h in
+    let here : braced_arc f.item ≡ Err w.0 = sym (ap (λ o. braced_arc (avn_or_null o)) (item_is root item g.left.others f)) ∙ w.1 in
+    inl (w.0, g.taken ∙ ap (λ x. arcs_after arcs (braced_arcs x)) f.is ∙ ap (λ r. arcs_after arcs (arc_before r (braced_arcs f.others))) here, w.2, w.3)
 
-wrong_by : (whole : Result (List ℕ) Cause) (front : List ℕ) (r : Result ℕ Cause) (rest : Result (List ℕ) Cause) (e : NoLeaf) → whole ≡ arcs_after front (arc_before r rest) → IsWrong r e → IsWrong whole e
-wrong_by whole front r rest (no.Item item) before h = wrong whole front r rest _ before h
-wrong_by whole front r rest (no.Arc text) before h = wrong whole front r rest _ before h
-wrong_by whole front r rest (no.Arcs arcs) before h = wrong whole front r rest _ before h
-wrong_by whole front r rest no.OutOfMemory before h = tt
-wrong_by whole front r rest (no.Kind v) before h = h
-wrong_by whole front r rest (no.Number text) before h = h
-wrong_by whole front r rest no.Utf8 before h = h
-
--- A value that is no arc.
-pub arc_wrong : (whole : Result (List ℕ) Cause) (front : List ℕ) (items rest : List AvnValue) (item : AvnValue) (e : NoLeaf) → whole ≡ arcs_after front (braced_arcs (list_trees items)) → items ≡ item ∷ rest → IsWrong (braced_arc (tree_of item)) e → IsWrong whole e
-arc_wrong whole front items rest item e before is h =
-    wrong_by whole front (braced_arc (tree_of item)) (braced_arcs (list_trees rest)) e (before ∙ ap (λ l. arcs_after front (braced_arcs (list_trees l))) is) h
-
--- No value is left.
-pub arcs_end : (whole : Result (List ℕ) Cause) (front : List ℕ) (items : List AvnValue) → whole ≡ arcs_after front (braced_arcs (list_trees items)) → items ≡ [] → whole ≡ Ok front
-arcs_end whole front items before none = before ∙ ap (λ l. arcs_after front (braced_arcs (list_trees l))) none ∙ ap Ok (append-nil front)
+-- No element is left.
+pub arcs_done : (root : AvnTree) (node item end : ℕ) (arcs : List ℕ) → ArcsLeft root node item end arcs → end ≤ item → braced_arcs (elements_of (tree_at root node)) ≡ Ok arcs
+arcs_done root node item end arcs g h = g.taken ∙ ap (λ x. arcs_after arcs (braced_arcs x)) (left_done root item end g.left h) ∙ ap Ok (append-nil arcs)

@@ -1,9 +1,12 @@
+pub mod ArcsTaken
 pub mod Building
+pub mod LeafNodes
 pub mod Numbers
 pub mod NumbersTaken
 pub mod Octets
+pub mod Opened
+pub mod ReadBack
 pub mod Roots
 pub mod Taken
 pub mod Views
-pub mod ReadBack
-pub mod ArcsTaken
+pub mod Walks

@@ -1,9 +1,7 @@
 -- Whole texts, read and written.
 use Rattle.std.proofs.Common.{◌≡◌, refl, true, ap, sym, ◌∙◌, subst, ℕ, List, Option, Some, None, Result, Ok, Err, IfErr}
 use Rattle.std.specs.Prelude.{option_map}
-use Rattle.std.specs.Str.{chars}
-use Rattle.asn_base.specs.declared.codec.Codec.TheVariants.{Avn}
-use Rattle.asn_fault.specs.Failure.{Cause, Failure, at_root, failure_of, is_out_of_memory}
+use Rattle.asn_fault.specs.Failure.{Failure, failure_of, is_out_of_memory}
 use Rattle.asn_fault.specs.declared.decode.DecodeError.{DecodeError}
 use Rattle.asn_traits.specs.Canonical.{avn_tree, canonical_text}
 use Rattle.asn_traits.specs.Notation.{Notation}
@@ -17,14 +15,8 @@ use Rattle.avn_grammar.specs.Print.{print}
 use Rattle.avn_grammar.specs.Tree.{Tree as AvnTree}
 use Rattle.avn_grammar.proofs.OneAnswer.{reads-unread, reads-deep}
 use Rattle.avn_grammar.proofs.OneTree.{same_parses}
-use Rattle.avn_grammar.specs.declared.limits.TheConstants.{LEVEL_LIMIT}
 use Rattle.avn_value.specs.Answer.{Explains}
 use Rattle.avn_rules.specs.Text.{IsAvn, NoTree, RefusesText}
-
--- Lack of memory explains that a text is not read.
-pub memory_explained : {A : Type 0} (text : List ℕ) (r : Result A DecodeError) → IfErr r (λ e. failure_of e ≡ at_root Cause.out_of_memory Avn) → IfErr r (λ e. NoTree text (failure_of e))
-memory_explained text (Ok x) h = tt
-memory_explained text (Err e) h = subst (Explains LEVEL_LIMIT (chars text)) (sym h) Explains.out_of_memory
 
 -- A refusal of the tree is one of its text.
 pub text_refused : {A : Type 0} (s : Shape) (value : A → Value) (text : List ℕ) (t : AvnTree) (r : Result A DecodeError) → IsAvn text t → RootAnswer Notation.avn s value (Tree.avn t) r → IfErr r (λ e. RefusesText s text (failure_of e))

@@ -1,12 +1,9 @@
 -- Lists, sequences and choices that are taken apart.
-use Rattle.std.proofs.Common.{◌≡◌, refl, ap, sym, ◌∙◌, ℕ, suc, ◌<◌, List, [], ◌∷◌, map, length, Option, Some, None, Bool, true, false, if◌then◌else◌, replicate, String, Global, string_bytes, arith}
-use Rattle.std.specs.Prelude.{option_map, slice_set}
+use Rattle.std.proofs.Common.{◌≡◌, refl, ap, sym, ◌∙◌, ℕ, suc, ◌<◌, List, [], ◌∷◌, map, length, Option, Some, None, Bool, true, false, if◌then◌else◌, replicate, set, arith}
+use Rattle.std.specs.Prelude.{option_map}
 use Rattle.std.specs.Str.{bytes_eq}
-use Rattle.std.proofs.lemmas.List.{length-map}
 use Rattle.std.proofs.lemmas.Slice.Eq.{bytes_eq-Decides}
 use Rattle.avn_grammar.specs.Tree.{Tree as AvnTree, Trees as AvnTrees, Fields as AvnFields, sequence, sequence_of, choice, tree, no_trees, no_fields, field, absent}
-use Rattle.avn_value.specs.View.{tree_of as avn_tree_of, list_trees, fields_trees}
-use Rattle.avn_value.specs.declared.value.AvnValue.{AvnValue}
 use Rattle.asn_slots.proofs.Lasts.{or_some-assoc, or_some-none}
 use Rattle.asn_slots.proofs.Names.{same_bytes, other_bytes, other_parts, distinct_parts}
 use Rattle.asn_slots.specs.Trees.{trees_of}
@@ -14,16 +11,6 @@ use Rattle.asn_traits.specs.Notation.{Notation}
 use Rattle.asn_traits.specs.Opening.{AllBelow}
 use Rattle.asn_traits.specs.Shape.{are_distinct, is_item, place_named}
 use Rattle.asn_traits.specs.Tree.{Tree, Slot, as_list, as_members, as_choice, slot_nodes, nodes, trees_nodes, fields_nodes, tree_slots, field_slot, or_else}
-use Rattle.avn_rules.specs.Pending.{tree_of}
-
--- The elements are present slots.
-pub present_slots : (vs : List AvnValue) → trees_of tree_of (map Some vs) ≡ tree_slots (list_trees vs)
-present_slots [] = refl
-present_slots (v ∷ vs) = ap (λ l. Some (tree_of v) ∷ l) (present_slots vs)
-
-pub length-tree_slots : (vs : List AvnValue) → length (tree_slots (list_trees vs)) ≡ length vs
-length-tree_slots [] = refl
-length-tree_slots (v ∷ vs) = omega (arith, length-tree_slots vs)
 
 slots_below : (ts : AvnTrees) (n : ℕ) → trees_nodes ts < n → AllBelow n (tree_slots ts)
 slots_below no_trees n h = tt
@@ -88,9 +75,9 @@ over fs (n ∷ ns) [] = []
 over fs (n ∷ ns) (s ∷ ss) = or_else (field_slot fs n) s ∷ over fs ns ss
 
 -- At first no slot is there.
-pub over-absent : (fs : AvnFields) (names : List (List ℕ)) → over fs names (trees_of tree_of (replicate (length names) None)) ≡ map (field_slot fs) names
-over-absent fs [] = refl
-over-absent fs (n ∷ ns) = ap (λ l. or_else (field_slot fs n) None ∷ l) (over-absent fs ns) ∙ ap (λ s. s ∷ map (field_slot fs) ns) (or_some-none (field_slot fs n))
+pub over-absent : {V : Type 0} (see : V → Tree) (fs : AvnFields) (names : List (List ℕ)) → over fs names (trees_of see (replicate (length names) None)) ≡ map (field_slot fs) names
+over-absent see fs [] = refl
+over-absent see fs (n ∷ ns) = ap (λ l. or_else (field_slot fs n) None ∷ l) (over-absent see fs ns) ∙ ap (λ s. s ∷ map (field_slot fs) ns) (or_some-none (field_slot fs n))
 
 -- Without further fields the slots are those that are there.
 pub over-none : (names : List (List ℕ)) (ss : List Slot) → length ss ≡ length names → over no_fields names ss ≡ ss
@@ -104,7 +91,7 @@ at_field name m t fs s true e = ap (λ b. or_else (or_else (field_slot fs name) 
 at_field name m t fs s false e = ap (λ b. or_else (or_else (field_slot fs name) (if b then Some (Tree.avn t) else None)) s) e ∙ or_some-assoc (field_slot fs name) None s
 
 -- A field of none of the names changes no slot.
-over-other : (m : List ℕ) (t : AvnTree) (fs : AvnFields) (names : List (List ℕ)) (ss : List Slot) → is_item names m ≡ false → over (field m t fs) names ss ≡ over fs names ss
+pub over-other : (m : List ℕ) (t : AvnTree) (fs : AvnFields) (names : List (List ℕ)) (ss : List Slot) → is_item names m ≡ false → over (field m t fs) names ss ≡ over fs names ss
 over-other m t fs [] ss h = refl
 over-other m t fs (n ∷ ns) [] h = refl
 over-other m t fs (n ∷ ns) (s ∷ ss) h =
@@ -122,53 +109,36 @@ over-later : (m n : List ℕ) (t : AvnTree) (fs : AvnFields) (ns : List (List �
 over-later m n t fs ns s ss ts other e =
     ap (λ l. or_else (field_slot (field m t fs) n) s ∷ l) e ∙ ap (λ x. x ∷ over fs ns ts) (at_field n m t fs s false (other_bytes m n other))
 
-abbrev Entry : Type 0
-Entry = String Global × Option AvnValue
+-- A field that is put at the place of its name counts as those before it.
+abbrev Put : List ℕ → AvnTree → AvnFields → List (List ℕ) → List Slot → ℕ → Type 0
+Put m t fs names ss k = over (field m t fs) names ss ≡ over fs names (set ss k (Some (Tree.avn t)))
 
-abbrev Put : List ℕ → AvnValue → AvnFields → List (List ℕ) → List (Option AvnValue) → ℕ → Type 0
-Put m v fs names ss k = over (field m (avn_tree_of v) fs) names (trees_of tree_of ss) ≡ over fs names (trees_of tree_of (slice_set ss k (Some v)))
-
-put_here : (m : List ℕ) (v : AvnValue) (fs : AvnFields) (n : List ℕ) (ns : List (List ℕ)) (s : Option AvnValue) (ss : List (Option AvnValue)) (k : ℕ) (b : Bool) → bytes_eq m n ≡ b → are_distinct (n ∷ ns) ≡ true
-    → ((j : ℕ) → are_distinct ns ≡ true → Some j ≡ place_named bytes_eq ns m → Put m v fs ns ss j) → (o : Option ℕ) → o ≡ place_named bytes_eq ns m → Some k ≡ (if b then Some 0 else option_map suc o) → Put m v fs (n ∷ ns) (s ∷ ss) k
-put_here m v fs n ns s ss k true h d later o p e =
+put_here : (m : List ℕ) (t : AvnTree) (fs : AvnFields) (n : List ℕ) (ns : List (List ℕ)) (s : Slot) (ss : List Slot) (k : ℕ) (b : Bool) → bytes_eq m n ≡ b → are_distinct (n ∷ ns) ≡ true
+    → ((j : ℕ) → are_distinct ns ≡ true → Some j ≡ place_named bytes_eq ns m → Put m t fs ns ss j) → (o : Option ℕ) → o ≡ place_named bytes_eq ns m → Some k ≡ (if b then Some 0 else option_map suc o) → Put m t fs (n ∷ ns) (s ∷ ss) k
+put_here m t fs n ns s ss k true h d later o p e =
     let x : ◌≡◌ {A = Option ℕ} (Some k) (Some 0) = e in
     let zeroth : k ≡ 0 = cc x in
-    over-first m n (avn_tree_of v) fs ns (option_map tree_of s) (trees_of tree_of ss) h (distinct_parts (is_item ns n) (are_distinct ns) d).0 ∙ ap (λ j. over fs (n ∷ ns) (trees_of tree_of (slice_set (s ∷ ss) j (Some v)))) (sym zeroth)
-put_here m v fs n ns s ss k false h d later None p e = let x : ◌≡◌ {A = Option ℕ} (Some k) None = e in cc x
-put_here m v fs n ns s ss k false h d later (Some j) p e =
+    over-first m n t fs ns s ss h (distinct_parts (is_item ns n) (are_distinct ns) d).0 ∙ ap (λ j. over fs (n ∷ ns) (set (s ∷ ss) j (Some (Tree.avn t)))) (sym zeroth)
+put_here m t fs n ns s ss k false h d later None p e = let x : ◌≡◌ {A = Option ℕ} (Some k) None = e in cc x
+put_here m t fs n ns s ss k false h d later (Some j) p e =
     let x : ◌≡◌ {A = Option ℕ} (Some k) (Some (suc j)) = e in
     let next : k ≡ suc j = cc x in
-    over-later m n (avn_tree_of v) fs ns (option_map tree_of s) (trees_of tree_of ss) (trees_of tree_of (slice_set ss j (Some v))) h (later j (distinct_parts (is_item ns n) (are_distinct ns) d).1 p)
-    ∙ ap (λ i. over fs (n ∷ ns) (trees_of tree_of (slice_set (s ∷ ss) i (Some v)))) (sym next)
+    over-later m n t fs ns s ss (set ss j (Some (Tree.avn t))) h (later j (distinct_parts (is_item ns n) (are_distinct ns) d).1 p)
+    ∙ ap (λ i. over fs (n ∷ ns) (set (s ∷ ss) i (Some (Tree.avn t)))) (sym next)
 
--- A field that is put at the place of its name counts as those before it.
-put_at : (m : List ℕ) (v : AvnValue) (fs : AvnFields) (names : List (List ℕ)) (ss : List (Option AvnValue)) (k : ℕ) → are_distinct names ≡ true → Some k ≡ place_named bytes_eq names m → Put m v fs names ss k
-put_at m v fs [] ss k d e = refl
-put_at m v fs (n ∷ ns) [] k d e = refl
-put_at m v fs (n ∷ ns) (s ∷ ss) k d e = put_here m v fs n ns s ss k (bytes_eq m n) refl d (λ j x y. put_at m v fs ns ss j x y) (place_named bytes_eq ns m) refl e
+pub put_at : (m : List ℕ) (t : AvnTree) (fs : AvnFields) (names : List (List ℕ)) (ss : List Slot) (k : ℕ) → are_distinct names ≡ true → Some k ≡ place_named bytes_eq names m → Put m t fs names ss k
+put_at m t fs [] ss k d e = refl
+put_at m t fs (n ∷ ns) [] k d e = refl
+put_at m t fs (n ∷ ns) (s ∷ ss) k d e = put_here m t fs n ns s ss k (bytes_eq m n) refl d (λ j x y. put_at m t fs ns ss j x y) (place_named bytes_eq ns m) refl e
 
 map_none : (o : Option ℕ) → None ≡ option_map suc o → None ≡ o
 map_none None e = refl
 map_none (Some k) e = cc e
 
-not_placed : (names : List (List ℕ)) (m : List ℕ) → None ≡ place_named bytes_eq names m → is_item names m ≡ false
+-- A name that has no place is none of the names.
+pub not_placed : (names : List (List ℕ)) (m : List ℕ) → None ≡ place_named bytes_eq names m → is_item names m ≡ false
 not_placed [] m e = refl
 not_placed (n ∷ ns) m e = elim (bytes_eq m n) as (λ b. None ≡ (if b then Some 0 else option_map suc (place_named bytes_eq ns m)) → (if b then true else is_item ns m) ≡ false) [
   | true ↦ λ h. cc h
   | false ↦ λ h. not_placed ns m (map_none (place_named bytes_eq ns m) h)
 ] e
-
--- An entry whose value is put at the place of its name.
-pub entry_put : (m : String Global) (v : AvnValue) (rest : List Entry) (names : List (List ℕ)) (ss : List (Option AvnValue)) (k : ℕ) → are_distinct names ≡ true → Some k ≡ place_named bytes_eq names (string_bytes m)
-    → over (fields_trees rest) names (trees_of tree_of (slice_set ss k (Some v))) ≡ over (fields_trees ((m, Some v) ∷ rest)) names (trees_of tree_of ss)
-entry_put m v rest names ss k d e = sym (put_at (string_bytes m) v (fields_trees rest) names ss k d e)
-
--- An entry of another name.
-pub entry_passed : (m : String Global) (v : AvnValue) (rest : List Entry) (names : List (List ℕ)) (ss : List (Option AvnValue)) → None ≡ place_named bytes_eq names (string_bytes m)
-    → over (fields_trees rest) names (trees_of tree_of ss) ≡ over (fields_trees ((m, Some v) ∷ rest)) names (trees_of tree_of ss)
-entry_passed m v rest names ss e = sym (over-other (string_bytes m) (avn_tree_of v) (fields_trees rest) names (trees_of tree_of ss) (not_placed names (string_bytes m) e))
-
--- Once every entry is taken the slots are those of all fields.
-pub all_taken : (rest : List Entry) (names : List (List ℕ)) (ss : List (Option AvnValue)) (all : List Slot) → rest ≡ [] → length ss ≡ length names → over (fields_trees rest) names (trees_of tree_of ss) ≡ all → trees_of tree_of ss ≡ all
-all_taken rest names ss all e long h =
-    sym (over-none names (trees_of tree_of ss) (length-map ss (option_map tree_of) ∙ long)) ∙ ap (λ es. over (fields_trees es) names (trees_of tree_of ss)) (sym e) ∙ h

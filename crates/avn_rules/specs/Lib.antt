@@ -1,5 +1,6 @@
 pub mod Holding
+pub mod LeafAnswer
 pub mod Numbers
+pub mod Parts
 pub mod Pending
-pub mod NoLeaves
 pub mod Text

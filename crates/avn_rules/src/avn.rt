@@ -1,6 +1,6 @@
 //! Encodes a value of a type as text of the value notation, and decodes one from it. `enc` and
-//! `de` have the two halves of the codec: each is a few primitive calls on AVN values, over which
-//! the traits of `asn_traits` encode and decode every type.
+//! `de` have the two halves of the codec: each is a few primitive calls, over which the traits of
+//! `asn_traits` encode and decode every type.
 ghost use Rattle.asn_fault.specs.Failure.{failure_of};
 ghost use Rattle.asn_fault.specs.declared.encode.EncodeErrorKind.TheVariants.{OutOfMemory};
 ghost use Rattle.asn_traits.specs.Canonical.{canonical_text};
@@ -21,6 +21,7 @@ pub mod de;
 pub mod enc;
 mod faults;
 mod identifiers;
+mod leaf_nodes;
 mod leaves;
 mod numbers;
 mod take_apart;

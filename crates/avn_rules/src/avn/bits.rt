@@ -1,40 +1,56 @@
-// Bit strings as AVN values.
+// Bit strings, read from nodes.
 ghost use Rattle.asn_base.specs.BitStrings.{all_bits};
 ghost use Rattle.asn_model.specs.declared.leaves.LeafKind.TheVariants.{Bits as BitsKind};
-ghost use Rattle.asn_traits.specs.Notation.{Notation};
-ghost use Rattle.asn_traits.specs.Opening.{IsTaken};
-ghost use Rattle.avn_rules.specs.NoLeaves.{IsNoLeaf};
-ghost use Rattle.avn_rules.specs.Pending.{tree_of};
-ghost use Rattle.std.specs.Prelude.{◌≡◌, IfSome, MatchResult};
+ghost use Rattle.avn_rules.specs.LeafAnswer.{LeafAnswer};
+ghost use Rattle.avn_rules.specs.Pending.{IsPresent, value_at};
+ghost use Rattle.std.specs.Prelude.{◌≡◌, IfSome};
 
-use super::leaves::NoLeaf;
-use asn_base::Bits;
-use asn_traits::OwnedLeaf;
-use avn_value::AvnValue;
+use super::leaf_nodes::other_kind;
+use asn_base::{Bits, Codec};
+use asn_fault::DecodeError;
+use asn_traits::{LeafKind, OwnedLeaf};
+use avn_value::{NodeKind, NodeTable};
+use std::alloc::Global;
 
-/// Returns the bits that an AVN value is, or why it is none: those of a bit string, and all bits of
-/// an octet string.
-pub fn bits_of_avn(value: AvnValue, size: Option<usize>) -> Result<OwnedLeaf, NoLeaf>
-    ensures { MatchResult result (IsTaken Notation.avn (BitsKind size) (tree_of value))
-        (IsNoLeaf (BitsKind size) value) }
+/// Returns the bits that stand at a node: those of a bit string, and all bits of an octet string.
+///
+/// # Errors
+///
+/// `AvnTypeMismatch` where neither stands there; `OutOfMemory`, also where the bits of the octets
+/// are more than a `usize` can count.
+pub fn bits_of_node(
+    alloc: Global,
+    table: &NodeTable,
+    node: usize,
+    size: Option<usize>,
+) -> Result<OwnedLeaf, DecodeError>
+    requires { IsPresent table.now node }
+    ensures { LeafAnswer (BitsKind size) (value_at table.now node) result }
 {
-    match value {
-        AvnValue::BitString { bytes, bit_length } => Ok(OwnedLeaf::Bits(
-            Bits::from_first_bits(bytes, bit_length),
-            size,
-        )),
-        AvnValue::OctetString(octets) => match whole_bits(octets) {
-            Some(bits) => Ok(OwnedLeaf::Bits(bits, size)),
-            None => Err(NoLeaf::OutOfMemory),
+    match table.kind(node) {
+        NodeKind::BitString => match Vec::from_slice(alloc, table.octets(node)) {
+            Ok(octets) => {
+                let bits = Bits::from_first_bits(octets, table.bit_length(node));
+                Ok(OwnedLeaf::Bits(bits, size))
+            }
+            Err(_) => Err(DecodeError::out_of_memory(Codec::Avn)),
         },
-        other => Err(NoLeaf::Kind(other)),
+        NodeKind::OctetString => match whole_bits(alloc, table.octets(node)) {
+            Some(bits) => Ok(OwnedLeaf::Bits(bits, size)),
+            None => Err(DecodeError::out_of_memory(Codec::Avn)),
+        },
+        _ => Err(other_kind(alloc, table, node, LeafKind::Bits(size))),
     }
 }
 
-/// Returns all bits of the octets. None only where they are more than a `usize` can count.
-fn whole_bits(octets: Vec<u8>) -> Option<Bits>
-    ensures { IfSome result (λ bits. bits ≡ all_bits octets.items) }
+/// Returns all bits of the octets, or `None` where memory runs out or they are more than a `usize`
+/// can count.
+fn whole_bits(alloc: Global, octets: &[u8]) -> Option<Bits>
+    ensures { IfSome result (λ bits. bits ≡ all_bits octets.now) }
 {
     let size = octets.len().checked_mul(8)?;
+    let Ok(octets) = Vec::from_slice(alloc, octets) else {
+        return None;
+    };
     Some(Bits::from_first_bits(octets, size))
 }

@@ -1,40 +1,58 @@
-//! Decodes an AVN value as a value of a type. The decoder holds the pending slots, of which each
-//! call takes the first, and takes the AVN value apart by moves as it goes.
+//! Decodes a value of the notation as a value of a type. The decoder holds the value as a table of
+//! nodes, and the pending slots as indices into it; each call takes the first of them.
 ghost use Rattle.asn_base.specs.declared.codec.Codec.TheVariants.{Avn};
 ghost use Rattle.asn_fault.specs.Failure.{Cause, failure_of, at_root};
+ghost use Rattle.asn_slots.specs.Trees.{trees_of};
 ghost use Rattle.asn_traits.specs.Answer.{Refuses};
 ghost use Rattle.asn_traits.specs.Notation.{Notation};
 ghost use Rattle.asn_traits.specs.Shape.{Shape};
 ghost use Rattle.asn_traits.specs.FailsWith.{FailsWith};
 ghost use Rattle.asn_traits.specs.Tree.{Tree, head_slot};
 ghost use Rattle.avn_grammar.specs.Tree.{Tree as AvnTree};
-ghost use Rattle.std.specs.Prelude.{◌≡◌, ◌∷◌, [], Some, IfOk, IfErr, MatchResult, option_map};
+ghost use Rattle.avn_rules.specs.Pending.{IsPresent, IsSlot, TakesNode, pending_of};
+ghost use Rattle.std.specs.List.{All};
+ghost use Rattle.std.specs.Prelude.{◌≡◌, ◌∷◌, ◌++◌, [], Some, IfOk, IfErr, MatchResult, map};
 
-use super::faults::{
-    end_of_input, mismatch, needed_members, no_arc, no_item, no_number, no_oid, no_utf8, other_arcs,
-};
-use super::leaves::{NoLeaf, leaf_of_avn};
-use super::take_apart::{into_choice, into_fields, into_items, slots_of};
-use asn_base::Codec;
+use super::faults::{end_of_input, mismatch, needed_members, no_item};
+use super::leaf_nodes::leaf_of_node;
+use super::take_apart::{has_members, is_list, items_of, slots_of};
+use asn_base::{Codec, Scan};
 use asn_fault::DecodeError;
 use asn_model::words;
 use asn_slots::Pending;
 use asn_traits::{Field, LeafKind, OwnedLeaf, SeqKind, place_of};
-use avn_value::{AvnValue, parse_avn};
+use avn_value::{AvnValue, NodeKind, NodeTable};
 use std::alloc::Global;
+use std::marker::Model;
 
-/// Decodes one AVN value. Contracts see the list of its pending slots.
+/// Decodes one value of the notation. Contracts see the tree of its table and the list of its
+/// pending slots, each of which is absent or a node of the table that is no absent field.
 #[derive(Drop)]
 pub struct Decoder {
     /// Allocates texts and the room for slots.
     alloc: Global,
-    /// Holds the AVN values that are still to be decoded.
-    pending: Pending<AvnValue>,
+    /// Holds the value that is decoded.
+    table: NodeTable,
+    /// Holds the nodes of the values that are still to be decoded.
+    pending: Pending<usize>,
 }
 
-/// Makes decoders of a text or of an AVN value.
+impl Model for Decoder {
+    ghost use Rattle.avn_rules.specs.Pending.{DecoderView, decoder_code, IsSlot};
+    ghost use Rattle.std.specs.List.{All};
+
+    ghost Value = { DecoderView };
+
+    ghost coded = { decoder_code };
+
+    ghost view = { λ d. record { root = d.table; nodes = d.pending } };
+
+    ghost invariant = { λ d. All (IsSlot d.table) d.pending };
+}
+
+/// Makes decoders of a text, of a table or of an AVN value.
 impl Decoder {
-    ghost use Rattle.avn_rules.specs.Pending.{tree_of, pending_of};
+    ghost use Rattle.avn_rules.specs.Pending.{tree_of};
     ghost use Rattle.avn_rules.specs.Text.{IsAvn, NoTree};
 
     /// Makes a decoder of a text.
@@ -48,8 +66,11 @@ impl Decoder {
             × (pending_of d ≡ Some (Tree.avn t) ∷ [])) }
         ensures refused { IfErr result (λ e. NoTree input.now (failure_of e)) }
     {
-        let value = parse_avn(alloc, input)?;
-        Decoder::from_value(alloc, value)
+        let mut scan = Scan::new(input);
+        match NodeTable::parse(alloc, &mut scan) {
+            Ok(table) => Ok(Decoder::from_table(alloc, table)),
+            Err(error) => Err(error),
+        }
     }
 
     /// Makes a decoder of an AVN value.
@@ -61,26 +82,37 @@ impl Decoder {
         ensures tree { IfOk result (λ d. pending_of d ≡ Some (tree_of value) ∷ []) }
         ensures refused { IfErr result (λ e. failure_of e ≡ at_root Cause.out_of_memory Avn) }
     {
-        let mut pending = Pending::new(alloc);
-        match pending.put(Some(value)) {
-            Ok(()) => Ok(Decoder { alloc, pending }),
+        match NodeTable::from_value(alloc, value) {
+            Ok(table) => Ok(Decoder::from_table(alloc, table)),
             Err(_) => Err(DecodeError::out_of_memory(Codec::Avn)),
         }
     }
 
-    /// Takes the first pending slot and returns its value.
+    /// Makes a decoder of the value of a table. It takes no memory; later calls take theirs from
+    /// the allocator.
+    pub fn from_table(alloc: Global, table: NodeTable) -> Decoder
+        ensures { pending_of result ≡ Some (Tree.avn table) ∷ [] }
+    {
+        let pending = Pending::of(alloc, Some(0));
+        Decoder {
+            alloc,
+            table,
+            pending,
+        }
+    }
+
+    /// Takes the first pending slot and returns its node.
     ///
     /// # Errors
     ///
     /// The end of input where the slot is absent, or none is pending.
-    fn take(&mut self) -> Result<AvnValue, DecodeError>
-        ensures { MatchResult result (λ v. pending_of self.old ≡ Some (tree_of v)
-            ∷ pending_of self.new) (λ e. (s : Shape)
+    fn take(&mut self) -> Result<usize, DecodeError>
+        ensures { MatchResult result (TakesNode self.old self.new) (λ e. (s : Shape)
             → Refuses Notation.avn (FailsWith Notation.avn s (head_slot (pending_of self.old)))
             (failure_of e)) }
     {
         match self.pending.take() {
-            Some(Some(value)) => Ok(value),
+            Some(Some(node)) => Ok(node),
             Some(None) => Err(end_of_input()),
             None => Err(end_of_input()),
         }
@@ -91,18 +123,54 @@ impl Decoder {
     /// # Errors
     ///
     /// `OutOfMemory` alone.
-    fn put(&mut self, slot: Option<AvnValue>) -> Result<(), DecodeError>
-        ensures { MatchResult result (λ _. pending_of self.new ≡ option_map tree_of slot
-            ∷ pending_of self.old) (λ e. failure_of e ≡ at_root Cause.out_of_memory Avn) }
+    fn put(&mut self, slot: Option<usize>) -> Result<(), DecodeError>
+        requires { IsSlot self.old.root slot }
+        ensures { MatchResult result
+            (λ _. self.new ≡ record self.old { nodes = slot ∷ self.old.nodes })
+            (λ e. failure_of e ≡ at_root Cause.out_of_memory Avn) }
     {
         match self.pending.put(slot) {
             Ok(()) => Ok(()),
             Err(_) => Err(DecodeError::out_of_memory(Codec::Avn)),
         }
     }
+
+    /// Puts nodes before the pending slots, in their order.
+    ///
+    /// # Errors
+    ///
+    /// `OutOfMemory` alone.
+    fn put_items(&mut self, items: Vec<usize>) -> Result<(), DecodeError>
+        requires { All (IsPresent self.old.root) items.items }
+        ensures { MatchResult result
+            (λ _. self.new ≡ record self.old { nodes = map Some items.items ++ self.old.nodes })
+            (λ e. failure_of e ≡ at_root Cause.out_of_memory Avn) }
+    {
+        match self.pending.put_present(items) {
+            Ok(()) => Ok(()),
+            Err(_) => Err(DecodeError::out_of_memory(Codec::Avn)),
+        }
+    }
+
+    /// Puts slots before the pending ones, in their order.
+    ///
+    /// # Errors
+    ///
+    /// `OutOfMemory` alone.
+    fn put_slots(&mut self, slots: Vec<Option<usize>>) -> Result<(), DecodeError>
+        requires { All (IsSlot self.old.root) slots.items }
+        ensures { MatchResult result
+            (λ _. self.new ≡ record self.old { nodes = slots.items ++ self.old.nodes })
+            (λ e. failure_of e ≡ at_root Cause.out_of_memory Avn) }
+    {
+        match self.pending.put_all(slots) {
+            Ok(()) => Ok(()),
+            Err(_) => Err(DecodeError::out_of_memory(Codec::Avn)),
+        }
+    }
 }
 
-/// Opens AVN values and takes leaves out of them.
+/// Takes nodes apart, and leaves out of them.
 impl asn_traits::Decoder for Decoder {
     ghost use Rattle.avn_rules.specs.Pending.{pending_of};
 
@@ -118,19 +186,11 @@ impl asn_traits::Decoder for Decoder {
         self.alloc
     }
 
-    // The slot is gone in any case: a value of another kind is named in the error and dropped.
+    // The slot is gone in any case: the error names a value of another kind by its printed text.
     #[inline(always)]
     fn take_leaf(&mut self, kind: LeafKind) -> Result<OwnedLeaf, DecodeError> {
-        match leaf_of_avn(self.alloc, self.take()?, kind) {
-            Ok(leaf) => Ok(leaf),
-            Err(NoLeaf::Kind(other)) => Err(mismatch(self.alloc, kind.needed(Codec::Avn), &other)),
-            Err(NoLeaf::Number(text)) => Err(no_number(text)),
-            Err(NoLeaf::Utf8) => Err(no_utf8(self.alloc)),
-            Err(NoLeaf::Item(item)) => Err(no_arc(self.alloc, &item)),
-            Err(NoLeaf::Arc(text)) => Err(no_oid(text)),
-            Err(NoLeaf::Arcs(arcs)) => Err(other_arcs(self.alloc, arcs)),
-            Err(NoLeaf::OutOfMemory) => Err(DecodeError::out_of_memory(Codec::Avn)),
-        }
+        let node = self.take()?;
+        leaf_of_node(self.alloc, &self.table, node, kind)
     }
 
     fn no_item(&self, text: String) -> DecodeError {
@@ -144,18 +204,17 @@ impl asn_traits::Decoder for Decoder {
         }
     }
 
-    // The list's vector goes into the pending slots as it is, without a copy.
     fn open_list(&mut self) -> Result<usize, DecodeError> {
-        match into_items(self.alloc, self.take()?) {
-            Ok(items) => {
-                let count = items.len();
-                match self.pending.put_present(items) {
-                    Ok(()) => Ok(count),
-                    Err(_) => Err(DecodeError::out_of_memory(Codec::Avn)),
-                }
-            }
-            Err(other) => Err(mismatch(self.alloc, words::AVN_LIST, &other)),
+        let node = self.take()?;
+        if !is_list(&self.table, node) {
+            return Err(mismatch(self.alloc, &self.table, node, words::AVN_LIST));
         }
+        let Ok(items) = items_of(self.alloc, &self.table, node) else {
+            return Err(DecodeError::out_of_memory(Codec::Avn));
+        };
+        let count = items.len();
+        self.put_items(items)?;
+        Ok(count)
     }
 
     // The slots of all fields are found first, extension additions last, and put at once.
@@ -165,27 +224,25 @@ impl asn_traits::Decoder for Decoder {
         root: &[Field],
         additions: &[Field],
     ) -> Result<(), DecodeError> {
-        let members = match into_fields(self.alloc, self.take()?) {
-            Ok(members) => members,
-            Err(other) => return Err(mismatch(self.alloc, needed_members(kind), &other)),
-        };
-        let Ok(slots) = slots_of(self.alloc, members, root, additions) else {
-            return Err(DecodeError::out_of_memory(Codec::Avn));
-        };
-        match self.pending.put_all(slots) {
-            Ok(()) => Ok(()),
+        let node = self.take()?;
+        if !has_members(&self.table, node) {
+            return Err(mismatch(self.alloc, &self.table, node, needed_members(kind)));
+        }
+        match slots_of(self.alloc, &self.table, node, root, additions) {
+            Ok(slots) => self.put_slots(slots),
             Err(_) => Err(DecodeError::out_of_memory(Codec::Avn)),
         }
     }
 
-    // Where the identifier is none of the type's, an absent slot stands for the payload, and the
-    // caller refuses by the type's name.
+    // Where the identifier is none of the type's, an absent slot stands for the alternative, and
+    // the caller refuses by the type's name.
     fn open_choice(&mut self, identifiers: &[&'static str]) -> Result<Option<usize>, DecodeError> {
-        let (name, payload) = match into_choice(self.take()?) {
-            Ok(choice) => choice,
-            Err(other) => return Err(mismatch(self.alloc, words::AVN_CHOICE, &other)),
+        let node = self.take()?;
+        let NodeKind::Choice = self.table.kind(node) else {
+            return Err(mismatch(self.alloc, &self.table, node, words::AVN_CHOICE));
         };
-        match place_of(identifiers, name.as_str()) {
+        let payload = self.table.payload(node);
+        match place_of(identifiers, self.table.name(payload)) {
             Some(place) => {
                 self.put(Some(payload))?;
                 Ok(Some(place))

@@ -8,10 +8,13 @@ ghost use Rattle.asn_traits.specs.Notation.{Notation};
 ghost use Rattle.asn_traits.specs.ShapeView.{kind_view};
 ghost use Rattle.asn_traits.specs.TextTypes.{TellsUnwritten};
 ghost use Rattle.asn_traits.specs.Arcs.{listed_text};
-ghost use Rattle.avn_rules.specs.NoLeaves.{no_arc};
-ghost use Rattle.avn_rules.specs.Pending.{tree_of};
-ghost use Rattle.std.specs.Prelude.{◌≡◌, ◌⊎◌, IfOk, string_bytes};
-ghost use Rattle.asn_model.specs.declared.words.TheConstants.{AVN_NO_UNICODE, AVN_NO_UTF8};
+ghost use Rattle.avn_grammar.specs.Print.{print};
+ghost use Rattle.avn_rules.specs.LeafAnswer.{IsCause};
+ghost use Rattle.avn_rules.specs.Pending.{IsPresent, avn_or_null, value_at};
+ghost use Rattle.avn_value.specs.Preorder.{tree_at};
+ghost use Rattle.std.specs.Prelude.{◌≡◌, IfOk, string_bytes};
+ghost use Rattle.asn_model.specs.declared.words.TheConstants.{AVN_ARC, AVN_NO_UNICODE};
+ghost use Rattle.asn_model.specs.declared.words.TheConstants.{AVN_NO_UTF8};
 
 use asn_base::{Codec, OutOfMemory};
 use asn_fault::{
@@ -21,7 +24,7 @@ use asn_fault::{
 use asn_model::joined_arcs;
 use asn_model::words::{AVN_ARC, AVN_MEMBERS, AVN_NO_UNICODE, AVN_NO_UTF8, AVN_SET};
 use asn_traits::SeqKind;
-use avn_value::AvnValue;
+use avn_value::NodeTable;
 use std::alloc::Global;
 
 /// A value is expected, and there is none.
@@ -36,12 +39,13 @@ pub fn end_of_input() -> DecodeError
     )
 }
 
-/// The AVN value is of another kind than the one that is needed. Memory may run out.
-pub fn mismatch(alloc: Global, needed: &'static str, value: &AvnValue) -> DecodeError
-    ensures { RefusesLeaf Notation.avn (tree_of value.now) (LeafFailure.mismatch needed.now)
+/// The value at the node is of another kind than the one that is needed. Memory may run out.
+pub fn mismatch(alloc: Global, table: &NodeTable, node: usize, needed: &'static str) -> DecodeError
+    requires { IsPresent table.now node }
+    ensures { RefusesLeaf Notation.avn (value_at table.now node) (LeafFailure.mismatch needed.now)
         (failure_of result) }
 {
-    match format!(in alloc; "{value}") {
+    match table.print(alloc, node) {
         Ok(found) => avn_error(AvnDecodeErrorKind::AvnTypeMismatch { needed, found }),
         Err(_) => DecodeError::out_of_memory(Codec::Avn),
     }
@@ -65,17 +69,19 @@ pub fn no_item(text: String) -> DecodeError
     avn_error(AvnDecodeErrorKind::AvnInvalidEnumDiscriminant { discriminant: text })
 }
 
-/// The text is no whole number.
-pub fn no_number(text: String) -> DecodeError
-    ensures { failure_of result ≡ at_root (Cause.integer_parse_error (string_bytes text)) Avn }
+/// The text is no whole number. Memory may run out.
+pub fn no_number(alloc: Global, text: &str) -> DecodeError
+    ensures { IsCause (Cause.integer_parse_error text.now) (failure_of result) }
 {
-    avn_error(AvnDecodeErrorKind::IntegerParseError { msg: text })
+    match String::from_str(alloc, text) {
+        Ok(msg) => avn_error(AvnDecodeErrorKind::IntegerParseError { msg }),
+        Err(_) => DecodeError::out_of_memory(Codec::Avn),
+    }
 }
 
 /// The octets of a character string are no UTF-8. Memory may run out.
 pub fn no_utf8(alloc: Global) -> DecodeError
-    ensures { (failure_of result ≡ at_root (Cause.custom AVN_NO_UTF8.now) Avn)
-        ⊎ (failure_of result ≡ at_root Cause.out_of_memory Avn) }
+    ensures { IsCause (Cause.custom AVN_NO_UTF8.now) (failure_of result) }
 {
     match String::from_str(alloc, AVN_NO_UTF8) {
         Ok(msg) => DecodeError::custom(msg, Codec::Avn),
@@ -99,12 +105,13 @@ pub fn no_unicode(alloc: Global) -> EncodeError
     )
 }
 
-/// The value in the place of an arc is no integer. Memory may run out.
-pub fn no_arc(alloc: Global, item: &AvnValue) -> DecodeError
-    ensures { (failure_of result ≡ at_root (no_arc item.now) Avn)
-        ⊎ (failure_of result ≡ at_root Cause.out_of_memory Avn) }
+/// The value at the node, in the place of an arc, is no integer. Memory may run out.
+pub fn no_arc(alloc: Global, table: &NodeTable, node: usize) -> DecodeError
+    requires { IsPresent table.now node }
+    ensures { IsCause (Cause.type_mismatch Avn AVN_ARC.now
+        (print 0 (avn_or_null (tree_at table.now node)))) (failure_of result) }
 {
-    match format!(in alloc; "{item}") {
+    match table.print(alloc, node) {
         Ok(found) => avn_error(AvnDecodeErrorKind::AvnTypeMismatch {
             needed: AVN_ARC,
             found,
@@ -113,19 +120,21 @@ pub fn no_arc(alloc: Global, item: &AvnValue) -> DecodeError
     }
 }
 
-/// The integer is no arc.
-pub fn no_oid(text: String) -> DecodeError
-    ensures { failure_of result ≡ at_root (Cause.invalid_oid (string_bytes text)) Avn }
+/// The text of an integer is no arc. Memory may run out.
+pub fn no_oid(alloc: Global, text: &str) -> DecodeError
+    ensures { IsCause (Cause.invalid_oid text.now) (failure_of result) }
 {
-    avn_error(AvnDecodeErrorKind::InvalidOid { value: text })
+    match String::from_str(alloc, text) {
+        Ok(value) => avn_error(AvnDecodeErrorKind::InvalidOid { value }),
+        Err(_) => DecodeError::out_of_memory(Codec::Avn),
+    }
 }
 
 /// The arcs are those of no object identifier. Memory may run out.
-pub fn other_arcs(alloc: Global, arcs: Vec<u32>) -> DecodeError
-    ensures { (failure_of result ≡ at_root (Cause.invalid_oid (listed_text arcs.items)) Avn)
-        ⊎ (failure_of result ≡ at_root Cause.out_of_memory Avn) }
+pub fn other_arcs(alloc: Global, arcs: &[u32]) -> DecodeError
+    ensures { IsCause (Cause.invalid_oid (listed_text arcs.now)) (failure_of result) }
 {
-    match list_of_arcs(alloc, arcs.as_slice()) {
+    match list_of_arcs(alloc, arcs) {
         Ok(value) => avn_error(AvnDecodeErrorKind::InvalidOid { value }),
         Err(_) => DecodeError::out_of_memory(Codec::Avn),
     }

@@ -1,88 +1,78 @@
-//! Takes parts out of an AVN value by moves. A value of another kind comes back as it was, so that
-//! an error can name it.
+//! Takes the parts out of a value, as nodes of its table.
 ghost use Rattle.asn_slots.specs.Trees.{trees_of};
 ghost use Rattle.asn_traits.specs.Notation.{Notation};
 ghost use Rattle.asn_traits.specs.Shape.{are_distinct};
 ghost use Rattle.asn_traits.specs.Tables.{names_of};
-ghost use Rattle.asn_traits.specs.Tree.{as_list, as_members, as_choice, tree_slots, field_slot};
-ghost use Rattle.avn_rules.specs.Pending.{tree_of};
-ghost use Rattle.avn_value.specs.View.{list_trees, fields_trees};
-ghost use Rattle.std.specs.Prelude.{true, ◌≡◌, ◌++◌, Some, None, IfOk, replicate, MatchResult};
-ghost use Rattle.std.specs.Prelude.{string_bytes, map};
+ghost use Rattle.asn_traits.specs.Tree.{Slot, as_list, as_members};
+ghost use Rattle.avn_rules.specs.Parts.{place_of_slot};
+ghost use Rattle.avn_rules.specs.Pending.{IsPresent, IsSlot, value_at};
+ghost use Rattle.avn_value.specs.Preorder.{node_at, tree_at, node_count, slot_descendants};
+ghost use Rattle.std.specs.List.{All};
+ghost use Rattle.std.specs.Prelude.{true, ◌≡◌, ◌<◌, ◌+◌, ◌++◌, List, ℕ, Some, None, IfOk, IfSome};
+ghost use Rattle.std.specs.Prelude.{is_some, length, map, nat_eq, replicate};
 
 use asn_base::OutOfMemory;
 use asn_traits::{Field, place_of_field};
-use avn_value::AvnValue;
+use avn_value::{NodeKind, NodeTable};
 use std::alloc::Global;
 
-/// Returns the elements of a list. A Sequence without entries is an empty list, since the text
-/// `{}` stands for both. It takes no memory.
-///
-/// # Errors
-///
-/// The value itself where it is no list.
-pub fn into_items(alloc: Global, value: AvnValue) -> Result<Vec<AvnValue>, AvnValue>
-    ensures { MatchResult result (λ items. as_list Notation.avn (tree_of value)
-        ≡ Some (tree_slots (list_trees items.items)))
-        (λ v. (v ≡ value) × (as_list Notation.avn (tree_of value) ≡ None)) }
+/// Tells whether a node is a list. A SEQUENCE without fields is an empty list, since the text `{}`
+/// stands for both.
+pub fn is_list(table: &NodeTable, node: usize) -> bool
+    requires { IsPresent table.now node }
+    ensures { result ≡ is_some (as_list Notation.avn (value_at table.now node)) }
 {
-    match value {
-        AvnValue::SequenceOf(items) => Ok(items),
-        AvnValue::Sequence(fields) => {
-            if fields.is_empty() {
-                Ok(Vec::new(alloc))
-            } else {
-                Err(AvnValue::Sequence(fields))
-            }
-        }
-        other => Err(other),
+    match table.kind(node) {
+        NodeKind::SequenceOf => true,
+        NodeKind::Sequence => has_no_parts(table, node),
+        _ => false,
     }
 }
 
-/// Returns the fields of a Sequence. A SequenceOf without elements has no fields, since the text
-/// `{}` stands for both. It takes no memory.
-///
-/// # Errors
-///
-/// The value itself where it has no fields.
-pub fn into_fields(
-    alloc: Global,
-    value: AvnValue,
-) -> Result<Vec<(String, Option<AvnValue>)>, AvnValue>
-    ensures { MatchResult result (λ fields. as_members Notation.avn (tree_of value)
-        ≡ Some (field_slot (fields_trees fields.items)))
-        (λ v. (v ≡ value) × (as_members Notation.avn (tree_of value) ≡ None)) }
+/// Tells whether a node has fields. A SEQUENCE OF without elements is a SEQUENCE without fields,
+/// since the text `{}` stands for both.
+pub fn has_members(table: &NodeTable, node: usize) -> bool
+    requires { IsPresent table.now node }
+    ensures { result ≡ is_some (as_members Notation.avn (value_at table.now node)) }
 {
-    match value {
-        AvnValue::Sequence(fields) => Ok(fields),
-        AvnValue::SequenceOf(items) => {
-            if items.is_empty() {
-                Ok(Vec::new(alloc))
-            } else {
-                Err(AvnValue::SequenceOf(items))
-            }
-        }
-        other => Err(other),
+    match table.kind(node) {
+        NodeKind::Sequence => true,
+        NodeKind::SequenceOf => has_no_parts(table, node),
+        _ => false,
     }
 }
 
-/// Returns the identifier and the payload of a choice.
+/// Tells whether no node lies within a node.
+fn has_no_parts(table: &NodeTable, node: usize) -> bool
+    requires { node < node_count table.now }
+    ensures { result ≡ nat_eq (length (slot_descendants (tree_at table.now node))) 0 }
+{
+    table.end(node) - node == 1
+}
+
+/// Returns the nodes of the elements of a list, in their order.
 ///
 /// # Errors
 ///
-/// The value itself where it is no choice.
-pub fn into_choice(value: AvnValue) -> Result<(String, AvnValue), AvnValue>
-    ensures { MatchResult result (λ c. as_choice Notation.avn (tree_of value)
-        ≡ Some (Some (string_bytes c.0, tree_of c.1)))
-        (λ v. (v ≡ value) × (as_choice Notation.avn (tree_of value) ≡ None)) }
+/// `OutOfMemory` alone.
+pub fn items_of(alloc: Global, table: &NodeTable, node: usize) -> Result<Vec<usize>, OutOfMemory>
+    requires present { IsPresent table.now node }
+    requires list { is_some (as_list Notation.avn (value_at table.now node)) ≡ true }
+    ensures items { IfOk result (λ items. as_list Notation.avn (value_at table.now node)
+        ≡ Some (trees_of (value_at table.now) (map Some items.items))) }
+    ensures present { IfOk result (λ items. All (IsPresent table.now) items.items) }
 {
-    match value {
-        AvnValue::Choice { identifier, value } => Ok((identifier, Box::into_inner(value))),
-        other => Err(other),
+    let end = table.end(node);
+    let mut items = Vec::new(alloc);
+    let mut item = node + 1;
+    'items: while item < end {
+        items.push(item)?;
+        item = table.end(item);
     }
+    Ok(items)
 }
 
-/// Returns the slot of each field, extension additions last: the value of the last present entry
+/// Returns the slot of each field, extension additions last: the node of the last present entry
 /// of its name. Entries of other names are passed over.
 ///
 /// # Errors
@@ -90,25 +80,30 @@ pub fn into_choice(value: AvnValue) -> Result<(String, AvnValue), AvnValue>
 /// `OutOfMemory` alone.
 pub fn slots_of(
     alloc: Global,
-    entries: Vec<(String, Option<AvnValue>)>,
+    table: &NodeTable,
+    node: usize,
     root: &[Field],
     additions: &[Field],
-) -> Result<Vec<Option<AvnValue>>, OutOfMemory>
-    requires { are_distinct (names_of root.now ++ names_of additions.now) ≡ true }
-    ensures { IfOk result (λ slots. trees_of tree_of slots.items ≡ map
-        (field_slot (fields_trees entries.items)) (names_of root.now ++ names_of additions.now)) }
+) -> Result<Vec<Option<usize>>, OutOfMemory>
+    requires present { IsPresent table.now node }
+    requires members { is_some (as_members Notation.avn (value_at table.now node)) ≡ true }
+    requires distinct { are_distinct (names_of root.now ++ names_of additions.now) ≡ true }
+    ensures slots { IfOk result (λ slots. (look : List ℕ → Slot)
+        → as_members Notation.avn (value_at table.now node) ≡ Some look
+        → trees_of (value_at table.now) slots.items
+        ≡ map look (names_of root.now ++ names_of additions.now)) }
+    ensures held { IfOk result (λ slots. All (IsSlot table.now) slots.items) }
 {
     let mut slots = absent_slots(alloc, root.len() + additions.len())?;
+    let end = table.end(node);
+    let mut entry = node + 1;
     // Each entry is looked at once, in order, so a later one of the same name takes the place.
-    for (name, entry) in entries {
-        let Some(value) = entry else {
-            continue;
-        };
-        let Some(place) = place_of_field(root, additions, name.as_str()) else {
-            continue;
-        };
-        // The place is one of a field, and there is a slot for each.
-        slots[place] = Some(value);
+    'entries: while entry < end {
+        if let Some(place) = place_of_entry(table, entry, root, additions) {
+            // The place is one of a field, and there is a slot for each.
+            slots[place] = Some(entry);
+        }
+        entry = table.end(entry);
     }
     Ok(slots)
 }
@@ -118,7 +113,7 @@ pub fn slots_of(
 /// # Errors
 ///
 /// `OutOfMemory` alone.
-fn absent_slots(alloc: Global, count: usize) -> Result<Vec<Option<AvnValue>>, OutOfMemory>
+fn absent_slots(alloc: Global, count: usize) -> Result<Vec<Option<usize>>, OutOfMemory>
     ensures { IfOk result (λ slots. slots.items ≡ replicate count None) }
 {
     let mut slots = Vec::with_capacity(alloc, count)?;
@@ -126,4 +121,23 @@ fn absent_slots(alloc: Global, count: usize) -> Result<Vec<Option<AvnValue>>, Ou
         slots.push(None)?;
     }
     Ok(slots)
+}
+
+/// Returns the place of the field of an entry's name, or `None` where the entry is absent or no
+/// field has the name.
+fn place_of_entry(
+    table: &NodeTable,
+    entry: usize,
+    root: &[Field],
+    additions: &[Field],
+) -> Option<usize>
+    requires { entry < node_count table.now }
+    ensures is { result ≡ place_of_slot (names_of root.now ++ names_of additions.now)
+        (node_at table.now entry) }
+    ensures below { IfSome result (λ k. k < length root.now + length additions.now) }
+{
+    match table.kind(entry) {
+        NodeKind::Absent => None,
+        _ => place_of_field(root, additions, table.name(entry)),
+    }
 }

@@ -1,9 +1,10 @@
-use Rattle.std.proofs.Common.{◌≡◌}
-use Rattle.asn_traits.specs.Arcs.{braced_arcs}
-use Rattle.avn_value.specs.View.{list_trees}
-use Rattle.avn_rules.proofs.ArcsTaken.{arcs_after}
+use Rattle.std.proofs.Common.{◌-◌}
+use Rattle.avn_rules.proofs.ArcsTaken.{ArcsLeft}
 use Rattle.avn_rules.proofs.avn.identifiers.arcs_of.Given as goal
 
--- The arcs so far stand before those of the values that are left.
-abbrev pub invariant-loop-item : goal.invariant-loop-item
-invariant-loop-item l = braced_arcs (list_trees l.fn.items.items) ≡ arcs_after l.arcs.items (braced_arcs (list_trees l.item-iterator.rest.items))
+-- The arcs so far stand before those of the elements that are left.
+abbrev pub invariant-items : goal.invariant-items
+invariant-items l = ArcsLeft l.table l.node l.item l.end l.arcs.items
+
+abbrev pub decreases-items : goal.decreases-items
+decreases-items l = l.end - l.item

@@ -1,14 +1,17 @@
-use Rattle.std.proofs.Common.{ap, ◌∙◌, refl}
-use Rattle.std.specs.Prelude.{option_map}
+use Rattle.std.proofs.Common.{refl, ap, ◌∙◌, ◌∷◌}
 use Rattle.asn_base.specs.declared.codec.Codec.TheVariants.{Avn}
-use Rattle.asn_slots.specs.Trees.{trees_of}
-use Rattle.asn_traits.specs.Tree.{head_slot}
 use Rattle.asn_traits.proofs.Refusing.{absent}
-use Rattle.avn_rules.specs.Pending.{tree_of}
+use Rattle.avn_rules.proofs.Opened.{taken_held, takes_node, head_absent, no_head}
+use Rattle.avn_rules.proofs.avn.de.Decoder.take.Goals.{in-Some-Some, in-Some-None, in-None}
 use Rattle.avn_rules.proofs.avn.de.Decoder.take.Goals as goal
 
-pub returns-in-Some-None : goal.returns-in-Some-None
-returns-in-Some-None c = λ s. absent s _ Avn _ (ap (λ l. head_slot (trees_of tree_of l)) c.in-Some-None.ensures ∙ ap (option_map tree_of) c.in-Some-None.field-0-is) refl c.end_of_input.ensures
+pub invariant_of-self : goal.invariant_of-self
+invariant_of-self c = taken_held c.self.inside.table c.self.inside.pending c.take.new.self c.take.result c.take.ensures c.self.invariant
 
-pub returns-in-None : goal.returns-in-None
-returns-in-None c = λ s. absent s _ Avn _ (ap (λ l. head_slot (trees_of tree_of l)) c.in-None.ensures.0) refl c.end_of_input-in-None.ensures
+pub returns : goal.returns
+returns c =
+    let later = c.take.new.self in elim c.match-take.branch [
+      | in-Some-Some w ↦ rw w.result-is (takes_node _ _ _ c.self.view_is _ later (w.in-Some-Some.ensures ∙ ap (λ slot. slot ∷ later) w.in-Some-Some.field-0-is) c.self.invariant)
+      | in-Some-None w ↦ rw w.result-is (λ s. absent s _ Avn _ (head_absent _ _ _ c.self.view_is later (w.in-Some-None.ensures ∙ ap (λ slot. slot ∷ later) w.in-Some-None.field-0-is)) refl w.end_of_input.ensures)
+      | in-None w ↦ rw w.result-is (λ s. absent s _ Avn _ (no_head _ _ _ c.self.view_is w.in-None.ensures.0) refl w.end_of_input-in-None.ensures)
+    ]

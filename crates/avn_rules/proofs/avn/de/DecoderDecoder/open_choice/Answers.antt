@@ -1,20 +1,46 @@
-use Rattle.std.proofs.Common.{sym}
-use Rattle.asn_traits.specs.Opening.{IsChoice}
-use Rattle.asn_traits.proofs.Refusing.{no_choice}
-use Rattle.avn_rules.proofs.Taken.{payload_below, choice_above}
+use Rattle.std.proofs.Common.{◌≡◌, ap, sym, subst, ◌∙◌, Some, None}
+use Rattle.std.specs.Prelude.{codes}
+use Rattle.std.proofs.lemmas.Result.{err_from_is_err_and}
+use Rattle.asn_fault.specs.Failure.{failure_of}
+use Rattle.asn_traits.specs.Answer.{RefusesLeaf}
+use Rattle.asn_traits.specs.Leaf.{LeafFailure}
+use Rattle.asn_traits.specs.Notation.{Notation}
+use Rattle.asn_traits.specs.Shape.{Shape}
+use Rattle.asn_traits.specs.Tree.{as_choice}
+use Rattle.avn_value.specs.Preorder.{tree_at}
+use Rattle.avn_rules.specs.Pending.{DecoderView, value_at}
+use Rattle.avn_rules.proofs.Opened.{choice_opened, choice_refused, choice_unnamed}
+use Rattle.avn_rules.proofs.Walks.{choice_parts, no_choice_here}
 use Rattle.avn_rules.proofs.avn.de.DecoderDecoder.open_choice.Goals as goal
 
-pub returns-in-Some : goal.returns-in-Some
-returns-in-Some c =
-    let named = rw c.as_str.ensures.value at (sym c.in-Some.ensures.is) in
-    (_, _, _, c.in_ok-take.ensures, c.in_ok-put-in-Some.ensures, payload_below _ _ _ c.in-Ok.ensures, IsChoice.is_choice _ _ _ _ _ c.in-Ok.ensures named)
+pub returns-in_err-node : goal.returns-in_err-node
+returns-in_err-node c =
+    let p = err_from_is_err_and c.from_residual.result c.from_residual.ensures.1 in
+    rw (p.1, p.2) (λ alts added. c.in_err-node.ensures (Shape.choice alts added))
 
-pub returns : goal.returns
-returns c =
-    let named = rw c.as_str.ensures.value at (sym c.in-None.ensures.is) in
-    (_, _, _, c.in_ok-take.ensures, c.in_ok-put-in-None.ensures, choice_above _ _ _ c.in-Ok.ensures, IsChoice.is_unnamed _ _ _ _ c.in-Ok.ensures named)
+pub returns-in_default : goal.returns-in_default
+returns-in_default c =
+    let node = c.in_ok-node.node in
+    let root : c.self.inside.table ≡ c.take.new.self.root = ap (λ (d : DecoderView). d.root) c.self.view_is in
+    let none = no_choice_here (tree_at c.self.inside.table node) (λ e. c.in_default.not-Choice (c.kind.ensures ∙ e)) in
+    choice_refused _ _ node _ c.in_ok-node.ensures (subst (λ t. as_choice Notation.avn (value_at t node) ≡ None) root none) (subst (λ t. RefusesLeaf Notation.avn (value_at t node) (LeafFailure.mismatch (codes "choice (identifier : value)")) (failure_of c.mismatch.result)) root c.mismatch.ensures)
 
-pub returns-in-Err : goal.returns-in-Err
-returns-in-Err c =
-    let h = c.in-Err.ensures in
-    λ alts added. no_choice alts added _ _ _ _ c.in_ok-take.ensures h.1 (rw h.0 at c.mismatch.ensures)
+pub returns-in_ok-put-in-Some : goal.returns-in_ok-put-in-Some
+returns-in_ok-put-in-Some c =
+    let node = c.in_ok-node.node in
+    let root : c.self.inside.table ≡ c.take.new.self.root = ap (λ (d : DecoderView). d.root) c.self.view_is in
+    let table = c.self.inside.table in
+    let payload = c.payload-payload.result in
+    let name = c.name.result.now in
+    let parts = subst (λ t. as_choice Notation.avn (value_at t node) ≡ Some (Some (name, value_at t payload))) root (choice_parts table node payload name c.payload-payload.ensures.choice c.payload-payload.ensures.present c.name.ensures) in
+    choice_opened _ _ _ node payload c.in-Some.place _ name c.in_ok-node.ensures parts (sym c.in-Some.ensures.is) c.in_ok-put-in-Some.ensures
+
+pub returns-in_ok-put-in-None : goal.returns-in_ok-put-in-None
+returns-in_ok-put-in-None c =
+    let node = c.in_ok-node.node in
+    let root : c.self.inside.table ≡ c.take.new.self.root = ap (λ (d : DecoderView). d.root) c.self.view_is in
+    let table = c.self.inside.table in
+    let payload = c.payload-payload.result in
+    let name = c.name.result.now in
+    let parts = subst (λ t. as_choice Notation.avn (value_at t node) ≡ Some (Some (name, value_at t payload))) root (choice_parts table node payload name c.payload-payload.ensures.choice c.payload-payload.ensures.present c.name.ensures) in
+    choice_unnamed _ _ _ node payload _ name c.in_ok-node.ensures parts (sym c.in-None.ensures.is) c.in_ok-put-in-None.ensures

@@ -1,29 +1,32 @@
-use Rattle.std.proofs.Common.{ap, ◌∙◌, arith, ◌++◌}
-use Rattle.std.specs.Prelude.{option_map}
-use Rattle.std.proofs.lemmas.List.{map-append}
+use Rattle.std.proofs.Common.{◌≡◌, ap, sym, subst, ◌∙◌, length, map, Some, false, is_some, arith}
+use Rattle.std.specs.Prelude.{codes}
+use Rattle.std.proofs.lemmas.Result.{err_from_is_err_and}
+use Rattle.asn_fault.specs.Failure.{failure_of}
+use Rattle.asn_traits.specs.Answer.{RefusesLeaf}
+use Rattle.asn_traits.specs.Leaf.{LeafFailure}
+use Rattle.asn_traits.specs.Notation.{Notation}
+use Rattle.asn_traits.specs.Shape.{Shape}
 use Rattle.asn_slots.specs.Trees.{trees_of}
-use Rattle.asn_traits.specs.Opening.{IsList}
-use Rattle.asn_traits.specs.Tree.{tree_slots}
-use Rattle.asn_traits.proofs.Refusing.{no_list}
-use Rattle.avn_value.specs.View.{list_trees}
-use Rattle.avn_rules.specs.Pending.{tree_of, pending_of}
-use Rattle.avn_rules.proofs.Taken.{present_slots, length-tree_slots, list_below}
+use Rattle.asn_traits.specs.Tree.{as_list}
+use Rattle.avn_rules.specs.Pending.{DecoderView, value_at}
+use Rattle.avn_rules.proofs.Opened.{list_opened, list_refused}
 use Rattle.avn_rules.proofs.avn.de.DecoderDecoder.open_list.Goals as goal
 
-pub returns-in-Ok-put_present : goal.returns-in-Ok-put_present
-returns-in-Ok-put_present c =
-    let vs = c.in-Ok.items.items in (
-      _,
-      tree_slots (list_trees vs),
-      pending_of c.take.new.self,
-      c.in_ok-take.ensures,
-      ap (trees_of tree_of) c.in-Ok-put_present.ensures.put ∙ map-append (option_map tree_of) _ _ ∙ ap (λ l. l ++ pending_of c.take.new.self) (present_slots vs),
-      omega (arith, length-tree_slots vs, c.len-count.ensures, c.in-Ok.items.ok.0),
-      list_below _ _ c.in-Ok.ensures,
-      IsList.is_list _ _ c.in-Ok.ensures,
-    )
+pub returns-in_err-node : goal.returns-in_err-node
+returns-in_err-node c =
+    let p = err_from_is_err_and c.from_residual.result c.from_residual.ensures.1 in
+    rw (p.1, p.2) (λ s. c.in_err-node.ensures (Shape.list_of s))
 
-pub returns-in-Err : goal.returns-in-Err
-returns-in-Err c =
-    let h = c.in-Err.ensures in
-    λ s. no_list s _ _ _ _ c.in_ok-take.ensures h.1 (rw h.0 at c.mismatch.ensures)
+pub returns-then-not-is_list : goal.returns-then-not-is_list
+returns-then-not-is_list c =
+    let node = c.in_ok-node.node in
+    let root : c.self.inside.table ≡ c.take.new.self.root = ap (λ (d : DecoderView). d.root) c.self.view_is in
+    list_refused _ _ node _ c.in_ok-node.ensures (subst (λ t. is_some (as_list Notation.avn (value_at t node)) ≡ false) root (sym c.is_list.ensures ∙ c.if-not-is_list.true)) (subst (λ t. RefusesLeaf Notation.avn (value_at t node) (LeafFailure.mismatch (codes "sequence of")) (failure_of c.mismatch.result)) root c.mismatch.ensures)
+
+pub returns : goal.returns
+returns c =
+    let node = c.in_ok-node.node in
+    let root : c.self.inside.table ≡ c.take.new.self.root = ap (λ (d : DecoderView). d.root) c.self.view_is in
+    let items = c.in-Ok.items.items in
+    let count : c.len-count.result ≡ length items = omega (arith, c.len-count.ensures, c.in-Ok.items.ok.0) in
+    list_opened _ _ _ node c.len-count.result items c.in_ok-node.ensures (subst (λ t. as_list Notation.avn (value_at t node) ≡ Some (trees_of (value_at t) (map Some items))) root c.in-Ok.ensures.items) c.in_ok-put_items.ensures count

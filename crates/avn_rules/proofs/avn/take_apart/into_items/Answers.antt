@@ -1,9 +1,0 @@
-use Rattle.std.proofs.Common.{◌≡◌, sym, ◌∙◌, length, arith}
-use Rattle.avn_rules.proofs.Octets.{fields_no_list, some_items}
-use Rattle.avn_rules.proofs.avn.take_apart.into_items.Goals as goal
-
-pub returns-else-is_empty : goal.returns-else-is_empty
-returns-else-is_empty c =
-    let found = c.in-Sequence.fields in
-    let long : found.len ≡ length found.items = omega (arith, found.ok.0) in
-    (sym c.in-Sequence.is, fields_no_list _ found c.in-Sequence.is (some_items found.items found.len long (sym c.is_empty.ensures ∙ c.if-is_empty.false)))

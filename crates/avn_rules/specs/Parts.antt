@@ -1,0 +1,16 @@
+-- The parts of a value.
+use Rattle.std.specs.Prelude.{ℕ, List, Option, Some, None}
+use Rattle.std.specs.Str.{bytes_eq}
+use Rattle.avn_grammar.specs.Tree.{Tree as AvnTree, Trees as AvnTrees, sequence_of, no_trees}
+use Rattle.avn_value.specs.Preorder.{NamedSlot}
+use Rattle.asn_traits.specs.Shape.{place_named}
+
+-- The place of the name of an entry that is present.
+abbrev pub place_of_slot : List (List ℕ) → NamedSlot → Option ℕ
+place_of_slot names (name, Some t) = place_named bytes_eq names name
+place_of_slot names (name, None) = None
+
+-- The elements of a SEQUENCE OF, and none of another value.
+abbrev pub elements_of : Option AvnTree → AvnTrees
+elements_of (Some (sequence_of ts)) = ts
+elements_of o = no_trees

@@ -1,0 +1,187 @@
+// Values without parts, read from nodes.
+ghost use Rattle.asn_model.specs.declared.leaves.LeafKind.TheVariants.{Any, Item, Number, Octets};
+ghost use Rattle.asn_model.specs.declared.leaves.LeafKind.TheVariants.{Text};
+ghost use Rattle.asn_traits.specs.Leaf.{LeafFailure, answer_kind, as_leaf, needed};
+ghost use Rattle.asn_traits.specs.Notation.{Notation};
+ghost use Rattle.avn_rules.specs.LeafAnswer.{LeafAnswer, RefusesKind};
+ghost use Rattle.avn_rules.specs.Pending.{IsPresent, value_at};
+ghost use Rattle.std.specs.Prelude.{◌≡◌, true, false, Err, MatchOption, string_bytes};
+ghost use Rattle.std.specs.Str.{is_utf8};
+ghost use Rattle.asn_fault.specs.Failure.{failure_of};
+
+use super::bits::bits_of_node;
+use super::faults::{mismatch, no_number, no_utf8};
+use super::identifiers::identifier_of_node;
+use super::numbers::whole_number;
+use asn_base::Codec;
+use asn_fault::DecodeError;
+use asn_traits::{LeafKind, OwnedLeaf};
+use avn_value::{NodeKind, NodeTable};
+use std::alloc::Global;
+
+/// Returns the value of this kind that stands at a node.
+///
+/// # Errors
+///
+/// Why none stands there; `OutOfMemory`.
+#[inline(always)]
+pub fn leaf_of_node(
+    alloc: Global,
+    table: &NodeTable,
+    node: usize,
+    kind: LeafKind,
+) -> Result<OwnedLeaf, DecodeError>
+    requires { IsPresent table.now node }
+    ensures { LeafAnswer kind (value_at table.now node) result }
+{
+    match kind {
+        LeafKind::Null => match table.kind(node) {
+            NodeKind::Null => Ok(OwnedLeaf::Null),
+            _ => Err(other_kind(alloc, table, node, kind)),
+        },
+        LeafKind::Boolean => match table.kind(node) {
+            NodeKind::Boolean(flag) => Ok(OwnedLeaf::Boolean(flag)),
+            _ => Err(other_kind(alloc, table, node, kind)),
+        },
+        LeafKind::Number => number_of_node(alloc, table, node),
+        LeafKind::Text | LeafKind::Time | LeafKind::Date => text_of_node(alloc, table, node, kind),
+        LeafKind::Item => item_of_node(alloc, table, node),
+        LeafKind::Octets => octets_of_node(alloc, table, node),
+        LeafKind::Any => any_of_node(alloc, table, node),
+        LeafKind::Oid => identifier_of_node(alloc, table, node),
+        LeafKind::Bits(size) => bits_of_node(alloc, table, node, size),
+    }
+}
+
+/// Returns the error that a value of another kind stands at a node. Memory may run out.
+pub fn other_kind(alloc: Global, table: &NodeTable, node: usize, kind: LeafKind) -> DecodeError
+    requires present { IsPresent table.now node }
+    requires other { as_leaf Notation.avn kind (value_at table.now node)
+        ≡ Err (LeafFailure.mismatch (needed Notation.avn kind)) }
+    ensures { RefusesKind kind (value_at table.now node) (failure_of result) }
+{
+    mismatch(alloc, table, node, kind.needed(Codec::Avn))
+}
+
+/// Returns the whole number that stands at a node.
+///
+/// # Errors
+///
+/// `AvnTypeMismatch` where no integer stands there; `IntegerParseError` where its text is no
+/// number; `OutOfMemory`.
+fn number_of_node(alloc: Global, table: &NodeTable, node: usize) -> Result<OwnedLeaf, DecodeError>
+    requires { IsPresent table.now node }
+    ensures { LeafAnswer Number (value_at table.now node) result }
+{
+    let NodeKind::Integer = table.kind(node) else {
+        return Err(other_kind(alloc, table, node, LeafKind::Number));
+    };
+    let text = table.text(node);
+    match whole_number(text) {
+        Some(number) => Ok(OwnedLeaf::Number(number)),
+        None => Err(no_number(alloc, text)),
+    }
+}
+
+/// Returns the text that stands at a node: a character string, or octets of UTF-8.
+///
+/// # Errors
+///
+/// `AvnTypeMismatch` where neither stands there; `Custom` where the octets are no UTF-8;
+/// `OutOfMemory`.
+fn text_of_node(
+    alloc: Global,
+    table: &NodeTable,
+    node: usize,
+    kind: LeafKind,
+) -> Result<OwnedLeaf, DecodeError>
+    requires present { IsPresent table.now node }
+    requires text { answer_kind kind ≡ Text }
+    ensures { LeafAnswer kind (value_at table.now node) result }
+{
+    match table.kind(node) {
+        NodeKind::CharString => match String::from_str(alloc, table.text(node)) {
+            Ok(text) => Ok(OwnedLeaf::Text(text)),
+            Err(_) => Err(DecodeError::out_of_memory(Codec::Avn)),
+        },
+        NodeKind::OctetString => {
+            let Ok(octets) = Vec::from_slice(alloc, table.octets(node)) else {
+                return Err(DecodeError::out_of_memory(Codec::Avn));
+            };
+            match text_of(octets) {
+                Some(text) => Ok(OwnedLeaf::Text(text)),
+                None => Err(no_utf8(alloc)),
+            }
+        }
+        _ => Err(other_kind(alloc, table, node, kind)),
+    }
+}
+
+/// Returns the octets as text, or `None` exactly where they are no UTF-8.
+fn text_of(octets: Vec<u8>) -> Option<String>
+    ensures { MatchOption result (is_utf8 octets.items ≡ false)
+        (λ s. (string_bytes s ≡ octets.items) × (is_utf8 octets.items ≡ true)) }
+{
+    match String::from_utf8(octets) {
+        Ok(text) => Some(text),
+        Err(_) => None,
+    }
+}
+
+/// Returns the item that stands at a node.
+///
+/// # Errors
+///
+/// `AvnTypeMismatch` where no item stands there; `OutOfMemory`.
+fn item_of_node(alloc: Global, table: &NodeTable, node: usize) -> Result<OwnedLeaf, DecodeError>
+    requires { IsPresent table.now node }
+    ensures { LeafAnswer Item (value_at table.now node) result }
+{
+    let NodeKind::Enumerated = table.kind(node) else {
+        return Err(other_kind(alloc, table, node, LeafKind::Item));
+    };
+    match String::from_str(alloc, table.text(node)) {
+        Ok(name) => Ok(OwnedLeaf::Item(name)),
+        Err(_) => Err(DecodeError::out_of_memory(Codec::Avn)),
+    }
+}
+
+/// Returns the octets that stand at a node.
+///
+/// # Errors
+///
+/// `AvnTypeMismatch` where no octet string stands there; `OutOfMemory`.
+fn octets_of_node(alloc: Global, table: &NodeTable, node: usize) -> Result<OwnedLeaf, DecodeError>
+    requires { IsPresent table.now node }
+    ensures { LeafAnswer Octets (value_at table.now node) result }
+{
+    let NodeKind::OctetString = table.kind(node) else {
+        return Err(other_kind(alloc, table, node, LeafKind::Octets));
+    };
+    match Vec::from_slice(alloc, table.octets(node)) {
+        Ok(octets) => Ok(OwnedLeaf::Octets(octets)),
+        Err(_) => Err(DecodeError::out_of_memory(Codec::Avn)),
+    }
+}
+
+/// Returns the octets of a value of any type: those of an octet string, and of any other value
+/// those of its printed text.
+///
+/// # Errors
+///
+/// `OutOfMemory` alone.
+fn any_of_node(alloc: Global, table: &NodeTable, node: usize) -> Result<OwnedLeaf, DecodeError>
+    requires { IsPresent table.now node }
+    ensures { LeafAnswer Any (value_at table.now node) result }
+{
+    match table.kind(node) {
+        NodeKind::OctetString => match Vec::from_slice(alloc, table.octets(node)) {
+            Ok(octets) => Ok(OwnedLeaf::Any(octets)),
+            Err(_) => Err(DecodeError::out_of_memory(Codec::Avn)),
+        },
+        _ => match table.print(alloc, node) {
+            Ok(text) => Ok(OwnedLeaf::Any(text.into_bytes())),
+            Err(_) => Err(DecodeError::out_of_memory(Codec::Avn)),
+        },
+    }
+}

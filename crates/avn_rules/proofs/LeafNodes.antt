@@ -1,6 +1,5 @@
 -- Values without parts, by what stands at a node.
 use Rattle.std.proofs.Common.{◌≡◌, ◌≢◌, refl, ap, sym, ◌∙◌, ℕ, List, [], ◌∷◌, Bool, false, if◌then◌else◌, Option, Some, None, Result, Ok, Err, inl, inr}
-use Rattle.std.specs.Prelude.{codes}
 use Rattle.std.specs.Str.{is_utf8}
 use Rattle.asn_base.specs.declared.codec.Codec.TheVariants.{Avn}
 use Rattle.asn_base.specs.declared.whole_number.WholeNumber.{WholeNumber}
@@ -24,6 +23,7 @@ use Rattle.avn_rules.specs.Numbers.{ReadsNumber}
 use Rattle.avn_rules.specs.Parts.{elements_of}
 use Rattle.avn_rules.specs.Pending.{avn_or_null}
 use Rattle.avn_rules.proofs.NumbersTaken.{number_taken}
+use Rattle.asn_model.specs.declared.words.TheConstants.{AVN_NO_UTF8}
 
 -- The value of what stands at a node.
 abbrev seen : Option AvnTree → Tree
@@ -61,12 +61,12 @@ octets_read (Some (octet_string x)) e = refl
 octets_read o e = let n : ⊥ = cc in absurd n
 
 octets_as_text : (k : LeafKind) (o : Option AvnTree) (b : Bool) → answer_kind k ≡ Text → kind_of o ≡ kind.OctetString → is_utf8 (octets_of o) ≡ b
-    → as_leaf Notation.avn k (seen o) ≡ (if b then Ok (Value.text (octets_of o)) else Err (LeafFailure.because (Cause.custom (codes "Invalid UTF-8 in AVN string"))))
+    → as_leaf Notation.avn k (seen o) ≡ (if b then Ok (Value.text (octets_of o)) else Err (LeafFailure.because (Cause.custom AVN_NO_UTF8.now)))
 octets_as_text k o b a e is =
     same_as_text k (avn_or_null o) a ∙ ap (λ t. as_leaf Notation.avn Text (Tree.avn t)) (octets_read o e)
-    ∙ ap (λ c. if c then Ok (Value.text (octets_of o)) else Err (LeafFailure.because (Cause.custom (codes "Invalid UTF-8 in AVN string")))) is
+    ∙ ap (λ c. if c then Ok (Value.text (octets_of o)) else Err (LeafFailure.because (Cause.custom AVN_NO_UTF8.now))) is
 
-pub no_utf8_text : (k : LeafKind) (o : Option AvnTree) (octets : List ℕ) → answer_kind k ≡ Text → kind_of o ≡ kind.OctetString → octets ≡ octets_of o → is_utf8 octets ≡ false → as_leaf Notation.avn k (seen o) ≡ Err (LeafFailure.because (Cause.custom (codes "Invalid UTF-8 in AVN string")))
+pub no_utf8_text : (k : LeafKind) (o : Option AvnTree) (octets : List ℕ) → answer_kind k ≡ Text → kind_of o ≡ kind.OctetString → octets ≡ octets_of o → is_utf8 octets ≡ false → as_leaf Notation.avn k (seen o) ≡ Err (LeafFailure.because (Cause.custom AVN_NO_UTF8.now))
 no_utf8_text k o octets a e is h = octets_as_text k o false a e (ap is_utf8 (sym is) ∙ h)
 
 pub elements_read : (o : Option AvnTree) → kind_of o ≡ kind.SequenceOf → as_leaf Notation.avn Oid (seen o) ≡ or_blame (checked_identifier (braced_arcs (elements_of o)))

@@ -1,5 +1,4 @@
 use Rattle.std.proofs.Common.{◌≡◌, ap, sym, subst, ◌∙◌, Some, None}
-use Rattle.std.specs.Prelude.{codes}
 use Rattle.std.proofs.lemmas.Result.{err_from_is_err_and}
 use Rattle.asn_fault.specs.Failure.{failure_of}
 use Rattle.asn_traits.specs.Answer.{RefusesLeaf}
@@ -11,6 +10,7 @@ use Rattle.avn_value.specs.Preorder.{tree_at}
 use Rattle.avn_rules.specs.Pending.{DecoderView, value_at}
 use Rattle.avn_rules.proofs.Opened.{choice_opened, choice_refused, choice_unnamed}
 use Rattle.avn_rules.proofs.Walks.{choice_parts, no_choice_here}
+use Rattle.asn_model.specs.declared.words.TheConstants.{AVN_CHOICE}
 use Rattle.avn_rules.proofs.avn.de.DecoderDecoder.open_choice.Goals as goal
 
 pub returns-in_err-node : goal.returns-in_err-node
@@ -23,7 +23,7 @@ returns-in_default c =
     let node = c.in_ok-node.node in
     let root : c.self.inside.table ≡ c.take.new.self.root = ap (λ (d : DecoderView). d.root) c.self.view_is in
     let none = no_choice_here (tree_at c.self.inside.table node) (λ e. c.in_default.not-Choice (c.kind.ensures ∙ e)) in
-    choice_refused _ _ node _ c.in_ok-node.ensures (subst (λ t. as_choice Notation.avn (value_at t node) ≡ None) root none) (subst (λ t. RefusesLeaf Notation.avn (value_at t node) (LeafFailure.mismatch (codes "choice (identifier : value)")) (failure_of c.mismatch.result)) root c.mismatch.ensures)
+    choice_refused _ _ node _ c.in_ok-node.ensures (subst (λ t. as_choice Notation.avn (value_at t node) ≡ None) root none) (subst (λ t. RefusesLeaf Notation.avn (value_at t node) (LeafFailure.mismatch AVN_CHOICE.now) (failure_of c.mismatch.result)) root c.mismatch.ensures)
 
 pub returns-in_ok-put-in-Some : goal.returns-in_ok-put-in-Some
 returns-in_ok-put-in-Some c =

@@ -1,5 +1,4 @@
 use Rattle.std.proofs.Common.{◌≡◌, ap, sym, subst, ◌∙◌, length, map, Some, false, is_some, arith}
-use Rattle.std.specs.Prelude.{codes}
 use Rattle.std.proofs.lemmas.Result.{err_from_is_err_and}
 use Rattle.asn_fault.specs.Failure.{failure_of}
 use Rattle.asn_traits.specs.Answer.{RefusesLeaf}
@@ -10,6 +9,7 @@ use Rattle.asn_slots.specs.Trees.{trees_of}
 use Rattle.asn_traits.specs.Tree.{as_list}
 use Rattle.avn_rules.specs.Pending.{DecoderView, value_at}
 use Rattle.avn_rules.proofs.Opened.{list_opened, list_refused}
+use Rattle.asn_model.specs.declared.words.TheConstants.{AVN_LIST}
 use Rattle.avn_rules.proofs.avn.de.DecoderDecoder.open_list.Goals as goal
 
 pub returns-in_err-node : goal.returns-in_err-node
@@ -21,7 +21,7 @@ pub returns-then-not-is_list : goal.returns-then-not-is_list
 returns-then-not-is_list c =
     let node = c.in_ok-node.node in
     let root : c.self.inside.table ≡ c.take.new.self.root = ap (λ (d : DecoderView). d.root) c.self.view_is in
-    list_refused _ _ node _ c.in_ok-node.ensures (subst (λ t. is_some (as_list Notation.avn (value_at t node)) ≡ false) root (sym c.is_list.ensures ∙ c.if-not-is_list.true)) (subst (λ t. RefusesLeaf Notation.avn (value_at t node) (LeafFailure.mismatch (codes "sequence of")) (failure_of c.mismatch.result)) root c.mismatch.ensures)
+    list_refused _ _ node _ c.in_ok-node.ensures (subst (λ t. is_some (as_list Notation.avn (value_at t node)) ≡ false) root (sym c.is_list.ensures ∙ c.if-not-is_list.true)) (subst (λ t. RefusesLeaf Notation.avn (value_at t node) (LeafFailure.mismatch AVN_LIST.now) (failure_of c.mismatch.result)) root c.mismatch.ensures)
 
 pub returns : goal.returns
 returns c =

@@ -1,6 +1,6 @@
 -- What a call by a codec's name answers, from what the notation's own call answers.
 use Rattle.std.proofs.Common.{◌≡◌, ◌≢◌, refl, sym, subst, ℕ, List, Some, Result, Ok, Err, true, ◌⊎◌, inl, inr}
-use Rattle.std.specs.Prelude.{IfOk, IfErr, codes}
+use Rattle.std.specs.Prelude.{IfOk, IfErr, IsUtf8, codes}
 use Rattle.std.specs.Str.{chars}
 use Rattle.serde_json.specs.Data.{Data}
 use Rattle.avn_grammar.specs.Tree.{Tree as AvnTree}
@@ -22,7 +22,9 @@ use Rattle.asn_traits.specs.Value.{Value}
 use Rattle.asn_traits.specs.Writing.{FailsToEncode}
 use Rattle.jer_rules.specs.Text as jer
 use Rattle.avn_rules.specs.Text as avn
-use Rattle.asn_codec.specs.Texts.{HasTree, TextDecodesTo, IsDecodeFailure, IsUnencodable, no_text}
+use Rattle.asn_codec.specs.Texts.{HasTree, TextDecodesTo, IsDecodeFailure, IsUnencodable}
+use Rattle.asn_codec.specs.Binary.{IsBytesFailure}
+use Rattle.asn_codec.specs.Refused.{no_text, no_utf8, IsCustomEncodeError, IsCustomDecodeError}
 
 -- the codec of JER is Jer
 jer_codec : (c : Codec) → notation_of c ≡ Notation.jer → c ≡ Jer
@@ -138,13 +140,24 @@ avn_not_written c v (Ok x) is h = tt
 avn_not_written c v (Err e) is h = subst (λ k. (is_encode_out_of_memory (encode_cause e.kind) ≡ true) ⊎ (IsUnencodable k v (encode_cause e.kind) × (e.codec ≡ k))) (sym is) (avn_unwritten v e h)
 
 -- what is refused for its codec is so
-pub other_unread : (c : Codec) (s : Shape) (text : List ℕ) (failure : Failure) → notation_of c ≡ Notation.other
-    → (is_out_of_memory failure ≡ true) ⊎ (failure ≡ at_root (Cause.custom (no_text c (codes "decode_from_binary"))) c) → (is_out_of_memory failure ≡ true) ⊎ IsDecodeFailure c s text failure
-other_unread c s text failure h (inl m) = inl m
-other_unread c s text failure h (inr e) = inr (subst (IsDecodeFailure c s text) (sym e) (IsDecodeFailure.not_text h))
+pub other_unread : (c : Codec) (s : Shape) (text : List ℕ) (e : DecodeError) → notation_of c ≡ Notation.other → IsCustomDecodeError (no_text c (codes "decode_from_binary")) c e
+    → (is_out_of_memory (failure_of e) ≡ true) ⊎ IsDecodeFailure c s text (failure_of e)
+other_unread c s text e h (inl custom) = inr (subst (IsDecodeFailure c s text) (sym custom) (IsDecodeFailure.not_text h))
+other_unread c s text e h (inr memory) = inl (rw memory refl)
 
-pub other_unwritten : (c : Codec) (v : Value) (e : EncodeError) → notation_of c ≡ Notation.other
-    → (is_encode_out_of_memory (encode_cause e.kind) ≡ true) ⊎ (encode_cause e.kind ≡ EncodeCause.custom (no_text c (codes "encode_to_binary"))) → e.codec ≡ c
+pub other_unwritten : (c : Codec) (v : Value) (e : EncodeError) → notation_of c ≡ Notation.other → IsCustomEncodeError (no_text c (codes "encode_to_binary")) c e
     → (is_encode_out_of_memory (encode_cause e.kind) ≡ true) ⊎ (IsUnencodable c v (encode_cause e.kind) × (e.codec ≡ c))
-other_unwritten c v e h (inl m) same = inl m
-other_unwritten c v e h (inr cause) same = inr (subst (IsUnencodable c v) (sym cause) (IsUnencodable.not_text h), same)
+other_unwritten c v e h (inl custom, same) = inr (subst (IsUnencodable c v) (sym custom) (IsUnencodable.not_text h), same)
+other_unwritten c v e h (inr memory, same) = inl (rw memory refl)
+
+-- bytes whose text is refused are refused
+pub text_refused : {A : Type 0} (c : Codec) (s : Shape) (input text : List ℕ) (r : Result A DecodeError) → text ≡ input → IsUtf8 input
+    → IfErr r (λ e. (is_out_of_memory (failure_of e) ≡ true) ⊎ IsDecodeFailure c s text (failure_of e)) → IfErr r (λ e. (is_out_of_memory (failure_of e) ≡ true) ⊎ IsBytesFailure c s input (failure_of e))
+text_refused c s input text (Ok x) same utf8 h = tt
+text_refused c s input text (Err e) same utf8 (inl m) = inl m
+text_refused c s input text (Err e) same utf8 (inr h) = inr (IsBytesFailure.not_decoded _ utf8 (subst (λ t. IsDecodeFailure c s t (failure_of e)) same h))
+
+-- bytes that are no text are refused
+pub bytes_refused : (c : Codec) (s : Shape) (input : List ℕ) (e : DecodeError) → ¬ IsUtf8 input → IsCustomDecodeError (no_utf8 c) c e → (is_out_of_memory (failure_of e) ≡ true) ⊎ IsBytesFailure c s input (failure_of e)
+bytes_refused c s input e other (inl custom) = inr (subst (IsBytesFailure c s input) (sym custom) (IsBytesFailure.not_utf8 other))
+bytes_refused c s input e other (inr memory) = inl (rw memory refl)

@@ -1,2 +1,4 @@
+pub mod Binary
 pub mod Conversion
+pub mod Refused
 pub mod Texts

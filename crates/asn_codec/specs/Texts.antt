@@ -1,5 +1,5 @@
 -- What a text is in a notation, and why one is not read or not written.
-use Rattle.std.specs.Prelude.{◌≡◌, ◌≤◌, ℕ, List, ◌++◌, map, Some, None, true, codes}
+use Rattle.std.specs.Prelude.{◌≡◌, ◌≤◌, ℕ, List, map, Some, None, true, codes}
 use Rattle.std.specs.Str.{chars}
 use Rattle.serde_json.specs.Data.{Data, depth}
 use Rattle.serde_json.specs.Read.{read, max_depth}
@@ -8,9 +8,8 @@ use Rattle.avn_grammar.specs.Depth.{ExceedsDepth, deepest}
 use Rattle.avn_grammar.specs.Tree.{Tree as AvnTree}
 use Rattle.avn_grammar.specs.ParseFailure as grammar
 use Rattle.avn_grammar.specs.declared.limits.TheConstants.{LEVEL_LIMIT}
-use Rattle.asn_base.specs.Texts.{codec_name}
 use Rattle.asn_base.specs.declared.codec.Codec.{Codec}
-use Rattle.asn_base.specs.declared.codec.Codec.TheVariants.{Jer, Avn, Xer}
+use Rattle.asn_base.specs.declared.codec.Codec.TheVariants.{Jer, Avn}
 use Rattle.asn_fault.specs.Failure.{Failure, Cause, at_root}
 use Rattle.asn_fault.specs.EncodeCause.{EncodeCause}
 use Rattle.asn_traits.specs.Answer.{OfLevels, OfPlace}
@@ -27,6 +26,7 @@ use Rattle.jer_rules.specs.Text.{IsJer}
 use Rattle.avn_rules.specs.Text as avn
 use Rattle.avn_rules.specs.Text.{IsAvn}
 use Rattle.asn_model.specs.declared.words.TheConstants.{JER_NO_JSON}
+use Rattle.asn_codec.specs.Refused.{no_text}
 
 -- the text has this tree in the notation
 pub data HasTree : Notation → List ℕ → Tree → Type 0 where
@@ -56,11 +56,6 @@ IsShallow from Notation.avn v = deepest 0 (canonical.avn_tree v) ≤ LEVEL_LIMIT
 IsShallow Notation.jer Notation.jer v = Unit {0}
 IsShallow from Notation.jer v = depth (canonical.jer_data v) ≤ max_depth
 IsShallow from Notation.other v = ⊥
-
--- what the text calls of a codec that is no text notation say, by the call to make instead
-abbrev pub no_text : Codec → List ℕ → List ℕ
-no_text Xer call = codes "XER is not supported."
-no_text codec call = codec_name codec ++ (codes " is a binary-based encoding. Call `Codec::" ++ (call ++ codes "` instead."))
 
 -- reading the text by the shape is refused so: it has no tree, or a number in it is a float, or it nests too deep, or its tree decodes to no value, or the codec is no text notation
 pub data IsDecodeFailure (codec : Codec) (s : Shape) (text : List ℕ) : Failure → Type 0 where

@@ -10,6 +10,8 @@ mod avn_texts;
 #[cfg(test)]
 mod base;
 #[cfg(test)]
+mod binary;
+#[cfg(test)]
 mod bits;
 #[cfg(test)]
 mod codecs;

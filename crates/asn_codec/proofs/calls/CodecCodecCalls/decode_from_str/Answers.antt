@@ -25,4 +25,4 @@ returns-in-Avn-clause-complete g c = λ v h. avn_complete _ c.args.input.now g.T
 pub returns-in_default : goal.returns-in_default
 returns-in_default g c =
     let h = other_codec c.args.self.now c.in_default.not-Jer c.in_default.not-Avn in
-    record { value = tt; refused = other_unread c.args.self.now _ _ _ h c.not_read.ensures; complete = λ v says. absurd (no_tree (subst (λ n. TextDecodesTo n g.T.AsnType.shape_of c.args.input.now v) h says)) }
+    record { value = tt; refused = other_unread c.args.self.now _ _ _ h c.decode_refusal.ensures; complete = λ v says. absurd (no_tree (subst (λ n. TextDecodesTo n g.T.AsnType.shape_of c.args.input.now v) h says)) }

@@ -12,4 +12,4 @@ returns-in-Avn-clause-refused g c = avn_not_written c.args.self _ c.encode-in-Av
 pub returns-in_default : goal.returns-in_default
 returns-in_default g c =
     let h = other_codec c.args.self c.in_default.not-Jer c.in_default.not-Avn in
-    record { text = tt; reads_back = tt; notation = tt; fits = tt; writable = tt; refused = other_unwritten c.args.self _ _ h c.not_written.ensures.cause c.not_written.ensures.codec; complete = λ t w. absurd (subst IsText h t) }
+    record { text = tt; reads_back = tt; notation = tt; fits = tt; writable = tt; refused = other_unwritten c.args.self _ _ h c.encode_refusal.ensures; complete = λ t w. absurd (subst IsText h t) }

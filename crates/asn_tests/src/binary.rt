@@ -1,0 +1,237 @@
+//! Makes the binary calls of codecs, with no rules and with rules of the test's own. The texts of
+//! errors are those of the crate `rasn`, but for `no binary rules`, which is the library's own.
+ghost use Rattle.std.specs.Prelude.{⊤};
+
+use asn_base::Codec;
+use asn_codec::{BinaryRules, CodecCalls, NoRules};
+use asn_fault::{DecodeError, EncodeError};
+use asn_traits::{Decode, Encode};
+use jer_rules::jer;
+use std::alloc::Global;
+use std::test::Fail;
+
+/// Lists the codecs that have binary rules.
+const BINARY: [Codec; 7] = [
+    Codec::Aper,
+    Codec::Ber,
+    Codec::Cer,
+    Codec::Der,
+    Codec::Uper,
+    Codec::Oer,
+    Codec::Coer,
+];
+
+/// Lists codecs, each with the error of encoding `true` without rules.
+const UNWRITTEN: [(Codec, &'static str); 2] = [
+    (Codec::Ber, "Custom error: no binary rules (Codec: BER)"),
+    (
+        Codec::Xer,
+        "Custom error: XER is not supported. (Codec: XER)",
+    ),
+];
+
+/// Lists codecs, each with the error of decoding the byte FF without rules.
+const UNREAD: [(Codec, &'static str); 4] = [
+    (
+        Codec::Jer,
+        "Custom error: Failed to decode JER from UTF8 bytes (Codec: JER)",
+    ),
+    (
+        Codec::Avn,
+        "Custom error: Failed to decode AVN from UTF8 bytes (Codec: AVN)",
+    ),
+    (
+        Codec::Xer,
+        "Custom error: XER is not supported. (Codec: XER)",
+    ),
+    (Codec::Oer, "Custom error: no binary rules (Codec: OER)"),
+];
+
+/// Lists codecs, each with the error of decoding the front of a text without rules. The message of
+/// JER and AVN ends with a blank.
+const UNREAD_FRONT: [(Codec, &'static str); 4] = [
+    (
+        Codec::Jer,
+        "Custom error: JER does not support decoding with remainder.  (Codec: JER)",
+    ),
+    (
+        Codec::Avn,
+        "Custom error: AVN does not support decoding with remainder.  (Codec: AVN)",
+    ),
+    (
+        Codec::Xer,
+        "Custom error: XER is not supported. (Codec: XER)",
+    ),
+    (Codec::Uper, "Custom error: no binary rules (Codec: UPER)"),
+];
+
+/// Encodes and decodes JSON under any codec, and keeps the codec of the last call. A value at the
+/// front of bytes takes the first four, as `true` does.
+#[derive(Drop)]
+struct JsonRules {
+    last: Codec,
+}
+
+/// Does what `jer` does. Its meaning is left open: the test looks at what comes out.
+impl BinaryRules for JsonRules {
+    ghost encodes = { λ rules codec shape value answer. ⊤ };
+
+    ghost decodes = { λ rules codec shape input answer. ⊤ };
+
+    ghost decodes_front = { λ rules codec shape input answer. ⊤ };
+
+    fn encode<T: Encode>(
+        &mut self,
+        alloc: Global,
+        codec: Codec,
+        value: &T,
+    ) -> Result<Vec<u8>, EncodeError> {
+        self.last = codec;
+        match jer::encode(alloc, value) {
+            Ok(text) => Ok(text.into_bytes()),
+            Err(error) => Err(error),
+        }
+    }
+
+    fn decode<T: Decode>(
+        &mut self,
+        alloc: Global,
+        codec: Codec,
+        input: &[u8],
+    ) -> Result<T, DecodeError> {
+        self.last = codec;
+        match str::from_utf8(input) {
+            Ok(text) => jer::decode(alloc, text),
+            Err(_) => Err(DecodeError::real_not_supported(codec)),
+        }
+    }
+
+    fn decode_with_remainder<'i, T: Decode>(
+        &mut self,
+        alloc: Global,
+        codec: Codec,
+        input: &'i [u8],
+    ) -> Result<(T, &'i [u8]), DecodeError> {
+        if input.len() < 4 {
+            return Err(DecodeError::real_not_supported(codec));
+        }
+        match self.decode(alloc, codec, &input[..4]) {
+            Ok(value) => Ok((value, &input[4..])),
+            Err(error) => Err(error),
+        }
+    }
+}
+
+/// The bytes of JER and AVN are their texts, and are decoded again. No rules are asked.
+#[test]
+fn text_notations_have_the_bytes_of_their_texts(rt: HostRuntime) -> Result<(), Fail> {
+    let json = Codec::Jer.encode_to_binary(rt.alloc(), &true, &mut NoRules)?;
+    assert_eq!(rt; json.as_slice(), b"true".as_slice());
+    assert!(rt;
+        Codec::Jer.decode_from_binary::<bool, _>(rt.alloc(), json.as_slice(), &mut NoRules)?
+    );
+    let notation = Codec::Avn.encode_to_binary(rt.alloc(), &true, &mut NoRules)?;
+    assert_eq!(rt; notation.as_slice(), b"TRUE".as_slice());
+    assert!(rt;
+        Codec::Avn.decode_from_binary::<bool, _>(rt.alloc(), notation.as_slice(), &mut NoRules)?
+    );
+    Ok(())
+}
+
+/// XER encodes nothing, nor does a binary codec without rules.
+#[test]
+fn some_codecs_encode_no_bytes(rt: HostRuntime) -> Result<(), Fail> {
+    for row in UNWRITTEN.iter() {
+        match row.0.encode_to_binary(rt.alloc(), &true, &mut NoRules) {
+            Ok(_) => return Err(Fail::from("written")),
+            Err(error) => assert_eq!(rt; format!(in rt.alloc(); "{error}")?.as_str(), row.1),
+        }
+    }
+    Ok(())
+}
+
+/// Bytes that are no text are decoded by neither notation, and other codecs state what they lack.
+#[test]
+fn some_bytes_are_not_decoded(rt: HostRuntime) -> Result<(), Fail> {
+    for row in UNREAD.iter() {
+        match row
+            .0
+            .decode_from_binary::<bool, _>(rt.alloc(), &[0xff], &mut NoRules)
+        {
+            Ok(_) => return Err(Fail::from("read")),
+            Err(error) => assert_eq!(rt; format!(in rt.alloc(); "{error}")?.as_str(), row.1),
+        }
+    }
+    Ok(())
+}
+
+/// No codec decodes the front of a text without rules.
+#[test]
+fn a_remainder_needs_rules(rt: HostRuntime) -> Result<(), Fail> {
+    let input = b"true".as_slice();
+    for row in UNREAD_FRONT.iter() {
+        match row
+            .0
+            .decode_from_binary_with_remainder::<bool, _>(rt.alloc(), input, &mut NoRules)
+        {
+            Ok(_) => return Err(Fail::from("read")),
+            Err(error) => assert_eq!(rt; format!(in rt.alloc(); "{error}")?.as_str(), row.1),
+        }
+    }
+    Ok(())
+}
+
+/// Each binary codec hands its own name to the rules, and returns what they return.
+#[test]
+fn rules_answer_for_each_binary_codec(rt: HostRuntime) -> Result<(), Fail> {
+    for codec in BINARY.iter() {
+        // Each call begins with another codec than the one that is to be handed on.
+        let mut rules = JsonRules { last: Codec::Xer };
+        let bytes = codec.encode_to_binary(rt.alloc(), &true, &mut rules)?;
+        assert_eq!(rt; bytes.as_slice(), b"true".as_slice());
+        assert_eq!(rt; rules.last, *codec);
+        let mut rules = JsonRules { last: Codec::Xer };
+        assert!(rt; codec.decode_from_binary::<bool, _>(rt.alloc(), bytes.as_slice(), &mut rules)?);
+        assert_eq!(rt; rules.last, *codec);
+    }
+    Ok(())
+}
+
+/// Each binary codec hands a remainder on.
+#[test]
+fn rules_return_a_remainder(rt: HostRuntime) -> Result<(), Fail> {
+    for codec in BINARY.iter() {
+        let mut rules = JsonRules { last: Codec::Xer };
+        let input = b"true, and more".as_slice();
+        match codec.decode_from_binary_with_remainder::<bool, _>(rt.alloc(), input, &mut rules) {
+            Ok((value, rest)) => {
+                assert!(rt; value);
+                assert_eq!(rt; rest, b", and more".as_slice());
+            }
+            Err(_) => return Err(Fail::from("not read")),
+        }
+        assert_eq!(rt; rules.last, *codec);
+    }
+    Ok(())
+}
+
+/// An error of the rules is returned as it is, and so is one of a text.
+#[test]
+fn errors_are_passed_on(rt: HostRuntime) -> Result<(), Fail> {
+    let mut rules = JsonRules { last: Codec::Xer };
+    match Codec::Cer.decode_from_binary::<bool, _>(rt.alloc(), &[0xff], &mut rules) {
+        Ok(_) => return Err(Fail::from("read")),
+        Err(error) => assert_eq!(rt;
+            format!(in rt.alloc(); "{error}")?.as_str(),
+            "Decoder doesn't support `REAL` type (Codec: CER)"
+        ),
+    }
+    match Codec::Jer.decode_from_binary::<bool, _>(rt.alloc(), b"{".as_slice(), &mut rules) {
+        Ok(_) => return Err(Fail::from("read")),
+        Err(error) => assert_eq!(rt;
+            format!(in rt.alloc(); "{error}")?.as_str(),
+            "Error in Parser: Error parsing JER JSON (Codec: JER)"
+        ),
+    }
+    Ok(())
+}

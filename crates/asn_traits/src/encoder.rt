@@ -612,8 +612,8 @@ pub trait Encoder {
         )
     }
 
-    /// Encodes a SET as `encode_sequence` does a SEQUENCE: the closure leaves the slots in the order
-    /// in which the type lists its fields, and tags change nothing.
+    /// Encodes a SET as `encode_sequence` does a SEQUENCE: the closure leaves the slots in the
+    /// order in which the type lists its fields, and tags change nothing.
     ///
     /// # Errors
     ///

@@ -47,7 +47,8 @@ pub trait FieldGroup: Sized + Drop {
             (ahead names.old (D.pending decoder.old))
             (ahead names.new (D.pending decoder.new))) }
         ensures refused { IfErr result (λ e. RefusesFields D.notation
-            (components Standing.root group) (ahead names.old (D.pending decoder.old)) (failure_of e)) };
+            (components Standing.root group) (ahead names.old (D.pending decoder.old))
+            (failure_of e)) };
 }
 
 /// Encodes the fields of two groups, one group after the other: the body of `write_fields` for a
@@ -84,7 +85,8 @@ pub fn read_groups<A: FieldGroup, B: FieldGroup, D: Decoder>(
     names: &mut FieldNames,
 ) -> Result<(A, B), DecodeError>
     ensures read { IfOk result (λ x. TakesFields D.notation
-        (components Standing.root (join_fields A.group B.group)) (A.group_slots x.0 ++ B.group_slots x.1) (ahead names.old (D.pending decoder.old))
+        (components Standing.root (join_fields A.group B.group))
+        (A.group_slots x.0 ++ B.group_slots x.1) (ahead names.old (D.pending decoder.old))
         (ahead names.new (D.pending decoder.new))) }
     ensures refused { IfErr result (λ e. RefusesFields D.notation
         (components Standing.root (join_fields A.group B.group))

@@ -73,8 +73,8 @@ pub trait SequenceFields: OfKind<Kind = SequenceKind> {
         ensures refused { IfErr result (RefusesAdding E.holds E.notation (all_fields fields added)
             (slots self.now) encoder.old) };
 
-    /// Decodes the fields, by one call of `read_field`, `read_optional_field` or `read_addition` for
-    /// each, in order. Each call takes the field's name from `names`.
+    /// Decodes the fields, by one call of `read_field`, `read_optional_field` or `read_addition`
+    /// for each, in order. Each call takes the field's name from `names`.
     ///
     /// # Errors
     ///

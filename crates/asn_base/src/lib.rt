@@ -1,20 +1,12 @@
-//! The plain types that ASN.1 types and both notations share. The character strings of
-//! `asn_strings` and the times of `asn_times` are passed on.
+//! The plain types that ASN.1 types and both notations share, under one name: what `asn_core` has,
+//! the character strings of `asn_strings` and the times of `asn_times`.
 #![tactic(auto)]
 
-mod bits;
-mod codec;
-mod constraint;
-mod identifier;
-mod memory;
-mod object_identifier;
-mod octets;
-mod scan;
-mod tag;
-mod tag_tree;
-mod variants;
-mod whole_number;
-
+pub use asn_core::{
+    Any, BitString, Bits, Bound, Bounded, Class, Codec, Constraint, Constraints, Extensible,
+    Identifier, Integer, ObjectIdentifier, OctetString, Oid, OutOfMemory, Scan, Size, Tag, TagTree,
+    Variants, WholeNumber,
+};
 pub use asn_strings::{
     BmpString, CharacterSet, GeneralString, GraphicString, Ia5String, NumericString,
     PrintableString, RestrictedOctets, RestrictedString, StringFault, TeletexString,
@@ -24,16 +16,3 @@ pub use asn_times::{
     Date, GeneralizedTime, TimeFault, UtcTime, read_date, read_generalized, read_utc, write_date,
     write_generalized, write_utc,
 };
-pub use bits::{BitString, Bits};
-pub use codec::Codec;
-pub use constraint::{Bound, Bounded, Constraint, Constraints, Extensible, Size};
-pub use identifier::Identifier;
-pub use memory::OutOfMemory;
-pub use object_identifier::{ObjectIdentifier, Oid};
-pub use octets::{Any, OctetString};
-pub use scan::Scan;
-pub use tag::{Class, Tag};
-pub use tag_tree::TagTree;
-pub use variants::Variants;
-pub use whole_number::{Integer, WholeNumber};
-

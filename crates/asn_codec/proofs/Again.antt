@@ -8,8 +8,8 @@ use Rattle.serde_json.proofs.Nesting.{depth-read}
 use Rattle.avn_grammar.specs.Depth.{ExceedsDepth, deepest}
 use Rattle.avn_grammar.proofs.OneTree.{same_parses}
 use Rattle.avn_grammar.specs.declared.limits.TheConstants.{LEVEL_LIMIT}
-use Rattle.asn_base.specs.declared.codec.Codec.{Codec}
-use Rattle.asn_base.specs.declared.codec.Codec.TheVariants.{Avn}
+use Rattle.asn_core.specs.declared.codec.Codec.{Codec}
+use Rattle.asn_core.specs.declared.codec.Codec.TheVariants.{Avn}
 use Rattle.asn_traits.specs.Canonical.{jer_data, avn_tree, canonical_text}
 use Rattle.asn_traits.specs.Notation.{Notation, IsText, notation_of}
 use Rattle.asn_traits.specs.Readable.{is_readable}

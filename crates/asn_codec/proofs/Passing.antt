@@ -1,6 +1,6 @@
 -- What a conversion answers, from what reading and writing answer.
 use Rattle.std.proofs.Common.{◌≡◌, sym, subst, ℕ, List, true, ◌⊎◌, inl, inr}
-use Rattle.asn_base.specs.declared.codec.Codec.{Codec}
+use Rattle.asn_core.specs.declared.codec.Codec.{Codec}
 use Rattle.asn_fault.specs.Failure.{Failure, is_out_of_memory}
 use Rattle.asn_fault.specs.EncodeCause.{encode_cause, is_encode_out_of_memory}
 use Rattle.asn_fault.specs.declared.encode.EncodeError.{EncodeError}

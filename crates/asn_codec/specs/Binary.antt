@@ -1,7 +1,7 @@
 -- What the binary calls of a codec return.
 use Rattle.std.specs.Prelude.{◌≡◌, ℕ, List, Result, Ok, Err, IsUtf8}
-use Rattle.asn_base.specs.declared.codec.Codec.{Codec}
-use Rattle.asn_base.specs.declared.codec.Codec.TheVariants.{Jer, Avn, Xer}
+use Rattle.asn_core.specs.declared.codec.Codec.{Codec}
+use Rattle.asn_core.specs.declared.codec.Codec.TheVariants.{Jer, Avn, Xer}
 use Rattle.asn_fault.specs.Failure.{Failure, Cause, at_root}
 use Rattle.asn_traits.specs.Shape.{Shape}
 use Rattle.asn_codec.specs.Refused.{no_utf8}

@@ -1,8 +1,8 @@
 -- What a codec says of a call that it refuses whatever the value or the text is.
 use Rattle.std.specs.Prelude.{◌≡◌, ℕ, List, ◌++◌, ◌⊎◌, codes}
-use Rattle.asn_base.specs.Texts.{codec_name}
-use Rattle.asn_base.specs.declared.codec.Codec.{Codec}
-use Rattle.asn_base.specs.declared.codec.Codec.TheVariants.{Xer}
+use Rattle.asn_core.specs.Texts.{codec_name}
+use Rattle.asn_core.specs.declared.codec.Codec.{Codec}
+use Rattle.asn_core.specs.declared.codec.Codec.TheVariants.{Xer}
 use Rattle.asn_fault.specs.EncodeCause.{EncodeCause, encode_cause}
 use Rattle.asn_fault.specs.Failure.{Cause, at_root, failure_of}
 use Rattle.asn_fault.specs.declared.decode.DecodeError.{DecodeError}

@@ -8,8 +8,8 @@ use Rattle.avn_grammar.specs.Depth.{ExceedsDepth, deepest}
 use Rattle.avn_grammar.specs.Tree.{Tree as AvnTree}
 use Rattle.avn_grammar.specs.ParseFailure as grammar
 use Rattle.avn_grammar.specs.declared.limits.TheConstants.{LEVEL_LIMIT}
-use Rattle.asn_base.specs.declared.codec.Codec.{Codec}
-use Rattle.asn_base.specs.declared.codec.Codec.TheVariants.{Jer, Avn}
+use Rattle.asn_core.specs.declared.codec.Codec.{Codec}
+use Rattle.asn_core.specs.declared.codec.Codec.TheVariants.{Jer, Avn}
 use Rattle.asn_fault.specs.Failure.{Failure, Cause, at_root}
 use Rattle.asn_fault.specs.EncodeCause.{EncodeCause}
 use Rattle.asn_traits.specs.Answer.{OfLevels, OfPlace}

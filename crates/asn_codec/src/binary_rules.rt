@@ -1,6 +1,6 @@
 //! Defines the binary encoding rules that a program hands in. The library has none of its own:
 //! what a binary call of a binary codec returns is what the rules return.
-ghost use Rattle.asn_base.specs.declared.codec.Codec.{Codec as CodecName};
+ghost use Rattle.asn_core.specs.declared.codec.Codec.{Codec as CodecName};
 ghost use Rattle.asn_codec.specs.Refused.{IsCustomEncodeError, IsCustomDecodeError, no_rules};
 ghost use Rattle.asn_codec.specs.Binary.{map_ok};
 ghost use Rattle.asn_fault.specs.declared.decode.DecodeError.{DecodeError as DecodingError};
@@ -10,7 +10,7 @@ ghost use Rattle.asn_traits.specs.Value.{Value};
 ghost use Rattle.std.specs.Prelude.{ℕ, List, Result, IsErrAnd};
 
 use crate::refusals::{CodecRefusal, decode_refusal, encode_refusal};
-use asn_base::Codec;
+use asn_core::Codec;
 use asn_fault::{DecodeError, EncodeError};
 use asn_traits::{Decode, Encode};
 use std::alloc::Global;

@@ -1,6 +1,6 @@
 //! Encodes and decodes texts and bytes by the name of a codec.
-ghost use Rattle.asn_base.specs.declared.codec.Codec.{Codec as CodecName};
-ghost use Rattle.asn_base.specs.declared.codec.Codec.TheVariants.{Xer};
+ghost use Rattle.asn_core.specs.declared.codec.Codec.{Codec as CodecName};
+ghost use Rattle.asn_core.specs.declared.codec.Codec.TheVariants.{Xer};
 ghost use Rattle.asn_fault.specs.Failure.{failure_of, is_out_of_memory};
 ghost use Rattle.asn_fault.specs.EncodeCause.{encode_cause, is_encode_out_of_memory};
 ghost use Rattle.asn_traits.specs.Canonical.{canonical_text};
@@ -17,7 +17,7 @@ ghost use Rattle.std.specs.Prelude.{IsUtf8};
 
 use crate::BinaryRules;
 use crate::refusals::{CodecRefusal, decode_refusal, encode_refusal};
-use asn_base::Codec;
+use asn_core::Codec;
 use asn_fault::{DecodeError, EncodeError};
 use asn_traits::{Decode, Encode};
 use avn_rules::avn;

@@ -3,7 +3,7 @@
 ghost use Rattle.asn_codec.specs.Conversion.{Converts, IsConvertible, Refuses, refusal_of};
 ghost use Rattle.asn_codec.specs.Conversion.{is_refusal_out_of_memory, error_text};
 ghost use Rattle.asn_codec.specs.Texts.{TextDecodesTo, DecodesOnlyTo, IsShallow};
-ghost use Rattle.asn_base.specs.declared.codec.Codec.TheVariants.{Avn};
+ghost use Rattle.asn_core.specs.declared.codec.Codec.TheVariants.{Avn};
 ghost use Rattle.asn_traits.specs.Canonical.{avn_tree, canonical_text};
 ghost use Rattle.asn_traits.specs.Notation.{notation_of};
 ghost use Rattle.asn_traits.specs.Value.{Value, Fits};
@@ -14,7 +14,7 @@ ghost use Rattle.std.specs.Str.{chars};
 ghost use Rattle.std.specs.Prelude.{◌≡◌, ◌⊎◌, ◌↔◌, ◌<◌, true, Some, IfOk, IfErr, string_bytes};
 
 use crate::CodecCalls;
-use asn_base::Codec;
+use asn_core::Codec;
 use asn_fault::{DecodeError, EncodeError};
 use asn_traits::{Decode, Encode};
 use std::alloc::Global;

@@ -4,7 +4,7 @@ ghost use Rattle.asn_codec.specs.Refused.{IsCustomEncodeError, IsCustomDecodeErr
 ghost use Rattle.asn_codec.specs.Refused.{message_of, no_text};
 ghost use Rattle.std.specs.Prelude.{◌≡◌, IfOk, string_bytes};
 
-use asn_base::Codec;
+use asn_core::Codec;
 use asn_fault::{DecodeError, EncodeError};
 use std::alloc::{AllocError, Global};
 

@@ -1,6 +1,6 @@
 -- What a status says, from what was put into the sink.
 use Rattle.std.proofs.Common.{◌≡◌, ◌≢◌, refl, ◌++◌, ◌∷◌, [], ℕ, List, true, ◌⊎◌, inl, inr}
-use Rattle.asn_base.specs.declared.codec.Codec.{Codec}
+use Rattle.asn_core.specs.declared.codec.Codec.{Codec}
 use Rattle.asn_traits.specs.Shape.{Shape}
 use Rattle.asn_codec.specs.Conversion.{Converts, Refuses, refusal_of, is_refusal_out_of_memory}
 use Rattle.asn_convert.specs.ExpectedOutput.{Answers, Outcome, refusal_line}

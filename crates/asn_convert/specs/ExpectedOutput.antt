@@ -1,7 +1,7 @@
 -- What is expected for an input, and when it was written.
 use Rattle.std.specs.Prelude.{◌≡◌, ◌⊎◌, ℕ, List, [], ◌∷◌, ◌++◌, codes}
 use Rattle.std.specs.Io.KnownBytes.{Appends, Keeps}
-use Rattle.asn_base.specs.declared.codec.Codec.{Codec}
+use Rattle.asn_core.specs.declared.codec.Codec.{Codec}
 use Rattle.asn_traits.specs.Shape.{Shape}
 use Rattle.asn_codec.specs.Conversion.{Converts, Refuses, refusal_of, error_text}
 use Rattle.asn_convert.specs.Faults.{Increased, AppendsFront}

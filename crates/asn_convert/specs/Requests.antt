@@ -1,7 +1,7 @@
 -- What a request line asks for.
 use Rattle.std.specs.Prelude.{ℕ, List, [], ◌∷◌, bytes_eq, codes, if◌then◌else◌, Option, Some, None}
-use Rattle.asn_base.specs.declared.codec.Codec.{Codec}
-use Rattle.asn_base.specs.declared.codec.Codec.TheVariants.{Jer, Avn}
+use Rattle.asn_core.specs.declared.codec.Codec.{Codec}
+use Rattle.asn_core.specs.declared.codec.Codec.TheVariants.{Jer, Avn}
 use Rattle.asn_samples.specs.Samples.{sample_named}
 use Rattle.asn_samples.specs.declared.sample.Sample.{Sample}
 use Rattle.asn_convert.specs.Lines.{request_line, words}

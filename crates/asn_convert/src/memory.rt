@@ -8,7 +8,7 @@ ghost use Rattle.std.specs.Io.KnownBytes.{ReadConsumes, WriteAppends};
 ghost use Rattle.asn_convert.specs.Faults.{HasCause, next_count};
 
 use crate::io::{Failed, Sink, Source};
-use asn_base::OutOfMemory;
+use asn_core::OutOfMemory;
 use std::alloc::Global;
 
 /// Gives its bytes, as many as the slice takes, and never fails.

@@ -5,7 +5,7 @@ ghost use Rattle.asn_convert.specs.Lines.{words};
 ghost use Rattle.asn_convert.specs.Requests.{notation_named, request_of_words};
 
 use crate::lines::next_word;
-use asn_base::Codec;
+use asn_core::Codec;
 use asn_samples::Sample;
 
 /// Asks to convert a value of the sample type from one text notation to another.

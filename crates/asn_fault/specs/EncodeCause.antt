@@ -1,9 +1,9 @@
 -- Why a value is not written, with every text as its bytes.
 use Rattle.std.specs.Prelude.{ℕ, List, string_bytes, Bool, true, false}
-use Rattle.asn_base.specs.declared.codec.Codec.{Codec}
-use Rattle.asn_base.specs.declared.codec.Codec.TheVariants as codec
-use Rattle.asn_base.specs.declared.constraint.Bounded.{Bounded}
-use Rattle.asn_base.specs.declared.whole_number.WholeNumber.{WholeNumber}
+use Rattle.asn_core.specs.declared.codec.Codec.{Codec}
+use Rattle.asn_core.specs.declared.codec.Codec.TheVariants as codec
+use Rattle.asn_core.specs.declared.constraint.Bounded.{Bounded}
+use Rattle.asn_core.specs.declared.whole_number.WholeNumber.{WholeNumber}
 use Rattle.asn_fault.specs.declared.encode.CodecEncodeError.{CodecEncodeError}
 use Rattle.asn_fault.specs.declared.encode.CodecEncodeError.TheVariants.{Jer, Avn}
 use Rattle.asn_fault.specs.declared.jer.JerEncodeErrorKind.TheVariants.{NoRootValueFound, ExceedsSupportedIntSize, InvalidCharacter}

@@ -1,8 +1,8 @@
 -- What an error of reading says: the fields that lead to the place, each with the codec of that nesting level, and what is wrong there.
 use Rattle.std.specs.Prelude.{ℕ, List, [], ◌∷◌, string_bytes, Bool, true, false, if◌then◌else◌}
-use Rattle.asn_base.specs.declared.codec.Codec.{Codec}
-use Rattle.asn_base.specs.declared.codec.Codec.TheVariants as codec
-use Rattle.asn_base.specs.declared.tag.Tag.{Tag}
+use Rattle.asn_core.specs.declared.codec.Codec.{Codec}
+use Rattle.asn_core.specs.declared.codec.Codec.TheVariants as codec
+use Rattle.asn_core.specs.declared.tag.Tag.{Tag}
 use Rattle.asn_fault.specs.declared.decode.CodecDecodeError.{CodecDecodeError}
 use Rattle.asn_fault.specs.declared.decode.CodecDecodeError.TheVariants.{Ber, Jer, Avn}
 use Rattle.asn_fault.specs.declared.ber.BerDecodeErrorKind.TheVariants.{InvalidDate}

@@ -1,7 +1,7 @@
 -- The texts that the errors print.
 use Rattle.std.specs.Prelude.{ℕ, List, ◌++◌, codes, decimal, string_bytes}
-use Rattle.asn_base.specs.Texts.{codec_name, tag_text, whole_number_text, bounded_text}
-use Rattle.asn_base.specs.declared.codec.Codec.{Codec}
+use Rattle.asn_core.specs.Texts.{codec_name, tag_text, whole_number_text, bounded_text}
+use Rattle.asn_core.specs.declared.codec.Codec.{Codec}
 use Rattle.asn_fault.specs.declared.ber.BerDecodeErrorKind.{BerDecodeErrorKind}
 use Rattle.asn_fault.specs.declared.ber.BerDecodeErrorKind.TheVariants.{InvalidDate}
 use Rattle.asn_fault.specs.declared.jer.JerDecodeErrorKind.{JerDecodeErrorKind}

@@ -3,7 +3,7 @@
 ghost use Rattle.std.specs.Prelude.{◌≡◌, Some};
 ghost use Rattle.asn_fault.specs.Failure.{Cause, codec_cause};
 ghost use Rattle.asn_fault.specs.Texts.{avn_decode_text, avn_encode_text};
-ghost use Rattle.asn_base.specs.declared.codec.Codec.TheVariants.{Avn};
+ghost use Rattle.asn_core.specs.declared.codec.Codec.TheVariants.{Avn};
 
 use crate::CodecDecodeError;
 use std::error::Error;

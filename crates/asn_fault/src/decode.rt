@@ -9,7 +9,7 @@ ghost use Rattle.asn_fault.specs.Texts.{codec_decode_text, decode_kind_text, dec
 ghost use Rattle.asn_fault.specs.declared.decode.CodecDecodeError.TheVariants.{Ber, Jer, Avn};
 
 use crate::{AvnDecodeErrorKind, BerDecodeErrorKind, JerDecodeErrorKind, RootCause};
-use asn_base::{Codec, Tag};
+use asn_core::{Codec, Tag};
 use std::alloc::Global;
 use std::error::Error;
 use std::fmt;

@@ -6,7 +6,7 @@ ghost use Rattle.asn_fault.specs.EncodeCause.{codec_refusal, encode_cause, is_en
 ghost use Rattle.asn_fault.specs.declared.encode.CodecEncodeError.TheVariants.{Jer, Avn};
 
 use crate::{AvnEncodeErrorKind, JerEncodeErrorKind};
-use asn_base::{Bounded, Codec, Size};
+use asn_core::{Bounded, Codec, Size};
 use std::error::Error;
 use std::fmt;
 

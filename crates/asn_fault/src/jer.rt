@@ -3,10 +3,10 @@
 ghost use Rattle.std.specs.Prelude.{◌≡◌, Some, decimal};
 ghost use Rattle.asn_fault.specs.Failure.{Cause, codec_cause};
 ghost use Rattle.asn_fault.specs.Texts.{jer_decode_text, jer_encode_text};
-ghost use Rattle.asn_base.specs.declared.codec.Codec.TheVariants.{Jer};
+ghost use Rattle.asn_core.specs.declared.codec.Codec.TheVariants.{Jer};
 
 use crate::CodecDecodeError;
-use asn_base::WholeNumber;
+use asn_core::WholeNumber;
 use std::error::Error;
 use std::fmt;
 

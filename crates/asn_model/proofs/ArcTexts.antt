@@ -9,7 +9,7 @@ use Rattle.avn_grammar.specs.Chars.{is_digit, starts_with, all}
 use Rattle.avn_grammar.specs.Normal.{arc_trees}
 use Rattle.avn_grammar.specs.WellFormed.{is_digits, is_arc}
 use Rattle.avn_grammar.proofs.Digits.{arc-lt, digits-arc}
-use Rattle.asn_base.specs.ObjectIdentifiers.{is_object_identifier}
+use Rattle.asn_core.specs.ObjectIdentifiers.{is_object_identifier}
 use Rattle.asn_model.specs.Arcs.{arc_number, arc_numbers, arc_before, arc_or, braced_arcs, dotted_text, if_arc, in_front}
 use Rattle.asn_model.specs.Digits.{digits}
 use Rattle.asn_model.proofs.Numerals.{digits-read}

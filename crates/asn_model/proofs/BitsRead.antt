@@ -8,8 +8,8 @@ use Rattle.avn_grammar.specs.Octets.{bit_text, packed}
 use Rattle.avn_grammar.specs.Tree.{Tree as AvnTree}
 use Rattle.avn_grammar.specs.WellFormed.{is_octet}
 use Rattle.avn_grammar.proofs.Packing.{octet-sum}
-use Rattle.asn_base.specs.BitStrings.{all_bits, bit_value, bits_of, has_bit, octet_of, padded}
-use Rattle.asn_base.proofs.Padding.{first-padded, length-all_bits, length-padded, value-lt}
+use Rattle.asn_core.specs.BitStrings.{all_bits, bit_value, bits_of, has_bit, octet_of, padded}
+use Rattle.asn_core.proofs.Padding.{first-padded, length-all_bits, length-padded, value-lt}
 use Rattle.asn_model.specs.Leaf.{as_leaf}
 use Rattle.asn_model.specs.Notation.{Notation}
 use Rattle.asn_model.specs.Tree.{Tree}

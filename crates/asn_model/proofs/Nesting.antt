@@ -8,10 +8,10 @@ use Rattle.std.specs.Prelude.{codes, option_and_then}
 use Rattle.std.specs.Int.{div_ceil}
 use Rattle.hex.specs.Hex.{decode_of}
 use Rattle.hex.specs.declared.error.FromHexError.{FromHexError}
-use Rattle.asn_base.specs.BitStrings.{bits_of}
-use Rattle.asn_base.specs.ObjectIdentifiers.{is_object_identifier}
-use Rattle.asn_base.specs.declared.codec.Codec.TheVariants.{Jer}
-use Rattle.asn_base.specs.declared.tag.Tag.{Tag}
+use Rattle.asn_core.specs.BitStrings.{bits_of}
+use Rattle.asn_core.specs.ObjectIdentifiers.{is_object_identifier}
+use Rattle.asn_core.specs.declared.codec.Codec.TheVariants.{Jer}
+use Rattle.asn_core.specs.declared.tag.Tag.{Tag}
 use Rattle.asn_strings.specs.Alphabets.{is_bmp, place_outside}
 use Rattle.asn_times.specs.Meanings.{day_of_text, generalized_of_text, utc_of_text}
 use Rattle.asn_fault.specs.Failure.{Cause}

@@ -1,9 +1,9 @@
 -- Fields by example: the order in which a SET is read, a missing component, and a default.
 use Rattle.std.proofs.Common.{◌≡◌, pos, List, [], ◌∷◌, refl, Some}
 use Rattle.std.specs.Prelude.{ℕ, codes}
-use Rattle.asn_base.specs.declared.codec.Codec.TheVariants.{Jer}
-use Rattle.asn_base.specs.declared.tag.Class.TheVariants.{Context}
-use Rattle.asn_base.specs.declared.tag.Tag.{Tag}
+use Rattle.asn_core.specs.declared.codec.Codec.TheVariants.{Jer}
+use Rattle.asn_core.specs.declared.tag.Class.TheVariants.{Context}
+use Rattle.asn_core.specs.declared.tag.Tag.{Tag}
 use Rattle.asn_fault.specs.Failure.{Cause}
 use Rattle.serde_json.specs.Data.{Data, Members, Num}
 use Rattle.asn_model.specs.Components.{component_names, reading_order}

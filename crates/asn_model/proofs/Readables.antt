@@ -2,7 +2,7 @@
 use Rattle.std.proofs.Common.{◌≡◌, refl, ap, ◌∙◌, subst, arith, ℕ, zero, suc, ◌≤◌, ◌<◌, ◌∷◌, ◌++◌, Bool, true, false, not, ◌&&◌, nat_eq, nat_le, nat_lt, if◌then◌else◌, Option, Some, None}
 use Rattle.std.proofs.lemmas.Bool.{leb-true, le-leb, ltb-true, lt-ltb, eq-eqb}
 use Rattle.std.proofs.lemmas.Bool.Decides.{eqb_tells}
-use Rattle.asn_base.specs.declared.tag.Tag.{Tag}
+use Rattle.asn_core.specs.declared.tag.Tag.{Tag}
 use Rattle.asn_model.specs.Shape.{Shape, SeqKind, Fields, FieldAdditions, all_fields, join_fields, Alternatives, AlternativeAdditions, Plain, Presence, fill, fill_fields, fill_added_fields, fill_alternatives, fill_added_alternatives, unfold_loop, opened, all_alternatives, join_alternatives, field_names, identifiers, tags, tag_eq, has_tag, tags_distinct, alternative_tagged, are_distinct, end_tag}
 use Rattle.asn_model.specs.Readable.{differ_ignoring_case, are_identifiers, all_field_names, is_of_shape, suits, has_alternative, are_distinguishable, is_readable, is_readable_in, are_fields_readable, are_added_fields_readable, are_alternatives_readable, are_added_alternatives_readable}
 

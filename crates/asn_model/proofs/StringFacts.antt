@@ -4,7 +4,7 @@ use Rattle.std.specs.Str.{chars, is_utf8}
 use Rattle.std.proofs.lemmas.Str.{IsUtf8-from_is_utf8, is_utf8-from_IsUtf8, chars-encodes}
 use Rattle.avn_grammar.specs.Chars.{all}
 use Rattle.avn_grammar.specs.WellFormed.{is_octet}
-use Rattle.asn_base.specs.declared.codec.Codec.{Codec}
+use Rattle.asn_core.specs.declared.codec.Codec.{Codec}
 use Rattle.asn_strings.specs.Alphabets.{all_within, is_any, is_bmp, is_graphic, is_ia5, is_numeric, is_printable, is_visible, past_ascii_is_graphic, place_outside}
 use Rattle.asn_strings.specs.Units.{has_text, text_of_units}
 use Rattle.asn_strings.proofs.Places.{none_is_within}

@@ -2,7 +2,7 @@
 use Rattle.std.proofs.Common.{◌≡◌, ap, ℤ, true, Ok}
 use Rattle.std.specs.Str.{is_utf8}
 use Rattle.std.proofs.lemmas.Str.{is_utf8-from_IsUtf8}
-use Rattle.asn_base.specs.declared.codec.Codec.{Codec}
+use Rattle.asn_core.specs.declared.codec.Codec.{Codec}
 use Rattle.asn_times.specs.Days.{IsInDayYears}
 use Rattle.asn_times.specs.Generalized.{IsInGeneralizedYears}
 use Rattle.asn_times.specs.Utc.{IsInUtcYears}

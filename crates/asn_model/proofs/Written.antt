@@ -13,15 +13,15 @@ use Rattle.serde_json.specs.Data.{Data, Members, put}
 use Rattle.serde_json.specs.Find.{get_member}
 use Rattle.serde_json.specs.Written.{compact_text}
 use Rattle.serde_json.proofs.Views.{get_member-put, get_member-put_other}
-use Rattle.asn_base.specs.declared.codec.Codec.TheVariants.{Jer}
+use Rattle.asn_core.specs.declared.codec.Codec.TheVariants.{Jer}
 use Rattle.hex.proofs.HexLemmas.{decode_of-encode_upper}
 use Rattle.hex.specs.Hex.{decode_of, encode_upper}
 use Rattle.avn_grammar.specs.Chars.{all}
 use Rattle.avn_grammar.specs.WellFormed.{is_octet, is_arc}
 use Rattle.std.specs.Int.{div_ceil}
-use Rattle.asn_base.specs.BitStrings.{bits_of, padded}
-use Rattle.asn_base.specs.ObjectIdentifiers.{is_object_identifier}
-use Rattle.asn_base.proofs.Padding.{first-padded, length-padded}
+use Rattle.asn_core.specs.BitStrings.{bits_of, padded}
+use Rattle.asn_core.specs.ObjectIdentifiers.{is_object_identifier}
+use Rattle.asn_core.proofs.Padding.{first-padded, length-padded}
 use Rattle.asn_fault.specs.Failure.{Cause}
 use Rattle.asn_model.specs.Arcs.{dotted_text, identifier_or}
 use Rattle.asn_model.specs.BitLeaves.{another_length, no_bits, sized_bits}

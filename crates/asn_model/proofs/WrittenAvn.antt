@@ -5,14 +5,14 @@ use Rattle.std.specs.List.{AllByRecursion}
 use Rattle.std.specs.Str.{bytes_eq}
 use Rattle.std.proofs.lemmas.Bool.{eqb-true, eq-eqb}
 use Rattle.std.proofs.lemmas.Slice.Eq.{bytes_eq-Decides}
-use Rattle.asn_base.specs.declared.codec.Codec.TheVariants.{Avn}
+use Rattle.asn_core.specs.declared.codec.Codec.TheVariants.{Avn}
 use Rattle.asn_fault.specs.Failure.{Cause}
 use Rattle.avn_grammar.specs.Tree.{Tree as AvnTree, Fields as AvnFields}
 use Rattle.avn_grammar.specs.Normal.{normal, normal_trees, normal_fields, braced}
 use Rattle.avn_grammar.specs.Chars.{all}
 use Rattle.avn_grammar.specs.WellFormed.{is_identifier, is_keyword, is_arc, is_well_formed, are_well_formed, are_fields_well_formed}
-use Rattle.asn_base.specs.BitStrings.{padded}
-use Rattle.asn_base.specs.ObjectIdentifiers.{is_object_identifier}
+use Rattle.asn_core.specs.BitStrings.{padded}
+use Rattle.asn_core.specs.ObjectIdentifiers.{is_object_identifier}
 use Rattle.asn_model.specs.Arcs.{checked_identifier, listed_text}
 use Rattle.asn_model.specs.Canonical.{avn_tree, avn_trees, avn_fields, canonical_text}
 use Rattle.asn_model.specs.Leaf.{LeafFailure, leaf, number_or, or_blame, refined}
@@ -27,7 +27,7 @@ use Rattle.asn_model.specs.Writes.{Writes, Finds, value_slots, slot_names}
 use Rattle.asn_model.proofs.ArcTexts.{braced-read}
 use Rattle.asn_model.proofs.Bags.{avn_trees-sorted, each-ordered}
 use Rattle.asn_model.proofs.BitsRead.{bits-read, padded-octets}
-use Rattle.asn_base.proofs.Padding.{length-padded}
+use Rattle.asn_core.proofs.Padding.{length-padded}
 use Rattle.asn_model.proofs.Ranges.{inside}
 use Rattle.asn_model.proofs.Numerals.{number-read, number-form}
 use Rattle.asn_model.proofs.Readables.{and-left, and-right, and-both, unfolded-readable, fields_read}

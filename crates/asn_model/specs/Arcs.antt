@@ -8,8 +8,8 @@ use Rattle.serde_json.specs.Written.{compact_text}
 use Rattle.avn_grammar.specs.Print.{print}
 use Rattle.avn_grammar.specs.Tree.{Tree as AvnTree, Trees as AvnTrees}
 use Rattle.avn_grammar.specs.WellFormed.{is_arc}
-use Rattle.asn_base.specs.ObjectIdentifiers.{is_object_identifier}
-use Rattle.asn_base.specs.declared.codec.Codec.TheVariants.{Avn}
+use Rattle.asn_core.specs.ObjectIdentifiers.{is_object_identifier}
+use Rattle.asn_core.specs.declared.codec.Codec.TheVariants.{Avn}
 use Rattle.asn_fault.specs.Failure.{Cause}
 use Rattle.asn_model.specs.Digits.{digits}
 use Rattle.asn_model.specs.Value.{Value}

@@ -3,8 +3,8 @@ use Rattle.std.specs.Prelude.{◌≡◌, ◌≢◌, ℕ, ◌-◌, ◌*◌, ◌%�
 use Rattle.std.specs.Fmt.{decimal}
 use Rattle.hex.specs.declared.error.FromHexError.{FromHexError}
 use Rattle.std.specs.Int.{div_ceil}
-use Rattle.asn_base.specs.BitStrings.{bits_of}
-use Rattle.asn_base.specs.declared.constraint.Bounded.TheVariants.{Single}
+use Rattle.asn_core.specs.BitStrings.{bits_of}
+use Rattle.asn_core.specs.declared.constraint.Bounded.TheVariants.{Single}
 use Rattle.asn_fault.specs.Failure.{Cause}
 use Rattle.asn_fault.specs.EncodeCause.{EncodeCause}
 use Rattle.asn_model.specs.Notation.{Notation}

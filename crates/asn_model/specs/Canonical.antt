@@ -9,7 +9,7 @@ use Rattle.hex.specs.Hex.{encode_upper}
 use Rattle.avn_grammar.specs.Print.{print}
 use Rattle.asn_strings.specs.Units.{text_of_units}
 use Rattle.asn_times.specs.Written.{day_text, generalized_text, utc_text}
-use Rattle.asn_base.specs.BitStrings.{padded}
+use Rattle.asn_core.specs.BitStrings.{padded}
 use Rattle.asn_model.specs.Arcs.{dotted_text}
 use Rattle.asn_model.specs.Notation.{Notation}
 use Rattle.asn_model.specs.Sorting.{sort, by_text}

@@ -3,8 +3,8 @@ use Rattle.std.specs.Prelude.{ℕ, List, ◌++◌, Bool, ◌&&◌, codes, decima
 use Rattle.std.specs.Str.{chars, is_utf8}
 use Rattle.avn_grammar.specs.Chars.{all}
 use Rattle.avn_grammar.specs.WellFormed.{is_octet}
-use Rattle.asn_base.specs.declared.tag.Class.TheVariants.{Universal}
-use Rattle.asn_base.specs.declared.tag.Tag.{Tag}
+use Rattle.asn_core.specs.declared.tag.Class.TheVariants.{Universal}
+use Rattle.asn_core.specs.declared.tag.Tag.{Tag}
 use Rattle.asn_fault.specs.Failure.{Cause}
 use Rattle.asn_strings.specs.Alphabets.{all_within, is_any, is_graphic, is_ia5, is_numeric, is_printable, is_visible}
 use Rattle.asn_model.specs.Shape.{Alphabet}

@@ -1,6 +1,6 @@
 -- What value a slot says by a shape. A codec that is neither notation is bound by nothing here.
 use Rattle.std.specs.Prelude.{◌≡◌, ℕ, List, [], ◌∷◌, map, Some, None, Ok, true}
-use Rattle.asn_base.specs.declared.tag.Tag.{Tag}
+use Rattle.asn_core.specs.declared.tag.Tag.{Tag}
 use Rattle.asn_model.specs.Notation.{Notation}
 use Rattle.asn_model.specs.Shape.{Shape, SeqKind, Fields, FieldAdditions, Alternatives, AlternativeAdditions, Presence, all_fields, all_alternatives, unfold_loop, alternative_named, field_names}
 use Rattle.asn_model.specs.Tree.{Tree, Slot, as_list, as_members, as_choice, same_identifier}

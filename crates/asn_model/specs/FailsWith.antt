@@ -1,6 +1,6 @@
 -- Why a slot decodes to no value by a shape: the names of the fields that lead to the place, and what is wrong there.
 use Rattle.std.specs.Prelude.{◌≡◌, ℕ, List, [], ◌∷◌, map, Some, None, Err, true, false}
-use Rattle.asn_base.specs.declared.codec.Codec.{Codec}
+use Rattle.asn_core.specs.declared.codec.Codec.{Codec}
 use Rattle.asn_fault.specs.Failure.{Cause}
 use Rattle.asn_model.specs.Components.{Component, Standing, component_names, reading_order}
 use Rattle.asn_model.specs.Notation.{Notation, notation_of}

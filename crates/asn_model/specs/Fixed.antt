@@ -1,11 +1,11 @@
 -- The size that constraints fix (X.680, section 51.5).
 use Rattle.std.specs.Prelude.{ℕ, if◌then◌else◌, Option, Some, None}
-use Rattle.asn_base.specs.Constraints.{any_has_marker, first_size_constraint}
-use Rattle.asn_base.specs.declared.constraint.Bounded.{Bounded}
-use Rattle.asn_base.specs.declared.constraint.Bounded.TheVariants.{None as Anything, Single, Range}
-use Rattle.asn_base.specs.declared.constraint.Constraints.{Constraints}
-use Rattle.asn_base.specs.declared.constraint.Extensible.{Extensible}
-use Rattle.asn_base.specs.declared.constraint.Size.{Size}
+use Rattle.asn_core.specs.Constraints.{any_has_marker, first_size_constraint}
+use Rattle.asn_core.specs.declared.constraint.Bounded.{Bounded}
+use Rattle.asn_core.specs.declared.constraint.Bounded.TheVariants.{None as Anything, Single, Range}
+use Rattle.asn_core.specs.declared.constraint.Constraints.{Constraints}
+use Rattle.asn_core.specs.declared.constraint.Extensible.{Extensible}
+use Rattle.asn_core.specs.declared.constraint.Size.{Size}
 
 -- The one number that is admitted, if it is one.
 abbrev pub single : Bounded ℕ → Option ℕ

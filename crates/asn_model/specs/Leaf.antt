@@ -8,15 +8,15 @@ use Rattle.avn_grammar.specs.Tree.{Tree as AvnTree}
 use Rattle.avn_grammar.specs.Print.{print}
 use Rattle.hex.specs.Hex.{decode_of}
 use Rattle.hex.specs.declared.error.FromHexError.{FromHexError}
-use Rattle.asn_base.specs.Numbers.{signed}
-use Rattle.asn_base.specs.declared.codec.Codec.{Codec}
-use Rattle.asn_base.specs.declared.codec.Codec.TheVariants.{Jer, Avn}
-use Rattle.asn_base.specs.declared.tag.Tag.{Tag}
+use Rattle.asn_core.specs.Numbers.{signed}
+use Rattle.asn_core.specs.declared.codec.Codec.{Codec}
+use Rattle.asn_core.specs.declared.codec.Codec.TheVariants.{Jer, Avn}
+use Rattle.asn_core.specs.declared.tag.Tag.{Tag}
 use Rattle.asn_fault.specs.Failure.{Cause}
 use Rattle.asn_strings.specs.Alphabets.{is_bmp, place_outside}
 use Rattle.asn_times.specs.Meanings.{day_of_text, generalized_of_text, utc_of_text}
 use Rattle.asn_model.specs.CharacterStrings.{alphabet_number, alphabet_of, bmp_number, outside_alphabet, universal_tag}
-use Rattle.asn_base.specs.BitStrings.{all_bits, bits_of}
+use Rattle.asn_core.specs.BitStrings.{all_bits, bits_of}
 use Rattle.asn_model.specs.Arcs.{dotted_identifier, braced_arcs, checked_identifier}
 use Rattle.asn_model.specs.BitLeaves.{no_bits, sized_bits}
 use Rattle.asn_model.specs.Digits.{signed_number}

@@ -1,6 +1,6 @@
 -- The two text notations.
-use Rattle.asn_base.specs.declared.codec.Codec.{Codec}
-use Rattle.asn_base.specs.declared.codec.Codec.TheVariants.{Jer, Avn}
+use Rattle.asn_core.specs.declared.codec.Codec.{Codec}
+use Rattle.asn_core.specs.declared.codec.Codec.TheVariants.{Jer, Avn}
 
 -- A text notation, or a codec that is neither, of which the laws say nothing.
 pub data Notation : Type 0 where

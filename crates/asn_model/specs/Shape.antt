@@ -1,9 +1,9 @@
 -- The shape of a type: what ASN.1 says of its values.
 use Rattle.std.specs.Prelude.{ℕ, zero, suc, ℤ, List, [], ◌∷◌, ◌++◌, Bool, true, false, nat_eq, ◌&&◌, if◌then◌else◌, Option, Some, None, option_map}
 use Rattle.std.specs.Str.{bytes_eq}
-use Rattle.asn_base.specs.declared.tag.Class.{Class}
-use Rattle.asn_base.specs.declared.tag.Class.TheVariants.{Universal, Application, Context, Private}
-use Rattle.asn_base.specs.declared.tag.Tag.{Tag}
+use Rattle.asn_core.specs.declared.tag.Class.{Class}
+use Rattle.asn_core.specs.declared.tag.Class.TheVariants.{Universal, Application, Context, Private}
+use Rattle.asn_core.specs.declared.tag.Tag.{Tag}
 
 -- The characters of a string type.
 pub data Alphabet : Type 0 where

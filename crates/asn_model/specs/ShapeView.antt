@@ -1,6 +1,6 @@
 -- The shape that a `Shape` is.
 use Rattle.std.specs.Prelude.{ℕ, pos, List, [], ◌∷◌, map, Option, Some, None, option_map, string_bytes}
-use Rattle.asn_base.specs.declared.tag.Tag.{Tag}
+use Rattle.asn_core.specs.declared.tag.Tag.{Tag}
 use Rattle.asn_model.specs.Shape as spec
 use Rattle.asn_model.specs.declared.shape_type.Alphabet.{Alphabet}
 use Rattle.asn_model.specs.declared.shape_type.Alphabet.TheVariants as alphabet

@@ -6,8 +6,8 @@ use Rattle.std.specs.Ordering.{int_cmp, int_eq, on}
 use Rattle.std.specs.Cmp.Lexicographic.{slice_cmp}
 use Rattle.avn_grammar.specs.Chars.{all}
 use Rattle.avn_grammar.specs.WellFormed.{is_octet, is_arc}
-use Rattle.asn_base.specs.ObjectIdentifiers.{is_object_identifier}
-use Rattle.asn_base.specs.declared.tag.Tag.{Tag}
+use Rattle.asn_core.specs.ObjectIdentifiers.{is_object_identifier}
+use Rattle.asn_core.specs.declared.tag.Tag.{Tag}
 use Rattle.asn_strings.specs.Alphabets.{all_within, is_bmp}
 use Rattle.asn_times.specs.Held.{is_held_day, is_held_nanosecond, is_held_second}
 use Rattle.asn_model.specs.CharacterStrings.{is_string_of}

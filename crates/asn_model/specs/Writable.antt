@@ -3,8 +3,8 @@ use Rattle.std.specs.Prelude.{◌≡◌, ◌≤ℤ◌, ◌⊎◌, ℕ, pos, negs
 use Rattle.std.specs.Str.{is_utf8}
 use Rattle.std.specs.Str.Lossy.{utf8_valid_len}
 use Rattle.asn_fault.specs.EncodeCause.{EncodeCause}
-use Rattle.asn_base.specs.declared.whole_number.WholeNumber.{WholeNumber}
-use Rattle.asn_base.specs.Numbers.{is_negative, magnitude}
+use Rattle.asn_core.specs.declared.whole_number.WholeNumber.{WholeNumber}
+use Rattle.asn_core.specs.Numbers.{is_negative, magnitude}
 use Rattle.asn_strings.specs.Units.{has_text, units_valid_len}
 use Rattle.asn_times.specs.Days.{IsInDayYears}
 use Rattle.asn_times.specs.Generalized.{IsInGeneralizedYears}

@@ -2,7 +2,7 @@
 ghost use Rattle.asn_model.specs.Fixed.{fixed_size};
 ghost use Rattle.std.specs.Prelude.{◌≡◌};
 
-use asn_base::{Bounded, Constraints};
+use asn_core::{Bounded, Constraints};
 
 /// Returns the size that the constraints fix, or none: the first constraint on sizes admits that
 /// size alone, and no constraint has the extension marker.

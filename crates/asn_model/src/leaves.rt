@@ -6,7 +6,7 @@ ghost use Rattle.avn_grammar.specs.WellFormed.{is_octet, is_arc};
 ghost use Rattle.std.specs.Prelude.{true, ◌≡◌};
 
 use crate::words;
-use asn_base::{Bits, Codec, ObjectIdentifier, WholeNumber};
+use asn_core::{Bits, Codec, ObjectIdentifier, WholeNumber};
 
 /// The kinds of values without parts that the notations distinguish.
 #[derive(Clone, Copy)]

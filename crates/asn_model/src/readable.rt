@@ -19,7 +19,7 @@ use crate::names::{
 };
 use crate::tags::same_tag;
 use crate::{Alphabet, AlternativeShape, FieldShape, Plain, PresenceShape, Shape};
-use asn_base::Tag;
+use asn_core::Tag;
 use asn_strings::character_sets::{
     Graphic, Ia5, Numeric, Printable, Visible, are_within, is_within,
 };

@@ -1,6 +1,6 @@
 //! Defines the shape of a type as a value that a program holds: what ASN.1 states of the type's
 //! values. Contracts see it as the `Shape` of `specs/Shape.antt` (`shape_view`).
-use asn_base::Tag;
+use asn_core::Tag;
 
 /// Names the characters of a string type (X.680, section 41).
 #[derive(Clone, Copy)]

@@ -3,7 +3,7 @@
 ghost use Rattle.asn_model.specs.Shape.{tag_eq, class_number};
 ghost use Rattle.std.specs.Prelude.{◌≡◌};
 
-use asn_base::{Class, Tag};
+use asn_core::{Class, Tag};
 
 /// Returns whether the tags are equal in class and value.
 pub fn same_tag(a: Tag, b: Tag) -> bool

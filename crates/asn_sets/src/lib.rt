@@ -5,4 +5,3 @@
 pub mod set_of;
 
 pub use set_of::SetOf;
-

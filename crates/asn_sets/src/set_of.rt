@@ -6,7 +6,7 @@ ghost use Rattle.std.specs.Map.Iter.{deref};
 ghost use Rattle.std.specs.Prelude.{◌≡◌, ◌∷◌, [], ◌<◌, ◌+◌, ◌↔◌, IfOk, IsTrue, OnErr, OnOk, length};
 ghost use Rattle.std.specs.Prelude.{map};
 
-use asn_base::OutOfMemory;
+use asn_core::OutOfMemory;
 use indexmap::IndexMap;
 use std::alloc::Global;
 use std::hash::Hash;

@@ -6,7 +6,7 @@ ghost use Rattle.std.specs.Prelude.{◌≡◌, ◌∷◌, [], List, Option, leng
 ghost use Rattle.std.specs.Prelude.{drop};
 
 use crate::slots::{take_first, take_last_present, take_present};
-use asn_base::OutOfMemory;
+use asn_core::OutOfMemory;
 use std::alloc::Global;
 use std::marker::Model;
 

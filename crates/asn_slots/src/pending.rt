@@ -3,7 +3,7 @@
 ghost use Rattle.asn_slots.specs.Pending.{TakesAbsent, slots_of};
 ghost use Rattle.std.specs.Prelude.{◌≡◌, ◌∷◌, [], ◌++◌, Some, map, MatchOption, OnOk, OnErr};
 
-use asn_base::OutOfMemory;
+use asn_core::OutOfMemory;
 use std::alloc::Global;
 use std::marker::Model;
 use std::mem;

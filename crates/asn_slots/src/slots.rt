@@ -3,7 +3,7 @@
 ghost use Rattle.asn_slots.specs.Slots.{last_present, present_of, first_of};
 ghost use Rattle.std.specs.Prelude.{◌≡◌, ◌≤◌, IfOk, OnOk, OnErr, take, drop, vec_len};
 
-use asn_base::OutOfMemory;
+use asn_core::OutOfMemory;
 use std::alloc::Global;
 
 /// Takes out the slots from `start` on, and returns the values of those that are present, in

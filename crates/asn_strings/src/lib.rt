@@ -19,4 +19,3 @@ pub use text::{
     Ia5String, NumericString, PrintableString, RestrictedString, UniversalString, Utf8String,
     VisibleString,
 };
-

@@ -17,4 +17,3 @@ pub use dates::{Date, read_date, write_date};
 pub use faults::TimeFault;
 pub use generalized_times::{GeneralizedTime, read_generalized, write_generalized};
 pub use utc_times::{UtcTime, read_utc, write_utc};
-

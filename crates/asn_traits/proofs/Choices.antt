@@ -1,10 +1,10 @@
 -- A choice is what its payload is.
 use Rattle.std.proofs.Common.{◌≡◌, rules, refl, ap, sym, ◌∙◌, Option, Some, None, List, [], ◌∷◌, subst, ℕ, zero, suc, ◌<◌, Bool, true, false, Result, Ok, Err, arith, get_or, length, option_map, if◌then◌else◌, nat_eq, IfSome, IsSome, map, ◌++◌, unwrap_or, append-nil}
 use Rattle.std.specs.Borrow.{Bor}
-use Rattle.asn_base.specs.declared.tag_tree.TagTree.{TagTree}
+use Rattle.asn_core.specs.declared.tag_tree.TagTree.{TagTree}
 use Rattle.asn_fault.specs.Failure.{Cause, failure_of}
-use Rattle.asn_base.specs.Tags.{smallest}
-use Rattle.asn_base.specs.declared.tag.Tag.{Tag}
+use Rattle.asn_core.specs.Tags.{smallest}
+use Rattle.asn_core.specs.declared.tag.Tag.{Tag}
 use Rattle.asn_fault.specs.declared.decode.DecodeError.{DecodeError}
 use Rattle.asn_model.specs.Notation.{Notation}
 use Rattle.asn_model.specs.Shape.{Shape, Alternatives, AlternativeAdditions, all_alternatives, join_alternatives, alternative_at, alternative_named, alternative_tagged, name_tagged, place_named, identifiers, tags, tag_eq, has_tag, tags_distinct, class_number, end_tag}

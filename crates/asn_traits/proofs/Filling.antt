@@ -1,7 +1,7 @@
 -- What a scope writes is what its type writes.
 use Rattle.std.proofs.Common.{Bool, true, false, if◌then◌else◌, Option, ◌≡◌, ℕ, List, [], ◌∷◌, ◌++◌, Some, None, Ok, Result, ap, sym, ◌∙◌, append_assoc, inl, inr, MutBor, append-nil, subst}
 use Rattle.std.specs.Fn.{Once, FnOnceReturnsAtMut}
-use Rattle.asn_base.specs.declared.tag.Tag.{Tag}
+use Rattle.asn_core.specs.declared.tag.Tag.{Tag}
 use Rattle.asn_fault.specs.declared.encode.EncodeError.{EncodeError}
 use Rattle.asn_model.specs.Notation.{Notation}
 use Rattle.asn_model.specs.Shape.{Shape, Fields, Alternatives, AlternativeAdditions, Presence, SeqKind, FieldAdditions, all_fields, all_alternatives, alternative_tagged, tag_eq}

@@ -1,8 +1,8 @@
 -- Values without parts, as they are written and read.
 use Rattle.std.proofs.Common.{◌≡◌, refl, ap, ◌∙◌, subst, ℕ, ℤ, pos, negsuc, ◌≤ℤ◌, ◌<ℤ◌, List, [], ◌∷◌, true, false, if◌then◌else◌, Option, Some, Result, Ok, Err, ◌⊎◌, inl, inr}
 use Rattle.std.specs.Prelude.{option_map}
-use Rattle.asn_base.specs.Numbers.{signed, is_negative, magnitude}
-use Rattle.asn_base.specs.declared.codec.Codec.{Codec}
+use Rattle.asn_core.specs.Numbers.{signed, is_negative, magnitude}
+use Rattle.asn_core.specs.declared.codec.Codec.{Codec}
 use Rattle.asn_fault.specs.Failure.{Failure, Cause, at_root}
 use Rattle.asn_traits.specs.Answer.{Refuses, OfPlace}
 use Rattle.asn_model.specs.Leaf.{LeafFailure, IsFailureOf, codec_of, as_leaf, kind_of, refine, refined, leaf, IsOwned}

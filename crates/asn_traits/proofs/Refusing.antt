@@ -1,7 +1,7 @@
 -- Refusals of a decoder's calls, from what their errors tell.
 use Rattle.std.proofs.Common.{◌≡◌, ap, sym, ◌∙◌, subst, refl, ◌⊎◌, inl, inr, List, [], ◌∷◌, Some, None, Err}
 use Rattle.std.specs.Prelude.{option_map}
-use Rattle.asn_base.specs.declared.codec.Codec.{Codec}
+use Rattle.asn_core.specs.declared.codec.Codec.{Codec}
 use Rattle.asn_fault.specs.Failure.{Failure, Cause, at_root}
 use Rattle.asn_model.specs.Notation.{Notation, notation_of}
 use Rattle.asn_model.specs.Shape.{Shape, Fields, Alternatives, AlternativeAdditions, SeqKind, FieldAdditions}

@@ -1,6 +1,6 @@
 -- The alternative that a value of a CHOICE is of, with its payload.
 use Rattle.std.specs.Prelude.{◌≡◌, ℕ, List, Some}
-use Rattle.asn_base.specs.declared.tag.Tag.{Tag}
+use Rattle.asn_core.specs.declared.tag.Tag.{Tag}
 use Rattle.asn_model.specs.Shape.{Shape, Alternatives, alternative_tagged}
 use Rattle.asn_model.specs.Value.{Value}
 

@@ -2,7 +2,7 @@
 use Rattle.std.specs.Prelude.{◌≡◌, ℕ, ◌<◌, List, [], ◌∷◌, ◌++◌, map, length, Option, Some, None, Result, Ok, Err}
 use Rattle.asn_fault.specs.Failure.{failure_of}
 use Rattle.asn_fault.specs.declared.decode.DecodeError.{DecodeError}
-use Rattle.asn_base.specs.declared.tag.Tag.{Tag}
+use Rattle.asn_core.specs.declared.tag.Tag.{Tag}
 use Rattle.asn_model.specs.Leaf.{answer_kind, as_leaf, kind_of, kind_of_owned, IsOwned}
 use Rattle.asn_model.specs.Notation.{Notation}
 use Rattle.asn_model.specs.Shape.{Shape, SeqKind, Fields, FieldAdditions, Alternatives, AlternativeAdditions, place_named, alternative_named, alternative_tagged, all_alternatives}

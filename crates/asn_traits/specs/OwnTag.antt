@@ -1,9 +1,9 @@
 -- The tags of a type by its shape (X.680, sections 8 and 29).
 use Rattle.std.specs.Prelude.{◌≡◌, ℕ, Bool, true, false, ◌||◌, if◌then◌else◌, Option, Some, None, fold}
-use Rattle.asn_base.specs.Tags.{smaller_tag, smallest}
-use Rattle.asn_base.specs.declared.tag.Tag.{Tag}
-use Rattle.asn_base.specs.declared.tag_tree.TagTree.{TagTree}
-use Rattle.asn_base.specs.declared.tag.Class.TheVariants.{Universal}
+use Rattle.asn_core.specs.Tags.{smaller_tag, smallest}
+use Rattle.asn_core.specs.declared.tag.Tag.{Tag}
+use Rattle.asn_core.specs.declared.tag_tree.TagTree.{TagTree}
+use Rattle.asn_core.specs.declared.tag.Class.TheVariants.{Universal}
 use Rattle.asn_model.specs.CharacterStrings.{alphabet_number, bmp_number}
 use Rattle.asn_model.specs.Shape.{Shape, SeqKind, end_tag, opened, tag_eq}
 use Rattle.asn_traits.specs.Tables.{root_tags}

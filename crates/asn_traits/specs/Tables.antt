@@ -1,8 +1,8 @@
 -- What tables of constants say.
 use Rattle.std.specs.Prelude.{ℕ, suc, List, [], ◌∷◌, map, length, Option, Some, None}
-use Rattle.asn_base.specs.Tags.{smallest}
-use Rattle.asn_base.specs.declared.tag.Tag.{Tag}
-use Rattle.asn_base.specs.declared.tag_tree.TagTree.{TagTree}
+use Rattle.asn_core.specs.Tags.{smallest}
+use Rattle.asn_core.specs.declared.tag.Tag.{Tag}
+use Rattle.asn_core.specs.declared.tag_tree.TagTree.{TagTree}
 use Rattle.asn_model.specs.Shape.{Fields, FieldAdditions, Alternatives, AlternativeAdditions, Presence, field_names, tags, end_tag}
 use Rattle.asn_traits.specs.declared.asn_type.Field.{Field}
 use Rattle.asn_traits.specs.declared.asn_type.Presence.{Presence as PresenceKind}

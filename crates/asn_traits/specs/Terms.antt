@@ -1,7 +1,7 @@
 -- Words for the shapes of types.
 use Rattle.std.specs.Prelude.{ℕ, ◌-◌, ◌^◌, pos, negsuc}
-use Rattle.asn_base.specs.declared.tag.Tag.{Tag}
-use Rattle.asn_base.specs.declared.tag.Class.TheVariants.{Context}
+use Rattle.asn_core.specs.declared.tag.Tag.{Tag}
+use Rattle.asn_core.specs.declared.tag.Class.TheVariants.{Context}
 use Rattle.asn_model.specs.Shape.{Shape, Alphabet}
 
 -- The context tag of that number.

@@ -1,8 +1,8 @@
 -- Types whose values are texts in both notations: character strings and times.
 use Rattle.std.specs.Prelude.{◌≡◌, ◌⊎◌, ℕ, List, Result, Ok, Err, true, String, string_bytes}
 use Rattle.std.specs.Global.{Global}
-use Rattle.asn_base.specs.declared.codec.Codec.{Codec}
-use Rattle.asn_base.specs.declared.codec.Codec.TheVariants.{Ber}
+use Rattle.asn_core.specs.declared.codec.Codec.{Codec}
+use Rattle.asn_core.specs.declared.codec.Codec.TheVariants.{Ber}
 use Rattle.asn_fault.specs.Failure.{Failure, Cause, at_root, failure_of, is_out_of_memory}
 use Rattle.asn_fault.specs.EncodeCause.{EncodeCause, encode_cause}
 use Rattle.asn_fault.specs.declared.decode.DecodeError.{DecodeError}
@@ -13,7 +13,7 @@ use Rattle.asn_strings.specs.declared.fault.StringFault.TheVariants.{Alphabet}
 use Rattle.asn_strings.specs.declared.fault.StringFault.TheVariants as string
 use Rattle.asn_times.specs.declared.faults.TimeFault.{TimeFault}
 use Rattle.asn_times.specs.declared.faults.TimeFault.TheVariants as time
-use Rattle.asn_base.specs.declared.tag.Tag.{Tag}
+use Rattle.asn_core.specs.declared.tag.Tag.{Tag}
 use Rattle.asn_model.specs.CharacterStrings.{outside_alphabet}
 use Rattle.asn_model.specs.Leaf.{LeafFailure, refine}
 use Rattle.asn_model.specs.Notation.{Notation, notation_of}

@@ -12,7 +12,7 @@ ghost use Rattle.asn_traits.specs.Writing.{FailsToEncode, Written};
 ghost use Rattle.std.specs.Prelude.{◌≡◌, IfErr, IfOk, OnOk, map, option_map, refl, true};
 
 use crate::{Choice, ChoiceKind, DecodeChoice, Decoder, Encoder, OfKind, Shape};
-use asn_base::{Constraints, Identifier, OutOfMemory, Tag, TagTree};
+use asn_core::{Constraints, Identifier, OutOfMemory, Tag, TagTree};
 use asn_fault::{DecodeError, EncodeError};
 use std::alloc::Global;
 

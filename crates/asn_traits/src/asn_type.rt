@@ -16,7 +16,7 @@ ghost use Rattle.std.specs.Prelude.{◌≡◌, ℕ, List, Option, map, option_ma
 ghost use Rattle.std.specs.Prelude.{MatchOption};
 
 use crate::{EnumeratedKind, OfKind, Shape};
-use asn_base::{Constraints, Identifier, OutOfMemory, Tag, TagTree};
+use asn_core::{Constraints, Identifier, OutOfMemory, Tag, TagTree};
 use std::alloc::Global;
 
 /// States whether a field may be absent, and whether it then has a default.

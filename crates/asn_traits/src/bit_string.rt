@@ -4,7 +4,7 @@ ghost use Rattle.asn_model.specs.Value.{Value};
 ghost use Rattle.std.specs.Prelude.{None, refl};
 
 use crate::{AsnType, Decode, Decoder, Encode, Encoder, Shape};
-use asn_base::{Bits, Constraints, Identifier, OutOfMemory, Tag, TagTree};
+use asn_core::{Bits, Constraints, Identifier, OutOfMemory, Tag, TagTree};
 use asn_fault::{DecodeError, EncodeError};
 use std::alloc::Global;
 

@@ -28,7 +28,7 @@ use crate::{
     AsnType, Choice, Constructed, Enumerated, Field, IntegerType, LeafKind, OwnedLeaf, SeqKind,
     TextType,
 };
-use asn_base::{Any, Bits, Codec, Constraints, ObjectIdentifier, Tag};
+use asn_core::{Any, Bits, Codec, Constraints, ObjectIdentifier, Tag};
 use asn_fault::{DecodeError, Refusal};
 use asn_model::fixed_size;
 use asn_model::words::NO_TELETEX;

@@ -3,7 +3,7 @@
 //!
 //! A codec writes the calls without a body. The calls that have a bound of this crate's are final,
 //! and are proved here once for every codec.
-ghost use Rattle.asn_base.specs.ObjectIdentifiers.{is_object_identifier};
+ghost use Rattle.asn_core.specs.ObjectIdentifiers.{is_object_identifier};
 ghost use Rattle.asn_model.specs.Fixed.{fixed_size};
 ghost use Rattle.asn_model.specs.Leaf.{leaf_value};
 ghost use Rattle.asn_model.specs.Notation.{Notation, notation_of};
@@ -25,10 +25,10 @@ ghost use Rattle.std.specs.Prelude.{IsSome, ⊤};
 
 use crate::tables::{identifier_of, listed, listed_fields};
 use crate::{AsnType, Choice, Constructed, Enumerated, Field, IntegerType, Leaf, TextType};
-use asn_base::{Any, Bits, Codec, Constraints, Identifier, Tag, WholeNumber};
+use asn_core::{Any, Bits, Codec, Constraints, Identifier, Tag, WholeNumber};
 use asn_fault::{EncodeError, EncodeErrorKind};
-use asn_model::{are_arcs, are_octets, fixed_size};
 use asn_model::words::NO_TELETEX;
+use asn_model::{are_arcs, are_octets, fixed_size};
 use asn_strings::{
     BmpString, GeneralString, GraphicString, Ia5String, NumericString, PrintableString,
     TeletexString, VisibleString,

@@ -1,7 +1,7 @@
 //! Encodes and decodes the fields of a SEQUENCE, one after another. A decoder has put a slot for
 //! each field before, found by its name in the text; so a field is the first pending slot, present
 //! or absent, and its name is the next of `FieldNames`.
-ghost use Rattle.asn_base.specs.declared.codec.Codec.{Codec};
+ghost use Rattle.asn_core.specs.declared.codec.Codec.{Codec};
 ghost use Rattle.asn_fault.specs.Failure.{Cause, at_root, failure_of, wrapped};
 ghost use Rattle.asn_traits.specs.Answer.{OptionalFailsWith, Refuses};
 ghost use Rattle.asn_traits.specs.FieldAnswer.{AdditionFailsWith, AddsSlot, TakesField};
@@ -15,7 +15,7 @@ ghost use Rattle.std.specs.Prelude.{◌≡◌, ◌⊎◌, Some, None, [], ◌∷
 ghost use Rattle.std.specs.Prelude.{if◌then◌else◌};
 
 use crate::{Decode, Decoder, Encode, Encoder, FieldNames};
-use asn_base::Identifier;
+use asn_core::Identifier;
 use asn_fault::{DecodeError, EncodeError};
 
 /// Returns the error within `FieldError` with the field's name, and by the decoder's codec. Out of

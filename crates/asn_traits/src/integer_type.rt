@@ -1,7 +1,7 @@
 //! Defines the integer types of the language as numbers of a range, by sign and magnitude. So the
 //! notations write and read one kind of number, and each type takes those of its range. INTEGER is
 //! X.680, section 19.
-ghost use Rattle.asn_base.specs.Numbers.{OfParts, signed, is_negative, magnitude};
+ghost use Rattle.asn_core.specs.Numbers.{OfParts, signed, is_negative, magnitude};
 ghost use Rattle.asn_model.specs.Readable.{has_128_bits};
 ghost use Rattle.std.specs.Prelude.{◌≡◌, ◌⊎◌, Bool, ℕ, ℤ, pos, negsuc, ◌-◌, ◌^◌, ◌≤◌, ◌<◌, ◌<ℤ◌};
 ghost use Rattle.std.specs.Prelude.{◌≤ℤ◌, IfSome, true, refl};

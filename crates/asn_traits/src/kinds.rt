@@ -17,7 +17,7 @@ use crate::{
     AsnType, ChoicePayload, Decode, Decoder, Encode, Encoder, Enumerated, IntegerType,
     SequenceFields, Shape, enumerated_shape, read_sequence, write_choice, write_sequence,
 };
-use asn_base::{Constraints, Identifier, OutOfMemory, Tag, TagTree};
+use asn_core::{Constraints, Identifier, OutOfMemory, Tag, TagTree};
 use asn_fault::{DecodeError, EncodeError};
 use std::alloc::Global;
 

@@ -26,7 +26,7 @@ mod texts;
 mod times;
 
 pub use alternative::{ChoicePayload, write_choice};
-pub use asn_base::TagTree;
+pub use asn_core::TagTree;
 pub use asn_model::{
     Alphabet, AlternativeShape, FieldShape, Leaf, LeafKind, OwnedLeaf, Plain, PresenceShape,
     SeqKind, Shape, is_readable, laws,

@@ -4,7 +4,7 @@ ghost use Rattle.asn_model.specs.Value.{Value};
 ghost use Rattle.std.specs.Prelude.{refl};
 
 use crate::{AsnType, Decode, Decoder, Encode, Encoder, Shape};
-use asn_base::{Constraints, Identifier, ObjectIdentifier, OutOfMemory, Tag, TagTree};
+use asn_core::{Constraints, Identifier, ObjectIdentifier, OutOfMemory, Tag, TagTree};
 use asn_fault::{DecodeError, EncodeError};
 use std::alloc::Global;
 

@@ -20,7 +20,7 @@ use crate::tables::listed;
 use crate::{
     Constructed, Decoder, Encoder, Field, FieldNames, Fields, OfKind, SequenceKind, Shape,
 };
-use asn_base::{Identifier, OutOfMemory, Tag};
+use asn_core::{Identifier, OutOfMemory, Tag};
 use asn_fault::{DecodeError, EncodeError};
 use std::alloc::Global;
 

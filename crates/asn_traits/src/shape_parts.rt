@@ -10,7 +10,7 @@ ghost use Rattle.asn_model.specs.ShapeView.{presence_view};
 ghost use Rattle.std.specs.Prelude.{◌≡◌, IfOk, OnOk, map, option_map, string_bytes};
 
 use crate::{AlternativeShape, AsnType, FieldShape, Plain, PresenceShape, SeqKind, Shape};
-use asn_base::{OutOfMemory, Tag};
+use asn_core::{OutOfMemory, Tag};
 use std::alloc::Global;
 
 /// Collects the fields of a SEQUENCE, in order.

@@ -5,7 +5,7 @@ ghost use Rattle.asn_model.specs.Value.{Value, values};
 ghost use Rattle.std.specs.Prelude.{refl, string_bytes};
 
 use crate::{Alphabet, AsnType, Decode, Decoder, Encode, Encoder, Shape};
-use asn_base::{Constraints, Identifier, OutOfMemory, Tag, TagTree};
+use asn_core::{Constraints, Identifier, OutOfMemory, Tag, TagTree};
 use asn_fault::{DecodeError, EncodeError};
 use std::alloc::Global;
 

@@ -14,7 +14,7 @@ ghost use Rattle.std.specs.Prelude.{◌≡◌, ◌⊎◌, ℕ, List, chars, refl
 ghost use Rattle.std.specs.Str.{is_utf8};
 
 use crate::{Alphabet, Encoder, Leaf, LeafKind, OfKind, Shape, TextKind, TextType};
-use asn_base::{Codec, Tag, TagTree};
+use asn_core::{Codec, Tag, TagTree};
 use asn_fault::{DecodeError, EncodeError};
 use asn_model::are_octets;
 use asn_model::words::OUTSIDE_ALPHABET;

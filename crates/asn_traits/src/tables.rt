@@ -1,7 +1,7 @@
 //! Looks things up in tables of constants, by which codecs find fields and alternatives. A table
 //! has a part for the root and one for the extension additions, which are looked through as one
 //! list, in order; the cost of a look-up is the length of that list.
-ghost use Rattle.asn_base.specs.Tags.{smallest};
+ghost use Rattle.asn_core.specs.Tags.{smallest};
 ghost use Rattle.asn_model.specs.Shape.{tag_eq, is_tag, name_tagged, place_named, class_number};
 ghost use Rattle.asn_model.specs.Shape.{end_tag};
 ghost use Rattle.asn_traits.specs.Tables.{names_of, smallest_tags, or_end};
@@ -12,7 +12,7 @@ ghost use Rattle.std.specs.Prelude.{Option, Some, None, IfSome, unwrap_or};
 ghost use Rattle.std.specs.Str.{bytes_eq};
 
 use crate::{Field, Fields};
-use asn_base::{Tag, TagTree};
+use asn_core::{Tag, TagTree};
 use asn_model::same_tag;
 
 /// Returns the items of a table, and none where there is no table.

@@ -10,7 +10,7 @@ ghost use Rattle.asn_traits.specs.Writing.{FailsToEncode, Written};
 ghost use Rattle.std.specs.Prelude.{◌≡◌, ℕ, IfErr, OnOk, Option, Some, string_bytes, true};
 
 use crate::{DecodeKind, Decoder, DescribeKind, EncodeKind, Encoder, LeafKind, OfKind, Shape};
-use asn_base::{Codec, Constraints, Identifier, OutOfMemory, Tag, TagTree};
+use asn_core::{Codec, Constraints, Identifier, OutOfMemory, Tag, TagTree};
 use asn_fault::{DecodeError, EncodeError};
 use std::alloc::Global;
 

@@ -7,7 +7,7 @@ ghost use Rattle.asn_traits.specs.TextTypes.{IsPutTime, IsTimeOf, TellsUnwritten
 ghost use Rattle.std.specs.Prelude.{◌≡◌, refl, string_bytes};
 
 use crate::{Encoder, Leaf, LeafKind, OfKind, Shape, TextKind, TextType};
-use asn_base::{Codec, Tag, TagTree};
+use asn_core::{Codec, Tag, TagTree};
 use asn_fault::{BerDecodeErrorKind, DecodeError, EncodeError};
 use asn_model::words::OUTSIDE_YEARS;
 use asn_times::laws::{day_is_held, generalized_is_held, utc_is_held};

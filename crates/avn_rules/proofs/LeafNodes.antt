@@ -1,8 +1,8 @@
 -- Values without parts, by what stands at a node.
 use Rattle.std.proofs.Common.{◌≡◌, ◌≢◌, refl, ap, sym, ◌∙◌, ℕ, List, [], ◌∷◌, Bool, false, if◌then◌else◌, Option, Some, None, Result, Ok, Err, inl, inr}
 use Rattle.std.specs.Str.{is_utf8}
-use Rattle.asn_base.specs.declared.codec.Codec.TheVariants.{Avn}
-use Rattle.asn_base.specs.declared.whole_number.WholeNumber.{WholeNumber}
+use Rattle.asn_core.specs.declared.codec.Codec.TheVariants.{Avn}
+use Rattle.asn_core.specs.declared.whole_number.WholeNumber.{WholeNumber}
 use Rattle.asn_fault.specs.Failure.{Cause, Failure, at_root}
 use Rattle.asn_model.specs.declared.leaves.LeafKind.{LeafKind}
 use Rattle.asn_model.specs.declared.leaves.LeafKind.TheVariants.{Number, Text, Time, Date, Oid}

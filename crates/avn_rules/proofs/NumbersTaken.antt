@@ -1,7 +1,7 @@
 -- The number of a text.
 use Rattle.std.proofs.Common.{◌≡◌, refl, ap, ◌∙◌, ℕ, List, Option, Some, None}
-use Rattle.asn_base.specs.Numbers.{signed}
-use Rattle.asn_base.specs.declared.whole_number.WholeNumber.{WholeNumber}
+use Rattle.asn_core.specs.Numbers.{signed}
+use Rattle.asn_core.specs.declared.whole_number.WholeNumber.{WholeNumber}
 use Rattle.asn_fault.specs.Failure.{Cause}
 use Rattle.asn_traits.specs.Leaf.{LeafFailure, number_or, as_leaf}
 use Rattle.asn_traits.specs.Notation.{Notation}

@@ -4,7 +4,7 @@ use Rattle.std.specs.Prelude.{option_map, MatchOption, MatchResult, OnErr, OnOk}
 use Rattle.std.specs.List.{All}
 use Rattle.std.proofs.lemmas.List.{map-append, length-map}
 use Rattle.std.proofs.lemmas.List.Elements.{All-append, All-cons, All-head, All-nil, All-tail, All-rest}
-use Rattle.asn_base.specs.declared.codec.Codec.TheVariants.{Avn}
+use Rattle.asn_core.specs.declared.codec.Codec.TheVariants.{Avn}
 use Rattle.asn_fault.specs.Failure.{Cause, Failure, at_root, failure_of}
 use Rattle.asn_fault.specs.declared.decode.DecodeError.{DecodeError}
 use Rattle.asn_model.specs.declared.leaves.LeafKind.{LeafKind}

@@ -1,6 +1,6 @@
 -- What is answered to a call for a value without parts.
 use Rattle.std.specs.Prelude.{◌≡◌, ◌⊎◌, Some, Result, Ok, Err}
-use Rattle.asn_base.specs.declared.codec.Codec.TheVariants.{Avn}
+use Rattle.asn_core.specs.declared.codec.Codec.TheVariants.{Avn}
 use Rattle.asn_fault.specs.Failure.{Cause, Failure, at_root, failure_of}
 use Rattle.asn_fault.specs.declared.decode.DecodeError.{DecodeError}
 use Rattle.asn_model.specs.declared.leaves.LeafKind.{LeafKind}

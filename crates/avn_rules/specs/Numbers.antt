@@ -1,8 +1,8 @@
 -- The whole numbers of AVN as sign and magnitude.
 use Rattle.std.specs.Prelude.{◌≡◌, Bool, ℕ, ◌≤◌, ◌^◌, List, Option, Some, None}
-use Rattle.asn_base.specs.Numbers.{signed}
+use Rattle.asn_core.specs.Numbers.{signed}
 use Rattle.asn_traits.specs.Digits.{digits, signed_number}
-use Rattle.asn_base.specs.declared.whole_number.WholeNumber.{WholeNumber}
+use Rattle.asn_core.specs.declared.whole_number.WholeNumber.{WholeNumber}
 
 -- The text is this number, none inside where its magnitude has more than 128 bits, or no number.
 abbrev pub ReadsNumber : List ℕ → Option (Option WholeNumber) → Type 0

@@ -1,6 +1,6 @@
 -- The answer to a whole text.
 use Rattle.std.proofs.Common.{◌≡◌, ◌⊎◌, inl, inr, ℕ, List, sym, ap, subst, refl, ◌∙◌, Result, Ok, Err, IfOk, IfErr, OnOk, Bool, []}
-use Rattle.asn_base.specs.declared.codec.Codec.TheVariants.{Avn}
+use Rattle.asn_core.specs.declared.codec.Codec.TheVariants.{Avn}
 use Rattle.asn_fault.specs.Failure.{Failure, Cause, at_root, failure_of}
 use Rattle.asn_fault.specs.declared.decode.DecodeError.{DecodeError}
 use Rattle.avn_grammar.proofs.OneTree.{same_parses}

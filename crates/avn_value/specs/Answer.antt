@@ -1,7 +1,7 @@
 -- What is returned to a whole text that is not read.
 use Rattle.std.specs.Prelude.{◌≡◌, ◌≢◌, ◌⊎◌, ℕ, List, [], Result, Ok, Err}
 use Rattle.std.specs.Char.{is_whitespace}
-use Rattle.asn_base.specs.declared.codec.Codec.TheVariants.{Avn}
+use Rattle.asn_core.specs.declared.codec.Codec.TheVariants.{Avn}
 use Rattle.asn_fault.specs.Failure.{Failure, Cause, at_root, failure_of}
 use Rattle.asn_fault.specs.declared.decode.DecodeError.{DecodeError}
 use Rattle.avn_grammar.specs.Tree.{Tree}

@@ -3,7 +3,7 @@ ghost use Rattle.std.specs.Prelude.{◌≡◌, IfOk, string_bytes};
 ghost use Rattle.avn_value.specs.View.{tree_of, list_trees, fields_trees};
 
 use crate::value::AvnValue;
-use asn_base::OutOfMemory;
+use asn_core::OutOfMemory;
 use std::alloc::Global;
 
 /// A copy of a text. Its only error is lack of memory.

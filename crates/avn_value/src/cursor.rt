@@ -3,7 +3,7 @@ ghost use Rattle.std.specs.Prelude.{◌≡◌, ◌≢◌, ◌+◌, ◌≤◌, �
 ghost use Rattle.std.specs.Prelude.{OnOk, string_bytes, ◌++◌, ◌*◌, ◌<◌, IfOk, take};
 ghost use Rattle.std.specs.Str.{encode_utf8_all, chars, IsCharBoundary};
 ghost use Rattle.std.specs.Char.{len_utf8, is_whitespace, is_ascii};
-ghost use Rattle.asn_base.specs.Seen.{after};
+ghost use Rattle.asn_core.specs.Seen.{after};
 ghost use Rattle.avn_grammar.specs.Chars.{class_of_next, tail, skip, starts_with, take_while};
 ghost use Rattle.avn_grammar.specs.Chars.{skip_while, has_fraction, is_name, is_not_apostrophe};
 ghost use Rattle.avn_grammar.specs.Chars.{without_whitespace};
@@ -11,7 +11,7 @@ ghost use Rattle.avn_value.specs.Ahead.{Advances, LooksAtMost, BeginsChoice};
 ghost use Rattle.avn_value.specs.Runs.{passes};
 
 use crate::chars::{CharSet, passes};
-use asn_base::{OutOfMemory, Scan};
+use asn_core::{OutOfMemory, Scan};
 use avn_grammar::chars::{CharClass, class_of_char};
 use std::alloc::{AllocError, Global};
 use std::marker::Model;
@@ -65,7 +65,7 @@ impl<'a> Model for Cursor<'a> {
     ghost use Rattle.std.specs.Str.{IsCharBoundary};
     ghost use Rattle.avn_value.specs.Ahead.{Ahead, ahead_code};
     ghost use Rattle.avn_grammar.specs.Chars.{skip};
-    ghost use Rattle.asn_base.specs.Seen.{after};
+    ghost use Rattle.asn_core.specs.Seen.{after};
 
     ghost Value = { Ahead };
 

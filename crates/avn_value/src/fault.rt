@@ -1,5 +1,5 @@
 // Why a value is not read.
-use asn_base::OutOfMemory;
+use asn_core::OutOfMemory;
 use std::alloc::{AllocError, AllocFailed};
 
 /// Why a value is not read. What is found in place of one is looked for by the caller.

@@ -21,7 +21,7 @@ use crate::nodes::Nodes;
 use crate::parse::read_whole;
 use crate::put::put_value;
 use crate::value::AvnValue;
-use asn_base::{OutOfMemory, Scan};
+use asn_core::{OutOfMemory, Scan};
 use asn_fault::DecodeError;
 use avn_grammar::limits::{LEVEL_LIMIT, LOOKS_PER_CHARACTER};
 use std::alloc::Global;

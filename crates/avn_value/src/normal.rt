@@ -8,7 +8,7 @@ ghost use Rattle.avn_value.specs.View.{tree_of, list_trees, fields_trees};
 use crate::clone::{copy_octets, copy_text};
 use crate::value::AvnValue;
 use crate::well_formed::is_number;
-use asn_base::OutOfMemory;
+use asn_core::OutOfMemory;
 use std::alloc::Global;
 
 /// The first bits of an octet, fewer than eight, with zeros after them.

@@ -22,7 +22,7 @@ use crate::node_kind::NodeKind;
 use crate::nodes::Nodes;
 use crate::quoted::quoted;
 use crate::token::{identifier, number, text};
-use asn_base::{Codec, OutOfMemory};
+use asn_core::{Codec, OutOfMemory};
 use asn_fault::{AvnDecodeErrorKind, DecodeError, DecodeErrorKind};
 use avn_grammar::chars::CharClass;
 use avn_grammar::limits::EXCERPT_LENGTH;

@@ -1,7 +1,7 @@
 //! The values that whole texts of the notation are.
 ghost use Rattle.std.specs.Prelude.{true, ◌≡◌, ◌+◌, ◌*◌, ◌≤◌, ◌<◌, ℕ, List, length, IfOk, IfErr};
 ghost use Rattle.std.specs.Str.{chars};
-ghost use Rattle.asn_base.specs.declared.codec.Codec.TheVariants.{Avn};
+ghost use Rattle.asn_core.specs.declared.codec.Codec.TheVariants.{Avn};
 ghost use Rattle.asn_fault.specs.Failure.{Cause, failure_of, at_root};
 ghost use Rattle.avn_grammar.specs.Depth.{ExceedsDepth, deepest};
 ghost use Rattle.avn_grammar.specs.Grammar.{ParsesWhole};
@@ -15,7 +15,7 @@ ghost use Rattle.avn_value.specs.View.{tree_of};
 
 use crate::node_table::NodeTable;
 use crate::value::AvnValue;
-use asn_base::{Codec, Scan};
+use asn_core::{Codec, Scan};
 use asn_fault::DecodeError;
 use avn_grammar::limits::{LEVEL_LIMIT, LOOKS_PER_CHARACTER};
 use std::alloc::Global;

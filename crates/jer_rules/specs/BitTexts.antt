@@ -5,7 +5,7 @@ use Rattle.serde_json.specs.Data.{Data, Members, Num, put}
 use Rattle.serde_json.specs.Find.{as_str, get}
 use Rattle.hex.specs.Hex.{decode_of, encode_upper}
 use Rattle.hex.specs.declared.error.FromHexError.{FromHexError}
-use Rattle.asn_base.specs.BitStrings.{bits_of}
+use Rattle.asn_core.specs.BitStrings.{bits_of}
 use Rattle.asn_traits.specs.Leaf.{length_in}
 use Rattle.jer_rules.specs.declared.jer.bits.NoBits.{NoBits}
 use Rattle.jer_rules.specs.declared.jer.bits.NoBits.TheVariants as no

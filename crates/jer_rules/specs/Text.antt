@@ -3,7 +3,7 @@ use Rattle.std.specs.Prelude.{◌≡◌, ◌≤◌, ℕ, List, Some, None, true,
 use Rattle.serde_json.specs.Data.{Data, depth}
 use Rattle.serde_json.specs.Read.{read, max_depth}
 use Rattle.serde_json.specs.Written.{has_float}
-use Rattle.asn_base.specs.declared.codec.Codec.TheVariants.{Jer}
+use Rattle.asn_core.specs.declared.codec.Codec.TheVariants.{Jer}
 use Rattle.asn_fault.specs.Failure.{Failure, Cause, at_root, is_out_of_memory}
 use Rattle.asn_traits.specs.Canonical.{jer_data}
 use Rattle.asn_traits.specs.Notation.{Notation}

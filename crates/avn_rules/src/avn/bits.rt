@@ -1,12 +1,12 @@
 // Bit strings, read from nodes.
-ghost use Rattle.asn_base.specs.BitStrings.{all_bits};
+ghost use Rattle.asn_core.specs.BitStrings.{all_bits};
 ghost use Rattle.asn_model.specs.declared.leaves.LeafKind.TheVariants.{Bits as BitsKind};
 ghost use Rattle.avn_rules.specs.LeafAnswer.{LeafAnswer};
 ghost use Rattle.avn_rules.specs.Pending.{IsPresent, value_at};
 ghost use Rattle.std.specs.Prelude.{◌≡◌, IfSome};
 
 use super::leaf_nodes::other_kind;
-use asn_base::{Bits, Codec};
+use asn_core::{Bits, Codec};
 use asn_fault::DecodeError;
 use asn_traits::{LeafKind, OwnedLeaf};
 use avn_value::{NodeKind, NodeTable};

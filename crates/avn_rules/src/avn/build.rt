@@ -5,11 +5,11 @@ ghost use Rattle.avn_grammar.specs.Tree.{integer, choice};
 ghost use Rattle.asn_slots.specs.Trees.{trees_of};
 ghost use Rattle.avn_rules.specs.Holding.{named_fields};
 ghost use Rattle.avn_value.specs.View.{tree_of, fields_trees};
-ghost use Rattle.asn_base.specs.Numbers.{signed};
+ghost use Rattle.asn_core.specs.Numbers.{signed};
 ghost use Rattle.std.specs.Fmt.{signed_decimal};
 ghost use Rattle.std.specs.Prelude.{◌≡◌, ◌++◌, IfOk};
 
-use asn_base::{OutOfMemory, WholeNumber};
+use asn_core::{OutOfMemory, WholeNumber};
 use asn_traits::{Field, field_name};
 use avn_value::AvnValue;
 use std::alloc::Global;

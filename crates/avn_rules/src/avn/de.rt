@@ -1,6 +1,6 @@
 //! Decodes a value of the notation as a value of a type. The decoder holds the value as a table of
 //! nodes, and the pending slots as indices into it; each call takes the first of them.
-ghost use Rattle.asn_base.specs.declared.codec.Codec.TheVariants.{Avn};
+ghost use Rattle.asn_core.specs.declared.codec.Codec.TheVariants.{Avn};
 ghost use Rattle.asn_fault.specs.Failure.{Cause, failure_of, at_root};
 ghost use Rattle.asn_slots.specs.Trees.{trees_of};
 ghost use Rattle.asn_traits.specs.Answer.{Refuses};
@@ -16,7 +16,7 @@ ghost use Rattle.std.specs.Prelude.{◌≡◌, ◌∷◌, ◌++◌, [], Some, If
 use super::faults::{end_of_input, mismatch, needed_members, no_item};
 use super::leaf_nodes::leaf_of_node;
 use super::take_apart::{has_members, is_list, items_of, slots_of};
-use asn_base::{Codec, Scan};
+use asn_core::{Codec, Scan};
 use asn_fault::DecodeError;
 use asn_model::words;
 use asn_slots::Pending;

@@ -1,6 +1,6 @@
 //! Encodes a value of a type as an AVN value. The encoder holds the open frames, each the AVN
 //! values of the slots that were added to it; closing a frame makes one AVN value of them.
-ghost use Rattle.asn_base.specs.declared.codec.Codec.TheVariants.{Avn};
+ghost use Rattle.asn_core.specs.declared.codec.Codec.TheVariants.{Avn};
 ghost use Rattle.asn_fault.specs.EncodeCause.{EncodeCause, encode_cause};
 ghost use Rattle.asn_slots.specs.Frames.{push};
 ghost use Rattle.asn_slots.specs.Slots.{last_present};
@@ -14,7 +14,7 @@ ghost use Rattle.std.specs.Prelude.{option_map, string_bytes};
 use super::build::{choice_of, fields_of};
 use super::faults::no_unicode;
 use super::leaves::avn_of_leaf;
-use asn_base::Codec;
+use asn_core::Codec;
 use asn_fault::{AvnEncodeErrorKind, CodecEncodeError, EncodeError, EncodeErrorKind};
 use asn_slots::Frames;
 use asn_traits::{Field, Leaf};

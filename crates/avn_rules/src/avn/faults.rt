@@ -1,5 +1,5 @@
 // What a reader of AVN refuses by.
-ghost use Rattle.asn_base.specs.declared.codec.Codec.TheVariants.{Avn};
+ghost use Rattle.asn_core.specs.declared.codec.Codec.TheVariants.{Avn};
 ghost use Rattle.asn_fault.specs.Failure.{Cause, failure_of, at_root, codec_cause};
 ghost use Rattle.asn_fault.specs.EncodeCause.{EncodeCause};
 ghost use Rattle.asn_traits.specs.Answer.{RefusesLeaf};
@@ -16,7 +16,7 @@ ghost use Rattle.std.specs.Prelude.{◌≡◌, IfOk, string_bytes};
 ghost use Rattle.asn_model.specs.declared.words.TheConstants.{AVN_ARC, AVN_NO_UNICODE};
 ghost use Rattle.asn_model.specs.declared.words.TheConstants.{AVN_NO_UTF8};
 
-use asn_base::{Codec, OutOfMemory};
+use asn_core::{Codec, OutOfMemory};
 use asn_fault::{
     AvnDecodeErrorKind, AvnEncodeErrorKind, CodecDecodeError, CodecEncodeError, DecodeError,
     DecodeErrorKind, EncodeError, EncodeErrorKind,

@@ -14,7 +14,7 @@ ghost use Rattle.std.specs.Prelude.{◌≡◌, Ok, MatchResult};
 
 use super::faults::{no_arc, no_oid, other_arcs};
 use super::leaf_nodes::other_kind;
-use asn_base::{Codec, ObjectIdentifier};
+use asn_core::{Codec, ObjectIdentifier};
 use asn_fault::DecodeError;
 use asn_model::arc_of;
 use asn_traits::{LeafKind, OwnedLeaf};

@@ -13,7 +13,7 @@ use super::bits::bits_of_node;
 use super::faults::{mismatch, no_number, no_utf8};
 use super::identifiers::identifier_of_node;
 use super::numbers::whole_number;
-use asn_base::Codec;
+use asn_core::Codec;
 use asn_fault::DecodeError;
 use asn_traits::{LeafKind, OwnedLeaf};
 use avn_value::{NodeKind, NodeTable};

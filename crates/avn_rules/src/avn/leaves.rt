@@ -9,7 +9,7 @@ ghost use Rattle.std.specs.Prelude.{◌≡◌, true, IfOk, IfErr, OnOk, string_b
 ghost use Rattle.std.specs.Str.{is_utf8};
 
 use super::build::integer_of;
-use asn_base::Codec;
+use asn_core::Codec;
 use asn_fault::EncodeError;
 use asn_traits::Leaf;
 use avn_value::AvnValue;

@@ -1,11 +1,11 @@
 //! Reads whole numbers from their texts. A parsed AVN value keeps a number as its text, of any
 //! length; a type has numbers of at most 128 bits.
-ghost use Rattle.asn_base.specs.Numbers.{signed};
+ghost use Rattle.asn_core.specs.Numbers.{signed};
 ghost use Rattle.asn_traits.specs.Digits.{digits, signed_number};
 ghost use Rattle.avn_rules.specs.Numbers.{Counts, ReadsDigits, ReadsNumber};
 ghost use Rattle.std.specs.Prelude.{◌≡◌, option_map, ℕ, ◌+◌, ◌*◌};
 
-use asn_base::WholeNumber;
+use asn_core::WholeNumber;
 
 /// Returns the whole number of a text, which is an optional `-` and digits: `Some(None)` where it
 /// has more than 128 bits, and `None` where the text is no number. Each character is looked at

@@ -11,7 +11,7 @@ ghost use Rattle.std.specs.List.{All};
 ghost use Rattle.std.specs.Prelude.{true, ◌≡◌, ◌<◌, ◌+◌, ◌++◌, List, ℕ, Some, None, IfOk, IfSome};
 ghost use Rattle.std.specs.Prelude.{is_some, length, map, nat_eq, replicate};
 
-use asn_base::OutOfMemory;
+use asn_core::OutOfMemory;
 use asn_traits::{Field, place_of_field};
 use avn_value::{NodeKind, NodeTable};
 use std::alloc::Global;

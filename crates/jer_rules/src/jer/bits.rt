@@ -1,6 +1,6 @@
 // Bit strings as JSON values: of a fixed size the digits of their octets, and else an object of
 // their length and these digits.
-ghost use Rattle.asn_base.specs.BitStrings.{padded};
+ghost use Rattle.asn_core.specs.BitStrings.{padded};
 ghost use Rattle.asn_model.specs.declared.leaves.LeafKind.TheVariants.{Bits as BitsKind};
 ghost use Rattle.asn_traits.specs.BitLeaves.{LengthStands, another_length, sized_bits};
 ghost use Rattle.asn_traits.specs.Canonical.{bits_data};
@@ -19,7 +19,7 @@ ghost use Rattle.std.specs.Prelude.{length};
 
 use super::build::insert;
 use super::leaves::NoLeaf;
-use asn_base::{Bits, Bounded, Codec, OutOfMemory, Size};
+use asn_core::{Bits, Bounded, Codec, OutOfMemory, Size};
 use asn_fault::{EncodeError, EncodeErrorKind};
 use asn_traits::OwnedLeaf;
 use serde_json::{Map, Value};

@@ -1,6 +1,6 @@
 //! Makes JSON values of the slots that an encoder has collected. Values are moved in; names are
 //! copied, since a map owns its keys.
-ghost use Rattle.asn_base.specs.Numbers.{signed};
+ghost use Rattle.asn_core.specs.Numbers.{signed};
 ghost use Rattle.asn_slots.specs.Trees.{trees_of};
 ghost use Rattle.asn_traits.specs.Notation.{Notation};
 ghost use Rattle.asn_traits.specs.Tables.{names_of};
@@ -11,7 +11,7 @@ ghost use Rattle.serde_json.specs.Find.{of_integer};
 ghost use Rattle.serde_json.specs.View.{view, number_view, members_view};
 ghost use Rattle.std.specs.Prelude.{◌≡◌, ◌++◌, IfOk, OnOk, MatchOption};
 
-use asn_base::OutOfMemory;
+use asn_core::OutOfMemory;
 use asn_traits::{Field, field_name};
 use serde_json::{Map, Number, Value};
 use std::alloc::Global;

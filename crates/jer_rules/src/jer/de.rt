@@ -1,6 +1,6 @@
 //! Decodes a JSON value as a value of a type. The decoder holds the pending slots, of which each
 //! call takes the first, and takes the JSON value apart by moves as it goes.
-ghost use Rattle.asn_base.specs.declared.codec.Codec.TheVariants.{Jer};
+ghost use Rattle.asn_core.specs.declared.codec.Codec.TheVariants.{Jer};
 ghost use Rattle.asn_fault.specs.Failure.{Cause, failure_of, at_root};
 ghost use Rattle.asn_traits.specs.Answer.{Refuses};
 ghost use Rattle.asn_traits.specs.Notation.{Notation};
@@ -19,7 +19,7 @@ use super::faults::{
 use super::floats::holds_float;
 use super::leaves::{NoLeaf, leaf_of_json};
 use super::take_apart::{into_items, into_members, into_payload};
-use asn_base::Codec;
+use asn_core::Codec;
 use asn_fault::DecodeError;
 use asn_model::words;
 use asn_slots::Pending;

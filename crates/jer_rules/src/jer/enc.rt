@@ -1,6 +1,6 @@
 //! Encodes a value of a type as a JSON value. The encoder holds the open frames, each the JSON
 //! values of the slots that were added to it; closing a frame makes one JSON value of them.
-ghost use Rattle.asn_base.specs.declared.codec.Codec.TheVariants.{Jer};
+ghost use Rattle.asn_core.specs.declared.codec.Codec.TheVariants.{Jer};
 ghost use Rattle.asn_fault.specs.EncodeCause.{EncodeCause, encode_cause};
 ghost use Rattle.asn_traits.specs.Canonical.{jer_data, canonical_text};
 ghost use Rattle.asn_traits.specs.Notation.{Notation};
@@ -15,7 +15,7 @@ ghost use Rattle.std.specs.Prelude.{IfSome, option_map, string_bytes};
 use super::build::{choice_of, members_of};
 use super::faults::encode_error;
 use super::leaves::json_of_leaf;
-use asn_base::Codec;
+use asn_core::Codec;
 use asn_fault::{EncodeError, EncodeErrorKind, JerEncodeErrorKind, Utf8Fault};
 use asn_slots::Frames;
 use asn_traits::{Field, Leaf};

@@ -1,5 +1,5 @@
 // What a reader of JSON refuses by.
-ghost use Rattle.asn_base.specs.declared.codec.Codec.TheVariants.{Jer};
+ghost use Rattle.asn_core.specs.declared.codec.Codec.TheVariants.{Jer};
 ghost use Rattle.asn_fault.specs.Failure.{Cause, failure_of, at_root, codec_cause};
 ghost use Rattle.asn_traits.specs.Answer.{RefusesLeaf};
 ghost use Rattle.asn_traits.specs.BitLeaves.{another_length, held_bits, no_bits};
@@ -11,7 +11,7 @@ ghost use Rattle.serde_json.specs.View.{view};
 ghost use Rattle.std.specs.Prelude.{◌≡◌, ◌⊎◌, string_bytes};
 ghost use Rattle.asn_model.specs.declared.words.TheConstants.{JER_NO_JSON, JER_OBJECT, JER_UNKNOWN};
 
-use asn_base::Codec;
+use asn_core::Codec;
 use asn_fault::{
     CodecDecodeError, CodecEncodeError, DecodeError, DecodeErrorKind, EncodeError, EncodeErrorKind,
     JerDecodeErrorKind, JerEncodeErrorKind,
@@ -91,9 +91,7 @@ pub fn other_length(alloc: Global, octets: usize, size: usize) -> DecodeError
         ⊎ (failure_of result ≡ at_root Cause.out_of_memory Jer) }
 {
     let held = bits_held(octets, size);
-    match format!(in alloc;
-        "{JER_NO_BITS}: invalid value length (was: {held}, expected: {size})"
-    ) {
+    match format!(in alloc; "{JER_NO_BITS}: invalid value length (was: {held}, expected: {size})") {
         Ok(msg) => DecodeError::custom(msg, Codec::Jer),
         Err(_) => DecodeError::out_of_memory(Codec::Jer),
     }

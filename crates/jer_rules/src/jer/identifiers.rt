@@ -10,7 +10,7 @@ ghost use Rattle.std.specs.List.{slice_split};
 ghost use Rattle.std.specs.Prelude.{◌≡◌, ◌==◌, IfOk, MatchResult, map, option_map};
 
 use super::leaves::NoLeaf;
-use asn_base::{ObjectIdentifier, OutOfMemory};
+use asn_core::{ObjectIdentifier, OutOfMemory};
 use asn_model::arc_of;
 use asn_traits::OwnedLeaf;
 use serde_json::Value;

@@ -18,7 +18,7 @@ use super::build::integer_of;
 use super::faults::encode_error;
 use super::identifiers::identifier_of_json;
 use super::take_apart::whole_number;
-use asn_base::Codec;
+use asn_core::Codec;
 use asn_fault::{EncodeError, JerEncodeErrorKind};
 use asn_model::joined_arcs;
 use asn_traits::{Leaf, LeafKind, OwnedLeaf};

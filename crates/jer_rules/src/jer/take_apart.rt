@@ -7,7 +7,7 @@ ghost use Rattle.serde_json.specs.Find.{as_array, as_object};
 ghost use Rattle.serde_json.specs.View.{view, number_view, items_view, members_view};
 ghost use Rattle.std.specs.Prelude.{◌≡◌, None, MatchResult, map};
 
-use asn_base::WholeNumber;
+use asn_core::WholeNumber;
 use asn_traits::place_of;
 use serde_json::{Map, Number, Value};
 

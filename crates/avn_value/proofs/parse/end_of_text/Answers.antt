@@ -1,7 +1,7 @@
 use Rattle.std.proofs.Common.{◌≡◌, ◌≢◌, [], string_bytes, MatchOption, sym, ap, subst, ◌∙◌}
 use Rattle.std.specs.Str.{encode_utf8_all}
 use Rattle.std.specs.Char.{is_whitespace}
-use Rattle.asn_base.specs.declared.codec.Codec.TheVariants.{Avn}
+use Rattle.asn_core.specs.declared.codec.Codec.TheVariants.{Avn}
 use Rattle.asn_fault.specs.Failure.{Cause, at_root}
 use Rattle.avn_grammar.specs.Chars.{skip_while}
 use Rattle.avn_value.specs.Answer.{IsMoreOrMemory, more, no_memory}

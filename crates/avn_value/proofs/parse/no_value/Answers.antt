@@ -1,6 +1,6 @@
 use Rattle.std.proofs.Common.{sym, ap, subst, ◌∙◌}
 use Rattle.std.specs.Str.{chars}
-use Rattle.asn_base.specs.declared.codec.Codec.TheVariants.{Avn}
+use Rattle.asn_core.specs.declared.codec.Codec.TheVariants.{Avn}
 use Rattle.asn_fault.specs.Failure.{Cause, at_root}
 use Rattle.avn_grammar.specs.ParseFailure.{Found}
 use Rattle.avn_value.specs.Answer.{IsFoundOrMemory, excerpt, memory}

@@ -1,6 +1,6 @@
 use Rattle.std.proofs.Common.{◌≡◌, ap, pos}
 use Rattle.std.proofs.lemmas.Result.{on_ok_weaker}
-use Rattle.asn_base.specs.Numbers.{signed}
+use Rattle.asn_core.specs.Numbers.{signed}
 use Rattle.asn_model.specs.Shape.{Shape}
 use Rattle.asn_model.specs.Value.{Value}
 use Rattle.asn_model.proofs.Ranges.{between}

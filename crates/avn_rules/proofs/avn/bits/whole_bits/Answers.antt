@@ -1,7 +1,7 @@
 use Rattle.std.proofs.Common.{◌≤◌, length, ap, ◌∙◌, arith}
 use Rattle.std.proofs.lemmas.List.{take_all}
-use Rattle.asn_base.specs.BitStrings.{all_bits, bits_of}
-use Rattle.asn_base.proofs.Padding.{length-all_bits}
+use Rattle.asn_core.specs.BitStrings.{all_bits, bits_of}
+use Rattle.asn_core.proofs.Padding.{length-all_bits}
 use Rattle.avn_rules.proofs.avn.bits.whole_bits.Goals as goal
 
 pub returns : goal.returns

@@ -1,5 +1,5 @@
 use Rattle.std.proofs.Common.{refl}
-use Rattle.asn_base.specs.declared.codec.Codec.TheVariants.{Avn}
+use Rattle.asn_core.specs.declared.codec.Codec.TheVariants.{Avn}
 use Rattle.asn_traits.specs.Leaf.{IsFailureOf}
 use Rattle.asn_traits.proofs.Refusing.{at_no_field}
 use Rattle.avn_rules.proofs.LeafNodes.{present_is}

@@ -1,5 +1,5 @@
 use Rattle.std.proofs.Common.{ap, ◌∙◌, inl}
-use Rattle.asn_base.specs.declared.codec.Codec.TheVariants.{Avn}
+use Rattle.asn_core.specs.declared.codec.Codec.TheVariants.{Avn}
 use Rattle.asn_fault.specs.Failure.{Cause, at_root}
 use Rattle.avn_rules.proofs.LeafNodes.{present_is}
 use Rattle.asn_model.specs.declared.words.TheConstants.{AVN_ARC}

@@ -1,7 +1,7 @@
 use Rattle.std.proofs.Common.{◌≡◌, ap, refl, ◌∙◌, [], List, ℕ, length, arith}
 use Rattle.std.proofs.lemmas.Str.{chars-IsAscii}
 use Rattle.std.proofs.lemmas.Str.Ascii.{IsAscii-nil}
-use Rattle.asn_base.specs.Seen.{after}
+use Rattle.asn_core.specs.Seen.{after}
 use Rattle.avn_value.proofs.cursor.Cursor.empty.Goals as goal
 
 nothing_after : (text : List ℕ) → text ≡ [] → after text 0 ≡ []

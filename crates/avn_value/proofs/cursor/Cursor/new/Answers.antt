@@ -1,6 +1,6 @@
 use Rattle.std.proofs.Common.{ap}
 use Rattle.std.specs.Str.{chars}
-use Rattle.asn_base.specs.Seen.{after}
+use Rattle.asn_core.specs.Seen.{after}
 use Rattle.avn_value.proofs.cursor.Cursor.new.Goals as goal
 
 pub returns-clause-rest : goal.returns-clause-rest

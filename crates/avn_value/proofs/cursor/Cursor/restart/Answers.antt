@@ -1,4 +1,4 @@
-use Rattle.asn_base.specs.Seen.{after}
+use Rattle.asn_core.specs.Seen.{after}
 use Rattle.avn_value.proofs.cursor.Cursor.restart.Goals as goal
 
 pub returns-clause-rest : goal.returns-clause-rest

@@ -1,5 +1,5 @@
 use Rattle.std.proofs.Common.{refl}
-use Rattle.asn_base.specs.declared.codec.Codec.TheVariants.{Jer}
+use Rattle.asn_core.specs.declared.codec.Codec.TheVariants.{Jer}
 use Rattle.asn_traits.specs.Leaf.{IsFailureOf}
 use Rattle.asn_traits.proofs.Refusing.{at_no_field}
 use Rattle.jer_rules.proofs.jer.faults.mismatch.Goals as goal

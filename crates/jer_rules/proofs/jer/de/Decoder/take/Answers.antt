@@ -1,6 +1,6 @@
 use Rattle.std.proofs.Common.{ap, ◌∙◌, refl}
 use Rattle.std.specs.Prelude.{option_map}
-use Rattle.asn_base.specs.declared.codec.Codec.TheVariants.{Jer}
+use Rattle.asn_core.specs.declared.codec.Codec.TheVariants.{Jer}
 use Rattle.asn_slots.specs.Trees.{trees_of}
 use Rattle.asn_traits.specs.Tree.{head_slot}
 use Rattle.asn_traits.proofs.Refusing.{absent}

@@ -1,7 +1,7 @@
 use Rattle.std.proofs.Common.{◌++◌, refl, arith, map}
 use Rattle.std.proofs.lemmas.List.{length-map}
 use Rattle.serde_json.specs.View.{members_view}
-use Rattle.asn_base.specs.declared.codec.Codec.TheVariants.{Jer}
+use Rattle.asn_core.specs.declared.codec.Codec.TheVariants.{Jer}
 use Rattle.asn_traits.specs.Opening.{HasMembers}
 use Rattle.asn_traits.specs.ShapeView.{kind_view}
 use Rattle.asn_traits.specs.Tables.{names_of}

@@ -1,5 +1,0 @@
-use Rattle.asn_base.proofs.HeldBits.{none-held}
-use Rattle.asn_base.proofs.bits.Bits.new.Goals as goal
-
-pub invariant_of-result : goal.invariant_of-result
-invariant_of-result c = none-held c.new.result.items c.new.ensures.items

@@ -1,5 +1,0 @@
-use Rattle.asn_base.proofs.Cutting.{first-bits}
-use Rattle.asn_base.proofs.bits.first_bits.Goals as goal
-
-pub returns : goal.returns
-returns c = first-bits c.args.count c.args.octet c.requires.some c.requires.below

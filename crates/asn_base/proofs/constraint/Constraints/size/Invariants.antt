@@ -1,6 +1,0 @@
-use Rattle.std.proofs.Common.{◌≡◌, drop}
-use Rattle.asn_base.specs.Constraints.{first_size_constraint}
-use Rattle.asn_base.proofs.constraint.Constraints.size.Given as goal
-
-abbrev pub invariant-loop-constraint : goal.invariant-loop-constraint
-invariant-loop-constraint l = first_size_constraint l.self.items.now ≡ first_size_constraint (drop l.constraint-index l.self.items.now)

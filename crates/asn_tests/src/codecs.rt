@@ -1,10 +1,10 @@
 //! Calls the codecs by name, and the encoder and the decoder of AVN directly, where a text can't
 //! lead: to a codec without text, to a root without a value, to a number that is none.
-use asn_base::{Codec, Constraints, Identifier, Tag};
+use asn_base::{Codec, Constraints, Identifier, Scan, Tag};
 use asn_codec::CodecCalls;
 use asn_traits::{Decoder, Encoder};
 use avn_rules::avn::{de, enc};
-use avn_value::AvnValue;
+use avn_value::{AvnValue, NodeTable};
 use std::test::Fail;
 
 /// Lists codecs, each with the error of encoding a value as text by it. The texts are those of the
@@ -80,5 +80,15 @@ fn an_integer_value_may_be_no_number(rt: HostRuntime) -> Result<(), Fail> {
             "AVN decoding error: Integer parse error in AVN: x (Codec: AVN)"
         ),
     }
+    Ok(())
+}
+
+/// A decoder of a table decodes its value.
+#[test]
+fn a_table_is_decoded(rt: HostRuntime) -> Result<(), Fail> {
+    let mut scan = Scan::new("TRUE");
+    let table = NodeTable::parse(rt.alloc(), &mut scan)?;
+    let mut decoder = de::Decoder::from_table(rt.alloc(), table);
+    assert!(rt; decoder.decode_bool(Tag::BOOL)?);
     Ok(())
 }

@@ -4,11 +4,7 @@
 #![tactic(auto)]
 
 #[cfg(test)]
-mod alphabets;
-#[cfg(test)]
 mod avn_texts;
-#[cfg(test)]
-mod base;
 #[cfg(test)]
 mod binary;
 #[cfg(test)]
@@ -30,10 +26,6 @@ mod program;
 #[cfg(test)]
 mod samples;
 #[cfg(test)]
-mod sets;
-#[cfg(test)]
 mod slots;
 #[cfg(test)]
 mod texts;
-#[cfg(test)]
-mod times;

@@ -1,7 +1,6 @@
 -- SEQUENCE { bits BIT STRING (SIZE(3), ...) }
 use Rattle.std.specs.Prelude.{[], ◌∷◌, Some, codes}
 use Rattle.asn_traits.specs.Shape.{Shape, Fields, Presence, closed_seq}
-use Rattle.asn_traits.specs.Value.{Value}
 use Rattle.asn_traits.specs.Writing.{Frame}
 use Rattle.asn_traits.specs.Terms.{context}
 use Rattle.asn_samples.specs.MarkedBitString.{marked_bit_string_shape, marked_bit_string_value}

@@ -5,6 +5,9 @@ pub mod Renamed
 pub mod WithNullOpt
 pub mod Nested
 pub mod Inner
+pub mod TestTypeA
+pub mod Very
+pub mod Defaulted
 pub mod SimpleChoice
 pub mod ExtChoice
 pub mod ConstrainedBitString

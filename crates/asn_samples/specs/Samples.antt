@@ -4,6 +4,7 @@ use Rattle.std.specs.Prelude.{ℕ, List, [], ◌∷◌, codes, bytes_eq, if◌th
 use Rattle.asn_traits.specs.Shape.{Alphabet, Shape}
 use Rattle.asn_traits.specs.Terms.{signed, unsigned, utf8_string}
 use Rattle.asn_samples.specs.ConstrainedBitString.{constrained_bit_string_shape}
+use Rattle.asn_samples.specs.Defaulted.{defaulted_shape}
 use Rattle.asn_samples.specs.ExtChoice.{ext_choice_shape}
 use Rattle.asn_samples.specs.ExtEnum.{ext_enum_shape}
 use Rattle.asn_samples.specs.ExtensibleBitString.{extensible_bit_string_shape}
@@ -15,6 +16,8 @@ use Rattle.asn_samples.specs.Renamed.{renamed_shape}
 use Rattle.asn_samples.specs.SimpleChoice.{simple_choice_shape}
 use Rattle.asn_samples.specs.SimpleEnum.{simple_enum_shape}
 use Rattle.asn_samples.specs.Struct.{struct_shape}
+use Rattle.asn_samples.specs.TestTypeA.{test_type_a_shape}
+use Rattle.asn_samples.specs.Very.{very_shape}
 use Rattle.asn_samples.specs.WithNullOpt.{with_null_opt_shape}
 use Rattle.asn_samples.specs.contracts.sample.Sample.{the_type}
 use Rattle.asn_samples.specs.declared.sample.Sample.{Sample}
@@ -58,6 +61,9 @@ samples =
     ∷ (codes "ExtChoice", sample_type.ExtChoice, ext_choice_shape)
     ∷ (codes "Nested", sample_type.Nested, nested_shape)
     ∷ (codes "Struct", sample_type.Struct, struct_shape)
+    ∷ (codes "TestTypeA", sample_type.TestTypeA, test_type_a_shape)
+    ∷ (codes "Very", sample_type.Very, very_shape)
+    ∷ (codes "Defaulted", sample_type.Defaulted, defaulted_shape)
     ∷ (codes "WithNullOpt", sample_type.WithNullOpt, with_null_opt_shape)
     ∷ (codes "ConstrainedBitString", sample_type.ConstrainedBitString, constrained_bit_string_shape)
     ∷ (codes "ExtensibleBitString", sample_type.ExtensibleBitString, extensible_bit_string_shape)

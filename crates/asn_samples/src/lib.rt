@@ -5,6 +5,7 @@
 #![tactic(auto, using(asn_traits::proofs::Passing::field_steps))]
 
 mod constrained_bit_string;
+mod defaulted;
 mod ext_choice;
 mod ext_enum;
 mod extensible_bit_string;
@@ -18,10 +19,13 @@ mod sample;
 mod simple_choice;
 mod simple_enum;
 mod struct_;
+mod test_type_a;
+mod very;
 mod visitor;
 mod with_null_opt;
 
 pub use constrained_bit_string::ConstrainedBitString;
+pub use defaulted::Defaulted;
 pub use ext_choice::ExtChoice;
 pub use ext_enum::ExtEnum;
 pub use extensible_bit_string::ExtensibleBitString;
@@ -35,5 +39,7 @@ pub use sample::{Sample, is_sample_name};
 pub use simple_choice::SimpleChoice;
 pub use simple_enum::SimpleEnum;
 pub use struct_::Struct;
+pub use test_type_a::TestTypeA;
+pub use very::Very;
 pub use visitor::SampleVisitor;
 pub use with_null_opt::WithNullOpt;

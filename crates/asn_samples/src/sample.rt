@@ -88,6 +88,12 @@ pub enum Sample {
     Nested,
     /// Is a SEQUENCE of one field that may be absent.
     Struct,
+    /// Is a SEQUENCE with an extension addition.
+    TestTypeA,
+    /// Is a SEQUENCE with an extension addition that may be absent.
+    Very,
+    /// Is a SEQUENCE with a default.
+    Defaulted,
     /// Is a SEQUENCE with a NULL that may be absent.
     WithNullOpt,
     /// Is a BIT STRING of a fixed size.
@@ -143,6 +149,9 @@ impl Sample {
             "ExtChoice" => Some(Sample::ExtChoice),
             "Nested" => Some(Sample::Nested),
             "Struct" => Some(Sample::Struct),
+            "TestTypeA" => Some(Sample::TestTypeA),
+            "Very" => Some(Sample::Very),
+            "Defaulted" => Some(Sample::Defaulted),
             "WithNullOpt" => Some(Sample::WithNullOpt),
             "ConstrainedBitString" => Some(Sample::ConstrainedBitString),
             "ExtensibleBitString" => Some(Sample::ExtensibleBitString),
@@ -193,6 +202,9 @@ impl Sample {
             Sample::ExtChoice => visitor.visit::<crate::ExtChoice>(state),
             Sample::Nested => visitor.visit::<crate::Nested>(state),
             Sample::Struct => visitor.visit::<crate::Struct>(state),
+            Sample::TestTypeA => visitor.visit::<crate::TestTypeA>(state),
+            Sample::Very => visitor.visit::<crate::Very>(state),
+            Sample::Defaulted => visitor.visit::<crate::Defaulted>(state),
             Sample::WithNullOpt => visitor.visit::<crate::WithNullOpt>(state),
             Sample::ConstrainedBitString => visitor.visit::<crate::ConstrainedBitString>(state),
             Sample::ExtensibleBitString => visitor.visit::<crate::ExtensibleBitString>(state),

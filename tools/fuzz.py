@@ -127,6 +127,8 @@ def moment(form):
 PRINTABLE = "Az09 '()+,-./:=?"
 VISIBLE = "".join(map(chr, range(32, 127)))
 struct = fields(("strct", number(0, 255), True))
+inner = choice(Wine=number(0, 255))
+nested = fields(("very", struct, True), ("nested", boolean, True))
 simple = choice(Test1=number(0, 255), Test2=string(LETTERS))
 TYPES = {
     "bool": boolean, "Null": lambda r: both(None, "NULL"), "u8": number(0, 255),
@@ -141,9 +143,11 @@ TYPES = {
     "BitString": bits(), "Any": octets, "ObjectIdentifier": arcs,
     "Renamed": fields(("so-very", number(-9, 1 << 62), False), ("re_named", boolean, True)),
     "WithNullOpt": fields(("name", string(LETTERS), False), ("flag", lambda r: both(None, "NULL"), True)),
-    "Nested": fields(("very", struct, True), ("nested", boolean, True)), "Struct": struct,
+    "Nested": nested, "Struct": struct, "Very": fields(("a", nested, True)),
+    "TestTypeA": fields(("juice", number(-9, 9), False), ("wine", inner, False), ("grappa", bits(), False)),
+    "Defaulted": fields(("level", number(-9, 9), True)),
     "SimpleEnum": items("Test1", "Test2"), "ExtEnum": items("Test1", "Test2", "Test3"),
-    "Inner": choice(Wine=number(0, 255)), "SimpleChoice": simple,
+    "Inner": inner, "SimpleChoice": simple,
     "ExtChoice": choice(Test1=number(0, 255), Test2=string(LETTERS), Test3=boolean), "Nest": nest,
     "ConstrainedBitString": bits(3, True), "ExtensibleBitString": bits(),
     "ExtensibleBitStringField": fields(("bits", bits(), False)),

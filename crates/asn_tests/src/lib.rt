@@ -1,31 +1,10 @@
-//! Tests what crosses crates, and what no contract states: that calls succeed where there is
-//! memory. There is nothing here but tests, a file for each part of the library. Contracts are
-//! proved for every input, so a test has one input of a kind, or one at each edge.
+//! Tests the sample types and the program by direct calls. There is nothing here but tests; those
+//! of the codecs stand in `asn_codec_tests`, and most inputs of the program in `asn_cases`.
 #![tactic(auto)]
 
 #[cfg(test)]
-mod avn_texts;
-#[cfg(test)]
-mod binary;
-#[cfg(test)]
 mod bits;
-#[cfg(test)]
-mod codecs;
-#[cfg(test)]
-mod errors;
-#[cfg(test)]
-mod json;
-#[cfg(test)]
-mod notation;
-#[cfg(test)]
-mod octets;
-#[cfg(test)]
-mod plain_types;
 #[cfg(test)]
 mod program;
 #[cfg(test)]
 mod samples;
-#[cfg(test)]
-mod slots;
-#[cfg(test)]
-mod texts;

@@ -1,0 +1,26 @@
+//! Tests the codecs, and what stands below them, by direct calls, and shows what no contract
+//! states: that calls succeed where there is memory. There is nothing here but tests, a file for
+//! each part of the library. Contracts are proved for every input, so a test has one input of a
+//! kind, or one at each edge.
+#![tactic(auto)]
+
+#[cfg(test)]
+mod avn_texts;
+#[cfg(test)]
+mod binary;
+#[cfg(test)]
+mod codecs;
+#[cfg(test)]
+mod errors;
+#[cfg(test)]
+mod json;
+#[cfg(test)]
+mod notation;
+#[cfg(test)]
+mod octets;
+#[cfg(test)]
+mod plain_types;
+#[cfg(test)]
+mod slots;
+#[cfg(test)]
+mod texts;

@@ -25,10 +25,10 @@ pub const OUTSIDE_YEARS: &str = "time outside the years of its text";
 /// The refusal to encode or decode a TeletexString.
 pub const NO_TELETEX: &str = "TeletexString is not supported";
 
-/// What JER needs for SEQUENCE, for CHOICE.
+/// What JER needs for SEQUENCE, for SET and for CHOICE.
 pub const JER_OBJECT: &str = "object";
 
-/// What JER needs for SEQUENCE OF.
+/// What JER needs for SEQUENCE OF and for SET OF.
 pub const JER_ARRAY: &str = "array";
 
 /// What JER needs for INTEGER.

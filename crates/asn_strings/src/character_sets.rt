@@ -78,12 +78,9 @@ impl CharacterSet for Printable {
 
     ghost alike_past_ascii = { printable_past_ascii };
 
+    // `+,-./`, the digits and `:` are one range, and `'()` another.
     fn contains(character: char) -> bool {
-        match character {
-            'A'..='Z' | 'a'..='z' | '0'..='9' | ' ' => true,
-            '\'' | '(' | ')' | '+' | ',' | '-' | '.' | '/' | ':' | '=' | '?' => true,
-            _ => false,
-        }
+        matches!(character, 'A'..='Z' | 'a'..='z' | '+'..=':' | '\''..=')' | ' ' | '=' | '?')
     }
 }
 

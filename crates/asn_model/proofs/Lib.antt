@@ -21,3 +21,4 @@ pub mod Nesting
 pub mod SameText
 pub mod ShapeNames
 pub mod Ranges
+pub mod SetTexts

@@ -8,13 +8,13 @@ use Rattle.asn_model.specs.declared.readable.Enclosing.{Enclosing, fold-roll-Enc
 use Rattle.asn_model.specs.declared.readable.Enclosing.TheVariants.{rolls-Part}
 use Rattle.asn_model.specs.declared.readable.Enclosing.TheViews.{Part}
 use Rattle.asn_model.specs.Shape.{Shape, Alternatives, all_alternatives, join_alternatives, field_names, identifiers, tags, are_distinct}
-use Rattle.asn_model.specs.ShapeView.{shape_view, presence_view, field_views, alternative_views}
+use Rattle.asn_model.specs.ShapeView.{added_field_views, shape_view, presence_view, field_views, alternative_views}
 use Rattle.asn_model.specs.declared.shape_type.AlternativeShape.{AlternativeShape}
 use Rattle.asn_model.specs.declared.shape_type.FieldShape.{FieldShape}
 use Rattle.asn_model.specs.declared.shape_type.SeqKind.{SeqKind}
 use Rattle.asn_model.specs.declared.shape_type.Shape.TheViews.{Seq, Choice}
 use Rattle.asn_model.proofs.Readables.{and-left, and-right, and-both}
-use Rattle.asn_model.proofs.Viewing.{added_field_views, added_alternative_views, sequence_viewed, choice_viewed}
+use Rattle.asn_model.proofs.Viewing.{added_alternative_views, sequence_viewed, choice_viewed}
 
 field_names_viewed : (fs : List FieldShape) → field_names (field_views fs) ≡ map (λ f. string_bytes f.name) fs
 field_names_viewed [] = refl

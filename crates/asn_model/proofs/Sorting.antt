@@ -27,7 +27,7 @@ module _ {X : Type 0} (cmp : X → X → Ordering) (o : IsTotalOrder cmp) (same 
       by Equal s e tie = let is = tie refl in (λ i. is i ∷ sym is i ∷ zs) ∙ ap (λ r. if is_gt r then x ∷ y ∷ zs else y ∷ x ∷ zs) (sym e)
       by Greater s e tie = ap (λ r. if is_gt r then x ∷ y ∷ zs else y ∷ x ∷ zs) (sym e)
 
-  insert-insert : (x y : X) (zs : List X) → insert_in_order cmp x (insert_in_order cmp y zs) ≡ insert_in_order cmp y (insert_in_order cmp x zs)
+  pub insert-insert : (x y : X) (zs : List X) → insert_in_order cmp x (insert_in_order cmp y zs) ≡ insert_in_order cmp y (insert_in_order cmp x zs)
   insert-insert x y [] = two x y []
   insert-insert x y (z ∷ zs) = by (insert-insert x y zs) (is_gt (cmp x z)) (is_gt (cmp y z)) refl refl
     where
@@ -78,3 +78,13 @@ module _ {X : Type 0} (cmp : X → X → Ordering) (P : X → Type 0) where
   pub each-sort : (xs : List X) → AllByRecursion P xs → AllByRecursion P (sort cmp xs)
   each-sort [] h = tt
   each-sort (x ∷ xs) h = each-insert x (sort cmp xs) h.0 (each-sort xs h.1)
+
+-- Orders that agree on the elements sort them alike.
+module _ {X : Type 0} (cmp other : X → X → Ordering) (P : X → Type 0) (alike : (x y : X) → P x → P y → cmp x y ≡ other x y) where
+  insert-alike : (x : X) (ys : List X) → P x → AllByRecursion P ys → insert_in_order cmp x ys ≡ insert_in_order other x ys
+  insert-alike x [] p h = refl
+  insert-alike x (y ∷ ys) p h = (λ i. if is_gt (alike x y p h.0 i) then y ∷ insert_in_order cmp x ys else x ∷ y ∷ ys) ∙ ap (λ l. if is_gt (other x y) then y ∷ l else x ∷ y ∷ ys) (insert-alike x ys p h.1)
+
+  pub sort-alike : (xs : List X) → AllByRecursion P xs → sort cmp xs ≡ sort other xs
+  sort-alike [] h = refl
+  sort-alike (x ∷ xs) h = insert-alike x (sort cmp xs) h.0 (each-sort cmp P xs h.1) ∙ ap (insert_in_order other x) (sort-alike xs h.1)

@@ -2,7 +2,7 @@
 use Rattle.std.proofs.Common.{◌≡◌, refl, ap, sym, ◌∙◌, List, [], ◌∷◌, ◌++◌, map, Option, Some, None, string_bytes}
 use Rattle.std.specs.Global.{Vec}
 use Rattle.asn_model.specs.Shape as spec
-use Rattle.asn_model.specs.ShapeView.{shape_view, shape_step, field_step, alternative_step, fields_of, alternatives_of, kind_view, presence_view, field_views, alternative_views, with_last_field, with_last_alternative}
+use Rattle.asn_model.specs.ShapeView.{added_field_views, shape_view, shape_step, field_step, alternative_step, fields_of, alternatives_of, kind_view, presence_view, field_views, alternative_views, with_last_field, with_last_alternative}
 use Rattle.asn_model.specs.declared.shape_type.SeqKind.{SeqKind}
 use Rattle.asn_model.specs.declared.shape_type.FieldShape.{FieldShape}
 use Rattle.asn_model.specs.declared.shape_type.AlternativeShape.{AlternativeShape}
@@ -10,11 +10,6 @@ use Rattle.asn_model.specs.declared.shape_type.Shape.TheOpen as layer
 use Rattle.asn_model.specs.declared.shape_type.Shape.TheVariants.{rolls-Seq, rolls-Choice}
 use Rattle.asn_model.specs.declared.shape_type.Shape.TheViews.{Seq, Choice}
 use Rattle.asn_model.specs.declared.shape_type.Shape.TheFolds.{fold-FieldShape, fold-AlternativeShape, fold-roll-Shape, fold_out-FieldShape, fold_out-AlternativeShape}
-
--- The extension additions that `FieldShape`s are, if there is an extension marker.
-abbrev pub added_field_views : Option (Vec FieldShape) → spec.FieldAdditions
-added_field_views None = spec.FieldAdditions.closed_fields
-added_field_views (Some fs) = spec.FieldAdditions.extended_fields (field_views fs.items)
 
 -- The extension additions that `AlternativeShape`s are, if there is an extension marker.
 abbrev pub added_alternative_views : Option (Vec AlternativeShape) → spec.AlternativeAdditions

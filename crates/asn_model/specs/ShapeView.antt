@@ -1,5 +1,6 @@
 -- The shape that a `Shape` is.
 use Rattle.std.specs.Prelude.{ℕ, pos, List, [], ◌∷◌, map, Option, Some, None, option_map, string_bytes}
+use Rattle.std.specs.Global.{Vec}
 use Rattle.asn_core.specs.declared.tag.Tag.{Tag}
 use Rattle.asn_model.specs.Shape as spec
 use Rattle.asn_model.specs.declared.shape_type.Alphabet.{Alphabet}
@@ -105,6 +106,11 @@ shape_view = fold-Shape spec.Shape (spec.Alternatives → spec.Alternatives) (sp
 abbrev pub field_views : List FieldShape → spec.Fields
 field_views [] = spec.Fields.no_fields
 field_views (f ∷ fs) = spec.Fields.field (string_bytes f.name) f.tag (presence_view f.presence) (shape_view f.shape) (field_views fs)
+
+-- The extension additions, if there is an extension marker.
+abbrev pub added_field_views : Option (Vec FieldShape) → spec.FieldAdditions
+added_field_views None = spec.FieldAdditions.closed_fields
+added_field_views (Some fs) = spec.FieldAdditions.extended_fields (field_views fs.items)
 
 -- The alternatives that `AlternativeShape`s are, in order.
 abbrev pub alternative_views : List AlternativeShape → spec.Alternatives

@@ -27,4 +27,8 @@ pub mod Scopes
 pub mod Whole
 pub mod FieldSteps
 pub mod Passing
+pub mod TagOrder
+pub mod Members
+pub mod Multisets
+pub mod SetWriting
 pub mod Grouping

@@ -1,13 +1,12 @@
 -- What is written and read field by field is what the SEQUENCE writes and reads.
-use Rattle.std.proofs.Common.{◌≡◌, refl, sym, subst, ap, ◌∙◌, ℕ, List, ◌∷◌, ◌++◌, length, Option, Some, None, Bool, true, false, not, if◌then◌else◌}
+use Rattle.std.proofs.Common.{◌≡◌, refl, subst, ap, ◌∙◌, ℕ, List, ◌∷◌, ◌++◌, length, Option, Some, None, Bool, true, false, not, if◌then◌else◌}
 use Rattle.std.proofs.lemmas.Int.{to_z-of_z}
-use Rattle.std.proofs.lemmas.List.{length-map}
 use Rattle.asn_core.specs.declared.tag.Tag.{Tag}
 use Rattle.asn_fault.specs.Failure.{Failure, Cause}
 use Rattle.asn_fault.specs.declared.encode.EncodeError.{EncodeError}
 use Rattle.asn_traits.specs.Answer.{OptionalFailsWith, Refuses}
 use Rattle.asn_traits.specs.FieldAnswer.{AdditionFailsWith, AddsSlot, Ahead, TakesDefault, TakesField, TakesSlot, WithinField}
-use Rattle.asn_model.specs.Components.{Component, Standing, component_names, reading_order}
+use Rattle.asn_model.specs.Components.{Component, Standing, component_names}
 use Rattle.asn_model.specs.Notation.{Notation}
 use Rattle.asn_traits.specs.Passing.{allows, default_slot, may_take, AddsFields, RefusesAdding, TakesFields, RefusesFields, ComponentFailsWith}
 use Rattle.asn_traits.specs.Passing.AddsFields.{adds_none, adds_next}
@@ -15,23 +14,23 @@ use Rattle.asn_traits.specs.Passing.RefusesAdding.{refuses_slot, refuses_later_s
 use Rattle.asn_traits.specs.Passing.TakesFields.{takes_none, takes_next, takes_default}
 use Rattle.asn_traits.specs.Passing.RefusesFields.{refuses_field, refuses_later_field}
 use Rattle.asn_model.specs.DecodesTo.{FieldsDecodeTo}
-use Rattle.asn_model.specs.Shape.{Shape, Fields, FieldAdditions, Plain, Presence, SeqKind, all_fields, field_names}
+use Rattle.asn_model.specs.Shape.{Shape, Fields, Plain, Presence, field_names}
 use Rattle.asn_model.specs.FailsWith.{FailsWith, FieldsFailWith, Path}
 use Rattle.asn_model.specs.Tree.{Slot, head_slot}
 use Rattle.asn_model.specs.Value.{Value, Slots, is_kept, is_plain, may_lack, with_field}
 use Rattle.asn_traits.specs.Writing.{Frame, head_name, named, tail_names, Filled, FailsToFill}
 use Rattle.asn_traits.proofs.FieldSteps.{FieldsRead, reads_start, refused_at, refused_after, member, at_field}
 use Rattle.asn_traits.proofs.Filling.{fill_end, fill_present, fill_absent}
-use Rattle.asn_traits.proofs.ReadingOrder.{fields_from, fields-read, names-read}
+use Rattle.asn_traits.proofs.ReadingOrder.{fields_from}
 use Rattle.asn_traits.proofs.Steps.{refuses_by}
 use Rattle.asn_traits.proofs.Taking.{Taking, optional_field, takes_present, takes_optional, taking_ends, fails_optional, fails_required, fails_addition}
 
-allowed-kept : (p : Presence) (v : Value) → allows p (Some v) ≡ true → is_kept p v ≡ true
+pub allowed-kept : (p : Presence) (v : Value) → allows p (Some v) ≡ true → is_kept p v ≡ true
 allowed-kept Presence.required v a = refl
 allowed-kept Presence.optional v a = refl
 allowed-kept (Presence.default d) v a = a
 
-allowed-lacks : (p : Presence) → allows p None ≡ true → may_lack p ≡ true
+pub allowed-lacks : (p : Presence) → allows p None ≡ true → may_lack p ≡ true
 allowed-lacks Presence.required a = let e : false ≡ true = a in cc e
 allowed-lacks Presence.optional a = refl
 allowed-lacks (Presence.default d) a = refl
@@ -96,7 +95,7 @@ recast n all slots rest after todo front f g same t = record {
 abbrev names_ahead : Ahead → List (List ℕ)
 names_ahead (Ahead.ahead names slots) = names
 
-abbrev slots_ahead : Ahead → List Slot
+abbrev pub slots_ahead : Ahead → List Slot
 slots_ahead (Ahead.ahead names slots) = slots
 
 module _ {n : Notation} {all : List Component} {start : List Slot} where
@@ -166,25 +165,13 @@ module _ {n : Notation} {all : List Component} {start : List Slot} where
       component_refused r (subst (λ ns. Refuses n (ComponentFailsWith n c.presence c.standing c.shape (head_name ns) now) e) named h)
   refuses_rest r named (RefusesFields.refuses_later_field (TakesField.takes_field t others) more a) = refuses_rest (reads_any r t a) (others ∙ ap tail_names named) more
 
--- There is a slot for each component.
-one_each : (fs : Fields) (added : FieldAdditions) (slots : List Slot) → length slots ≡ length (field_names (all_fields fs added)) → length slots ≡ length (reading_order SeqKind.sequence fs added)
-one_each fs added slots count = count ∙ ap length (sym (names-read fs added)) ∙ length-map (reading_order SeqKind.sequence fs added) (λ (c : Component). c.name)
+-- The slots of components that are taken are gone.
+pub takes_components : {n : Notation} {cs : List Component} {ss : Frame} {names others : List (List ℕ)} {before after : List Slot} → TakesFields n cs ss (Ahead.ahead names before) (Ahead.ahead others after) → (slots rest : List Slot) → length slots ≡ length cs → before ≡ slots ++ rest → after ≡ rest
+takes_components t slots rest count is = let d = reads_rest reads_start t slots rest count is in d.0
 
--- The slots that are taken decode to the members that they are.
-pub takes_fields : {n : Notation} (fs : Fields) (added : FieldAdditions) {ss : Frame} {names others : List (List ℕ)} {before after : List Slot} (v : Value) → v ≡ Value.members (named ss (field_names (all_fields fs added))) → TakesFields n (reading_order SeqKind.sequence fs added) ss (Ahead.ahead names before) (Ahead.ahead others after)
-    → (slots rest : List Slot) → length slots ≡ length (field_names (all_fields fs added)) → before ≡ slots ++ rest → (after ≡ rest) × (vs : Slots) × FieldsDecodeTo n (all_fields fs added) slots vs × (v ≡ Value.members vs)
-takes_fields {n} fs added {ss = ss} v e t slots rest count is =
-    let d = reads_rest reads_start t slots rest (one_each fs added slots count) is in
-    let read = reading_order SeqKind.sequence fs added in (
-      d.0,
-      named ss (field_names (all_fields fs added)),
-      subst (λ ns. FieldsDecodeTo n (all_fields fs added) slots (named ss ns)) (names-read fs added) (subst (λ gs. FieldsDecodeTo n gs slots (named ss (component_names read))) (fields-read fs added) d.1),
-      e,
-    )
-
-pub refuses_fields : {n : Notation} (fs : Fields) (added : FieldAdditions) {names : List (List ℕ)} {before : List Slot} {e : Failure} → names ≡ field_names (all_fields fs added) → RefusesFields n (reading_order SeqKind.sequence fs added) (Ahead.ahead names before) e
-    → (slots rest : List Slot) → length slots ≡ length (field_names (all_fields fs added)) → before ≡ slots ++ rest → Refuses n (FieldsFailWith n (reading_order SeqKind.sequence fs added) slots) e
-refuses_fields fs added named r slots rest count is = refuses_rest reads_start (named ∙ sym (names-read fs added)) r slots rest (one_each fs added slots count) is
+-- A component's refusal is one of its slot.
+pub refuses_components : {n : Notation} {cs : List Component} {names : List (List ℕ)} {before : List Slot} {e : Failure} → names ≡ component_names cs → RefusesFields n cs (Ahead.ahead names before) e → (slots rest : List Slot) → length slots ≡ length cs → before ≡ slots ++ rest → Refuses n (FieldsFailWith n cs slots) e
+refuses_components named r slots rest count is = refuses_rest reads_start named r slots rest count is
 
 default_allowed : (d : Plain) (v : Value) → allows (Presence.default d) (default_slot d v) ≡ true
 default_allowed d v = by (is_plain d v) refl

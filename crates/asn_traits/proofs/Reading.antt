@@ -2,13 +2,13 @@
 use Rattle.std.proofs.Common.{◌≡◌, refl, ap, sym, ◌∙◌, List, [], ◌∷◌, ◌++◌, subst, ℕ, ◌+◌, ◌<◌, ◌≤◌, length, Ok, arith}
 use Rattle.asn_fault.specs.Failure.{Failure, Cause}
 use Rattle.asn_model.specs.Notation.{Notation}
-use Rattle.asn_model.specs.Shape.{Shape}
+use Rattle.asn_model.specs.Shape.{Shape, SeqKind}
 use Rattle.asn_model.specs.Tree.{Slot, slot_nodes, head_nodes, head_slot}
 use Rattle.asn_model.specs.Value.{Value, Values, values}
 use Rattle.asn_model.specs.DecodesTo.{DecodesTo, EachDecodesTo}
 use Rattle.asn_model.specs.FailsWith.{FailsWith, EachFailsWith, Path}
 use Rattle.asn_traits.specs.Answer.{Answer, Refuses}
-use Rattle.asn_traits.specs.Opening.{OpensList, AllBelow, IsList}
+use Rattle.asn_traits.specs.Opening.{OpensList, AllBelow, IsList, list_shape, list_value}
 use Rattle.asn_traits.proofs.Steps.{refuses_by, same_head, same_tail, list_decodes, list_fails}
 
 -- The values of the items and then vs.
@@ -38,8 +38,8 @@ pub record Reading {A : Type 0} (n : Notation) (s : Shape) (f : A → Value) (be
   pub said : (vs : Values) → EachDecodesTo n s todo vs → EachDecodesTo n s all (values_then f items vs)
   pub stopped : (p : Path) (w : Cause) → EachFailsWith n s todo p w → EachFailsWith n s all p w
 
-module _ {A : Type 0} (n : Notation) (s : Shape) (f : A → Value) (before : List Slot) (items : List A) where
-  pub start : (count : ℕ) (now : List Slot) → OpensList n before (Ok count) now → Reading n s f before [] 0 count now
+module _ {A : Type 0} (n : Notation) (kind : SeqKind) (s : Shape) (f : A → Value) (before : List Slot) (items : List A) where
+  pub start : (count : ℕ) (now : List Slot) → OpensList n kind before (Ok count) now → Reading n s f before [] 0 count now
   start count now (slot, slots, rest, was, is, len, below, list) =
       record { slot = slot; all = slots; todo = slots; rest = rest; was = was; is = is; left = omega (arith, len); below = below; list = list; said = λ vs h. h; stopped = λ p w h. h }
 
@@ -79,21 +79,21 @@ module _ {A : Type 0} (n : Notation) (s : Shape) (f : A → Value) (before : Lis
 
   refuse_at : (i count : ℕ) (now : List Slot) (slot : Slot) (all todo rest : List Slot) → before ≡ slot ∷ rest → now ≡ todo ++ rest
       → length todo + i ≡ count → IsList n slot all → i < count → ((p : Path) (w : Cause) → EachFailsWith n s todo p w → EachFailsWith n s all p w)
-      → (p : Path) (w : Cause) → FailsWith n s (head_slot now) p w → FailsWith n (Shape.list_of s) (head_slot before) p w
+      → (p : Path) (w : Cause) → FailsWith n s (head_slot now) p w → FailsWith n (list_shape kind s) (head_slot before) p w
   refuse_at i count now slot all [] rest was is left list h stopped p w k = absurd (omega (arith, left, h))
   refuse_at i count now slot all (u ∷ us) rest was is left list h stopped p w k =
       let at : FailsWith n s u p w = subst (λ c. FailsWith n s (head_slot c) p w) is k in
-      subst (λ c. FailsWith n (Shape.list_of s) (head_slot c) p w) (sym was) (list_fails s p w list (stopped p w (EachFailsWith.fails_here s u us p w at)))
+      subst (λ c. FailsWith n (list_shape kind s) (head_slot c) p w) (sym was) (list_fails kind s p w list (stopped p w (EachFailsWith.fails_here s u us p w at)))
 
-  pub refuse : (i count : ℕ) (now : List Slot) (e : Failure) → Reading n s f before items i count now → i < count → Refuses n (FailsWith n s (head_slot now)) e → Refuses n (FailsWith n (Shape.list_of s) (head_slot before)) e
+  pub refuse : (i count : ℕ) (now : List Slot) (e : Failure) → Reading n s f before items i count now → i < count → Refuses n (FailsWith n s (head_slot now)) e → Refuses n (FailsWith n (list_shape kind s) (head_slot before)) e
   refuse i count now e r h k = refuses_by (refuse_at i count now r.slot r.all r.todo r.rest r.was r.is r.left r.list h r.stopped) e k
 
   finish_at : (i count : ℕ) (now : List Slot) (slot : Slot) (all todo rest : List Slot) → before ≡ slot ∷ rest → now ≡ todo ++ rest
       → length todo + i ≡ count → IsList n slot all → count ≤ i → ((vs : Values) → EachDecodesTo n s todo vs → EachDecodesTo n s all (values_then f items vs))
-      → (t : Slot) × (before ≡ t ∷ now) × DecodesTo n (Shape.list_of s) t (Value.list (values f items))
+      → (t : Slot) × (before ≡ t ∷ now) × DecodesTo n (list_shape kind s) t (list_value kind (values f items))
   finish_at i count now slot all [] rest was is left list h said =
-      (slot, was ∙ ap (λ r. slot ∷ r) (sym is), list_decodes s _ list (subst (EachDecodesTo n s all) (then_none f items) (said Values.no_values (EachDecodesTo.decodes_none s))))
+      (slot, was ∙ ap (λ r. slot ∷ r) (sym is), list_decodes kind s _ list (subst (EachDecodesTo n s all) (then_none f items) (said Values.no_values (EachDecodesTo.decodes_none s))))
   finish_at i count now slot all (u ∷ us) rest was is left list h said = absurd (omega (arith, left, h))
 
-  pub finish : (i count : ℕ) (now : List Slot) → Reading n s f before items i count now → count ≤ i → (t : Slot) × (before ≡ t ∷ now) × DecodesTo n (Shape.list_of s) t (Value.list (values f items))
+  pub finish : (i count : ℕ) (now : List Slot) → Reading n s f before items i count now → count ≤ i → (t : Slot) × (before ≡ t ∷ now) × DecodesTo n (list_shape kind s) t (list_value kind (values f items))
   finish i count now r h = finish_at i count now r.slot r.all r.todo r.rest r.was r.is r.left r.list h r.said

@@ -24,7 +24,7 @@ field_names-rows : (k : ℕ) (fs : Fields) → map (λ (r : Row). r.name) (field
 field_names-rows k Fields.no_fields = refl
 field_names-rows k (Fields.field n t p s fs) = ap (λ l. n ∷ l) (field_names-rows (suc k) fs)
 
-table_names : (k : ℕ) (fields : List Field) (fs : Fields) → rows_of fields ≡ field_rows k fs → names_of fields ≡ field_names fs
+pub table_names : (k : ℕ) (fields : List Field) (fs : Fields) → rows_of fields ≡ field_rows k fs → names_of fields ≡ field_names fs
 table_names k fields fs e = sym (names_of-rows fields) ∙ ap (map (λ (r : Row). r.name)) e ∙ field_names-rows k fs
 
 -- The names in the tables of a type's fields are those of the fields of its shape.

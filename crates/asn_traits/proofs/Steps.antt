@@ -12,7 +12,7 @@ use Rattle.asn_model.specs.Value.{Value, Values, Slots}
 use Rattle.asn_model.specs.DecodesTo.{DecodesTo, EachDecodesTo, FieldsDecodeTo}
 use Rattle.asn_model.specs.FailsWith.{FailsWith, EachFailsWith, FieldsFailWith, Path}
 use Rattle.asn_traits.specs.Answer.{Answer, Refuses}
-use Rattle.asn_traits.specs.Opening.{IsList, HasMembers}
+use Rattle.asn_traits.specs.Opening.{IsList, HasMembers, list_shape, list_value}
 
 -- A refusal for a reason is one for another reason that follows from it.
 pub refuses_by : {n : Notation} {P Q : Path → Cause → Type 0} → ((p : Path) (w : Cause) → P p w → Q p w) → (e : Failure) → Refuses n P e → Refuses n Q e
@@ -26,13 +26,15 @@ same_head x y xs ys e = cc e
 pub same_tail : (x y : Slot) (xs ys : List Slot) → x ∷ xs ≡ y ∷ ys → xs ≡ ys
 same_tail x y xs ys e = cc e
 
-pub list_decodes : {n : Notation} {slot : Slot} {slots : List Slot} (s : Shape) (vs : Values) → IsList n slot slots → EachDecodesTo n s slots vs → DecodesTo n (Shape.list_of s) slot (Value.list vs)
-list_decodes s vs (IsList.is_list t slots e) h = DecodesTo.decodes_list s t slots vs e h
-list_decodes s vs (IsList.list_free slot slots e) h = DecodesTo.decodes_free _ slot _ e
+pub list_decodes : {n : Notation} {slot : Slot} {slots : List Slot} (kind : SeqKind) (s : Shape) (vs : Values) → IsList n slot slots → EachDecodesTo n s slots vs → DecodesTo n (list_shape kind s) slot (list_value kind vs)
+list_decodes SeqKind.sequence s vs (IsList.is_list t slots e) h = DecodesTo.decodes_list s t slots vs e h
+list_decodes SeqKind.set s vs (IsList.is_list t slots e) h = DecodesTo.decodes_set s t slots vs e h
+list_decodes kind s vs (IsList.list_free slot slots e) h = DecodesTo.decodes_free _ slot _ e
 
-pub list_fails : {n : Notation} {slot : Slot} {slots : List Slot} (s : Shape) (p : Path) (w : Cause) → IsList n slot slots → EachFailsWith n s slots p w → FailsWith n (Shape.list_of s) slot p w
-list_fails s p w (IsList.is_list t slots e) h = FailsWith.fails_list s t slots p w e h
-list_fails s p w (IsList.list_free slot slots e) h = FailsWith.fails_free _ slot p w e
+pub list_fails : {n : Notation} {slot : Slot} {slots : List Slot} (kind : SeqKind) (s : Shape) (p : Path) (w : Cause) → IsList n slot slots → EachFailsWith n s slots p w → FailsWith n (list_shape kind s) slot p w
+list_fails SeqKind.sequence s p w (IsList.is_list t slots e) h = FailsWith.fails_list s t slots p w e h
+list_fails SeqKind.set s p w (IsList.is_list t slots e) h = FailsWith.fails_set s t slots p w e h
+list_fails kind s p w (IsList.list_free slot slots e) h = FailsWith.fails_free _ slot p w e
 
 pub members_decode : {n : Notation} {names : List (List ℕ)} {slot : Slot} {slots : List Slot} (kind : SeqKind) (fs : Fields) (added : FieldAdditions) (vs : Slots) → names ≡ field_names (all_fields fs added) → HasMembers n names slot slots → FieldsDecodeTo n (all_fields fs added) slots vs → DecodesTo n (Shape.seq kind fs added) slot (Value.members vs)
 members_decode {n} kind fs added vs e (HasMembers.has_members names t look is) h = DecodesTo.decodes_seq kind fs added t look vs is (subst (λ l. FieldsDecodeTo n (all_fields fs added) (map look l) vs) e h)

@@ -29,5 +29,7 @@ pub mod OwnTag
 pub mod Root
 pub mod Chosen
 pub mod Passing
+pub mod ReadingSlots
 pub mod TextTypes
 pub mod Terms
+pub mod SetElements

@@ -9,7 +9,7 @@ use Rattle.asn_model.specs.Shape.{Shape, SeqKind, Fields, FieldAdditions, Altern
 use Rattle.asn_model.specs.Tree.{Tree, Slot, slot_nodes, head_slot, as_list, as_members, as_choice, same_identifier}
 use Rattle.asn_model.specs.FailsWith.{FailsWith}
 use Rattle.asn_traits.specs.Answer.{Refuses}
-use Rattle.asn_model.specs.Value.{Value}
+use Rattle.asn_model.specs.Value.{Value, Values, bag_of}
 use Rattle.asn_model.specs.declared.leaves.LeafKind.{LeafKind}
 use Rattle.asn_model.specs.declared.leaves.OwnedLeaf.{OwnedLeaf}
 
@@ -52,10 +52,20 @@ abbrev pub TakesLeaf : Notation → LeafKind → List Slot → Result OwnedLeaf 
 TakesLeaf n k before (Ok x) after = (slot : Slot) × (before ≡ slot ∷ after) × (kind_of_owned x ≡ answer_kind k) × IsLeaf n k slot x
 TakesLeaf n k before (Err e) after = (s : Shape) → kind_of s ≡ Some k → Refuses n (FailsWith n s (head_slot before)) (failure_of e)
 
+-- The shape of SEQUENCE OF or SET OF, by the shape of its elements.
+abbrev pub list_shape : SeqKind → Shape → Shape
+list_shape SeqKind.sequence s = Shape.list_of s
+list_shape SeqKind.set s = Shape.set_of s
+
+-- The value of SEQUENCE OF or SET OF, by its elements.
+abbrev pub list_value : SeqKind → Values → Value
+list_value SeqKind.sequence vs = Value.list vs
+list_value SeqKind.set vs = bag_of vs
+
 -- The elements of the first pending slot stand in its place, each with fewer nodes, or it is no list.
-abbrev pub OpensList : Notation → List Slot → Result ℕ DecodeError → List Slot → Type 0
-OpensList n before (Ok count) after = (slot : Slot) × (slots : List Slot) × (rest : List Slot) × (before ≡ slot ∷ rest) × (after ≡ slots ++ rest) × (length slots ≡ count) × AllBelow (slot_nodes slot) slots × IsList n slot slots
-OpensList n before (Err e) after = (s : Shape) → Refuses n (FailsWith n (Shape.list_of s) (head_slot before)) (failure_of e)
+abbrev pub OpensList : Notation → SeqKind → List Slot → Result ℕ DecodeError → List Slot → Type 0
+OpensList n kind before (Ok count) after = (slot : Slot) × (slots : List Slot) × (rest : List Slot) × (before ≡ slot ∷ rest) × (after ≡ slots ++ rest) × (length slots ≡ count) × AllBelow (slot_nodes slot) slots × IsList n slot slots
+OpensList n kind before (Err e) after = (s : Shape) → Refuses n (FailsWith n (list_shape kind s) (head_slot before)) (failure_of e)
 
 -- The slots of these names in the first pending slot stand in its place, or it has no members.
 abbrev pub OpensMembers : Notation → SeqKind → List (List ℕ) → List Slot → Result (Unit {0}) DecodeError → List Slot → Type 0

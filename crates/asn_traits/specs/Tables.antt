@@ -48,6 +48,10 @@ abbrev pub or_end : Option Tag → Tag
 or_end (Some t) = t
 or_end None = end_tag
 
+-- The tag by which a field of a table is ordered.
+abbrev pub field_tag : Field → Tag
+field_tag f = or_end (smallest f.tag_tree)
+
 -- The smallest tags of the alternatives, in order.
 abbrev pub root_tags : Alternatives → List (Option Tag)
 root_tags alts = map Some (tags alts)

@@ -7,7 +7,7 @@ use Rattle.asn_model.specs.Canonical.{canonical_tree}
 use Rattle.asn_model.specs.Notation.{Notation, notation_of}
 use Rattle.asn_model.specs.Shape.{Shape, Fields, Alternatives, shape_under, field_names}
 use Rattle.asn_model.specs.Writable.{Writable, WritableSlots, FirstUnencodable}
-use Rattle.asn_model.specs.Value.{Value, Values, Slots, Fits, FitsFields, FitsAlternative, value_under}
+use Rattle.asn_model.specs.Value.{Value, Values, Slots, bag_of, Fits, FitsFields, FitsAlternative, value_under}
 pub use Rattle.asn_slots.specs.Frames.{push, close}
 pub use Rattle.asn_slots.specs.Slots.{last_present}
 
@@ -78,6 +78,15 @@ Maps holds f old new = (fs : List Frame) → holds old fs → holds new (f fs)
 pub record Puts {S : Type 0} (holds : S → List Frame → Type 0) (n : Notation) (v : Value) (old new : S) : Type 0 where
   pub added : (w : Value) → canonical_tree n w ≡ canonical_tree n v → Maps holds (push (Some w)) old new
   pub writable : Writable n v
+
+-- The value is written as the set of these values is, in whatever order they stand. A codec that is neither notation has their set alone.
+pub data IsWrittenAsSet (n : Notation) (vs : Values) (w : Value) : Type 0 where
+  written_alike : canonical_tree n w ≡ canonical_tree n (Value.bag vs) → IsWrittenAsSet n vs w
+  set_itself : w ≡ bag_of vs → n ≡ Notation.other → IsWrittenAsSet n vs w
+
+-- The last frame becomes one slot of the one before it: any value that is written as the set of its present values.
+abbrev pub ClosesSet : {S : Type 0} → (S → List Frame → Type 0) → Notation → S → S → Type 0
+ClosesSet holds n old new = (slots : Frame) (fs : List Frame) (w : Value) → holds old (slots ∷ fs) → IsWrittenAsSet n (present_values slots) w → holds new (push (Some w) fs)
 
 -- The last frame has one more slot, the value, which fits its shape and can be written.
 pub record Written {S : Type 0} (holds : S → List Frame → Type 0) (n : Notation) (s : Shape) (v : Value) (old new : S) : Type 0 where

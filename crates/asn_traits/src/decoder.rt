@@ -11,11 +11,11 @@ ghost use Rattle.asn_model.specs.Shape.{are_distinct, Shape, Alphabet, all_alter
 ghost use Rattle.asn_model.specs.Shape.{SeqKind as AbstractSeqKind, all_fields, field_names};
 ghost use Rattle.asn_model.specs.ShapeView.{kind_view};
 ghost use Rattle.asn_model.specs.Tree.{Slot, head_nodes, slot_nodes};
-ghost use Rattle.asn_model.specs.Value.{Value, values};
+ghost use Rattle.asn_model.specs.Value.{Value, bag_of, values};
 ghost use Rattle.asn_traits.specs.Answer.{Answer, AnswerBy, AnswerUnder, AtRoot, Refuses};
 ghost use Rattle.asn_traits.specs.Answer.{TakesAbsent, OptionalAnswer};
 ghost use Rattle.asn_traits.specs.Opening.{TakesLeaf, OpensList, OpensMembers, OpensChoice};
-ghost use Rattle.asn_traits.specs.Opening.{OpensAlternative, AllBelow};
+ghost use Rattle.asn_traits.specs.Opening.{OpensAlternative, AllBelow, list_shape, list_value};
 ghost use Rattle.asn_traits.specs.Scopes.{ScopeAnswer, TagAnswer};
 ghost use Rattle.asn_traits.specs.Tables.{names_of};
 ghost use Rattle.asn_traits.specs.TextTypes.{no_teletex};
@@ -26,12 +26,13 @@ use crate::integer_type::beyond_128_bits;
 use crate::tables::{listed, listed_fields, tag_at};
 use crate::{
     AsnType, Choice, Constructed, Enumerated, Field, IntegerType, LeafKind, OwnedLeaf, SeqKind,
-    TextType,
+    SetElement, TextType,
 };
 use asn_core::{Any, Bits, Codec, Constraints, ObjectIdentifier, Tag};
 use asn_fault::{DecodeError, Refusal};
 use asn_model::fixed_size;
 use asn_model::words::NO_TELETEX;
+use asn_sets::SetOf;
 use asn_strings::{
     BmpString, GeneralString, GraphicString, Ia5String, NumericString, PrintableString,
     TeletexString, VisibleString,
@@ -81,9 +82,15 @@ pub trait Decoder {
     fn take_absent(&mut self) -> Result<bool, DecodeError>
         ensures { TakesAbsent notation (pending self.old) result (pending self.new) };
 
-    /// Puts the elements of the first pending slot, a list, in its place, and returns their number.
-    fn open_list(&mut self) -> Result<usize, DecodeError>
-        ensures { OpensList notation (pending self.old) result (pending self.new) };
+    /// Puts the elements of the first pending slot, a SEQUENCE OF or SET OF, in its place, and
+    /// returns their number.
+    ///
+    /// # Errors
+    ///
+    /// A type mismatch by the name of the kind where the slot has no elements; those of `Decoder`.
+    fn open_list(&mut self, kind: SeqKind) -> Result<usize, DecodeError>
+        ensures { OpensList notation (kind_view kind) (pending self.old) result
+            (pending self.new) };
 
     /// Puts the slots of these fields of the first pending slot in its place: those of the root
     /// fields, and then those of the extension additions. A field is found by its name, whatever
@@ -398,18 +405,14 @@ pub trait Decoder {
         Err(DecodeError::real_not_supported(self.codec()))
     }
 
-    /// Reads a SEQUENCE OF.
-    /// All room is made for the elements at once, since their number is known.
-    final fn decode_sequence_of<T: Decode>(
-        &mut self,
-        tag: Tag,
-        constraints: &Constraints,
-    ) -> Result<Vec<T>, DecodeError>
-        ensures { Answer notation (Shape.list_of T.shape_of)
-            (λ v. Value.list (values T.value_of v.items)) (pending self.old) result
+    /// Decodes the elements of a SEQUENCE OF or SET OF, in the order in which they stand. All room
+    /// is made for them at once, since their number is known.
+    final fn decode_elements<T: Decode>(&mut self, kind: SeqKind) -> Result<Vec<T>, DecodeError>
+        ensures { Answer notation (list_shape (kind_view kind) T.shape_of)
+            (λ v. list_value (kind_view kind) (values T.value_of v.items)) (pending self.old) result
             (pending self.new) }
     {
-        let count = self.open_list()?;
+        let count = self.open_list(kind)?;
         let Ok(mut items) = Vec::with_capacity(self.allocator(), count) else {
             return Err(DecodeError::out_of_memory(self.codec()));
         };
@@ -421,6 +424,36 @@ pub trait Decoder {
             };
         }
         Ok(items)
+    }
+
+    /// Decodes a SEQUENCE OF.
+    final fn decode_sequence_of<T: Decode>(
+        &mut self,
+        tag: Tag,
+        constraints: &Constraints,
+    ) -> Result<Vec<T>, DecodeError>
+        ensures { Answer notation (Shape.list_of T.shape_of)
+            (λ v. Value.list (values T.value_of v.items)) (pending self.old) result
+            (pending self.new) }
+    {
+        self.decode_elements::<T>(SeqKind::Sequence)
+    }
+
+    /// Decodes a SET OF, whose elements may stand in any order.
+    final fn decode_set_of<T: Decode + SetElement>(
+        &mut self,
+        tag: Tag,
+        constraints: &Constraints,
+    ) -> Result<SetOf<T>, DecodeError>
+        ensures { Answer notation (Shape.set_of T.shape_of)
+            (λ set. bag_of (values T.value_of set)) (pending self.old) result
+            (pending self.new) }
+    {
+        let elements = self.decode_elements::<T>(SeqKind::Set)?;
+        match SetOf::from_vec(self.allocator(), elements) {
+            Ok(set) => Ok(set),
+            Err(_) => Err(DecodeError::out_of_memory(self.codec())),
+        }
     }
 
     /// Decodes a SEQUENCE: `decode_fn` starts with one slot per field before the others, extension

@@ -14,9 +14,9 @@ ghost use Rattle.asn_model.specs.Writable.{no_unicode};
 ghost use Rattle.asn_traits.specs.FieldAnswer.{AddsSlot};
 ghost use Rattle.asn_traits.specs.Tables.{names_of};
 ghost use Rattle.asn_traits.specs.TextTypes.{TellsUnwritten, no_teletex};
-ghost use Rattle.asn_model.specs.Value.{Value, values};
+ghost use Rattle.asn_model.specs.Value.{Value, bag_of, values};
 ghost use Rattle.asn_traits.specs.Writing.{Frame, push, close, as_list, as_members, as_choice};
-ghost use Rattle.asn_traits.specs.Writing.{Written, WrittenUnder, FailsToEncode};
+ghost use Rattle.asn_traits.specs.Writing.{ClosesSet, Written, WrittenUnder, FailsToEncode};
 ghost use Rattle.asn_traits.specs.Writing.{FailsToEncodeUnder, FailsToFill, ScopeRan, Maps, Puts};
 ghost use Rattle.std.specs.Fn.{FnOnceReturnsAtMut};
 ghost use Rattle.std.specs.Prelude.{◌≡◌, ◌⊎◌, pos, ◌∷◌, ◌++◌, [], ℕ, List, Option, Some, None, Ok};
@@ -24,11 +24,14 @@ ghost use Rattle.std.specs.Prelude.{Err, true, map, option_map, OnOk, IfErr, IfS
 ghost use Rattle.std.specs.Prelude.{IsSome, ⊤};
 
 use crate::tables::{identifier_of, listed, listed_fields};
-use crate::{AsnType, Choice, Constructed, Enumerated, Field, IntegerType, Leaf, TextType};
+use crate::{
+    AsnType, Choice, Constructed, Enumerated, Field, IntegerType, Leaf, SetElement, TextType,
+};
 use asn_core::{Any, Bits, Codec, Constraints, Identifier, Tag, WholeNumber};
 use asn_fault::{EncodeError, EncodeErrorKind};
 use asn_model::words::NO_TELETEX;
 use asn_model::{are_arcs, are_octets, fixed_size};
+use asn_sets::SetOf;
 use asn_strings::{
     BmpString, GeneralString, GraphicString, Ia5String, NumericString, PrintableString,
     TeletexString, VisibleString,
@@ -95,6 +98,16 @@ pub trait Encoder {
     /// `OutOfMemory` alone.
     fn close_list(&mut self) -> Result<(), EncodeError>
         ensures closed { OnOk result (Maps holds (close as_list) self.old self.new) }
+        ensures refused { IfErr result (λ e. e.kind ≡ EncodeErrorKind.OutOfMemory) };
+
+    /// Closes the last frame, and puts it into the one before it as the set of its present values:
+    /// written in byte order of their texts.
+    ///
+    /// # Errors
+    ///
+    /// `OutOfMemory` alone.
+    fn close_set(&mut self) -> Result<(), EncodeError>
+        ensures closed { OnOk result (ClosesSet holds notation self.old self.new) }
         ensures refused { IfErr result (λ e. e.kind ≡ EncodeErrorKind.OutOfMemory) };
 
     /// Closes the last frame, and puts it into the one before it as members, by the names of these
@@ -580,6 +593,31 @@ pub trait Encoder {
             item.encode(self)?;
         }
         self.close_list()
+    }
+
+    /// Encodes a SET OF, element by element. They are written in byte order of their texts.
+    final fn encode_set_of<T: Encode + SetElement>(
+        &mut self,
+        tag: Tag,
+        value: &SetOf<T>,
+        constraints: &Constraints,
+        identifier: Identifier,
+    ) -> Result<(), EncodeError>
+    where
+        Self: Sized,
+        ensures written { OnOk result (Written holds notation (Shape.set_of T.shape_of)
+            (bag_of (values T.value_of value.now)) self.old self.new) }
+        ensures refused { IfErr result (FailsToEncode notation
+            (bag_of (values T.value_of value.now))) }
+    {
+        let Ok(elements) = value.to_vec(self.allocator()) else {
+            return Err(EncodeError::out_of_memory(self.codec()));
+        };
+        self.open_frame()?;
+        for element in &elements {
+            element.encode(self)?;
+        }
+        self.close_set()
     }
 
     /// Encodes a SEQUENCE: the closure starts on a new frame and leaves one slot per field in it,

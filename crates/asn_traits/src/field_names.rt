@@ -1,5 +1,6 @@
-//! Holds the names of the fields of a SEQUENCE, along which its decoding goes. A field is decoded
-//! with no name in the source: each call takes the next one from here, to name it in an error.
+//! Holds the names of the fields of a SEQUENCE or SET, along which its decoding goes. A field is
+//! decoded with no name in the source: each call takes the next one from here, to name it in an
+//! error.
 ghost use Rattle.asn_traits.specs.Writing.{head_name, tail_names};
 ghost use Rattle.asn_traits.specs.Tables.{names_of};
 ghost use Rattle.std.specs.Prelude.{◌≡◌, ◌++◌, ℕ, List};
@@ -10,25 +11,25 @@ use std::marker::Model;
 /// Holds the names of the fields that are still to be decoded, in order, as the type's tables have
 /// them. Contracts see the list of names.
 #[derive(Drop)]
-pub struct FieldNames {
+pub struct FieldNames<'a> {
     /// Holds the rows of the root that are left.
-    root: &'static [Field],
+    root: &'a [Field],
     /// Holds the rows of the extension additions that are left.
-    additions: &'static [Field],
+    additions: &'a [Field],
 }
 
 /// Lets contracts see the names of both tables as one list.
-impl Model for FieldNames {
+impl<'a> Model for FieldNames<'a> {
     ghost Value = { List (List ℕ) };
 
     ghost view = { λ names. names_of names.root.now ++ names_of names.additions.now };
 }
 
-/// Goes along the names. Nothing is copied: the tables are constants.
-impl FieldNames {
+/// Goes along the names. Nothing is copied.
+impl<'a> FieldNames<'a> {
     /// Returns the names in the table of the root fields, and then those in that of the extension
     /// additions.
-    pub fn new(root: &'static [Field], additions: &'static [Field]) -> FieldNames
+    pub fn new(root: &'a [Field], additions: &'a [Field]) -> FieldNames<'a>
         ensures { result ≡ names_of root.now ++ names_of additions.now }
     {
         FieldNames { root, additions }

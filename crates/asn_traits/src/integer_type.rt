@@ -3,11 +3,14 @@
 //! X.680, section 19.
 ghost use Rattle.asn_core.specs.Numbers.{OfParts, signed, is_negative, magnitude};
 ghost use Rattle.asn_model.specs.Readable.{has_128_bits};
-ghost use Rattle.std.specs.Prelude.{◌≡◌, ◌⊎◌, Bool, ℕ, ℤ, pos, negsuc, ◌-◌, ◌^◌, ◌≤◌, ◌<◌, ◌<ℤ◌};
+ghost use Rattle.asn_traits.specs.SetElements.{signed_alike, unsigned_alike};
+ghost use Rattle.std.specs.Prelude.{◌≡◌, ◌↔◌, ◌⊎◌, Bool, ℕ, ℤ, pos, negsuc, ◌-◌, ◌^◌, ◌≤◌, ◌<◌, ◌<ℤ◌};
 ghost use Rattle.std.specs.Prelude.{◌≤ℤ◌, IfSome, true, refl};
 
+use std::hash::Hash;
+
 /// Describes an integer type: every whole number from `LEAST` to `GREATEST`, in `WIDTH` bits.
-pub trait IntegerType: Copy {
+pub trait IntegerType: Copy + Eq + Hash {
     /// Counts the bits of the type, which an overflow states.
     const WIDTH: u32;
 
@@ -41,6 +44,9 @@ pub trait IntegerType: Copy {
 
     // The numbers have at most 128 bits, signed or unsigned.
     ghost narrow: { has_128_bits LEAST (pos GREATEST) ≡ true };
+
+    // Values are equal exactly where their numbers are.
+    ghost alike: { (a b : Self) → (Self.PartialEq.eq a b ≡ true) ↔ (number a ≡ number b) };
 }
 
 /// States a law: a number of more than 128 bits is none of an integer type.
@@ -111,6 +117,8 @@ impl IntegerType for u8 {
     }
 
     ghost narrow = { refl };
+
+    ghost alike = { unsigned_alike };
 }
 
 /// Has the numbers from 0 to 2^16-1.
@@ -138,6 +146,8 @@ impl IntegerType for u16 {
     }
 
     ghost narrow = { refl };
+
+    ghost alike = { unsigned_alike };
 }
 
 /// Has the numbers from 0 to 2^32-1.
@@ -165,6 +175,8 @@ impl IntegerType for u32 {
     }
 
     ghost narrow = { refl };
+
+    ghost alike = { unsigned_alike };
 }
 
 /// Has the numbers from 0 to 2^64-1.
@@ -192,6 +204,8 @@ impl IntegerType for u64 {
     }
 
     ghost narrow = { refl };
+
+    ghost alike = { unsigned_alike };
 }
 
 /// Has the numbers from 0 to 2^128-1.
@@ -219,6 +233,8 @@ impl IntegerType for u128 {
     }
 
     ghost narrow = { refl };
+
+    ghost alike = { unsigned_alike };
 }
 
 /// Has the numbers of a machine word without a sign, which has 64 bits.
@@ -246,6 +262,8 @@ impl IntegerType for usize {
     }
 
     ghost narrow = { refl };
+
+    ghost alike = { unsigned_alike };
 }
 
 /// Has the numbers from -128 to 127.
@@ -275,6 +293,8 @@ impl IntegerType for i8 {
     }
 
     ghost narrow = { refl };
+
+    ghost alike = { signed_alike };
 }
 
 /// Has the numbers from -2^15 to 2^15-1.
@@ -302,6 +322,8 @@ impl IntegerType for i16 {
     }
 
     ghost narrow = { refl };
+
+    ghost alike = { signed_alike };
 }
 
 /// Has the numbers from -2^31 to 2^31-1.
@@ -329,6 +351,8 @@ impl IntegerType for i32 {
     }
 
     ghost narrow = { refl };
+
+    ghost alike = { signed_alike };
 }
 
 /// Has the numbers from -2^63 to 2^63-1.
@@ -356,6 +380,8 @@ impl IntegerType for i64 {
     }
 
     ghost narrow = { refl };
+
+    ghost alike = { signed_alike };
 }
 
 /// Has the numbers from -2^127 to 2^127-1.
@@ -383,6 +409,8 @@ impl IntegerType for i128 {
     }
 
     ghost narrow = { refl };
+
+    ghost alike = { signed_alike };
 }
 
 /// Has the numbers of a machine word with a sign, which has 64 bits.
@@ -410,4 +438,6 @@ impl IntegerType for isize {
     }
 
     ghost narrow = { refl };
+
+    ghost alike = { signed_alike };
 }

@@ -7,14 +7,15 @@ ghost use Rattle.asn_traits.specs.Chosen.{chosen_value};
 ghost use Rattle.asn_model.specs.Fixed.{fixed_size};
 ghost use Rattle.asn_traits.specs.OwnTag.{HasTags};
 ghost use Rattle.asn_model.specs.Readable.{is_readable};
-ghost use Rattle.asn_model.specs.Shape.{Shape as AbstractShape, SeqKind, all_fields, shape_under};
-ghost use Rattle.asn_model.specs.ShapeView.{shape_view};
+ghost use Rattle.asn_model.specs.Shape.{Shape as AbstractShape, SeqKind as AbstractSeqKind};
+ghost use Rattle.asn_model.specs.Shape.{all_fields, shape_under};
+ghost use Rattle.asn_model.specs.ShapeView.{kind_view, shape_view};
 ghost use Rattle.asn_model.specs.Value.{Value, value_under};
 ghost use Rattle.asn_traits.specs.Writing.{FailsToEncodeUnder, WrittenUnder, members_value};
 ghost use Rattle.std.specs.Prelude.{◌≡◌, ℕ, Option, pos, true, refl, IfErr, IfOk, OnOk};
 
 use crate::{
-    AsnType, ChoicePayload, Decode, Decoder, Encode, Encoder, Enumerated, IntegerType,
+    AsnType, ChoicePayload, Decode, Decoder, Encode, Encoder, Enumerated, IntegerType, SeqKind,
     SequenceFields, Shape, enumerated_shape, read_sequence, write_choice, write_sequence,
 };
 use asn_core::{Constraints, Identifier, OutOfMemory, Tag, TagTree};
@@ -23,7 +24,7 @@ use std::alloc::Global;
 
 /// Gives a type its kind, as all types of which it is described, encoded and decoded.
 pub trait OfKind: Sized + Drop {
-    /// Names the kind: `SequenceKind`, `ChoiceKind`, `EnumeratedKind` or `IntegerKind`.
+    /// Names the kind: `SequenceKind`, `SetKind`, `ChoiceKind`, `EnumeratedKind` or `IntegerKind`.
     type Kind;
 }
 
@@ -219,14 +220,52 @@ impl<I: IntegerType> DecodeKind<I> for IntegerKind {
     }
 }
 
+/// Is a kind of types with fields: SEQUENCE or SET.
+pub trait FieldsKind {
+    /// Holds the universal tag of its types.
+    const UNIVERSAL: Tag;
+
+    // Which of the two it is.
+    ghost seq_kind: { AbstractSeqKind };
+
+    /// Returns which of the two it is.
+    fn seq_kind() -> SeqKind
+        ensures { kind_view result ≡ seq_kind };
+}
+
 /// Names the kind of SEQUENCE types.
 pub struct SequenceKind;
 
-/// Describes a SEQUENCE by its fields.
-impl<T: SequenceFields> DescribeKind<T> for SequenceKind {
-    const TAG: Tag = Tag::SEQUENCE;
+/// Has the fields of its types in order.
+impl FieldsKind for SequenceKind {
+    const UNIVERSAL: Tag = Tag::SEQUENCE;
 
-    ghost shape = { AbstractShape.seq SeqKind.sequence T.fields T.added };
+    ghost seq_kind = { AbstractSeqKind.sequence };
+
+    fn seq_kind() -> SeqKind {
+        SeqKind::Sequence
+    }
+}
+
+/// Names the kind of SET types.
+pub struct SetKind;
+
+/// Has the fields of its types by their tags.
+impl FieldsKind for SetKind {
+    const UNIVERSAL: Tag = Tag::SET;
+
+    ghost seq_kind = { AbstractSeqKind.set };
+
+    fn seq_kind() -> SeqKind {
+        SeqKind::Set
+    }
+}
+
+/// Describes a SEQUENCE or SET by its fields.
+impl<K: FieldsKind, T: SequenceFields + OfKind<Kind = K>> DescribeKind<T> for K {
+    const TAG: Tag = K::UNIVERSAL;
+
+    ghost shape = { AbstractShape.seq K.seq_kind T.fields T.added };
 
     ghost value = { λ x. members_value (all_fields T.fields T.added) (T.slots x) };
 
@@ -235,7 +274,11 @@ impl<T: SequenceFields> DescribeKind<T> for SequenceKind {
     }
 
     fn tags_as() -> (Tag, TagTree, bool) {
-        (Tag::SEQUENCE, TagTree::Leaf(Tag::SEQUENCE), false)
+        let tag = match K::seq_kind() {
+            SeqKind::Sequence => Tag::SEQUENCE,
+            SeqKind::Set => Tag::SET,
+        };
+        (tag, TagTree::Leaf(tag), false)
     }
 
     ghost any_size = { λ n. refl };
@@ -245,8 +288,8 @@ impl<T: SequenceFields> DescribeKind<T> for SequenceKind {
     ghost readable = { T.readable };
 }
 
-/// Encodes a SEQUENCE by its fields. Constraints on sizes mean nothing to it.
-impl<T: SequenceFields> EncodeKind<T> for SequenceKind {
+/// Encodes a SEQUENCE or SET by its fields. Constraints on sizes mean nothing to it.
+impl<K: FieldsKind, T: SequenceFields + OfKind<Kind = K>> EncodeKind<T> for K {
     fn encode_as<E: Encoder>(
         value: &T,
         encoder: &mut E,
@@ -258,14 +301,14 @@ impl<T: SequenceFields> EncodeKind<T> for SequenceKind {
     }
 }
 
-/// Decodes a SEQUENCE by its fields.
-impl<T: SequenceFields> DecodeKind<T> for SequenceKind {
+/// Decodes a SEQUENCE or SET by its fields.
+impl<K: FieldsKind, T: SequenceFields + OfKind<Kind = K>> DecodeKind<T> for K {
     fn decode_as<D: Decoder>(
         decoder: &mut D,
-        tag: Tag,
+        _tag: Tag,
         _constraints: &Constraints,
     ) -> Result<T, DecodeError> {
-        read_sequence(decoder, tag)
+        read_sequence(decoder)
     }
 }
 

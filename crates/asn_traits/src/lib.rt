@@ -18,6 +18,7 @@ mod kinds;
 mod object_identifier;
 mod octet_string;
 mod sequence;
+mod set_of;
 mod shape_parts;
 mod std_types;
 mod strings;
@@ -42,10 +43,11 @@ pub use fields::{
 pub use group::{FieldGroup, read_groups, write_groups};
 pub use integer_type::IntegerType;
 pub use kinds::{
-    ChoiceKind, DecodeKind, DescribeKind, EncodeKind, EnumeratedKind, IntegerKind, OfKind,
-    SequenceKind,
+    ChoiceKind, DecodeKind, DescribeKind, EncodeKind, EnumeratedKind, FieldsKind, IntegerKind,
+    OfKind, SequenceKind, SetKind,
 };
 pub use sequence::{SequenceFields, read_sequence, write_sequence};
+pub use set_of::SetElement;
 pub use shape_parts::{AlternativeShapes, FieldShapes, enumerated_shape};
 pub use strings::{NamedSet, OctetsSet, TextSet};
 pub use tables::{field_name, place_of, place_of_field};

@@ -1,31 +1,34 @@
-//! Describes a SEQUENCE by its fields (X.680, section 25). A type implements `SequenceFields`,
-//! with one call a field to encode it and one to decode it; what every SEQUENCE has is given here
-//! once.
+//! Describes a SEQUENCE or SET by its fields (X.680, sections 25 and 27). A type implements
+//! `SequenceFields`, with one call a field to encode it and one to decode it; what every SEQUENCE
+//! and SET has is given here once.
 ghost use Rattle.asn_fault.specs.Failure.{failure_of};
 ghost use Rattle.asn_traits.specs.Answer.{Answer};
 ghost use Rattle.asn_traits.specs.FieldAnswer.Ahead.{ahead};
 ghost use Rattle.asn_traits.specs.Passing.{AddsFields, RefusesAdding, RefusesFields, TakesFields};
-ghost use Rattle.asn_model.specs.Components.{reading_order};
+ghost use Rattle.asn_model.specs.Components.{component_names, reading_order};
 ghost use Rattle.asn_model.specs.Readable.{is_readable};
-ghost use Rattle.asn_traits.specs.Scopes.{ScopeAnswers};
-ghost use Rattle.asn_model.specs.Shape.{Shape as AbstractShape, SeqKind, Fields as AbstractFields};
+ghost use Rattle.asn_traits.specs.ReadingSlots.{slots_read};
+ghost use Rattle.asn_model.specs.Shape.{Shape as AbstractShape, Fields as AbstractFields};
 ghost use Rattle.asn_model.specs.Shape.{FieldAdditions, all_fields, field_names};
 ghost use Rattle.asn_model.specs.ShapeView.{shape_view};
-ghost use Rattle.asn_traits.specs.Tables.{added_rows, field_rows, rows_of};
+ghost use Rattle.asn_traits.specs.Tables.{added_rows, field_rows, names_of, rows_of};
 ghost use Rattle.asn_traits.specs.Writing.{FailsToFill, FailsToEncode, Filled, Frame, Written};
 ghost use Rattle.asn_traits.specs.Writing.{members_value};
-ghost use Rattle.std.specs.Prelude.{◌≡◌, IfErr, IfOk, OnOk, option_map, refl, true};
+ghost use Rattle.std.specs.Prelude.{◌≡◌, ◌++◌, IfErr, IfOk, OnOk, option_map, refl, true};
 
-use crate::tables::listed;
+use crate::tables::{fields_by_tag, listed};
 use crate::{
-    Constructed, Decoder, Encoder, Field, FieldNames, Fields, OfKind, SequenceKind, Shape,
+    Constructed, Decoder, Encoder, Field, FieldNames, Fields, FieldsKind, OfKind, SeqKind, Shape,
 };
 use asn_core::{Identifier, OutOfMemory, Tag};
 use asn_fault::{DecodeError, EncodeError};
 use std::alloc::Global;
 
-/// Describes a SEQUENCE that is encoded and decoded field by field, in the order of its fields.
-pub trait SequenceFields: OfKind<Kind = SequenceKind> {
+/// Describes a SEQUENCE or SET, by its kind, that is encoded and decoded field by field.
+pub trait SequenceFields: OfKind
+where
+    Self::Kind: FieldsKind,
+{
     /// Lists the root fields, in order.
     const ROWS: &'static [Field];
 
@@ -59,7 +62,7 @@ pub trait SequenceFields: OfKind<Kind = SequenceKind> {
     /// `OutOfMemory` alone.
     fn sequence_shape(alloc: Global) -> Result<Shape, OutOfMemory>
         ensures { IfOk result (λ s. shape_view s
-            ≡ AbstractShape.seq SeqKind.sequence fields added) };
+            ≡ AbstractShape.seq Self.Kind.seq_kind fields added) };
 
     /// Encodes the fields, by one call of `write_field` or `write_optional_field` for each, in
     /// order.
@@ -74,7 +77,8 @@ pub trait SequenceFields: OfKind<Kind = SequenceKind> {
             (slots self.now) encoder.old) };
 
     /// Decodes the fields, by one call of `read_field`, `read_optional_field` or `read_addition`
-    /// for each, in order. Each call takes the field's name from `names`.
+    /// for each: those of a SEQUENCE in order, those of a SET in the order of their tags, and then
+    /// the extension additions. Each call takes the field's name from `names`.
     ///
     /// # Errors
     ///
@@ -82,19 +86,20 @@ pub trait SequenceFields: OfKind<Kind = SequenceKind> {
     /// a required extension addition that is absent.
     fn read_fields<D: Decoder>(decoder: &mut D, names: &mut FieldNames) -> Result<Self, DecodeError>
         ensures read { IfOk result (λ x. TakesFields D.notation
-            (reading_order SeqKind.sequence fields added) (slots x)
+            (reading_order Self.Kind.seq_kind fields added)
+            (slots_read Self.Kind.seq_kind fields (slots x))
             (ahead names.old (D.pending decoder.old))
             (ahead names.new (D.pending decoder.new))) }
         ensures refused { IfErr result (λ e. RefusesFields D.notation
-            (reading_order SeqKind.sequence fields added)
+            (reading_order Self.Kind.seq_kind fields added)
             (ahead names.old (D.pending decoder.old)) (failure_of e)) };
 
     // The shape can be read.
-    ghost readable: { is_readable (AbstractShape.seq SeqKind.sequence fields added) ≡ true };
+    ghost readable: { is_readable (AbstractShape.seq Self.Kind.seq_kind fields added) ≡ true };
 }
 
-/// Encodes a SEQUENCE: opens a frame, adds a slot for each field, and closes the frame as named
-/// members.
+/// Encodes a SEQUENCE or SET: opens a frame, adds a slot for each field, and closes the frame as
+/// named members.
 ///
 /// # Errors
 ///
@@ -105,12 +110,15 @@ pub fn write_sequence<T: SequenceFields, E: Encoder>(
     tag: Tag,
     identifier: Identifier,
 ) -> Result<(), EncodeError>
+where
+    T::Kind: FieldsKind,
     ensures written { OnOk result (Written E.holds E.notation
-        (AbstractShape.seq SeqKind.sequence T.fields T.added)
+        (AbstractShape.seq T.Kind.seq_kind T.fields T.added)
         (members_value (all_fields T.fields T.added) (T.slots value.now)) encoder.old encoder.new) }
     ensures refused { IfErr result (FailsToEncode E.notation
         (members_value (all_fields T.fields T.added) (T.slots value.now))) }
 {
+    // A SET is encoded by the same call: tags change nothing.
     encoder.encode_sequence::<T, _>(
         tag,
         |encoder: &mut E| -> Result<(), EncodeError>
@@ -128,46 +136,72 @@ pub fn write_sequence<T: SequenceFields, E: Encoder>(
     )
 }
 
-/// Decodes a SEQUENCE: puts a slot for each field, whatever their order in the text, and decodes
-/// the fields from these.
+/// Decodes a SEQUENCE or SET: puts a slot for each field, whatever their order in the text, and
+/// decodes the fields from these.
 ///
 /// # Errors
 ///
 /// Those of `read_fields`; a type mismatch where the slot's tree has no members, and the end of
 /// input where there is no slot; `OutOfMemory`.
-pub fn read_sequence<T: SequenceFields, D: Decoder>(
-    decoder: &mut D,
-    tag: Tag,
-) -> Result<T, DecodeError>
-    ensures { Answer D.notation (AbstractShape.seq SeqKind.sequence T.fields T.added)
+pub fn read_sequence<T: SequenceFields, D: Decoder>(decoder: &mut D) -> Result<T, DecodeError>
+where
+    T::Kind: FieldsKind,
+    ensures { Answer D.notation (AbstractShape.seq T.Kind.seq_kind T.fields T.added)
         (λ x. members_value (all_fields T.fields T.added) (T.slots x))
         (D.pending decoder.old) result (D.pending decoder.new) }
 {
-    decoder.decode_sequence(
-        tag,
-        |decoder: &mut D| -> Result<T, DecodeError>
-            ensures { ScopeAnswers D.notation T.fields T.added
-                (λ x. members_value (all_fields T.fields T.added) (T.slots x))
-                (D.pending decoder.old) result (D.pending decoder.new) }
-        {
-            let additions = listed(T::listed_added());
-            let mut names = FieldNames::new(T::listed(), additions);
-            match T::read_fields(decoder, &mut names) {
-                Ok(value) => Ok(value),
-                Err(error) => Err(error),
-            }
-        },
-    )
+    let additions = listed(T::listed_added());
+    match <T::Kind as FieldsKind>::seq_kind() {
+        SeqKind::Sequence => read_members(decoder, T::listed(), additions),
+        SeqKind::Set => {
+            let Ok(root) = fields_by_tag(decoder.allocator(), T::listed()) else {
+                return Err(DecodeError::out_of_memory(decoder.codec()));
+            };
+            read_members(decoder, root.as_slice(), additions)
+        }
+    }
 }
 
-/// Takes the tables of a SEQUENCE from `SequenceFields`.
-impl<T: SequenceFields> Constructed for T {
+/// Decodes a SEQUENCE or SET by the tables of its root fields, in the order in which they are read,
+/// and of its extension additions.
+///
+/// # Errors
+///
+/// Those of `read_sequence`.
+fn read_members<T: SequenceFields, D: Decoder>(
+    decoder: &mut D,
+    root: &[Field],
+    additions: &[Field],
+) -> Result<T, DecodeError>
+where
+    T::Kind: FieldsKind,
+    requires { names_of root.now ++ names_of additions.now
+        ≡ component_names (reading_order T.Kind.seq_kind T.fields T.added) }
+    ensures { Answer D.notation (AbstractShape.seq T.Kind.seq_kind T.fields T.added)
+        (λ x. members_value (all_fields T.fields T.added) (T.slots x))
+        (D.pending decoder.old) result (D.pending decoder.new) }
+{
+    decoder.open_members(<T::Kind as FieldsKind>::seq_kind(), root, additions)?;
+    let mut names = FieldNames::new(root, additions);
+    match T::read_fields(decoder, &mut names) {
+        Ok(value) => Ok(value),
+        Err(error) => Err(error),
+    }
+}
+
+/// Takes the tables of a SEQUENCE or SET from `SequenceFields`.
+impl<T: SequenceFields> Constructed for T
+where
+    T::Kind: FieldsKind,
+{
     const FIELDS: Fields = Fields { items: T::ROWS };
 
     const EXTENDED_FIELDS: Option<Fields> = match T::ADDED {
         Some(items) => Some(Fields { items }),
         None => None,
     };
+
+    ghost kind = { T.Kind.seq_kind };
 
     ghost fields = { T.fields };
 

@@ -4,7 +4,8 @@ ghost use Rattle.asn_model.specs.Shape.{Shape as AbstractShape, SeqKind as Abstr
 ghost use Rattle.asn_model.specs.Shape.{Fields as AbstractFields, FieldAdditions};
 ghost use Rattle.asn_model.specs.Shape.{Presence as AbstractPresence, Alternatives};
 ghost use Rattle.asn_model.specs.Shape.{AlternativeAdditions, closed_seq, closed_choice};
-ghost use Rattle.asn_model.specs.ShapeView.{shape_view, field_views, alternative_views};
+ghost use Rattle.asn_model.specs.ShapeView.{added_field_views, alternative_views, field_views};
+ghost use Rattle.asn_model.specs.ShapeView.{kind_view, shape_view};
 ghost use Rattle.asn_model.specs.ShapeView.{with_last_field, with_last_alternative, plain_view};
 ghost use Rattle.asn_model.specs.ShapeView.{presence_view};
 ghost use Rattle.std.specs.Prelude.{◌≡◌, IfOk, OnOk, map, option_map, string_bytes};
@@ -110,12 +111,7 @@ impl FieldShapes {
     pub fn sequence(self) -> Shape
         ensures { shape_view result ≡ closed_seq (field_views self.items.items) }
     {
-        let FieldShapes { alloc: _, items } = self;
-        Shape::Seq {
-            kind: SeqKind::Sequence,
-            fields: items,
-            added: None,
-        }
+        self.of_kind(SeqKind::Sequence, None)
     }
 
     /// Returns the SEQUENCE of these fields, with `added` after the extension marker. It takes no
@@ -125,15 +121,37 @@ impl FieldShapes {
             (field_views self.items.items)
             (FieldAdditions.extended_fields (field_views added.items.items)) }
     {
-        let FieldShapes { alloc: _, items } = self;
-        let FieldShapes {
-            alloc: _,
-            items: added,
-        } = added;
+        self.of_kind(SeqKind::Sequence, Some(added.items))
+    }
+
+    /// Returns the SET of these fields, without an extension marker. It takes no memory.
+    pub fn set(self) -> Shape
+        ensures { shape_view result ≡ AbstractShape.seq AbstractKind.set
+            (field_views self.items.items) FieldAdditions.closed_fields }
+    {
+        self.of_kind(SeqKind::Set, None)
+    }
+
+    /// Returns the SET of these fields, with `added` after the extension marker. It takes no
+    /// memory.
+    pub fn extensible_set(self, added: FieldShapes) -> Shape
+        ensures { shape_view result ≡ AbstractShape.seq AbstractKind.set
+            (field_views self.items.items)
+            (FieldAdditions.extended_fields (field_views added.items.items)) }
+    {
+        self.of_kind(SeqKind::Set, Some(added.items))
+    }
+
+    /// Returns the SEQUENCE or SET of these fields, with `added` after the extension marker, if
+    /// there is one.
+    fn of_kind(self, kind: SeqKind, added: Option<Vec<FieldShape>>) -> Shape
+        ensures { shape_view result ≡ AbstractShape.seq (kind_view kind)
+            (field_views self.items.items) (added_field_views added) }
+    {
         Shape::Seq {
-            kind: SeqKind::Sequence,
-            fields: items,
-            added: Some(added),
+            kind,
+            fields: self.items,
+            added,
         }
     }
 }

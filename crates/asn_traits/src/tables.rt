@@ -4,16 +4,21 @@
 ghost use Rattle.asn_core.specs.Tags.{smallest};
 ghost use Rattle.asn_model.specs.Shape.{tag_eq, is_tag, name_tagged, place_named, class_number};
 ghost use Rattle.asn_model.specs.Shape.{end_tag};
-ghost use Rattle.asn_traits.specs.Tables.{names_of, smallest_tags, or_end};
+ghost use Rattle.asn_model.specs.Components.{tag_cmp};
+ghost use Rattle.asn_model.specs.Sorting.{insert_in_order, sort};
+ghost use Rattle.asn_traits.specs.Tables.{field_tag, names_of, smallest_tags, or_end};
 ghost use Rattle.asn_model.specs.Tree.{same_identifier};
 ghost use Rattle.asn_traits.specs.Writing.{head_name};
 ghost use Rattle.std.specs.Prelude.{◌≡◌, ◌+◌, ◌<◌, ◌++◌, [], map, length, drop, option_map, get_or};
-ghost use Rattle.std.specs.Prelude.{Option, Some, None, IfSome, unwrap_or};
+ghost use Rattle.std.specs.List.{insert};
+ghost use Rattle.std.specs.Ordering.{is_gt, on};
+ghost use Rattle.std.specs.Prelude.{◌≤◌, IfOk, Option, Some, None, IfSome, unwrap_or};
 ghost use Rattle.std.specs.Str.{bytes_eq};
 
 use crate::{Field, Fields};
-use asn_core::{Tag, TagTree};
+use asn_core::{OutOfMemory, Tag, TagTree};
 use asn_model::same_tag;
+use std::alloc::Global;
 
 /// Returns the items of a table, and none where there is no table.
 pub fn listed<T: Copy>(table: Option<&'static [T]>) -> &'static [T]
@@ -30,6 +35,60 @@ pub fn listed_fields(table: Option<Fields>) -> &'static [Field]
     ensures { result.now ≡ unwrap_or (option_map (λ t. t.items.now) table) [] }
 {
     listed(table.map(|fields| fields.items))
+}
+
+/// Returns the fields in the order of their smallest tags (X.680, section 8.6). Those of equal tags
+/// stay in order.
+///
+/// # Errors
+///
+/// `OutOfMemory` alone.
+pub fn fields_by_tag(alloc: Global, fields: &[Field]) -> Result<Vec<Field>, OutOfMemory>
+    ensures { IfOk result (λ v. v.items ≡ sort (on field_tag tag_cmp) fields.now) }
+{
+    let Some((first, others)) = fields.split_first() else {
+        return Ok(Vec::new(alloc));
+    };
+    let mut sorted = fields_by_tag(alloc, others)?;
+    let place = place_by_tag(sorted.as_slice(), first);
+    match sorted.insert(place, *first) {
+        Ok(()) => Ok(sorted),
+        Err(_) => Err(OutOfMemory),
+    }
+}
+
+/// Returns the place of the first field whose tag is not below that of this one.
+fn place_by_tag(fields: &[Field], field: &Field) -> usize
+    ensures below { result ≤ length fields.now }
+    ensures is { insert_in_order (on field_tag tag_cmp) field.now fields.now
+        ≡ insert fields.now result field.now }
+{
+    let Some((first, others)) = fields.split_first() else {
+        return 0;
+    };
+    if is_above(field, first) {
+        // No overflow: a place is below the number of rows.
+        place_by_tag(others, field) + 1
+    } else {
+        0
+    }
+}
+
+/// Returns whether the tag of the first field is above that of the second.
+fn is_above(first: &Field, second: &Field) -> bool
+    ensures { result ≡ is_gt (tag_cmp (field_tag first.now) (field_tag second.now)) }
+{
+    or_end(first.tag_tree.least_leaf()) > or_end(second.tag_tree.least_leaf())
+}
+
+/// Returns the tag, or `EOC` where there is none.
+fn or_end(tag: Option<Tag>) -> Tag
+    ensures { result ≡ or_end tag }
+{
+    match tag {
+        Some(tag) => tag,
+        None => Tag::EOC,
+    }
 }
 
 /// Returns the name of the field at the place, where extension additions come last. It is empty
@@ -139,10 +198,7 @@ fn least_at(variants: &[TagTree], place: usize) -> Tag
     ensures { result ≡ get_or (map or_end (smallest_tags variants.now)) place end_tag }
 {
     match variants.get(place) {
-        Some(tree) => match tree.least_leaf() {
-            Some(tag) => tag,
-            None => Tag::EOC,
-        },
+        Some(tree) => or_end(tree.least_leaf()),
         None => Tag::EOC,
     }
 }

@@ -1,6 +1,0 @@
-use Rattle.std.proofs.Common.{Some}
-use Rattle.asn_model.proofs.Viewing.{sequence_viewed}
-use Rattle.asn_traits.proofs.shape_parts.FieldShapes.extensible_sequence.Goals as goal
-
-pub returns : goal.returns
-returns c = sequence_viewed _ c.args.self.items (Some c.args.added.items)

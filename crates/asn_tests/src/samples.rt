@@ -1,6 +1,8 @@
 //! Calls both codecs directly by each call that encodes or decodes a value, tests shapes that
 //! can't be read, and runs visitors at the sample types. The calls under a tag, constraints or a
 //! prefix give what the plain call gives, since neither notation writes tags.
+ghost use Rattle.std.specs.Prelude.{◌≡◌, IfOk};
+
 use asn_base::{Class, Constraints, Identifier, Tag};
 use asn_fault::{DecodeError, EncodeError};
 use asn_samples::{Sample, SampleVisitor, SimpleChoice, is_sample_name};
@@ -148,7 +150,9 @@ fn write_other_choice<E: Encoder>(encoder: &mut E) -> Result<(), EncodeError> {
     encoder.encode_choice::<SimpleChoice, _>(
         &Constraints::NONE,
         NINE,
-        |encoder: &mut E| -> Result<Tag, EncodeError> {
+        |encoder: &mut E| -> Result<Tag, EncodeError>
+            ensures { IfOk result (λ answer. answer ≡ NINE) }
+        {
             encoder.encode_bool(Tag::BOOL, true, Identifier::EMPTY)?;
             Ok(NINE)
         },
@@ -220,38 +224,66 @@ fn choice(alternatives: Vec<AlternativeShape>) -> Shape {
     }
 }
 
-/// A shape of each kind that can't be read is found: by its loops, its tags or its
-/// names. Each breaks one condition alone.
-/// The conditions are those that `is_readable` lists.
-#[test]
-fn shapes_that_cannot_be_read(rt: HostRuntime) -> Result<(), Fail> {
-    let alloc = rt.alloc();
-    // A loop with nothing between it and what names it.
-    let mut shapes = Vec::new(alloc);
-    // A loop with nothing between it and what names it.
-    shapes.push(Shape::Loop(Box::new(alloc, Shape::Back(0))?))?;
-    // A number of no loop.
-    shapes.push(Shape::Back(0))?;
-    // Identifiers that differ in case alone.
+/// Returns the ENUMERATED type of one item.
+fn items_of(alloc: Global, item: &str) -> Result<Shape, Fail> {
+    let items = Vec::from_array(alloc, [String::from_str(alloc, item)?])?;
+    Ok(Shape::Enum { items, added: None })
+}
+
+/// Returns the CHOICE of one alternative.
+fn choice_of(alloc: Global, class: Class, value: u32) -> Result<Shape, Fail> {
+    let only = alternative(alloc, "a", class, value)?;
+    Ok(choice(Vec::from_array(alloc, [only])?))
+}
+
+/// Returns the CHOICE of two alternatives whose identifiers differ in case alone.
+fn identifiers_alike(alloc: Global) -> Result<Shape, Fail> {
     let small = alternative(alloc, "a", Class::Context, 0)?;
     let capital = alternative(alloc, "A", Class::Context, 1)?;
-    shapes.push(choice(Vec::from_array(alloc, [small, capital])?))?;
-    // The tag of the end of contents.
-    let end = alternative(alloc, "a", Class::Universal, 0)?;
-    shapes.push(choice(Vec::from_array(alloc, [end])?))?;
-    // No alternative.
-    shapes.push(choice(Vec::new(alloc)))?;
-    // A keyword as an item.
-    let items = Vec::from_array(alloc, [String::from_str(alloc, "TRUE")?])?;
-    shapes.push(Shape::Enum { items, added: None })?;
-    // A name twice.
+    Ok(choice(Vec::from_array(alloc, [small, capital])?))
+}
+
+/// Returns the SEQUENCE of two fields of one name.
+fn name_twice(alloc: Global) -> Result<Shape, Fail> {
     let twice = [field(alloc, "a")?, field(alloc, "a")?];
-    shapes.push(sequence(Vec::from_array(alloc, twice)?))?;
-    // A name that AVN cannot spell.
-    let name = [field(alloc, "1a")?];
-    shapes.push(sequence(Vec::from_array(alloc, name)?))?;
-    for shape in shapes.iter() {
-        assert!(rt; !is_readable(shape));
+    Ok(sequence(Vec::from_array(alloc, twice)?))
+}
+
+/// Returns the SEQUENCE of one field.
+fn sequence_of(alloc: Global, name: &str) -> Result<Shape, Fail> {
+    let only = [field(alloc, name)?];
+    Ok(sequence(Vec::from_array(alloc, only)?))
+}
+
+/// Counts the shapes of `unreadable`.
+const UNREADABLE: usize = 8;
+
+/// Returns a shape that can't be read. Each breaks one of the conditions that `is_readable` lists.
+fn unreadable(alloc: Global, case: usize) -> Result<Shape, Fail> {
+    match case {
+        // A loop with nothing between it and what names it.
+        0 => Ok(Shape::Loop(Box::new(alloc, Shape::Back(0))?)),
+        // A number of no loop.
+        1 => Ok(Shape::Back(0)),
+        2 => identifiers_alike(alloc),
+        // The tag of the end of contents.
+        3 => choice_of(alloc, Class::Universal, 0),
+        // No alternative.
+        4 => Ok(choice(Vec::new(alloc))),
+        // A keyword as an item.
+        5 => items_of(alloc, "TRUE"),
+        6 => name_twice(alloc),
+        // A name that AVN cannot spell.
+        _ => sequence_of(alloc, "1a"),
+    }
+}
+
+/// A shape of each kind that can't be read is found: by its loops, its tags or its names.
+#[test]
+fn shapes_that_cannot_be_read(rt: HostRuntime) -> Result<(), Fail> {
+    for case in 0..UNREADABLE {
+        let shape = unreadable(rt.alloc(), case)?;
+        assert!(rt; !is_readable(&shape));
     }
     Ok(())
 }

@@ -14,6 +14,6 @@ returns-clause-sorted g c =
     let Entry = String Global × g.row.V.Denot in
     let lt : Entry → Entry → Bool = λ p q. is_lt (by_text text_of p q) in
     let order : IsStrictWeakOrder lt = ranks_by nat_list_cmp_total text_of in
-    sorted-stable (by_text text_of) (on_total text_of nat_list_cmp_total) _ _
+    sorted-stable (by_text text_of) (on_total text_of nat_list_cmp_total) c.args.entries.now.items c.sort_by.new.self.items
     (c.in_ok-sort_by.ensures.sorted lt order (always_returns_same _ _ _ (λ a r q k. search rules)))
     (c.in_ok-sort_by.ensures.stable lt order (always_returns_same _ _ _ (λ a r q k. search rules)))

@@ -203,6 +203,7 @@ impl asn_traits::Decoder for Decoder {
         }
     }
 
+    // The kinds differ only in how a refusal names them.
     fn open_list(&mut self, kind: SeqKind) -> Result<usize, DecodeError> {
         let node = self.take()?;
         if !is_list(&self.table, node) {

@@ -1,7 +1,7 @@
 -- AVN values made of slots.
 use Rattle.std.proofs.Common.{◌≡◌, ℕ, zero, suc, List, [], ◌∷◌, ◌++◌, map, drop, length, Option, Some, None, ap, refl, sym, ◌∙◌, String, Vec, Global, string_bytes}
 use Rattle.std.specs.Prelude.{option_map}
-use Rattle.avn_grammar.specs.Tree.{Fields as AvnFields, sequence, sequence_of, choice, tree, no_fields, field, absent}
+use Rattle.avn_grammar.specs.Tree.{Tree as AvnTree, Fields as AvnFields, sequence, sequence_of, choice, tree, no_fields, field, absent}
 use Rattle.avn_value.specs.View.{tree_of, trees_in, fields_trees}
 use Rattle.avn_value.specs.declared.value.AvnValue.{AvnValue, Sequence, SequenceOf}
 use Rattle.avn_value.proofs.Joins.{join, fields-push}
@@ -10,8 +10,13 @@ use Rattle.asn_slots.specs.Slots.{present_of, first_of}
 use Rattle.asn_slots.specs.Trees.{trees_of}
 use Rattle.asn_slots.proofs.Trees.{first_same, present_same}
 use Rattle.asn_traits.specs.Canonical.{avn_tree, avn_trees, avn_fields}
+use Rattle.asn_traits.specs.Tree.{Tree}
 use Rattle.asn_traits.specs.Writing.{Frame, present_values, named, tail_names, head_name, as_list, as_members, as_choice}
 use Rattle.avn_rules.specs.Holding.{named_fields}
+
+-- One AVN value stands in a tree.
+pub avn_same : {t u : AvnTree} → Tree.avn t ≡ Tree.avn u → t ≡ u
+avn_same e = cc e
 
 tail-drop : (k : ℕ) (names : List (List ℕ)) → drop (suc k) names ≡ tail_names (drop k names)
 tail-drop zero [] = refl
@@ -51,7 +56,8 @@ join-none (absent n fs) = ap (absent n) (join-none fs)
 pub all-named : (xs : List Named) (rest : List (Option AvnValue)) (names : List (List ℕ)) (all : AvnFields) → rest ≡ [] → join (fields_trees xs) (named_fields (trees_of tree_of rest) (drop (length xs) names)) ≡ all → fields_trees xs ≡ all
 all-named xs rest names all e h = sym (join-none (fields_trees xs)) ∙ ap (λ ss. join (fields_trees xs) (named_fields (trees_of tree_of ss) (drop (length xs) names))) (sym e) ∙ h
 
-present-trees : (f : Frame) → trees_in (map avn_tree (present_of f)) ≡ avn_trees (present_values f)
+-- The trees of the present values.
+pub present-trees : (f : Frame) → trees_in (map avn_tree (present_of f)) ≡ avn_trees (present_values f)
 present-trees [] = refl
 present-trees (None ∷ ss) = present-trees ss
 present-trees (Some v ∷ ss) = ap (tree (avn_tree v)) (present-trees ss)

@@ -11,22 +11,24 @@ use Rattle.asn_model.specs.declared.leaves.LeafKind.{LeafKind}
 use Rattle.asn_model.specs.declared.leaves.OwnedLeaf.{OwnedLeaf}
 use Rattle.asn_slots.specs.Pending.{TakesAbsent as TakesAbsentSlot}
 use Rattle.asn_slots.specs.Trees.{trees_of}
-use Rattle.asn_traits.specs.Answer.{Refuses, RefusesLeaf}
+use Rattle.asn_traits.specs.Answer.{AtRoot, Refuses, RefusesLeaf}
 use Rattle.asn_traits.specs.FailsWith.{FailsWith}
-use Rattle.asn_traits.specs.Leaf.{LeafFailure, members_mismatch}
+use Rattle.asn_traits.specs.Leaf.{IsFailureOf, LeafFailure, members_mismatch}
 use Rattle.asn_traits.specs.Notation.{Notation}
-use Rattle.asn_traits.specs.Opening.{HasMembers, IsChoice, IsList, OpensChoice, OpensList, OpensMembers, TakesLeaf}
+use Rattle.asn_traits.specs.Opening.{HasMembers, IsChoice, IsList, OpensChoice, OpensList, OpensMembers, TakesLeaf, list_shape}
 use Rattle.asn_traits.specs.Shape.{Shape, SeqKind, Fields, FieldAdditions, Alternatives, AlternativeAdditions, place_named}
-use Rattle.asn_traits.specs.Tree.{Slot, head_slot, as_choice, as_list, as_members, field_slot, same_identifier}
+use Rattle.asn_traits.specs.Tree.{Slot, Tree, head_slot, as_choice, as_list, as_members, field_slot, same_identifier}
 use Rattle.asn_traits.proofs.LeafValues.{taken as is_taken}
 use Rattle.asn_traits.proofs.Refusing.{no_choice, no_list, no_members, out_of_memory}
+use Rattle.asn_traits.proofs.Steps.{refuses_by}
 use Rattle.avn_grammar.specs.Tree.{Tree as AvnTree}
 use Rattle.avn_value.specs.Preorder.{tree_at}
 use Rattle.avn_rules.specs.LeafAnswer.{LeafAnswer}
+use Rattle.avn_rules.specs.Parts.{list_failure}
 use Rattle.avn_rules.specs.Pending.{DecoderView, IsPresent, IsSlot, TakesNode, avn_or_null, pending_of, value_at}
 use Rattle.avn_rules.proofs.Taken.{list_below, members_below, payload_below, choice_above}
 use Rattle.avn_rules.proofs.Walks.{members_parts, none_there}
-use Rattle.asn_model.specs.declared.words.TheConstants.{AVN_CHOICE, AVN_LIST}
+use Rattle.asn_model.specs.declared.words.TheConstants.{AVN_CHOICE}
 
 -- Nodes are slots.
 pub items_held : (root : AvnTree) (items : List ℕ) → All (IsPresent root) items → All (IsSlot root) (map Some items)
@@ -76,16 +78,23 @@ module _ (before : DecoderView) (table : AvnTree) (slots : List (Option ℕ)) (v
 put_before : (taken after : DecoderView) (slots : List (Option ℕ)) → after ≡ record taken { nodes = slots ++ taken.nodes } → pending_of after ≡ trees_of (value_at taken.root) slots ++ pending_of taken
 put_before taken after slots e = ap pending_of e ∙ map-append (option_map (value_at taken.root)) slots taken.nodes
 
-pub list_opened : (before taken after : DecoderView) (node count : ℕ) (items : List ℕ) → TakesNode before taken node → as_list Notation.avn (value_at taken.root node) ≡ Some (trees_of (value_at taken.root) (map Some items)) → after ≡ record taken { nodes = map Some items ++ taken.nodes } → count ≡ length items
-    → OpensList Notation.avn (pending_of before) (Ok count) (pending_of after)
-list_opened before taken after node count items k list e long =
+pub list_opened : (kind : SeqKind) (before taken after : DecoderView) (node count : ℕ) (items : List ℕ) → TakesNode before taken node → as_list Notation.avn (value_at taken.root node) ≡ Some (trees_of (value_at taken.root) (map Some items)) → after ≡ record taken { nodes = map Some items ++ taken.nodes } → count ≡ length items
+    → OpensList Notation.avn kind (pending_of before) (Ok count) (pending_of after)
+list_opened kind before taken after node count items k list e long =
     let see = value_at taken.root in
     let slots = trees_of see (map Some items) in
     (Some (see node), slots, pending_of taken, k.2, put_before taken after (map Some items) e, length-map (map Some items) (option_map see) ∙ length-map items Some ∙ sym long, list_below (avn_or_null (tree_at taken.root node)) slots list, IsList.is_list (see node) slots list)
 
-pub list_refused : (before taken : DecoderView) (node : ℕ) (failure : Failure) → TakesNode before taken node → is_some (as_list Notation.avn (value_at taken.root node)) ≡ false → RefusesLeaf Notation.avn (value_at taken.root node) (LeafFailure.mismatch AVN_LIST.now) failure
-    → (s : Shape) → Refuses Notation.avn (FailsWith Notation.avn (Shape.list_of s) (head_slot (pending_of before))) failure
-list_refused before taken node failure k none tells s = no_list s (value_at taken.root node) (pending_of before) (pending_of taken) failure k.2 (none_there (as_list Notation.avn (value_at taken.root node)) none) tells
+-- A tree that is no list decodes to no list of either kind.
+no_list_of : (kind : SeqKind) (s : Shape) (t : Tree) (before after : List Slot) (e : Failure) → before ≡ Some t ∷ after → as_list Notation.avn t ≡ None → RefusesLeaf Notation.avn t (list_failure kind) e
+    → Refuses Notation.avn (FailsWith Notation.avn (list_shape kind s) (head_slot before)) e
+no_list_of SeqKind.sequence s t before after e was is tells = no_list s t before after e was is tells
+no_list_of SeqKind.set s t before after e was is tells =
+    refuses_by {P = AtRoot (IsFailureOf Notation.avn t (list_failure SeqKind.set))} {Q = FailsWith Notation.avn (Shape.set_of s) (head_slot before)} (λ p w h. rw (was, h.0) (FailsWith.fails_no_set s t w is h.1)) e tells
+
+pub list_refused : (kind : SeqKind) (before taken : DecoderView) (node : ℕ) (failure : Failure) → TakesNode before taken node → is_some (as_list Notation.avn (value_at taken.root node)) ≡ false → RefusesLeaf Notation.avn (value_at taken.root node) (list_failure kind) failure
+    → (s : Shape) → Refuses Notation.avn (FailsWith Notation.avn (list_shape kind s) (head_slot (pending_of before))) failure
+list_refused kind before taken node failure k none tells s = no_list_of kind s (value_at taken.root node) (pending_of before) (pending_of taken) failure k.2 (none_there (as_list Notation.avn (value_at taken.root node)) none) tells
 
 pub members_opened : (kind : SeqKind) (before taken after : DecoderView) (node : ℕ) (names : List (List ℕ)) (slots : List (Option ℕ)) → TakesNode before taken node → is_some (as_members Notation.avn (value_at taken.root node)) ≡ true
     → ((look : List ℕ → Slot) → as_members Notation.avn (value_at taken.root node) ≡ Some look → trees_of (value_at taken.root) slots ≡ map look names) → after ≡ record taken { nodes = slots ++ taken.nodes } → OpensMembers Notation.avn kind names (pending_of before) (Ok tt) (pending_of after)

@@ -10,8 +10,13 @@ use Rattle.asn_slots.specs.Slots.{present_of, first_of}
 use Rattle.asn_slots.specs.Trees.{trees_of}
 use Rattle.asn_slots.proofs.Trees.{first_same, present_same}
 use Rattle.asn_traits.specs.Canonical.{jer_data, jer_items, jer_members}
+use Rattle.asn_traits.specs.Tree.{Tree}
 use Rattle.asn_traits.specs.Writing.{Frame, present_values, named, tail_names, head_name, as_list, as_members, as_choice}
 use Rattle.jer_rules.specs.Holding.{members_onto, one_member}
+
+-- One JSON value stands in a tree.
+pub json_same : {d e : Data} → Tree.json d ≡ Tree.json e → d ≡ e
+json_same e = cc e
 
 head_name-drop : (names : List (List ℕ)) (k : ℕ) → head_name (drop k (tail_names names)) ≡ head_name (drop (suc k) names)
 head_name-drop [] zero = refl
@@ -45,7 +50,8 @@ pub onto-passed : (old new : List (Option JsonValue)) (names : List (List ℕ)) 
 onto-passed old new names ms e =
     sym (members_onto-none (trees_of view new) names ms) ∙ ap (λ ss. members_onto ss names ms) (sym (ap (trees_of view) e ∙ map_push (option_map view) new None))
 
-present-items : (f : Frame) → items_of (map jer_data (present_of f)) ≡ jer_items (present_values f)
+-- The items of the present values.
+pub present-items : (f : Frame) → items_of (map jer_data (present_of f)) ≡ jer_items (present_values f)
 present-items [] = refl
 present-items (None ∷ ss) = present-items ss
 present-items (Some v ∷ ss) = ap (Items.item (jer_data v)) (present-items ss)

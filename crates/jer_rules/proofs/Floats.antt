@@ -64,6 +64,10 @@ mutual
   members-false (Slots.absent n ms) = members-false ms
   members-false (Slots.present n v ms) = put-false n (jer_data v) (jer_members ms) (written-false v) (members-false ms)
 
+-- Nor do the elements of what is written.
+pub items-without_float : (vs : Values) → items_have_float (jer_items vs) ≡ false
+items-without_float vs = items-of_each vs (each-false vs)
+
 -- The text of what is written is the canonical one.
 pub text-held : (o : Option Value) (d : Data) (text : List ℕ) → option_map jer_data o ≡ Some d → (has_float d ≡ false → text ≡ compact_text d) → option_map (canonical_text Notation.jer) o ≡ Some text
 text-held None d text e h = let x : ◌≡◌ {A = Option Data} None (Some d) = e in cc x

@@ -4,4 +4,5 @@ pub mod Choosing
 pub mod Building
 pub mod Floats
 pub mod Roots
+pub mod Sets
 pub mod ArcsTaken

@@ -1,15 +1,17 @@
 //! Makes AVN values of the slots that an encoder has collected. Values are moved in; names are
 //! copied, since an AVN value owns its names.
+ghost use Rattle.asn_traits.specs.Canonical.{sorted_trees};
 ghost use Rattle.asn_traits.specs.Tables.{names_of};
 ghost use Rattle.avn_grammar.specs.Tree.{integer, choice};
 ghost use Rattle.asn_slots.specs.Trees.{trees_of};
 ghost use Rattle.avn_rules.specs.Holding.{named_fields};
-ghost use Rattle.avn_value.specs.View.{tree_of, fields_trees};
+ghost use Rattle.avn_value.specs.View.{tree_of, fields_trees, list_trees};
 ghost use Rattle.asn_core.specs.Numbers.{signed};
 ghost use Rattle.std.specs.Fmt.{signed_decimal};
 ghost use Rattle.std.specs.Prelude.{◌≡◌, ◌++◌, IfOk};
 
 use asn_core::{OutOfMemory, WholeNumber};
+use asn_sorting::values_by_text;
 use asn_traits::{Field, field_name};
 use avn_value::AvnValue;
 use std::alloc::Global;
@@ -50,6 +52,24 @@ pub fn fields_of(
         named.push((name, slot))?;
     }
     Ok(named)
+}
+
+/// Returns the values in byte order of their texts, repeats kept. Values are moved, and no text
+/// stays.
+///
+/// # Errors
+///
+/// `OutOfMemory` alone.
+pub fn in_text_order(alloc: Global, items: Vec<AvnValue>) -> Result<Vec<AvnValue>, OutOfMemory>
+    ensures { IfOk result (λ sorted. list_trees sorted.items
+        ≡ sorted_trees (list_trees items.items)) }
+{
+    let mut entries = Vec::with_capacity(alloc, items.len())?;
+    for item in items {
+        let text = format!(in alloc; "{item}")?;
+        entries.push_reserved((text, item));
+    }
+    values_by_text(alloc, entries)
 }
 
 /// Returns the choice of this alternative and payload, which is boxed.

@@ -12,7 +12,7 @@ ghost use Rattle.avn_rules.specs.Pending.{IsPresent, IsSlot, TakesNode, pending_
 ghost use Rattle.std.specs.List.{All};
 ghost use Rattle.std.specs.Prelude.{◌≡◌, ◌∷◌, ◌++◌, [], Some, IfOk, IfErr, MatchResult, map};
 
-use super::faults::{end_of_input, mismatch, needed_members, no_item};
+use super::faults::{end_of_input, mismatch, needed_list, needed_members, no_item};
 use super::leaf_nodes::leaf_of_node;
 use super::take_apart::{has_members, is_list, items_of, slots_of};
 use asn_core::{Codec, Scan};
@@ -203,10 +203,11 @@ impl asn_traits::Decoder for Decoder {
         }
     }
 
-    fn open_list(&mut self) -> Result<usize, DecodeError> {
+    // The kinds differ only in how a refusal names them.
+    fn open_list(&mut self, kind: SeqKind) -> Result<usize, DecodeError> {
         let node = self.take()?;
         if !is_list(&self.table, node) {
-            return Err(mismatch(self.alloc, &self.table, node, words::AVN_LIST));
+            return Err(mismatch(self.alloc, &self.table, node, needed_list(kind)));
         }
         let Ok(items) = items_of(self.alloc, &self.table, node) else {
             return Err(DecodeError::out_of_memory(Codec::Avn));

@@ -11,7 +11,7 @@ ghost use Rattle.avn_value.specs.View.{tree_of};
 ghost use Rattle.std.specs.Prelude.{◌≡◌, ◌⊎◌, ◌∷◌, [], Option, Some, None, OnOk, IfOk, IfErr};
 ghost use Rattle.std.specs.Prelude.{option_map, string_bytes};
 
-use super::build::{choice_of, fields_of};
+use super::build::{choice_of, fields_of, in_text_order};
 use super::faults::no_unicode;
 use super::leaves::avn_of_leaf;
 use asn_core::Codec;
@@ -157,6 +157,17 @@ impl asn_traits::Encoder for Encoder {
     fn close_list(&mut self) -> Result<(), EncodeError> {
         match self.frames.close_list() {
             Ok(items) => self.put(Some(AvnValue::SequenceOf(items))),
+            Err(_) => Err(EncodeError::out_of_memory(Codec::Avn)),
+        }
+    }
+
+    // The elements go into the list in byte order of their texts.
+    fn close_set(&mut self) -> Result<(), EncodeError> {
+        let Ok(items) = self.frames.close_list() else {
+            return Err(EncodeError::out_of_memory(Codec::Avn));
+        };
+        match in_text_order(self.alloc, items) {
+            Ok(sorted) => self.put(Some(AvnValue::SequenceOf(sorted))),
             Err(_) => Err(EncodeError::out_of_memory(Codec::Avn)),
         }
     }

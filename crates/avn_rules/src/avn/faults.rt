@@ -10,6 +10,7 @@ ghost use Rattle.asn_traits.specs.TextTypes.{TellsUnwritten};
 ghost use Rattle.asn_traits.specs.Arcs.{listed_text};
 ghost use Rattle.avn_grammar.specs.Print.{print};
 ghost use Rattle.avn_rules.specs.LeafAnswer.{IsCause};
+ghost use Rattle.avn_rules.specs.Parts.{list_failure};
 ghost use Rattle.avn_rules.specs.Pending.{IsPresent, avn_or_null, value_at};
 ghost use Rattle.avn_value.specs.Preorder.{tree_at};
 ghost use Rattle.std.specs.Prelude.{◌≡◌, IfOk, string_bytes};
@@ -22,7 +23,9 @@ use asn_fault::{
     DecodeErrorKind, EncodeError, EncodeErrorKind,
 };
 use asn_model::joined_arcs;
-use asn_model::words::{AVN_ARC, AVN_MEMBERS, AVN_NO_UNICODE, AVN_NO_UTF8, AVN_SET};
+use asn_model::words::{
+    AVN_ARC, AVN_LIST, AVN_MEMBERS, AVN_NO_UNICODE, AVN_NO_UTF8, AVN_SET, AVN_SET_OF,
+};
 use asn_traits::SeqKind;
 use avn_value::NodeTable;
 use std::alloc::Global;
@@ -58,6 +61,16 @@ pub fn needed_members(kind: SeqKind) -> &'static str
     match kind {
         SeqKind::Sequence => AVN_MEMBERS,
         SeqKind::Set => AVN_SET,
+    }
+}
+
+/// The words by which a mismatch names SEQUENCE OF or SET OF.
+pub fn needed_list(kind: SeqKind) -> &'static str
+    ensures { LeafFailure.mismatch result.now ≡ list_failure (kind_view kind) }
+{
+    match kind {
+        SeqKind::Sequence => AVN_LIST,
+        SeqKind::Set => AVN_SET_OF,
     }
 }
 

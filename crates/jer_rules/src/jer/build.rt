@@ -2,16 +2,19 @@
 //! copied, since a map owns its keys.
 ghost use Rattle.asn_core.specs.Numbers.{signed};
 ghost use Rattle.asn_slots.specs.Trees.{trees_of};
+ghost use Rattle.asn_traits.specs.Canonical.{sorted_items};
 ghost use Rattle.asn_traits.specs.Notation.{Notation};
 ghost use Rattle.asn_traits.specs.Tables.{names_of};
 ghost use Rattle.asn_traits.specs.Writable.{IsEncodableInt};
 ghost use Rattle.jer_rules.specs.Holding.{members_onto, one_member};
 ghost use Rattle.serde_json.specs.Data.{Members, put};
 ghost use Rattle.serde_json.specs.Find.{of_integer};
-ghost use Rattle.serde_json.specs.View.{view, number_view, members_view};
-ghost use Rattle.std.specs.Prelude.{◌≡◌, ◌++◌, IfOk, OnOk, MatchOption};
+ghost use Rattle.serde_json.specs.View.{view, items_view, number_view, members_view};
+ghost use Rattle.serde_json.specs.Written.{items_have_float};
+ghost use Rattle.std.specs.Prelude.{◌≡◌, ◌++◌, false, IfOk, OnOk, MatchOption};
 
 use asn_core::OutOfMemory;
+use asn_sorting::values_by_text;
 use asn_traits::{Field, field_name};
 use serde_json::{Map, Number, Value};
 use std::alloc::Global;
@@ -69,6 +72,25 @@ pub fn choice_of(alloc: Global, identifier: &str, payload: Value) -> Result<Valu
     let mut members = Map::new(alloc);
     insert(alloc, &mut members, identifier, payload)?;
     Ok(Value::Object(members))
+}
+
+/// Returns the values in byte order of their compact texts, repeats kept. Values are moved, and no
+/// text stays.
+///
+/// # Errors
+///
+/// `OutOfMemory` alone.
+pub fn in_text_order(alloc: Global, items: Vec<Value>) -> Result<Vec<Value>, OutOfMemory>
+    // The text of a value that holds a float is not fixed.
+    ensures { IfOk result (λ sorted. items_have_float (items_view items.items) ≡ false
+        → items_view sorted.items ≡ sorted_items (items_view items.items)) }
+{
+    let mut entries = Vec::with_capacity(alloc, items.len())?;
+    for item in items {
+        let text = item.to_string(alloc)?;
+        entries.push_reserved((text, item));
+    }
+    values_by_text(alloc, entries)
 }
 
 /// Puts a member into an object, in the place of one of that name.

@@ -185,8 +185,9 @@ impl asn_traits::Decoder for Decoder {
         }
     }
 
-    // The array's vector goes into the pending slots as it is, without a copy.
-    fn open_list(&mut self) -> Result<usize, DecodeError> {
+    // The array's vector goes into the pending slots as it is, without a copy. JER has one word for
+    // both kinds.
+    fn open_list(&mut self, kind: SeqKind) -> Result<usize, DecodeError> {
         match into_items(self.take()?) {
             Ok(items) => {
                 let count = items.len();

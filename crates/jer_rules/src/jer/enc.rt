@@ -12,7 +12,7 @@ ghost use Rattle.serde_json.specs.View.{view};
 ghost use Rattle.std.specs.Prelude.{◌≡◌, ◌⊎◌, ◌∷◌, [], Option, Some, None, OnOk, IfOk, IfErr};
 ghost use Rattle.std.specs.Prelude.{IfSome, option_map, string_bytes};
 
-use super::build::{choice_of, members_of};
+use super::build::{choice_of, in_text_order, members_of};
 use super::faults::encode_error;
 use super::leaves::json_of_leaf;
 use asn_core::Codec;
@@ -150,6 +150,17 @@ impl asn_traits::Encoder for Encoder {
     fn close_list(&mut self) -> Result<(), EncodeError> {
         match self.frames.close_list() {
             Ok(items) => self.put(Some(Value::Array(items))),
+            Err(_) => Err(EncodeError::out_of_memory(Codec::Jer)),
+        }
+    }
+
+    // The elements go into the array in byte order of their texts.
+    fn close_set(&mut self) -> Result<(), EncodeError> {
+        let Ok(items) = self.frames.close_list() else {
+            return Err(EncodeError::out_of_memory(Codec::Jer));
+        };
+        match in_text_order(self.alloc, items) {
+            Ok(sorted) => self.put(Some(Value::Array(sorted))),
             Err(_) => Err(EncodeError::out_of_memory(Codec::Jer)),
         }
     }

@@ -1,4 +1,4 @@
-use Rattle.std.proofs.Common.{◌≡◌, ◌++◌, ◌+◌, ◌∷◌, [], ap, sym, ◌∙◌, drop, map}
+use Rattle.std.proofs.Common.{◌+◌, ap, sym, ◌∙◌, drop, map}
 use Rattle.asn_traits.specs.Arcs.{arc_numbers}
 use Rattle.jer_rules.proofs.ArcsTaken.{arc_more, arc_none, arcs_after}
 use Rattle.jer_rules.proofs.jer.identifiers.arcs_of.Goals as goal

@@ -2,26 +2,26 @@ use Rattle.std.proofs.Common.{◌≡◌, ap, sym, subst, ◌∙◌, length, map,
 use Rattle.std.proofs.lemmas.Result.{err_from_is_err_and}
 use Rattle.asn_fault.specs.Failure.{failure_of}
 use Rattle.asn_traits.specs.Answer.{RefusesLeaf}
-use Rattle.asn_traits.specs.Leaf.{LeafFailure}
 use Rattle.asn_traits.specs.Notation.{Notation}
-use Rattle.asn_traits.specs.Shape.{Shape}
+use Rattle.asn_traits.specs.Opening.{list_shape}
+use Rattle.asn_traits.specs.ShapeView.{kind_view}
 use Rattle.asn_slots.specs.Trees.{trees_of}
 use Rattle.asn_traits.specs.Tree.{as_list}
+use Rattle.avn_rules.specs.Parts.{list_failure}
 use Rattle.avn_rules.specs.Pending.{DecoderView, value_at}
 use Rattle.avn_rules.proofs.Opened.{list_opened, list_refused}
-use Rattle.asn_model.specs.declared.words.TheConstants.{AVN_LIST}
 use Rattle.avn_rules.proofs.avn.de.DecoderDecoder.open_list.Goals as goal
 
 pub returns-in_err-node : goal.returns-in_err-node
 returns-in_err-node c =
     let p = err_from_is_err_and c.from_residual.result c.from_residual.ensures.1 in
-    rw (p.1, p.2) (λ s. c.in_err-node.ensures (Shape.list_of s))
+    rw (p.1, p.2) (λ s. c.in_err-node.ensures (list_shape (kind_view c.args.kind) s))
 
 pub returns-then-not-is_list : goal.returns-then-not-is_list
 returns-then-not-is_list c =
     let node = c.in_ok-node.node in
     let root : c.self.inside.table ≡ c.take.new.self.root = ap (λ (d : DecoderView). d.root) c.self.view_is in
-    list_refused _ _ node _ c.in_ok-node.ensures (subst (λ t. is_some (as_list Notation.avn (value_at t node)) ≡ false) root (sym c.is_list.ensures ∙ c.if-not-is_list.true)) (subst (λ t. RefusesLeaf Notation.avn (value_at t node) (LeafFailure.mismatch AVN_LIST.now) (failure_of c.mismatch.result)) root c.mismatch.ensures)
+    list_refused (kind_view c.args.kind) _ _ node _ c.in_ok-node.ensures (subst (λ t. is_some (as_list Notation.avn (value_at t node)) ≡ false) root (sym c.is_list.ensures ∙ c.if-not-is_list.true)) (subst (λ t. RefusesLeaf Notation.avn (value_at t node) (list_failure (kind_view c.args.kind)) (failure_of c.mismatch.result)) root (rw c.needed_list.ensures at c.mismatch.ensures))
 
 pub returns : goal.returns
 returns c =
@@ -29,4 +29,4 @@ returns c =
     let root : c.self.inside.table ≡ c.take.new.self.root = ap (λ (d : DecoderView). d.root) c.self.view_is in
     let items = c.in-Ok.items.items in
     let count : c.len-count.result ≡ length items = omega (arith, c.len-count.ensures, c.in-Ok.items.ok.0) in
-    list_opened _ _ _ node c.len-count.result items c.in_ok-node.ensures (subst (λ t. as_list Notation.avn (value_at t node) ≡ Some (trees_of (value_at t) (map Some items))) root c.in-Ok.ensures.items) c.in_ok-put_items.ensures count
+    list_opened (kind_view c.args.kind) _ _ _ node c.len-count.result items c.in_ok-node.ensures (subst (λ t. as_list Notation.avn (value_at t node) ≡ Some (trees_of (value_at t) (map Some items))) root c.in-Ok.ensures.items) c.in_ok-put_items.ensures count

@@ -5,9 +5,9 @@ use Rattle.serde_json.specs.View.{items_view}
 use Rattle.asn_slots.specs.Trees.{trees_of}
 use Rattle.asn_traits.specs.Opening.{IsList}
 use Rattle.asn_traits.specs.Tree.{item_slots}
-use Rattle.asn_traits.proofs.Refusing.{no_list}
+use Rattle.asn_traits.specs.ShapeView.{kind_view}
 use Rattle.jer_rules.specs.Pending.{tree_of, pending_of}
-use Rattle.jer_rules.proofs.Readings.{list-none}
+use Rattle.jer_rules.proofs.Readings.{list-none, no_list_of}
 use Rattle.jer_rules.proofs.Taken.{present_slots, length-item_slots, items_below}
 use Rattle.jer_rules.proofs.jer.de.DecoderDecoder.open_list.Goals as goal
 
@@ -27,4 +27,4 @@ returns-in-Ok-put_present c =
 pub returns-in-Err : goal.returns-in-Err
 returns-in-Err c =
     let h = c.in-Err.ensures in
-    λ s. no_list s _ _ _ _ c.in_ok-take.ensures (list-none _ h.1) (rw h.0 at c.mismatch.ensures)
+    λ s. no_list_of (kind_view c.args.kind) s _ _ _ _ c.in_ok-take.ensures (list-none _ h.1) (rw h.0 at c.mismatch.ensures)

@@ -80,7 +80,9 @@ fn after_pairs<'a>(cursor: Cursor<'a>, room: &mut [u8; CHUNK]) -> (Cursor<'a>, P
     (here, Pairs { length, odd: None })
 }
 
-/// Takes the digits ahead to the beginning of `room`, as `after_pairs` does.
+/// Takes the digits ahead to the beginning of `room`, as `after_pairs` does. It stands apart, so
+/// that its loop has the registers for itself.
+#[inline(never)]
 fn take_pairs(cursor: &mut Cursor<'_>, room: &mut [u8; CHUNK]) -> Pairs
     requires { cursor.old.ahead ≡ cursor.old.rest }
     ensures advances { Advances 1 cursor.old cursor.new }

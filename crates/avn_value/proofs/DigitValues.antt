@@ -1,6 +1,6 @@
 -- Hexadecimal digits that are read, by their values.
 use Rattle.std.specs.Prelude.{not, nat_lt, nat_le, is_some, IfSome, IfOk, MatchOption, Result, Ok, Err}
-use Rattle.std.proofs.Common.{◌≡◌, ◌≢◌, inl, inr, ℕ, zero, suc, ◌+◌, ◌-◌, ◌*◌, ◌/◌, ◌%◌, ◌<◌, List, [], ◌∷◌, ◌++◌, Bool, true, false, cond, ◌==◌, ◌&&◌, ◌||◌, refl, sym, ap, ◌∙◌, length, length-append, take, set, Option, Some, None, get_or, map, arith, subst, append_assoc}
+use Rattle.std.proofs.Common.{◌≡◌, inl, inr, ℕ, suc, ◌+◌, ◌*◌, ◌/◌, ◌%◌, ◌<◌, List, [], ◌∷◌, ◌++◌, Bool, true, false, cond, ◌==◌, ◌&&◌, ◌||◌, refl, sym, ap, ◌∙◌, length, length-append, take, set, Option, Some, None, map, arith, subst, append_assoc}
 use Rattle.std.proofs.lemmas.Bool.{eqb-true, leb-true, and_parts, and_from, or_cases, cond-true, agree_below_at, false_from_ne_true}
 use Rattle.std.proofs.lemmas.List.{append-nil, map-append, take_more_set}
 use Rattle.std.specs.Char.{is_whitespace}

@@ -9,8 +9,9 @@ counts. Times are processor times. Both outputs have to be equal. A speed is the
 librust-hex-dev).
 
 The first table is of the program, beside Python's json module or Rust's serde_json: seconds, user and system, and peak
-memory. The second is of avn_bench beside a plain reader and printer of AVN: MB/s of text read and of text printed,
-each the best of ten turns in a process, and how many times as long twice the input takes.
+memory. The second is of avn_bench beside a plain reader and printer of AVN: MB/s of text read into a table of nodes
+(what types are decoded from) and into a value, both beside the peer's reading, and of text printed, each the best of
+ten turns in a process, and how many times as long twice the input takes.
 
 With -p, the inputs are the files *.in in DIR, each a request line and a text, and the peer is PROGRAM, which takes the
 same requests: seconds and peak memory of both, and ours by its.
@@ -158,14 +159,14 @@ def compare_strings(runs):
 
 
 def turns(program, path):
-    """What one run says of its input, and its nanoseconds to read and to print."""
+    """What one run says of its input, and the nanoseconds of each step."""
     with open(path, "rb") as file:
         run = subprocess.run([program], stdin=file, capture_output=True, text=True, check=True)
     return run.stdout, [int(number) for number in re.findall(r"(\d+) ns", run.stderr)]
 
 
 def best_turns(name, size, runs):
-    """The bytes read and printed at this size, and the least nanoseconds to read and to print, ours and the peer's."""
+    """The bytes read and printed at this size, and the least nanoseconds of each step, ours and the peer's."""
     path = os.path.join(OUT, "input")
     write_input(lambda: AVN_INPUTS[name](size).encode(), path)
     pairs = [(turns(AVN_BENCH, path), turns(AVN_PEER, path)) for _ in range(runs)]
@@ -176,11 +177,12 @@ def best_turns(name, size, runs):
 
 
 def compare_avn(name, runs):
-    """Prints the row of one input of the reader and the printer of AVN."""
-    amounts, ours, theirs = best_turns(name, 1, runs)
+    """Prints the row of one input of the readers and the printer of AVN."""
+    (read, printed), ours, (reading, printing) = best_turns(name, 1, runs)
     _, ours_twice, _ = best_turns(name, 2, runs)
-    row = f"{name:24} {amounts[0] / 1e6:5.1f}"
-    for amount, mine, peer, twice in zip(amounts, ours, theirs, ours_twice):
+    row = f"{name:24} {read / 1e6:5.1f}"
+    steps = zip((read, read, printed), ours, (reading, reading, printing), ours_twice)
+    for amount, mine, peer, twice in steps:
         row += f"  | {1e3 * amount / mine:6.0f} {1e3 * amount / peer:6.0f} {peer / mine:6.2f} {twice / mine:5.2f}"
     print(row, flush=True)
 
@@ -224,8 +226,8 @@ def main():
         if not os.path.exists(AVN_BENCH):
             subprocess.run(["rt", "run"], cwd=AVN_CRATE, capture_output=True)
         columns = f"{'ours':>6} {'peer':>6} {'speed':>6} {'twice':>5}"
-        print(f"{'AVN':24} {'MB':>5}  | {'reading':^26}  | {'printing':^26}")
-        print(f"{'':30}  | {columns}  | {columns}")
+        print(f"{'AVN':24} {'MB':>5}  | {'reading a table':^26}  | {'reading a value':^26}  | {'printing':^26}")
+        print(f"{'':30}  | {columns}  | {columns}  | {columns}")
     for name in avn_inputs:
         compare_avn(name, runs)
     if part in "string types":

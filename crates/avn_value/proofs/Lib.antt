@@ -7,7 +7,8 @@ pub mod Joins
 pub mod Packed
 pub mod Leads
 pub mod Looking
-pub mod Pairs
+pub mod DigitValues
+pub mod BitPairs
 pub mod ItemFlags
 pub mod NoToken
 pub mod NotDeep

@@ -6,6 +6,7 @@ use Rattle.avn_grammar.specs.Octets.{are_pairs, is_bit}
 use Rattle.avn_grammar.specs.Tree.{Tree}
 use Rattle.avn_grammar.specs.Grammar.{Token, number_token, negative_token, octets_token, bits_token, text_token}
 use Rattle.avn_grammar.proofs.OneTree.{quote_first, doubled_rest}
+use Rattle.avn_value.specs.HexDigits.{inside}
 
 pub minus_none : (w v : List ℕ) → class_of_next w ≡ is.Minus → v ≡ tail w → class_of_next v ≢ is.Digit → (t : Tree) (n : List ℕ) → Token w t n → ⊥
 minus_none w v m e h t n (number_token a) = cc
@@ -62,3 +63,11 @@ bits_none w r e p h t n (negative_token a c) = cc
 bits_none w r e p h t n (octets_token {rest = s} a c d) = octets_bits s r (sym c ∙ p)
 bits_none w r e p h t n (bits_token a c d) = cc
 bits_none w r e p h t n (text_token cs f g) = let q = quote_first _ _ f in cc
+
+-- No token begins with an apostrophe, unless digits follow up to the next one.
+pub digits_none : (w : List ℕ) → class_of_next w ≡ is.Apostrophe → are_pairs (inside (tail w)) ≡ false → all is_bit (inside (tail w)) ≡ false → (t : Tree) (n : List ℕ) → Token w t n → ⊥
+digits_none w e p b t n (number_token a) = cc
+digits_none w e p b t n (negative_token a c) = cc
+digits_none w e p b t n (octets_token a c d) = cc
+digits_none w e p b t n (bits_token a c d) = cc
+digits_none w e p b t n (text_token cs f g) = let q = quote_first _ _ f in cc

@@ -5,6 +5,7 @@ pub mod Ahead
 pub mod Gathering
 pub mod Answer
 pub mod Radix
+pub mod HexDigits
 pub mod NodeKinds
 pub mod Preorder
 pub mod NodeViews

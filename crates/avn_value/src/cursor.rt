@@ -5,8 +5,7 @@ ghost use Rattle.std.specs.Str.{encode_utf8_all, chars, IsCharBoundary};
 ghost use Rattle.std.specs.Char.{len_utf8, is_whitespace, is_ascii};
 ghost use Rattle.asn_core.specs.Seen.{after};
 ghost use Rattle.avn_grammar.specs.Chars.{class_of_next, tail, skip, starts_with, take_while};
-ghost use Rattle.avn_grammar.specs.Chars.{skip_while, has_fraction, is_name, is_not_apostrophe};
-ghost use Rattle.avn_grammar.specs.Chars.{without_whitespace};
+ghost use Rattle.avn_grammar.specs.Chars.{skip_while, has_fraction, is_name};
 ghost use Rattle.avn_value.specs.Ahead.{Advances, LooksAtMost, BeginsChoice};
 ghost use Rattle.avn_value.specs.Runs.{passes};
 
@@ -36,17 +35,6 @@ fn wide_width(c: char) -> usize
     ensures { result ≡ len_utf8 c }
 {
     c.len_utf8()
-}
-
-/// Puts a character that is no white space to the end of `out`.
-fn push_solid(c: char, out: &mut Vec<char>) -> Result<(), AllocError>
-    ensures { OnOk result (out.new.items ≡ out.old.items ++ without_whitespace (c ∷ [])) }
-{
-    if c.is_whitespace() {
-        return Ok(());
-    }
-    out.push(c)?;
-    Ok(())
 }
 
 /// A scan that is read from a mark on. It keeps the character at its place, which is the mark or
@@ -175,6 +163,16 @@ impl<'a> Cursor<'a> {
         if passes(run, c) { self.take() } else { None }
     }
 
+    /// The character ahead.
+    #[inline(always)]
+    pub fn peek(&self) -> Option<char>
+        requires { self.now.ahead ≡ self.now.rest }
+        ensures { MatchOption result (self.now.rest ≡ [])
+            (λ c. self.now.rest ≡ c ∷ tail self.now.rest) }
+    {
+        self.kept
+    }
+
     /// The character ahead, if it belongs to the run.
     #[inline(always)]
     pub fn peek_if(&self, run: CharSet) -> Option<char>
@@ -285,44 +283,6 @@ impl<'a> Cursor<'a> {
                 return (here, Err(AllocError));
             }
             let _c = here.take();
-        }
-        (here, Ok(()))
-    }
-
-    /// Past the characters ahead up to an apostrophe or the end. Those that are no white space go
-    /// to the end of `out`.
-    pub fn take_inside(&mut self, out: &mut Vec<char>) -> Result<(), AllocError>
-        requires { self.old.ahead ≡ self.old.rest }
-        ensures advances { Advances 1 self.old self.new }
-        ensures together { self.new.ahead ≡ self.new.rest }
-        ensures moves { OnOk result (self.new.rest ≡ skip_while is_not_apostrophe self.old.rest) }
-        ensures found { OnOk result (out.new.items
-            ≡ out.old.items ++ without_whitespace (take_while is_not_apostrophe self.old.rest)) }
-    {
-        let (here, taken) = self.take_out().after_inside(out);
-        *self = here;
-        taken
-    }
-
-    /// What `take_inside` does, over a cursor that is moved in and out.
-    #[inline(always)]
-    #[tactic(auto, using(crate::proofs::Looking::insides))]
-    fn after_inside(self, out: &mut Vec<char>) -> (Cursor<'a>, Result<(), AllocError>)
-        requires { self.ahead ≡ self.rest }
-        ensures advances { Advances 1 self.entry result.0 }
-        ensures together { result.0.ahead ≡ result.0.rest }
-        ensures moves { OnOk result.1 (result.0.rest ≡ skip_while is_not_apostrophe self.entry.rest) }
-        ensures found { OnOk result.1 (out.new.items
-            ≡ out.old.items ++ without_whitespace (take_while is_not_apostrophe self.entry.rest)) }
-    {
-        let mut here = self;
-        while let Some(c) = here.peek_if(CharSet::Inside) {
-            match push_solid(c, out) {
-                Ok(()) => {
-                    let _c = here.take();
-                }
-                Err(refused) => return (here, Err(refused)),
-            }
         }
         (here, Ok(()))
     }

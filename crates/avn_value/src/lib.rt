@@ -1,12 +1,14 @@
 //! Values of the ASN.1 value notation (X.680): printing them, reading them, and their normal form.
 #![tactic(auto)]
 
+mod bit_pairs;
 mod brace_items;
 mod chars;
 mod clone;
 mod cursor;
 mod digits;
 mod fault;
+mod hex_digits;
 mod node_kind;
 mod node_table;
 mod nodes;

@@ -1,6 +1,7 @@
 //! Nodes of a table that is being built, and what they hold.
-ghost use Rattle.std.specs.Prelude.{true, false, Some, ◌≡◌, ◌<◌, ◌≤◌, ◌++◌, ◌∷◌, [], List, length};
-ghost use Rattle.std.specs.Prelude.{OnOk, get_or};
+ghost use Rattle.std.specs.Prelude.{true, false, Some, ◌≡◌, ◌<◌, ◌≤◌, ◌+◌, ◌^◌, ◌++◌, ◌∷◌, []};
+ghost use Rattle.std.specs.Prelude.{List, length};
+ghost use Rattle.std.specs.Prelude.{OnOk, OnErr, get_or};
 ghost use Rattle.std.specs.Str.{encode_utf8_all};
 ghost use Rattle.std.specs.Char.{encode_utf8};
 ghost use Rattle.avn_grammar.specs.Chars.{take_while, skip_while};
@@ -91,6 +92,48 @@ fn word_kind(word: &str) -> NodeKind
         "PLUS-INFINITY" | "MINUS-INFINITY" | "NOT-A-NUMBER" => NodeKind::Real,
         _ => NodeKind::Enumerated,
     }
+}
+
+/// Adds a node over none. It stands apart, and its parts are passed in registers, so that no node is
+/// moved through memory.
+///
+/// # Errors
+///
+/// `AllocError` where memory is refused.
+#[inline(never)]
+fn push_node(
+    nodes: &mut Vec<Node>,
+    kind: NodeKind,
+    name_start: u32,
+    name_end: u32,
+    start: u32,
+    bound: u32,
+    bit_length: u32,
+) -> Result<(), AllocError>
+    requires { length nodes.old.items + 1 < 2 ^ 32 }
+    ensures unchanged { OnErr result (nodes.new.items ≡ nodes.old.items) }
+    ensures pushed { OnOk result (nodes.new.items ≡ nodes.old.items ++ record {
+      kind = kind;
+      name_start = name_start;
+      name_end = name_end;
+      start = start;
+      bound = bound;
+      bit_length = bit_length;
+      end = length nodes.old.items + 1;
+    } ∷ []) }
+{
+    let end = nodes.len() as u32 + 1;
+    let node = Node {
+        kind,
+        name_start,
+        name_end,
+        start,
+        bound,
+        bit_length,
+        end,
+    };
+    nodes.push(node)?;
+    Ok(())
 }
 
 impl Nodes {
@@ -199,16 +242,9 @@ impl Nodes {
         if bound > GREATEST || end > GREATEST {
             return Err(AllocError);
         }
-        let node = Node {
-            kind,
-            name_start: self.name as u32,
-            name_end: self.word as u32,
-            start: self.word as u32,
-            bound: bound as u32,
-            bit_length: 0,
-            end: end as u32,
-        };
-        self.nodes.push(node)?;
+        let name = self.name as u32;
+        let word = self.word as u32;
+        push_node(&mut self.nodes, kind, name, word, word, bound as u32, 0)?;
         self.name = bound;
         self.word = bound;
         Ok(())
@@ -252,16 +288,18 @@ impl Nodes {
         if edge > GREATEST || bound > GREATEST || end > GREATEST || bit_length > GREATEST {
             return Err(AllocError);
         }
-        let node = Node {
+        let name = self.name as u32;
+        let word = self.word as u32;
+        let bits = bit_length as u32;
+        push_node(
+            &mut self.nodes,
             kind,
-            name_start: self.name as u32,
-            name_end: self.word as u32,
-            start: start as u32,
-            bound: bound as u32,
-            bit_length: bit_length as u32,
-            end: end as u32,
-        };
-        self.nodes.push(node)?;
+            name,
+            word,
+            start as u32,
+            bound as u32,
+            bits,
+        )?;
         self.name = edge;
         self.word = edge;
         Ok(())
@@ -283,16 +321,17 @@ impl Nodes {
         if edge > GREATEST || bound > GREATEST || end > GREATEST {
             return Err(AllocError);
         }
-        let node = Node {
-            kind: NodeKind::Oid,
-            name_start: self.name as u32,
-            name_end: self.word as u32,
-            start: start as u32,
-            bound: bound as u32,
-            bit_length: 0,
-            end: end as u32,
-        };
-        self.nodes.push(node)?;
+        let name = self.name as u32;
+        let word = self.word as u32;
+        push_node(
+            &mut self.nodes,
+            NodeKind::Oid,
+            name,
+            word,
+            start as u32,
+            bound as u32,
+            0,
+        )?;
         self.name = edge;
         self.word = edge;
         Ok(())
@@ -389,16 +428,17 @@ impl Nodes {
         if bound > GREATEST || end > GREATEST {
             return Err(AllocError);
         }
-        let node = Node {
+        let name = self.name as u32;
+        let word = self.word as u32;
+        push_node(
+            &mut self.nodes,
             kind,
-            name_start: self.name as u32,
-            name_end: self.word as u32,
-            start: bound as u32,
-            bound: bound as u32,
-            bit_length: 0,
-            end: end as u32,
-        };
-        self.nodes.push(node)?;
+            name,
+            word,
+            bound as u32,
+            bound as u32,
+            0,
+        )?;
         self.name = self.word;
         self.word = bound;
         Ok(())

@@ -46,7 +46,9 @@ impl Chunk {
 
 /// Takes characters of a text past its first quote to the beginning of `room`, one for each pair of
 /// quotes: up to the quote that ends the text, which it takes too, or else as many as there is room
-/// for or up to one that is not ASCII.
+/// for or up to one that is not ASCII. It stands apart, so that its loop has the registers for
+/// itself.
+#[inline(never)]
 pub fn take_chunk(cursor: &mut Cursor<'_>, room: &mut [u8; CHUNK]) -> Chunk
     requires { cursor.old.ahead ≡ cursor.old.rest }
     ensures advances { Advances 1 cursor.old cursor.new }

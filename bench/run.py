@@ -17,10 +17,12 @@ With -p, the inputs are the files *.in in DIR, each a request line and a text, a
 same requests: seconds and peak memory of both, and ours by its.
 
 The third table is of the string types, from and to either notation: seconds of each on one ASCII text, by those of
-UTF8String on the same text.
+UTF8String on the same text. The fourth is of a SET OF a million numbers, from and to either notation: seconds for
+elements in some orders, by those of a SEQUENCE OF the same text, and those of twice the elements.
 """
 import hashlib
 import os
+import random
 import re
 import subprocess
 import sys
@@ -70,6 +72,13 @@ STRINGS = (
     "NumericString PrintableString VisibleString Ia5String UniversalString GeneralString GraphicString BmpString"
 ).split()
 MILLION = 1_000_000
+SETS = (
+    ("random, a million", "random", MILLION),
+    ("random, two million", "random", 2 * MILLION),
+    ("all equal", "all equal", MILLION),
+    ("sorted", "sorted", MILLION),
+    ("reversed", "reversed", MILLION),
+)
 QUOTED = 'The quick brown fox says ""hello"".\n'
 AVN_INPUTS = {
     "integers without commas": lambda size: "{" + " ".join(str(i) for i in range(MILLION * size)) + "}",
@@ -158,6 +167,35 @@ def compare_strings(runs):
         print(row, flush=True)
 
 
+def numbers(order, count):
+    """The text of so many numbers below 256, in braces or brackets, in that order."""
+    source = random.Random(1)
+    values = [7] * count if order == "all equal" else [source.randrange(256) for _ in range(count)]
+    if order in ("sorted", "reversed"):
+        values.sort(reverse=order == "reversed")
+    return ",".join(map(str, values)).encode()
+
+
+def least_seconds(way, name, elements, path, runs):
+    """The least seconds of the program on a list of these elements."""
+    brackets = (b"[", b"]") if way.startswith("jer") else (b"{", b"}")
+    write_input(lambda: f"{way} {name}\n".encode() + brackets[0] + elements + brackets[1], path)
+    return min(measure(PROGRAM, path)[0] for _ in range(runs))
+
+
+def compare_sets(runs):
+    """Prints the rows of SET OF, beside SEQUENCE OF on the same text."""
+    path = os.path.join(OUT, "input")
+    print(f"{'set of numbers':20}" + "".join(f"  {way + ' s':>9} {'by list':>7}" for way in WAYS))
+    for name, order, count in SETS:
+        row = f"{name:20}"
+        elements = numbers(order, count)
+        for way in WAYS:
+            seconds = least_seconds(way, "SetOf<u8>", elements, path, runs)
+            row += f"  {seconds:9.3f} {seconds / least_seconds(way, 'SequenceOf<u8>', elements, path, runs):7.2f}"
+        print(row, flush=True)
+
+
 def turns(program, path):
     """What one run says of its input, and the nanoseconds of each step."""
     with open(path, "rb") as file:
@@ -232,6 +270,8 @@ def main():
         compare_avn(name, runs)
     if part in "string types":
         compare_strings(runs)
+    if part in "sets":
+        compare_sets(runs)
 
 
 main()

@@ -171,6 +171,10 @@ pub known_some : (name : List ℕ) (o : Option (List ℕ × Shape)) → Some nam
 known_some name (Some a) e = refl
 known_some name None e = let d : ◌≡◌ {A = Option (List ℕ)} (Some name) None = e in cc d
 
+-- What has a name is there.
+pub known_apart : {P : Type 0} (name : List ℕ) (o : Option (List ℕ × Shape)) → Some name ≡ option_map (λ a. a.0) o → o ≡ None → P
+known_apart name o e none = let d : ◌≡◌ {A = Option (List ℕ)} (Some name) None = e ∙ ap (option_map (λ a. a.0)) none in cc d
+
 pub unknown_none : (o : Option (List ℕ × Shape)) → None ≡ option_map (λ a. a.0) o → o ≡ None
 unknown_none (Some a) e = let d : ◌≡◌ {A = Option (List ℕ)} None (Some a.0) = e in cc d
 unknown_none None e = refl

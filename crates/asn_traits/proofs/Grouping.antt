@@ -27,7 +27,7 @@ pub refuses_second : {S : Type 0} {holds : S → List Frame → Type 0} {n : Not
 refuses_second AddsFields.adds_none r = r
 refuses_second (AddsFields.adds_next slot rest allowed) r = RefusesAdding.refuses_later_slot slot (refuses_second rest r)
 
-all_taken : {n : Notation} {cs ds : List Component} {ss ts : Frame} {before mid after : Ahead}
+pub all_taken : {n : Notation} {cs ds : List Component} {ss ts : Frame} {before mid after : Ahead}
     → TakesFields n cs ss before mid → TakesFields n ds ts mid after → TakesFields n (cs ++ ds) (ss ++ ts) before after
 all_taken TakesFields.takes_none b = b
 all_taken (TakesFields.takes_next slot rest allowed) b = TakesFields.takes_next slot (all_taken rest b) allowed
@@ -46,7 +46,7 @@ pub refuses_first_fields : {n : Notation} (at : Standing) (fs gs : Fields) {befo
     → RefusesFields n (components at fs) before e → RefusesFields n (components at (join_fields fs gs)) before e
 refuses_first_fields {n} at fs gs {before} {e} r = subst (λ cs. RefusesFields n cs before e) (sym (components-joined at fs gs)) (first_refused (components at gs) r)
 
-second_refused : {n : Notation} {cs ds : List Component} {ss : Frame} {before mid : Ahead} {e : Failure}
+pub second_refused : {n : Notation} {cs ds : List Component} {ss : Frame} {before mid : Ahead} {e : Failure}
     → TakesFields n cs ss before mid → RefusesFields n ds mid e → RefusesFields n (cs ++ ds) before e
 second_refused TakesFields.takes_none r = r
 second_refused (TakesFields.takes_next {c = c} {o = o} slot rest allowed) r = RefusesFields.refuses_later_field slot (second_refused rest r) (allowed-taken c.presence o allowed)

@@ -31,4 +31,5 @@ pub mod TagOrder
 pub mod Members
 pub mod Multisets
 pub mod SetWriting
+pub mod SetReading
 pub mod Grouping

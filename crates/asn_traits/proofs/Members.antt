@@ -22,7 +22,8 @@ use Rattle.asn_traits.specs.ReadingSlots.{slots_read, tag_order, with_slots}
 use Rattle.asn_traits.specs.Writing.{Frame, members_value, named}
 use Rattle.asn_traits.proofs.Passing.{allowed-kept, allowed-lacks, refuses_components, slots_ahead, takes_components}
 use Rattle.asn_traits.proofs.ReadingOrder.{fields_from, fields-read, names-read}
-use Rattle.asn_traits.proofs.TagOrder.{additions_of, by_tag, with-additions}
+use Rattle.asn_traits.specs.SetFields.{additions_of}
+use Rattle.asn_traits.proofs.TagOrder.{by_tag, with-additions}
 use Rattle.asn_traits.proofs.Steps.{refuses_by, members_fail, same_head, same_tail}
 
 -- The slot that a field has for a value of its type: a default is left out.

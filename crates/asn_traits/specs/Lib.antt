@@ -30,6 +30,7 @@ pub mod Root
 pub mod Chosen
 pub mod Passing
 pub mod ReadingSlots
+pub mod SetFields
 pub mod TextTypes
 pub mod Terms
 pub mod SetElements

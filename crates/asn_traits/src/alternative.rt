@@ -114,6 +114,7 @@ pub fn write_choice<T: ChoicePayload, E: Encoder>(
             ensures written { OnOk result
                 (Written E.holds E.notation (T.chosen value.entry.now).shape
                 (T.chosen value.entry.now).payload encoder.entry.now encoder.exit.now) }
+            ensures tag { IfOk result (λ answer. answer ≡ tag) }
             ensures refused { IfErr result
                 (FailsToEncode E.notation (T.chosen value.entry.now).payload) }
         {

@@ -244,6 +244,19 @@ pub trait Constructed: AsnType {
     ghost of_fields: { opened Self.shape_of ≡ AbstractShape.seq kind fields added };
 }
 
+/// Is what is read of one field of a SET, as `decode_set` collects it.
+pub trait SetField: Drop {
+    // The place of the field among all fields of its type.
+    ghost number: { Self → ℕ };
+
+    // Its slot: absent where the field is, or has its default.
+    ghost slot: { Self → Option Value };
+
+    /// Returns the place of the field among all fields of its type.
+    fn place(&self) -> usize
+        ensures { result ≡ number self.now };
+}
+
 /// Describes a CHOICE (X.680, section 29) by the tables of its alternatives.
 pub trait Choice: AsnType {
     /// Lists the tags that the alternatives may begin with.

@@ -4,6 +4,7 @@
 //! A codec writes the calls without a body. The calls that have a bound of this crate's are final,
 //! and are proved here once for every codec.
 ghost use Rattle.asn_fault.specs.Failure.{Cause, at_root, failure_of};
+ghost use Rattle.asn_model.specs.Components.{Component};
 ghost use Rattle.asn_model.specs.Fixed.{fixed_size};
 ghost use Rattle.asn_model.specs.Leaf.{codec_of};
 ghost use Rattle.asn_model.specs.Notation.{Notation, notation_of};
@@ -17,16 +18,18 @@ ghost use Rattle.asn_traits.specs.Answer.{TakesAbsent, OptionalAnswer};
 ghost use Rattle.asn_traits.specs.Opening.{TakesLeaf, OpensList, OpensMembers, OpensChoice};
 ghost use Rattle.asn_traits.specs.Opening.{OpensAlternative, AllBelow, list_shape, list_value};
 ghost use Rattle.asn_traits.specs.Scopes.{ScopeAnswer, TagAnswer};
+ghost use Rattle.asn_traits.specs.SetFields.{PlaceAnswer, SetAnswer, component_at};
+ghost use Rattle.asn_traits.specs.SetFields.{listed_components, places_read};
 ghost use Rattle.asn_traits.specs.Tables.{names_of};
 ghost use Rattle.asn_traits.specs.TextTypes.{no_teletex};
-ghost use Rattle.std.specs.Prelude.{None, true, ◌≡◌, ℕ, pos, List, ◌∷◌, ◌++◌, ◌<◌, map, length};
+ghost use Rattle.std.specs.Prelude.{None, Some, true, ◌≡◌, ℕ, pos, List, ◌∷◌, ◌++◌, ◌<◌, map, length};
 ghost use Rattle.std.specs.Prelude.{string_bytes, IfErr, IsErr};
 
 use crate::integer_type::beyond_128_bits;
-use crate::tables::{listed, listed_fields, tag_at};
+use crate::tables::{fields_as_read, listed, listed_fields, place_and_tag, tag_at};
 use crate::{
     AsnType, Choice, Constructed, Enumerated, Field, IntegerType, LeafKind, OwnedLeaf, SeqKind,
-    SetElement, TextType,
+    SetElement, SetField, TextType,
 };
 use asn_core::{Any, Bits, Codec, Constraints, ObjectIdentifier, Tag};
 use asn_fault::{DecodeError, Refusal};
@@ -485,6 +488,65 @@ pub trait Decoder {
             Ok(()) => decode_fn(self),
             Err(error) => Err(E::of(error)),
         }
+    }
+
+    /// Decodes a SET field by field: those of the root in the order of their tags, and then the
+    /// extension additions. `decode_fn` takes the first pending slot as the field at a place among
+    /// all fields, whose tag it is handed too, and `field_fn` makes the value of what it returned,
+    /// in that order. Their error is a `DecodeError`.
+    ///
+    /// # Errors
+    ///
+    /// Those of `Decoder`, by the first field in that order that can't be decoded.
+    final fn decode_set<
+        S: SetField,
+        C: Constructed,
+        E: Refusal,
+        R: Fn(&mut Self, usize, Tag) -> Result<S, E>,
+        F: FnOnce(Vec<S>) -> Result<C, E>,
+    >(&mut self, tag: Tag, decode_fn: R, field_fn: F) -> Result<C, E>
+        requires set { C.kind ≡ AbstractSeqKind.set }
+        // `decode_fn` may be called for each place, and what it returns is that field's.
+        requires callable { (p : _) (k : ℕ) (t : Tag) (c : Component)
+            → component_at (listed_components C.fields C.added) k ≡ Some c
+            → R.pre decode_fn p k t }
+        requires reads { (p : _) (k : ℕ) (t : Tag) (r : _) (q : _) (c : Component)
+            → component_at (listed_components C.fields C.added) k ≡ Some c
+            → R.post decode_fn p k t r q
+            → PlaceAnswer E.failure S.number S.slot notation k c (pending p.now) r
+            (pending q.now) }
+        // `field_fn` may be called with these answers, and makes the value of their slots.
+        requires buildable { (answers : _)
+            → map S.number answers.items ≡ map (λ p. p.0) (places_read C.fields C.added)
+            → F.pre field_fn answers }
+        requires builds { (answers : _) (r : _)
+            → map S.number answers.items ≡ map (λ p. p.0) (places_read C.fields C.added)
+            → F.post field_fn answers r
+            → SetAnswer E.failure S.slot C.fields C.added C.value_of answers.items r }
+        ensures { AnswerBy E.failure notation (Shape.seq C.kind C.fields C.added) C.value_of
+            (pending self.old) result (pending self.new) }
+    {
+        let additions = listed_fields(C::extended_field_table());
+        let Ok(fields) = fields_as_read(self.allocator(), C::field_table().items, additions) else {
+            return Err(E::of(DecodeError::out_of_memory(self.codec())));
+        };
+        match self.open_members(SeqKind::Set, fields.as_slice(), &[]) {
+            Ok(()) => {}
+            Err(error) => return Err(E::of(error)),
+        }
+        let mut answers = Vec::new(self.allocator());
+        for field in &fields {
+            let (place, tag) = place_and_tag(field);
+            match decode_fn(self, place, tag) {
+                Ok(answer) => {
+                    let Ok(()) = answers.push(answer) else {
+                        return Err(E::of(DecodeError::out_of_memory(self.codec())));
+                    };
+                }
+                Err(error) => return Err(error),
+            }
+        }
+        field_fn(answers)
     }
 
     /// Puts the payload of the first pending slot, a CHOICE, in its place, and returns the tag of

@@ -20,7 +20,8 @@ ghost use Rattle.asn_traits.specs.Writing.{ClosesSet, Written, WrittenUnder, Fai
 ghost use Rattle.asn_traits.specs.Writing.{FailsToEncodeUnder, FailsToFill, ScopeRan, Maps, Puts};
 ghost use Rattle.std.specs.Fn.{FnOnceReturnsAtMut};
 ghost use Rattle.std.specs.Prelude.{◌≡◌, ◌⊎◌, pos, ◌∷◌, ◌++◌, [], ℕ, List, Option, Some, None, Ok};
-ghost use Rattle.std.specs.Prelude.{Err, true, map, option_map, OnOk, IfErr, IfSome, IsErr, IsOk};
+ghost use Rattle.std.specs.Prelude.{Err, true, map, option_map, OnOk, IfErr, IfOk, IfSome, IsErr};
+ghost use Rattle.std.specs.Prelude.{IsOk};
 ghost use Rattle.std.specs.Prelude.{IsSome, ⊤};
 
 use crate::tables::{identifier_of, listed, listed_fields};
@@ -675,13 +676,13 @@ pub trait Encoder {
         self.encode_sequence::<C, F>(tag, value, identifier)
     }
 
-    /// Encodes a CHOICE: the closure starts on a new frame and leaves the payload's slot in it.
-    /// What it added is stated by its own clauses.
+    /// Encodes a CHOICE: the closure starts on a new frame, leaves the payload's slot in it and
+    /// returns the tag. What it added is stated by its own clauses.
     ///
     /// # Errors
     ///
-    /// `VariantNotInChoice` where the tag is that of no alternative, before the closure is called;
-    /// those of the closure, as they are; `OutOfMemory`.
+    /// `VariantNotInChoice` exactly where the tag is that of no alternative, and then the closure is
+    /// not called; those of the closure, as they are; `OutOfMemory`.
     final fn encode_choice<C: Choice, F: FnOnce(&mut Self) -> Result<Tag, EncodeError>>(
         &mut self,
         constraints: &Constraints,
@@ -691,13 +692,18 @@ pub trait Encoder {
     ) -> Result<(), EncodeError>
     where
         Self: Sized,
-        requires { F.IsAlwaysCallable encode_fn }
+        requires callable { F.IsAlwaysCallable encode_fn }
+        requires returns_tag { (p : _) (r : _) (q : _) → F.post encode_fn p r q
+            → IfOk r (λ answer. answer ≡ tag) }
         ensures written { OnOk result
             (IfSome (alternative_tagged (all_alternatives C.alternatives C.added) tag)
-            (λ a. (answer : _) × ScopeRan holds (FnOnceReturnsAtMut F.FnOnce encode_fn) self.old
-            (Ok answer) (λ left. Maps holds (close (as_choice a.0)) left self.new))) }
+            (λ a. ScopeRan holds (FnOnceReturnsAtMut F.FnOnce encode_fn) self.old
+            (Ok tag) (λ left. Maps holds (close (as_choice a.0)) left self.new))) }
         ensures listed { IsOk result → IsSome
             (alternative_tagged (all_alternatives C.alternatives C.added) tag) }
+        ensures unlisted { alternative_tagged (all_alternatives C.alternatives C.added) tag ≡ None
+            → IsErr result × (self.new ≡ self.old) × IfErr result (λ e.
+            (e.kind ≡ EncodeErrorKind.VariantNotInChoice) × (notation_of e.codec ≡ notation)) }
         ensures refused { IfErr result (λ e. (e.kind ≡ EncodeErrorKind.OutOfMemory)
             ⊎ (((e.kind ≡ EncodeErrorKind.VariantNotInChoice)
             × (alternative_tagged (all_alternatives C.alternatives C.added) tag ≡ None))
@@ -710,7 +716,7 @@ pub trait Encoder {
             return Err(EncodeError::variant_not_in_choice(self.codec()));
         };
         self.open_frame()?;
-        // The tag that the closure returns is not looked at: `tag` names the alternative.
+        // By its clause the closure returns `tag`.
         let _answer = encode_fn(self)?;
         self.close_choice(name)
     }

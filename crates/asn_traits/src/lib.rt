@@ -32,7 +32,7 @@ pub use asn_model::{
     Alphabet, AlternativeShape, FieldShape, Leaf, LeafKind, OwnedLeaf, Plain, PresenceShape,
     SeqKind, Shape, is_readable, laws,
 };
-pub use asn_type::{AsnType, Choice, Constructed, Enumerated, Field, Fields, Presence};
+pub use asn_type::{AsnType, Choice, Constructed, Enumerated, Field, Fields, Presence, SetField};
 pub use decoder::{Decode, DecodeChoice, Decoder};
 pub use encoder::{Encode, Encoder};
 pub use field_names::FieldNames;

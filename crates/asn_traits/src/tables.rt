@@ -57,6 +57,32 @@ pub fn fields_by_tag(alloc: Global, fields: &[Field]) -> Result<Vec<Field>, OutO
     }
 }
 
+/// Returns the fields of a SET in the order in which they are read: those of the root by their tags,
+/// and then the extension additions.
+///
+/// # Errors
+///
+/// `OutOfMemory` alone.
+pub fn fields_as_read(
+    alloc: Global,
+    root: &[Field],
+    additions: &[Field],
+) -> Result<Vec<Field>, OutOfMemory>
+    ensures { IfOk result (λ v. v.items
+        ≡ sort (on field_tag tag_cmp) root.now ++ additions.now) }
+{
+    let mut fields = fields_by_tag(alloc, root)?;
+    fields.extend_from_slice(additions)?;
+    Ok(fields)
+}
+
+/// Returns the place of a field among all fields, and its tag.
+pub fn place_and_tag(field: &Field) -> (usize, Tag)
+    ensures { result ≡ (field.now.index, field.now.tag) }
+{
+    (field.index, field.tag)
+}
+
 /// Returns the place of the first field whose tag is not below that of this one.
 fn place_by_tag(fields: &[Field], field: &Field) -> usize
     ensures below { result ≤ length fields.now }

@@ -12,5 +12,5 @@ returns-clause-written g c =
     let all = all_alternatives alts added in
     (on_ok_weaker c.encode_choice.result (λ w.
     let r = rw (ap (alternative_tagged all) c.alternative_tag-tag.ensures ∙ g.met.T.ChoicePayload.is_chosen c.args.value.now) at w in
-    let p = r.1.answered.met.0 in
-    scope_choice {answer = r.0} _ alts added x.name x.payload r.1 (offered p (fits_tagged all x.tag x.name x.shape x.payload (g.met.T.ChoicePayload.is_chosen c.args.value.now) p.fit))) c.encode_choice.ensures.written)
+    let p = r.answered.met.0 in
+    scope_choice {answer = c.alternative_tag-tag.result} _ alts added x.name x.payload r (offered p (fits_tagged all x.tag x.name x.shape x.payload (g.met.T.ChoicePayload.is_chosen c.args.value.now) p.fit))) c.encode_choice.ensures.written)

@@ -17,4 +17,4 @@ pub read_members-requires-in-Set : goal.read_members-requires-in-Set
 read_members-requires-in-Set g c =
     let t = g.T.SequenceFields in
     subst (λ k. names_of c.as_slice.result.now ++ names_of c.listed-additions.result.now ≡ component_names (reading_order k t.fields t.added)) (sym (ap kind_view c.in-Set.is) ∙ c.seq_kind.ensures)
-    (set_table_names c.listed-in-Set.result.now _ _ _ t.fields t.added c.listed-in-Set.ensures (c.as_slice.ensures.value ∙ c.in-Ok.ensures) c.listed_added.ensures c.listed-additions.ensures)
+    (set_table_names (λ t. t.now) c.listed-in-Set.result.now _ _ _ t.fields t.added c.listed-in-Set.ensures (c.as_slice.ensures.value ∙ c.in-Ok.ensures) c.listed_added.ensures c.listed-additions.ensures)

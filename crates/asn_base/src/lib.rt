@@ -1,5 +1,6 @@
 //! The plain types that ASN.1 types and both notations share, under one name: what `asn_core` has,
-//! the character strings of `asn_strings` and the times of `asn_times`.
+//! the multisets of `asn_sets`, the character strings of `asn_strings` and the times of
+//! `asn_times`.
 #![tactic(auto)]
 
 pub use asn_core::{
@@ -7,6 +8,7 @@ pub use asn_core::{
     Identifier, Integer, ObjectIdentifier, OctetString, Oid, OutOfMemory, Scan, Size, Tag, TagTree,
     Variants, WholeNumber,
 };
+pub use asn_sets::SetOf;
 pub use asn_strings::{
     BmpString, CharacterSet, GeneralString, GraphicString, Ia5String, NumericString,
     PrintableString, RestrictedOctets, RestrictedString, StringFault, TeletexString,

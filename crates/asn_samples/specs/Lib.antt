@@ -15,4 +15,7 @@ pub mod ExtensibleBitString
 pub mod MarkedBitString
 pub mod ExtensibleBitStringField
 pub mod Nest
+pub mod MarkSet
+pub mod OldPart
+pub mod NewPart
 pub mod Samples

@@ -10,6 +10,7 @@ use Rattle.asn_samples.specs.ExtEnum.{ext_enum_shape}
 use Rattle.asn_samples.specs.ExtensibleBitString.{extensible_bit_string_shape}
 use Rattle.asn_samples.specs.ExtensibleBitStringField.{extensible_bit_string_field_shape}
 use Rattle.asn_samples.specs.Inner.{inner_shape}
+use Rattle.asn_samples.specs.MarkSet.{mark_set_shape}
 use Rattle.asn_samples.specs.Nest.{nest_shape}
 use Rattle.asn_samples.specs.Nested.{nested_shape}
 use Rattle.asn_samples.specs.Renamed.{renamed_shape}
@@ -49,6 +50,7 @@ samples =
     ∷ (codes "SequenceOf<i64>", sample_type.SequenceOfI64, Shape.list_of (signed 64))
     ∷ (codes "SequenceOf<bool>", sample_type.SequenceOfBool, Shape.list_of Shape.boolean)
     ∷ (codes "SequenceOf<SimpleChoice>", sample_type.SequenceOfSimpleChoice, Shape.list_of simple_choice_shape)
+    ∷ (codes "SetOf<u8>", sample_type.SetOfU8, Shape.set_of (unsigned 8))
     ∷ (codes "OctetString", sample_type.OctetString, Shape.octets)
     ∷ (codes "BitString", sample_type.BitString, Shape.bits None)
     ∷ (codes "Any", sample_type.Any, Shape.any)
@@ -64,6 +66,7 @@ samples =
     ∷ (codes "TestTypeA", sample_type.TestTypeA, test_type_a_shape)
     ∷ (codes "Very", sample_type.Very, very_shape)
     ∷ (codes "Defaulted", sample_type.Defaulted, defaulted_shape)
+    ∷ (codes "MarkSet", sample_type.MarkSet, mark_set_shape)
     ∷ (codes "WithNullOpt", sample_type.WithNullOpt, with_null_opt_shape)
     ∷ (codes "ConstrainedBitString", sample_type.ConstrainedBitString, constrained_bit_string_shape)
     ∷ (codes "ExtensibleBitString", sample_type.ExtensibleBitString, extensible_bit_string_shape)

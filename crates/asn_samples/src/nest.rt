@@ -6,7 +6,7 @@ ghost use Rattle.std.specs.Prelude.{refl};
 
 use asn_base::{Constraints, Identifier, OutOfMemory, Tag, TagTree};
 use asn_fault::{DecodeError, EncodeError};
-use asn_traits::{AsnType, Decode, Decoder, Encode, Encoder, Shape};
+use asn_traits::{AsnType, Decode, Decoder, Encode, Encoder, SeqKind, Shape};
 use std::alloc::Global;
 
 /// Is `Nest ::= SEQUENCE OF Nest`: a list of lists, of any depth, without anything else in them.
@@ -76,7 +76,7 @@ impl Decode for Nest {
         constraints: &Constraints,
     ) -> Result<Nest, DecodeError> {
         // Each element has fewer nodes than the list, which is why the recursion ends.
-        let count = decoder.open_list()?;
+        let count = decoder.open_list(SeqKind::Sequence)?;
         let Ok(mut items) = Vec::with_capacity(decoder.allocator(), count) else {
             return Err(DecodeError::out_of_memory(decoder.codec()));
         };

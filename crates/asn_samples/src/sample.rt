@@ -6,7 +6,7 @@ ghost use Rattle.asn_traits.specs.ShapeView.{shape_view};
 ghost use Rattle.std.specs.Prelude.{◌≡◌, IfOk, is_some};
 
 use crate::SampleVisitor;
-use asn_base::{Any, BitString, Integer, ObjectIdentifier, OctetString, OutOfMemory};
+use asn_base::{Any, BitString, Integer, ObjectIdentifier, OctetString, OutOfMemory, SetOf};
 use asn_strings::{
     BmpString, GeneralString, GraphicString, Ia5String, NumericString, PrintableString,
     UniversalString, VisibleString,
@@ -64,6 +64,8 @@ pub enum Sample {
     SequenceOfBool,
     /// Is SEQUENCE OF SimpleChoice, as `Vec<SimpleChoice>`.
     SequenceOfSimpleChoice,
+    /// Is SET OF INTEGER (0..255), as `SetOf<u8>`.
+    SetOfU8,
     /// Is OCTET STRING.
     OctetString,
     /// Is BIT STRING.
@@ -94,6 +96,8 @@ pub enum Sample {
     Very,
     /// Is a SEQUENCE with a default.
     Defaulted,
+    /// Is a SET, whose tags are not in the order of its fields.
+    MarkSet,
     /// Is a SEQUENCE with a NULL that may be absent.
     WithNullOpt,
     /// Is a BIT STRING of a fixed size.
@@ -137,6 +141,7 @@ impl Sample {
             "SequenceOf<i64>" => Some(Sample::SequenceOfI64),
             "SequenceOf<bool>" => Some(Sample::SequenceOfBool),
             "SequenceOf<SimpleChoice>" => Some(Sample::SequenceOfSimpleChoice),
+            "SetOf<u8>" => Some(Sample::SetOfU8),
             "OctetString" => Some(Sample::OctetString),
             "BitString" => Some(Sample::BitString),
             "Any" => Some(Sample::Any),
@@ -152,6 +157,7 @@ impl Sample {
             "TestTypeA" => Some(Sample::TestTypeA),
             "Very" => Some(Sample::Very),
             "Defaulted" => Some(Sample::Defaulted),
+            "MarkSet" => Some(Sample::MarkSet),
             "WithNullOpt" => Some(Sample::WithNullOpt),
             "ConstrainedBitString" => Some(Sample::ConstrainedBitString),
             "ExtensibleBitString" => Some(Sample::ExtensibleBitString),
@@ -190,6 +196,7 @@ impl Sample {
             Sample::SequenceOfI64 => visitor.visit::<Vec<i64>>(state),
             Sample::SequenceOfBool => visitor.visit::<Vec<bool>>(state),
             Sample::SequenceOfSimpleChoice => visitor.visit::<Vec<crate::SimpleChoice>>(state),
+            Sample::SetOfU8 => visitor.visit::<SetOf<u8>>(state),
             Sample::OctetString => visitor.visit::<OctetString>(state),
             Sample::BitString => visitor.visit::<BitString>(state),
             Sample::Any => visitor.visit::<Any>(state),
@@ -205,6 +212,7 @@ impl Sample {
             Sample::TestTypeA => visitor.visit::<crate::TestTypeA>(state),
             Sample::Very => visitor.visit::<crate::Very>(state),
             Sample::Defaulted => visitor.visit::<crate::Defaulted>(state),
+            Sample::MarkSet => visitor.visit::<crate::MarkSet>(state),
             Sample::WithNullOpt => visitor.visit::<crate::WithNullOpt>(state),
             Sample::ConstrainedBitString => visitor.visit::<crate::ConstrainedBitString>(state),
             Sample::ExtensibleBitString => visitor.visit::<crate::ExtensibleBitString>(state),

@@ -16,6 +16,11 @@ pub mod MarkedBitString
 pub mod ExtensibleBitStringField
 pub mod Nest
 pub mod MarkSet
+pub mod Elements
 pub mod OldPart
+pub mod OldPartElement
 pub mod NewPart
+pub mod NewPartElement
+pub mod OldReport
+pub mod NewReport
 pub mod Samples

@@ -13,6 +13,8 @@ use Rattle.asn_samples.specs.Inner.{inner_shape}
 use Rattle.asn_samples.specs.MarkSet.{mark_set_shape}
 use Rattle.asn_samples.specs.Nest.{nest_shape}
 use Rattle.asn_samples.specs.Nested.{nested_shape}
+use Rattle.asn_samples.specs.NewReport.{new_report_shape}
+use Rattle.asn_samples.specs.OldReport.{old_report_shape}
 use Rattle.asn_samples.specs.Renamed.{renamed_shape}
 use Rattle.asn_samples.specs.SimpleChoice.{simple_choice_shape}
 use Rattle.asn_samples.specs.SimpleEnum.{simple_enum_shape}
@@ -67,6 +69,8 @@ samples =
     ∷ (codes "Very", sample_type.Very, very_shape)
     ∷ (codes "Defaulted", sample_type.Defaulted, defaulted_shape)
     ∷ (codes "MarkSet", sample_type.MarkSet, mark_set_shape)
+    ∷ (codes "OldReport", sample_type.OldReport, old_report_shape)
+    ∷ (codes "NewReport", sample_type.NewReport, new_report_shape)
     ∷ (codes "WithNullOpt", sample_type.WithNullOpt, with_null_opt_shape)
     ∷ (codes "ConstrainedBitString", sample_type.ConstrainedBitString, constrained_bit_string_shape)
     ∷ (codes "ExtensibleBitString", sample_type.ExtensibleBitString, extensible_bit_string_shape)

@@ -1,6 +1,7 @@
 //! Describes `OldPart` in a later version, which has an extension addition.
 ghost use Rattle.asn_samples.specs.NewPart.{new_part_alternatives, new_part_chosen};
 ghost use Rattle.asn_samples.specs.NewPart.{new_part_added};
+ghost use Rattle.asn_samples.specs.NewPartElement.{new_parts_alike};
 ghost use Rattle.asn_samples.specs.declared.new_part.NewPart.TheVariants.{Code, Text, Flag};
 ghost use Rattle.asn_traits.specs.Shape.{AlternativeAdditions};
 ghost use Rattle.std.specs.Prelude.{refl};
@@ -8,7 +9,8 @@ ghost use Rattle.std.specs.Prelude.{refl};
 use asn_base::{OutOfMemory, Tag, TagTree};
 use asn_fault::{DecodeError, EncodeError};
 use asn_traits::{
-    AlternativeShapes, ChoiceKind, ChoicePayload, Decode, Decoder, Encode, Encoder, OfKind, Shape,
+    AlternativeShapes, ChoiceElement, ChoiceKind, ChoicePayload, Decode, Decoder, Encode, Encoder,
+    OfKind, Shape,
 };
 use std::alloc::Global;
 
@@ -109,4 +111,9 @@ impl ChoicePayload for NewPart {
     ghost is_chosen = { elim [ Code number ↦ refl | Text text ↦ refl | Flag flag ↦ refl ] };
 
     ghost readable = { refl };
+}
+
+/// May be the element of a SET OF: two are equal exactly where the values that they stand for are.
+impl ChoiceElement for NewPart {
+    ghost alike = { new_parts_alike };
 }

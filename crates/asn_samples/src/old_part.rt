@@ -1,5 +1,6 @@
 //! Describes a CHOICE with an extension marker that no addition follows yet.
 ghost use Rattle.asn_samples.specs.OldPart.{old_part_alternatives, old_part_chosen};
+ghost use Rattle.asn_samples.specs.OldPartElement.{old_parts_alike};
 ghost use Rattle.asn_samples.specs.declared.old_part.OldPart.TheVariants.{Code, Text};
 ghost use Rattle.asn_traits.specs.Shape.{Alternatives, AlternativeAdditions};
 ghost use Rattle.std.specs.Prelude.{refl};
@@ -7,7 +8,8 @@ ghost use Rattle.std.specs.Prelude.{refl};
 use asn_base::{OutOfMemory, Tag, TagTree};
 use asn_fault::{DecodeError, EncodeError};
 use asn_traits::{
-    AlternativeShapes, ChoiceKind, ChoicePayload, Decode, Decoder, Encode, Encoder, OfKind, Shape,
+    AlternativeShapes, ChoiceElement, ChoiceKind, ChoicePayload, Decode, Decoder, Encode, Encoder,
+    OfKind, Shape,
 };
 use std::alloc::Global;
 
@@ -97,4 +99,9 @@ impl ChoicePayload for OldPart {
     ghost is_chosen = { elim [ Code number ↦ refl | Text text ↦ refl ] };
 
     ghost readable = { refl };
+}
+
+/// May be the element of a SET OF: two are equal exactly where the values that they stand for are.
+impl ChoiceElement for OldPart {
+    ghost alike = { old_parts_alike };
 }

@@ -98,6 +98,10 @@ pub enum Sample {
     Defaulted,
     /// Is a SET, whose tags are not in the order of its fields.
     MarkSet,
+    /// Is a SEQUENCE with a SET OF and an extension marker.
+    OldReport,
+    /// Is its later version, with extension additions.
+    NewReport,
     /// Is a SEQUENCE with a NULL that may be absent.
     WithNullOpt,
     /// Is a BIT STRING of a fixed size.
@@ -158,6 +162,8 @@ impl Sample {
             "Very" => Some(Sample::Very),
             "Defaulted" => Some(Sample::Defaulted),
             "MarkSet" => Some(Sample::MarkSet),
+            "OldReport" => Some(Sample::OldReport),
+            "NewReport" => Some(Sample::NewReport),
             "WithNullOpt" => Some(Sample::WithNullOpt),
             "ConstrainedBitString" => Some(Sample::ConstrainedBitString),
             "ExtensibleBitString" => Some(Sample::ExtensibleBitString),
@@ -213,6 +219,8 @@ impl Sample {
             Sample::Very => visitor.visit::<crate::Very>(state),
             Sample::Defaulted => visitor.visit::<crate::Defaulted>(state),
             Sample::MarkSet => visitor.visit::<crate::MarkSet>(state),
+            Sample::OldReport => visitor.visit::<crate::OldReport>(state),
+            Sample::NewReport => visitor.visit::<crate::NewReport>(state),
             Sample::WithNullOpt => visitor.visit::<crate::WithNullOpt>(state),
             Sample::ConstrainedBitString => visitor.visit::<crate::ConstrainedBitString>(state),
             Sample::ExtensibleBitString => visitor.visit::<crate::ExtensibleBitString>(state),

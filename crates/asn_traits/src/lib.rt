@@ -47,7 +47,7 @@ pub use kinds::{
     OfKind, SequenceKind, SetKind,
 };
 pub use sequence::{SequenceFields, read_sequence, write_sequence};
-pub use set_of::SetElement;
+pub use set_of::{ChoiceElement, ElementKind, SetElement};
 pub use shape_parts::{AlternativeShapes, FieldShapes, enumerated_shape};
 pub use strings::{NamedSet, OctetsSet, TextSet};
 pub use tables::{field_name, place_of, place_of_field};

@@ -2,10 +2,14 @@
 //! exactly where their values are.
 ghost use Rattle.asn_model.specs.Shape.{Shape as AbstractShape};
 ghost use Rattle.asn_model.specs.Value.{Value, bag_of, values};
+ghost use Rattle.asn_traits.specs.Chosen.{chosen_value};
 ghost use Rattle.asn_traits.specs.SetElements.{flags_alike, numbers_alike, texts_alike};
 ghost use Rattle.std.specs.Prelude.{◌≡◌, ◌↔◌, true};
 
-use crate::{AsnType, Decode, Decoder, Encode, Encoder, IntegerType, Shape};
+use crate::{
+    AsnType, ChoiceKind, ChoicePayload, Decode, Decoder, Encode, Encoder, IntegerKind, IntegerType,
+    OfKind, Shape,
+};
 use asn_core::{Constraints, Identifier, OutOfMemory, Tag, TagTree};
 use asn_fault::{DecodeError, EncodeError};
 use asn_sets::SetOf;
@@ -23,9 +27,35 @@ impl SetElement for bool {
     ghost same = { flags_alike };
 }
 
+/// Lets values of the types of a kind be elements.
+pub trait ElementKind<T: AsnType + Eq> {
+    // Two are equal exactly where the values that they stand for are.
+    ghost same: { (a b : T) → (T.PartialEq.eq a b ≡ true) ↔ (T.value_of a ≡ T.value_of b) };
+}
+
+/// Lets values of a type be elements as its kind does.
+impl<T: OfKind + AsnType + Eq + Hash> SetElement for T
+where
+    T::Kind: ElementKind<T>,
+{
+    ghost same = { T.Kind.same };
+}
+
 /// Lets numbers be elements.
-impl<I: IntegerType> SetElement for I {
+impl<I: IntegerType> ElementKind<I> for IntegerKind {
     ghost same = { numbers_alike I.PartialEq.eq I.number I.alike };
+}
+
+/// Is a CHOICE whose values may be the elements of a SET OF.
+pub trait ChoiceElement: ChoicePayload + Eq + Hash {
+    // Two are equal exactly where the values that they stand for are.
+    ghost alike: { (a b : Self) → (Self.PartialEq.eq a b ≡ true)
+        ↔ (chosen_value (Self.ChoicePayload.chosen a) ≡ chosen_value (Self.ChoicePayload.chosen b)) };
+}
+
+/// Lets values of such a CHOICE be elements.
+impl<T: ChoiceElement> ElementKind<T> for ChoiceKind {
+    ghost same = { T.alike };
 }
 
 /// Lets texts be elements.

@@ -20,8 +20,8 @@ import subprocess
 import sys
 from concurrent.futures import ThreadPoolExecutor
 
-# Older types with the newer ones that extend them.
-PAIRS = {}
+# Older types with the newer ones that extend them, and the alternative of a CHOICE within that the older one lacks.
+PAIRS = {"OldReport": ("NewReport", "flag")}
 LETTERS = "abcdefghijklmnopqrstuvwxyz"
 SIGNS = ['"', "'", "{", "}", "[", "]", ":", ",", " ", "\n", "-", "0", "9", "e", ".", "\\", "\x00", "é", "\U0001F600", "H", "B"]
 
@@ -130,6 +130,8 @@ struct = fields(("strct", number(0, 255), True))
 inner = choice(Wine=number(0, 255))
 nested = fields(("very", struct, True), ("nested", boolean, True))
 simple = choice(Test1=number(0, 255), Test2=string(LETTERS))
+identified = ("id", number(-9, 1 << 62), False)
+old_part = {"code": number(0, 255), "text": string("abcde")}
 TYPES = {
     "bool": boolean, "Null": lambda r: both(None, "NULL"), "u8": number(0, 255),
     "i64": number(-(1 << 63), (1 << 63) - 1), "u64": number(0, (1 << 64) - 1), "u128": number(0, (1 << 64) - 1),
@@ -145,7 +147,15 @@ TYPES = {
     "WithNullOpt": fields(("name", string(LETTERS), False), ("flag", lambda r: both(None, "NULL"), True)),
     "Nested": nested, "Struct": struct, "Very": fields(("a", nested, True)),
     "TestTypeA": fields(("juice", number(-9, 9), False), ("wine", inner, False), ("grappa", bits(), False)),
-    "Defaulted": fields(("level", number(-9, 9), True)),
+    "Defaulted": fields(("level", number(-9, 9), True)), "SetOf<u8>": list_of(number(0, 255), 9),
+    "MarkSet": fields(("mark", number(-9, 1 << 62), False), ("note", string(LETTERS), True)),
+    "OldReport": fields(identified, ("parts", list_of(choice(**old_part)), False)),
+    "NewReport": fields(
+        identified,
+        ("parts", list_of(choice(**old_part, flag=boolean)), False),
+        ("note", string(LETTERS), True),
+        ("owner", string(LETTERS), False),
+    ),
     "SimpleEnum": items("Test1", "Test2"), "ExtEnum": items("Test1", "Test2", "Test3"),
     "Inner": inner, "SimpleChoice": simple,
     "ExtChoice": choice(Test1=number(0, 255), Test2=string(LETTERS), Test3=boolean), "Nest": nest,
@@ -197,8 +207,8 @@ def breaches(program, source, target, name, text, is_damaged):
     if (source, target) == ("jer", "avn"):
         if convert(program, "avn", "jer", name, written) != convert(program, "jer", "jer", name, text):
             found.append("round")
-    for older in (older for older, newer in PAIRS.items() if newer == name):
-        if convert(program, target, target, older, written)[0] != 0:
+    for older, (newer, lacking) in PAIRS.items():
+        if newer == name and lacking not in written and convert(program, target, target, older, written)[0] != 0:
             found.append(f"grows: {older}")
     return found
 

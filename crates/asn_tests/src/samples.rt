@@ -7,8 +7,8 @@ use asn_base::{Class, Constraints, Identifier, Tag};
 use asn_fault::{DecodeError, EncodeError};
 use asn_samples::{Sample, SampleVisitor, SimpleChoice, is_sample_name};
 use asn_traits::{
-    AlternativeShape, Decode, Decoder, Encode, Encoder, FieldShape, PresenceShape, SeqKind, Shape,
-    is_readable,
+    AlternativeShape, Decode, Decoder, Encode, Encoder, FieldShape, Plain, PresenceShape, SeqKind,
+    Shape, is_readable,
 };
 use avn_rules::avn;
 use avn_value::AvnValue;
@@ -255,8 +255,15 @@ fn sequence_of(alloc: Global, name: &str) -> Result<Shape, Fail> {
     Ok(sequence(Vec::from_array(alloc, only)?))
 }
 
+/// Returns the SEQUENCE of a BOOLEAN whose default is a number.
+fn default_of_another_kind(alloc: Global) -> Result<Shape, Fail> {
+    let mut only = field(alloc, "a")?;
+    only.presence = PresenceShape::Default(Plain::Int(1));
+    Ok(sequence(Vec::from_array(alloc, [only])?))
+}
+
 /// Counts the shapes of `unreadable`.
-const UNREADABLE: usize = 8;
+const UNREADABLE: usize = 9;
 
 /// Returns a shape that can't be read. Each breaks one of the conditions that `is_readable` lists.
 fn unreadable(alloc: Global, case: usize) -> Result<Shape, Fail> {
@@ -273,6 +280,7 @@ fn unreadable(alloc: Global, case: usize) -> Result<Shape, Fail> {
         // A keyword as an item.
         5 => items_of(alloc, "TRUE"),
         6 => name_twice(alloc),
+        7 => default_of_another_kind(alloc),
         // A name that AVN cannot spell.
         _ => sequence_of(alloc, "1a"),
     }

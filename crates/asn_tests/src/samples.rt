@@ -147,14 +147,15 @@ fn a_float_is_of_another_kind(rt: HostRuntime) -> Result<(), Fail> {
 /// Encodes a CHOICE under a tag that is none of its alternatives'. A type's own `Encode` never
 /// does.
 fn write_other_choice<E: Encoder>(encoder: &mut E) -> Result<(), EncodeError> {
+    let tag = NINE;
     encoder.encode_choice::<SimpleChoice, _>(
         &Constraints::NONE,
-        NINE,
-        |encoder: &mut E| -> Result<Tag, EncodeError>
-            ensures { IfOk result (λ answer. answer ≡ NINE) }
+        tag,
+        move |encoder: &mut E| -> Result<Tag, EncodeError>
+            ensures { IfOk result (λ answer. answer ≡ tag) }
         {
             encoder.encode_bool(Tag::BOOL, true, Identifier::EMPTY)?;
-            Ok(NINE)
+            Ok(tag)
         },
         Identifier::EMPTY,
     )

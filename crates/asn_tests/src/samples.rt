@@ -1,11 +1,9 @@
 //! Calls both codecs directly by each call that encodes or decodes a value, tests shapes that
 //! can't be read, and runs visitors at the sample types. The calls under a tag, constraints or a
 //! prefix give what the plain call gives, since neither notation writes tags.
-ghost use Rattle.std.specs.Prelude.{◌≡◌, IfOk};
-
 use asn_base::{Class, Constraints, Identifier, Tag};
 use asn_fault::{DecodeError, EncodeError};
-use asn_samples::{Sample, SampleVisitor, SimpleChoice, is_sample_name};
+use asn_samples::{Sample, SampleVisitor, is_sample_name};
 use asn_traits::{
     AlternativeShape, Decode, Decoder, Encode, Encoder, FieldShape, Plain, PresenceShape, SeqKind,
     Shape, is_readable,
@@ -142,46 +140,6 @@ fn a_float_is_of_another_kind(rt: HostRuntime) -> Result<(), Fail> {
             Ok(())
         }
     }
-}
-
-/// Encodes a CHOICE under a tag that is none of its alternatives'. A type's own `Encode` never
-/// does.
-fn write_other_choice<E: Encoder>(encoder: &mut E) -> Result<(), EncodeError> {
-    let tag = NINE;
-    encoder.encode_choice::<SimpleChoice, _>(
-        &Constraints::NONE,
-        tag,
-        move |encoder: &mut E| -> Result<Tag, EncodeError>
-            ensures { IfOk result (λ answer. answer ≡ tag) }
-        {
-            encoder.encode_bool(Tag::BOOL, true, Identifier::EMPTY)?;
-            Ok(tag)
-        },
-        Identifier::EMPTY,
-    )
-}
-
-/// A CHOICE under a tag of no alternative is refused, in both notations.
-/// The texts are those of the crate `rasn`.
-#[test]
-fn a_tag_of_no_alternative_is_refused(rt: HostRuntime) -> Result<(), Fail> {
-    // Both codecs go over the same call of the trait.
-    let answers = [
-        write_other_choice(&mut jer::enc::Encoder::new(rt.alloc())),
-        write_other_choice(&mut avn::enc::Encoder::new(rt.alloc())),
-    ];
-    let wanted = [
-        "Selected Variant not found in Choice (Codec: JER)",
-        "Selected Variant not found in Choice (Codec: AVN)",
-    ];
-    // What the encoder holds after an error is unspecified, so the errors alone are compared.
-    for (answer, want) in answers.iter().zip(wanted.iter()) {
-        match answer {
-            Ok(()) => return Err(Fail::from("written")),
-            Err(error) => assert_eq!(rt; format!(in rt.alloc(); "{error}")?.as_str(), *want),
-        }
-    }
-    Ok(())
 }
 
 /// Returns a field of this name that has to be present.

@@ -3,10 +3,6 @@
 #![tactic(auto)]
 
 #[cfg(test)]
-mod additions;
-#[cfg(test)]
-mod bits;
-#[cfg(test)]
 mod program;
 #[cfg(test)]
 mod samples;

@@ -49,7 +49,8 @@ pub fn run<S: Source, K: Sink>(alloc: Global, source: &mut S, sink: &mut K) -> S
         → ReadWhole (transfer_of S.left S.faults source.old source.new)
         (λ input. IsUtf8 input × (request_of input ≡ None)) }
     // A read failed.
-    ensures read_fault { result ≡ ReadFault → Increased (S.faults source.old) (S.faults source.new) }
+    ensures read_fault { result ≡ ReadFault
+        → Increased (S.faults source.old) (S.faults source.new) }
     // A write failed, and what was written is a front part of the text or of the error's line.
     ensures write_fault { result ≡ WriteFault → Increased (K.faults sink.old) (K.faults sink.new) }
     ensures cut { result ≡ WriteFault
@@ -190,7 +191,8 @@ fn answer<K: Sink>(mut text: String, sink: &mut K) -> Status
 fn refuse<K: Sink>(alloc: Global, fault: &TranscodeError, sink: &mut K) -> Status
     ensures line { Outcome (refusal_line fault.now) Refused
         (transfer_of K.written K.faults sink.old sink.new) result }
-    ensures memory { is_refusal_out_of_memory (refusal_of fault.now) ≡ true → result ≡ WantOfMemory }
+    ensures memory { is_refusal_out_of_memory (refusal_of fault.now) ≡ true
+        → result ≡ WantOfMemory }
 {
     if fault.is_out_of_memory() {
         return Status::WantOfMemory;

@@ -1,4 +1,5 @@
 pub mod ScanSteps
+mod ScanRuns
 mod SmallestTag
 pub mod Padding
 pub mod Cutting

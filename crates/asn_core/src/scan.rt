@@ -1,15 +1,17 @@
 //! Defines a text that is read a character at a time, by calls that are counted.
-ghost use Rattle.std.specs.Prelude.{◌≡◌, ◌+◌, ◌-◌, ◌<◌, ◌≤◌, ◌^◌, [], ◌∷◌, min, MatchOption};
-ghost use Rattle.std.specs.Prelude.{length, take, OnOk, OnErr, IfOk, string_bytes};
-ghost use Rattle.std.specs.Str.{IsCharBoundary, encode_utf8_all};
+ghost use Rattle.std.specs.Prelude.{◌≡◌, ◌≢◌, ◌⊎◌, ◌+◌, ◌-◌, ◌<◌, ◌≤◌, ◌^◌, [], ◌∷◌, ◌++◌, min};
+ghost use Rattle.std.specs.Prelude.{MatchOption, All, length, take, drop, OnOk, OnErr, IfOk};
+ghost use Rattle.std.specs.Prelude.{string_bytes};
+ghost use Rattle.std.specs.Str.{IsCharBoundary, encode_utf8_all, chars};
 ghost use Rattle.std.specs.Char.{len_utf8};
 ghost use Rattle.asn_core.specs.Seen.{after};
 
 use crate::memory::OutOfMemory;
+use memchr::memchr;
 use std::alloc::Global;
 use std::marker::Model;
 
-/// Shows a text whose characters are reached only through two counted calls, so that its count
+/// Shows a text whose characters are reached only through three counted calls, so that its count
 /// bounds the work of a reader. A place is a byte offset on a character's edge.
 #[derive(Drop)]
 pub struct Scan<'a> {
@@ -59,6 +61,28 @@ impl<'a> Scan<'a> {
             }
         }
         wide_at(text, place)
+    }
+
+    /// Returns the text from the place up to the first `stop`, an ASCII character, or up to the end
+    /// where there is none. The count rises by the characters returned, up to the greatest `u128`.
+    pub fn up_to(&mut self, place: usize, stop: u8) -> &'a str
+        requires place { IsCharBoundary self.old.text place }
+        requires ascii { stop < 128 }
+        ensures same { self.new.text ≡ self.old.text }
+        ensures counted { self.new.looks
+            ≡ min (self.old.looks + length (chars result.now)) (2 ^ 128 - 1) }
+        ensures rises { self.old.looks ≤ self.new.looks }
+        ensures passed { after self.old.text place
+            ≡ chars result.now ++ after self.old.text (place + length result.now) }
+        ensures before { All (λ c. c ≢ stop) (chars result.now) }
+        ensures stops { (after self.old.text (place + length result.now) ≡ [])
+            ⊎ (after self.old.text (place + length result.now)
+            ≡ stop ∷ after self.old.text (place + length result.now + 1)) }
+        ensures edge { IsCharBoundary self.old.text (place + length result.now) }
+    {
+        let passed = text_before(&whole(self.text)[place..], stop);
+        self.count = self.count.saturating_add(count_chars(passed) as u128);
+        passed
     }
 
     /// Returns a copy of the first `at_most` characters from the place on, or of fewer at the end.
@@ -147,6 +171,32 @@ fn char_at(text: &str, place: usize) -> Option<char>
 {
     let text = whole(text);
     wide_at(text, place)
+}
+
+/// Returns the text before the first `stop`, an ASCII character, or all where there is none.
+fn text_before(text: &str, stop: u8) -> &str
+    requires { stop < 128 }
+    ensures cut { result.now ≡ take (length result.now) text.now }
+    ensures before { All (λ b. b ≢ stop) result.now }
+    ensures stops { (length result.now ≡ length text.now)
+        ⊎ (drop (length result.now) text.now ≡ stop ∷ drop (length result.now + 1) text.now) }
+    ensures edge { IsCharBoundary text.now (length result.now) }
+{
+    match memchr(stop, text.as_bytes()) {
+        Some(end) => &text[..end],
+        None => text,
+    }
+}
+
+/// Returns how many characters the text has.
+fn count_chars(text: &str) -> usize
+    ensures { result ≡ length (chars text.now) }
+{
+    if text.is_ascii() {
+        text.len()
+    } else {
+        text.chars().count()
+    }
 }
 
 /// Returns the text itself, of which a proof learns here that it is UTF-8.

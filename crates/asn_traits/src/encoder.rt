@@ -681,8 +681,8 @@ pub trait Encoder {
     ///
     /// # Errors
     ///
-    /// `VariantNotInChoice` exactly where the tag is that of no alternative, and then the closure is
-    /// not called; those of the closure, as they are; `OutOfMemory`.
+    /// `VariantNotInChoice` exactly where the tag is that of no alternative, and then the closure
+    /// is not called; those of the closure, as they are; `OutOfMemory`.
     final fn encode_choice<C: Choice, F: FnOnce(&mut Self) -> Result<Tag, EncodeError>>(
         &mut self,
         constraints: &Constraints,

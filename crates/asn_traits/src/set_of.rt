@@ -19,7 +19,8 @@ use std::hash::Hash;
 /// Is a type whose values may be the elements of a SET OF.
 pub trait SetElement: AsnType + Eq + Hash + Drop {
     // Two are equal exactly where the values that they stand for are.
-    ghost same: { (a b : Self) → (Self.PartialEq.eq a b ≡ true) ↔ (Self.value_of a ≡ Self.value_of b) };
+    ghost same: { (a b : Self) → (Self.PartialEq.eq a b ≡ true)
+        ↔ (Self.value_of a ≡ Self.value_of b) };
 }
 
 /// Lets flags be elements.
@@ -50,7 +51,8 @@ impl<I: IntegerType> ElementKind<I> for IntegerKind {
 pub trait ChoiceElement: ChoicePayload + Eq + Hash {
     // Two are equal exactly where the values that they stand for are.
     ghost alike: { (a b : Self) → (Self.PartialEq.eq a b ≡ true)
-        ↔ (chosen_value (Self.ChoicePayload.chosen a) ≡ chosen_value (Self.ChoicePayload.chosen b)) };
+        ↔ (chosen_value (Self.ChoicePayload.chosen a)
+        ≡ chosen_value (Self.ChoicePayload.chosen b)) };
 }
 
 /// Lets values of such a CHOICE be elements.

@@ -57,8 +57,8 @@ pub fn fields_by_tag(alloc: Global, fields: &[Field]) -> Result<Vec<Field>, OutO
     }
 }
 
-/// Returns the fields of a SET in the order in which they are read: those of the root by their tags,
-/// and then the extension additions.
+/// Returns the fields of a SET in the order in which they are read: those of the root by their
+/// tags, and then the extension additions.
 ///
 /// # Errors
 ///

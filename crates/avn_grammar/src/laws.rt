@@ -71,7 +71,8 @@ pub fn reads_whole_printed_text()
 pub fn depth_of_printed_text()
     ensures { (limit level depth : ℕ) (tree : Tree) (rest : List ℕ)
         → is_well_formed tree ≡ true → ComesAfterValue (class_of_next (skip (chars rest)))
-        → ExceedsDepth limit level (chars (print depth tree ++ rest)) ↔ (limit < deepest level tree) }
+        → ExceedsDepth limit level (chars (print depth tree ++ rest))
+        ↔ (limit < deepest level tree) }
 {}
 
 /// The whole printed text of a well-formed tree is refused for its depth where the tree is deeper

@@ -1,5 +1,9 @@
 -- Looks at characters.
-use Rattle.std.proofs.Common.{◌≡◌, ℕ, length, arith, ap, ◌∙◌}
+use Rattle.std.proofs.Common.{◌≡◌, ◌≤◌, ◌<◌, ◌+◌, ◌++◌, ℕ, List, [], ◌∷◌, length, arith, ap, ◌∙◌}
+use Rattle.std.proofs.Math.Utf8.{encodes}
+use Rattle.std.proofs.lemmas.List.{length-append}
+use Rattle.std.proofs.lemmas.Str.{encodes-chars}
+use Rattle.std.specs.Str.{IsUtf8, chars}
 use Rattle.avn_grammar.specs.Chars.{class_of_next, skip_while, is_digit}
 use Rattle.avn_value.proofs.Steps.{digits-shorter}
 use Rattle.avn_value.specs.Ahead.{Ahead, Advances, LooksAtMost}
@@ -24,3 +28,20 @@ digit_paid {old = old} e l k f m s g r = record {
   nearer = omega (arith, k.nearer, ap length g);
   shorter = omega (arith, k.shorter, ap length r);
 }
+
+-- What spells a text that isn't empty has a character.
+some-character : (cs run : List ℕ) → encodes cs ≡ run → 0 < length run → 0 < length cs
+some-character [] run e some = omega (arith, some, ap (λ x. length x) e)
+some-character (c ∷ cs) run e some = omega arith
+
+-- A run of one or more characters was passed, and has paid for one look at what follows.
+pub run_paid : {old new : Ahead} (run : List ℕ) → IsUtf8 run → 0 < length run → old.ahead ≡ old.rest → old.rest ≡ chars run ++ new.rest → new.ahead ≡ new.rest → new.text ≡ old.text → old.looks ≤ new.looks → new.looks ≤ old.looks + length (chars run) + 1 → Advances 2 old new
+run_paid {old} {new} run u some e f g same rises few =
+    let one = some-character (chars run) run (encodes-chars run u) some in
+    let long : length old.rest ≡ length (chars run) + length new.rest = ap (λ x. length x) f ∙ length-append (chars run) new.rest in record {
+      same = same;
+      rises = rises;
+      cost = omega (arith, few, one, long, ap (λ x. length x) e, ap (λ x. length x) g);
+      nearer = omega (arith, long, ap (λ x. length x) e, ap (λ x. length x) g);
+      shorter = omega (arith, long);
+    }

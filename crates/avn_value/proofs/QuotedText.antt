@@ -1,11 +1,12 @@
 -- Texts in quotes.
 use Rattle.std.specs.Prelude.{not, is_some}
-use Rattle.std.proofs.Common.{Option, Some, None, MatchOption, ◌≡◌, ◌≢◌, ℕ, List, [], ◌∷◌, ◌++◌, Bool, true, false, cond, ◌==◌, refl, sym, ap, subst, ◌∙◌, append_assoc, ◌+◌, ◌≤◌, ◌<◌, take, set, length, arith}
+use Rattle.std.proofs.Common.{Option, Some, None, MatchOption, All, ◌⊎◌, inl, inr, ◌≡◌, ◌≢◌, ℕ, List, [], ◌∷◌, ◌++◌, Bool, true, false, cond, ◌==◌, refl, sym, ap, subst, ◌∙◌, append_assoc}
 use Rattle.std.proofs.lemmas.Bool.{eqb-true, eq-eqb, false_from_ne_true}
-use Rattle.std.proofs.lemmas.List.{append-nil, take_more_set}
-use Rattle.std.proofs.lemmas.Str.{encodes-append, encodes-IsAscii}
-use Rattle.std.specs.Char.{encode_utf8, is_ascii}
-use Rattle.std.specs.Str.{IsAscii}
+use Rattle.std.proofs.lemmas.List.{append-nil}
+use Rattle.std.proofs.lemmas.List.Elements.{All-head, All-tail}
+use Rattle.std.proofs.lemmas.Str.{encodes-append, encodes-chars}
+use Rattle.std.specs.Char.{encode_utf8}
+use Rattle.std.specs.Str.{IsUtf8, chars}
 use Rattle.avn_grammar.specs.declared.chars.CharClass.TheVariants as is
 use Rattle.avn_grammar.specs.Chars.{class_of_next, tail, starts_with, quote_is_doubled, utf8_of}
 use Rattle.avn_grammar.specs.Grammar.{Token, text_token}
@@ -64,29 +65,28 @@ doubled-append (c ∷ cs) ds =
       | false ↦ ap (λ x. c ∷ x) (doubled-append cs ds)
     ]
 
-doubled-longer : (cs : List ℕ) → length cs ≤ length (quote_is_doubled cs)
-doubled-longer [] = omega arith
-doubled-longer (c ∷ cs) = elim (c == 34) as (λ b. length (c ∷ cs) ≤ length (cond b (34 ∷ 34 ∷ quote_is_doubled cs) (c ∷ quote_is_doubled cs))) [
-  | true ↦ omega (arith, doubled-longer cs)
-  | false ↦ omega (arith, doubled-longer cs)
-]
+-- Characters without a quote are written as they are.
+doubled-none : (cs : List ℕ) → All (λ c. c ≢ 34) cs → quote_is_doubled cs ≡ cs
+doubled-none [] h = refl
+doubled-none (c ∷ cs) h =
+    ap (λ b. cond b (34 ∷ 34 ∷ quote_is_doubled cs) (c ∷ quote_is_doubled cs)) (false_from_ne_true (c == 34) (λ e. All-head (λ c. c ≢ 34) c cs h (eqb-true c 34 e)))
+    ∙ ap (λ x. c ∷ x) (doubled-none cs (All-tail (λ c. c ≢ 34) c cs h))
 
--- The characters of a chunk stand after those before it.
-pub chunk_more : (u r n cs ds : List ℕ) → u ≡ (34 ∷ quote_is_doubled cs) ++ r → 34 ∷ r ≡ (34 ∷ quote_is_doubled ds) ++ n → u ≡ (34 ∷ quote_is_doubled (cs ++ ds)) ++ n
-chunk_more u r n cs ds e f =
-    let g : r ≡ quote_is_doubled ds ++ n = cc f in
-    e ∙ ap (λ x. (34 ∷ quote_is_doubled cs) ++ x) g ∙ sym (append_assoc (34 ∷ quote_is_doubled cs) (quote_is_doubled ds) n) ∙ ap (λ x. (34 ∷ x) ++ n) (sym (doubled-append cs ds))
+-- The characters of a run without a quote stand after those before it.
+pub run_more : (u r n cs ds : List ℕ) → u ≡ (34 ∷ quote_is_doubled cs) ++ r → r ≡ ds ++ n → All (λ c. c ≢ 34) ds → u ≡ (34 ∷ quote_is_doubled (cs ++ ds)) ++ n
+run_more u r n cs ds e f h =
+    e ∙ ap (λ x. (34 ∷ quote_is_doubled cs) ++ x) (f ∙ ap (λ x. x ++ n) (sym (doubled-none ds h))) ∙ sym (append_assoc (34 ∷ quote_is_doubled cs) (quote_is_doubled ds) n)
+    ∙ ap (λ x. (34 ∷ x) ++ n) (sym (doubled-append cs ds))
 
--- The characters of a chunk are spelled as they are.
-pub spelled_chunk : (a b text cs ds : List ℕ) → a ≡ utf8_of cs → b ≡ a ++ text → text ≡ ds → IsAscii ds → b ≡ utf8_of (cs ++ ds)
-spelled_chunk a b text cs ds e f g h = f ∙ ap (λ x. x ++ text) e ∙ ap (λ x. utf8_of cs ++ x) (g ∙ sym (encodes-IsAscii ds h)) ∙ sym (encodes-append cs ds)
+-- A text is the spelling of its characters, after others.
+pub spelled_run : (text cs : List ℕ) → IsUtf8 text → utf8_of cs ++ text ≡ utf8_of (cs ++ chars text)
+spelled_run text cs u = ap (λ x. utf8_of cs ++ x) (sym (encodes-chars text u)) ∙ sym (encodes-append cs (chars text))
 
--- What is not ASCII is no quote.
-pub wide_other : (u v : List ℕ) (c : ℕ) → starts_with is_ascii u ≡ false → u ≡ c ∷ v → (c == 34) ≡ false
-wide_other u v c h e =
-    let wide : is_ascii c ≡ false = ap (starts_with is_ascii) (sym e) ∙ h in
-    false_from_ne_true (c == 34) (λ q. let n : ⊥ = cc (ap is_ascii (eqb-true c 34 q)) in n)
+-- What stands at the end of a run is a quote.
+pub at_quote : (r n : List ℕ) (c : ℕ) → (r ≡ []) ⊎ (r ≡ 34 ∷ tail r) → r ≡ c ∷ n → c ≡ 34
+at_quote r n c (inl e) f = let d : ◌≡◌ {A = List ℕ} [] (c ∷ n) = sym e ∙ f in cc d
+at_quote r n c (inr e) f = let d : 34 ∷ tail r ≡ c ∷ n = sym e ∙ f in cc d
 
--- A character that is written after those of a chunk.
-pub written_more : (u r room : List ℕ) (n x : ℕ) → n < length room → u ≡ (34 ∷ quote_is_doubled (take n room ++ (x ∷ []))) ++ r → u ≡ (34 ∷ quote_is_doubled (take (n + 1) (set room n x))) ++ r
-written_more u r room n x h e = e ∙ ap (λ t. (34 ∷ quote_is_doubled t) ++ r) (sym (take_more_set room n x h))
+-- The quote at the end of a text stands after its characters.
+pub closed : (u r n m cs : List ℕ) (c : ℕ) → u ≡ (34 ∷ quote_is_doubled cs) ++ r → r ≡ c ∷ m → c ≡ 34 → n ≡ m → u ≡ (34 ∷ quote_is_doubled cs) ++ (34 ∷ n)
+closed u r n m cs c e f g h = e ∙ ap (λ x. (34 ∷ quote_is_doubled cs) ++ x) (f ∙ ap (λ d. d ∷ m) g ∙ ap (λ x. 34 ∷ x) (sym h))

@@ -1,6 +1,5 @@
 -- Runs of characters.
 use Rattle.std.specs.Prelude.{ℕ, Bool, ◌==◌}
-use Rattle.std.specs.Char.{is_ascii}
 use Rattle.avn_grammar.specs.Chars.{is_space, is_digit, is_letter, is_name, is_not_apostrophe}
 use Rattle.avn_value.specs.declared.chars.CharSet.{CharSet}
 use Rattle.avn_value.specs.declared.chars.CharSet.TheVariants as run
@@ -13,4 +12,3 @@ passes run.Letters c = is_letter c
 passes run.Name c = is_name c
 passes run.Quotes c = c == 34
 passes run.Inside c = is_not_apostrophe c
-passes run.Ascii c = is_ascii c

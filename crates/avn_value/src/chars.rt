@@ -19,8 +19,6 @@ pub enum CharSet {
     Quotes,
     /// Characters other than an apostrophe.
     Inside,
-    /// ASCII characters.
-    Ascii,
 }
 
 /// The character belongs to the run.
@@ -35,7 +33,6 @@ pub fn passes(run: CharSet, c: char) -> bool
         CharSet::Name => c.is_ascii_alphanumeric() || c == '-' || c == '_',
         CharSet::Quotes => c == '"',
         CharSet::Inside => c != '\'',
-        CharSet::Ascii => c.is_ascii(),
     }
 }
 

@@ -1,8 +1,9 @@
 // A place in a scan, and the character there.
-ghost use Rattle.std.specs.Prelude.{◌≡◌, ◌≢◌, ◌+◌, ◌≤◌, ◌∷◌, [], true, false, length, MatchOption};
+ghost use Rattle.std.specs.Prelude.{◌≡◌, ◌≢◌, ◌⊎◌, ◌+◌, ◌≤◌, ◌∷◌, [], true, false, All, length};
+ghost use Rattle.std.specs.Prelude.{MatchOption};
 ghost use Rattle.std.specs.Prelude.{OnOk, string_bytes, ◌++◌, ◌*◌, ◌<◌, IfOk, take};
 ghost use Rattle.std.specs.Str.{encode_utf8_all, chars, IsCharBoundary};
-ghost use Rattle.std.specs.Char.{len_utf8, is_whitespace, is_ascii};
+ghost use Rattle.std.specs.Char.{len_utf8, is_whitespace};
 ghost use Rattle.asn_core.specs.Seen.{after};
 ghost use Rattle.avn_grammar.specs.Chars.{class_of_next, tail, skip, starts_with, take_while};
 ghost use Rattle.avn_grammar.specs.Chars.{skip_while, has_fraction, is_name};
@@ -187,26 +188,23 @@ impl<'a> Cursor<'a> {
         }
     }
 
-    /// Past the ASCII character ahead, and the next one, if it is ASCII too.
+    /// Past the characters up to the next quote, or up to the end. Returns them as a text.
     #[inline(always)]
-    pub fn next_ascii(&mut self) -> Option<char>
-        requires together { self.old.ahead ≡ self.old.rest }
-        requires ascii { starts_with is_ascii self.old.rest ≡ true }
-        ensures advances { Advances 1 self.old self.new }
+    pub fn take_up_to_quote(&mut self) -> &'a str
+        requires { self.old.ahead ≡ self.old.rest }
+        ensures advances { Advances 2 self.old self.new }
         ensures together { self.new.ahead ≡ self.new.rest }
-        ensures moves { self.new.rest ≡ tail self.old.rest }
-        ensures found { MatchOption result (starts_with is_ascii self.new.rest ≡ false)
-            (λ c. (is_ascii c ≡ true) × (self.new.rest ≡ c ∷ tail self.new.rest)) }
+        ensures moves { self.old.rest ≡ chars result.now ++ self.new.rest }
+        ensures unquoted { All (λ c. c ≢ 34) (chars result.now) }
+        ensures stops { (self.new.rest ≡ []) ⊎ (self.new.rest ≡ 34 ∷ tail self.new.rest) }
     {
-        let place = self.place + 1;
-        self.mark = place;
-        self.place = place;
-        let kept = self.scan.look(place);
-        self.kept = kept;
-        match kept {
-            Some(c) if c.is_ascii() => Some(c),
-            _ => None,
+        let place = self.place;
+        let run = self.scan.up_to(place, b'"');
+        let end = place + run.len();
+        if end > place {
+            self.go_to(end);
         }
+        run
     }
 
     /// What is ahead.

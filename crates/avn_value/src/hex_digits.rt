@@ -166,7 +166,8 @@ impl HexDigits {
         requires { cursor.old.ahead ≡ cursor.old.rest }
         ensures advances { Advances 1 cursor.old cursor.new }
         ensures together { cursor.new.ahead ≡ cursor.new.rest }
-        ensures taken { OnOk result (TakesDigits self.old cursor.old.rest self.new cursor.new.rest) }
+        ensures taken { OnOk result
+            (TakesDigits self.old cursor.old.rest self.new cursor.new.rest) }
     {
         if self.odd.is_some() {
             return Ok(());

@@ -17,7 +17,6 @@ mod parse;
 mod print;
 mod put;
 mod quoted;
-mod string_chunk;
 mod text;
 mod token;
 mod value;

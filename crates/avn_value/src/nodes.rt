@@ -94,8 +94,8 @@ fn word_kind(word: &str) -> NodeKind
     }
 }
 
-/// Adds a node over none. It stands apart, and its parts are passed in registers, so that no node is
-/// moved through memory.
+/// Adds a node over none. It stands apart, and its parts are passed in registers, so that no node
+/// is moved through memory.
 ///
 /// # Errors
 ///

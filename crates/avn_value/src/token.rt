@@ -8,12 +8,11 @@ ghost use Rattle.avn_value.specs.NodeLists.{NodeList, extended};
 ghost use Rattle.avn_value.specs.Preorder.{preorder};
 ghost use Rattle.avn_value.specs.ReadNodes.{IsRead};
 
-use crate::chars::{CharSet, ascii};
+use crate::chars::CharSet;
 use crate::cursor::Cursor;
 use crate::fault::Fault;
 use crate::node_kind::NodeKind;
 use crate::nodes::Nodes;
-use crate::string_chunk::{CHUNK, take_chunk};
 use avn_grammar::chars::CharClass;
 use std::alloc::AllocError;
 
@@ -119,20 +118,16 @@ pub fn text(nodes: &mut Nodes, cursor: &mut Cursor<'_>) -> Result<bool, Fault>
         → (tree : Tree) (rest : List ℕ) → Token cursor.old.rest tree rest → ⊥ }
     ensures shorter { OnOk result (length cursor.new.rest < length cursor.old.rest) }
 {
-    let mut room = [0; CHUNK];
     let _open = cursor.take();
-    'chunks: loop {
-        let chunk = take_chunk(cursor, &mut room);
-        nodes.push_text(ascii(&room[..chunk.length]))?;
-        if chunk.closed {
+    'runs: loop {
+        nodes.push_text(cursor.take_up_to_quote())?;
+        let Some(quote) = cursor.take() else {
+            return Err(Fault::UnexpectedToken);
+        };
+        let Some(_doubled) = cursor.take_if(CharSet::Quotes) else {
             nodes.leaf(NodeKind::CharString)?;
             return Ok(false);
-        }
-        if chunk.length < CHUNK {
-            let Some(c) = cursor.take() else {
-                return Err(Fault::UnexpectedToken);
-            };
-            nodes.push_char(c)?;
-        }
+        };
+        nodes.push_char(quote)?;
     }
 }

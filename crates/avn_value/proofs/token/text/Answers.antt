@@ -1,53 +1,49 @@
-use Rattle.std.proofs.Common.{◌≡◌, ◌==◌, ◌++◌, ◌∷◌, [], false, arith, ap, sym, ◌∙◌, take}
+use Rattle.std.proofs.Common.{◌≡◌, ◌==◌, ◌++◌, ◌∷◌, [], arith, ap, sym, ◌∙◌}
+use Rattle.std.proofs.lemmas.Bool.{eqb-true}
 use Rattle.std.proofs.lemmas.Grind.{common_steps}
+use Rattle.std.specs.Str.{chars}
+use Rattle.avn_grammar.specs.Chars.{starts_with}
 use Rattle.avn_value.proofs.NoToken.{text_none}
-use Rattle.avn_value.proofs.QuotedText.{open_quote, plain_more, chunk_more, wide_other}
+use Rattle.avn_value.proofs.QuotedText.{open_quote, run_more, quote_more, at_quote, closed}
 use Rattle.avn_value.proofs.NodeForms.{worded}
-use Rattle.avn_value.proofs.TextNodes.{chunk_worded, char_worded, text_read}
+use Rattle.avn_value.proofs.TextNodes.{run_worded, char_worded, text_read}
 use Rattle.avn_value.proofs.token.text.Goals as goal
 
-pub chunks-init : goal.chunks-init
-chunks-init c = ([], ap (worded c.args.nodes.now) c.requires.clear, open_quote c.args.cursor.now.rest c.requires.quote ∙ ap (λ x. 34 ∷ x) (sym c.take-open.ensures.moves), grind (arith, common_steps), grind (arith, common_steps))
-
-pub returns-then-chunk-clause-ok : goal.returns-then-chunk-clause-ok
-returns-then-chunk-clause-ok c =
-    let i = c.chunks.invariant in
-    let e = c.take_chunk-chunk.ensures in
-    let ds = take c.take_chunk-chunk.result.length c.take_chunk-chunk.new.room in
-    let closed = e.closed c.if-chunk.true in
-    text_read _ _ (i.0 ++ ds) c.args.nodes.now _ _ (chunk_worded c.args.nodes.now _ _ _ i.0 ds i.1 c.in_ok-push_text.ensures c.ascii.ensures e.ascii) c.in_ok-leaf.ensures (chunk_more _ _ _ i.0 ds i.2 closed.0) closed.1
+pub runs-init : goal.runs-init
+runs-init c = ([], ap (worded c.args.nodes.now) c.requires.clear, open_quote c.args.cursor.now.rest c.requires.quote ∙ ap (λ x. 34 ∷ x) (sym c.take-open.ensures.moves), grind (arith, common_steps), grind (arith, common_steps))
 
 pub returns-in_default-clause-none : goal.returns-in_default-clause-none
 returns-in_default-clause-none c = λ e.
-    let i = c.chunks.invariant in
-    let ds = take c.take_chunk-chunk.result.length c.take_chunk-chunk.new.room in
-    text_none c.args.cursor.now.rest c.take_chunk-chunk.new.cursor.rest (i.0 ++ ds) (chunk_more _ _ _ i.0 ds i.2 (c.take_chunk-chunk.ensures.unclosed c.if-chunk.false)) c.in_default.ensures.found
+    let i = c.runs.invariant in
+    let run = c.take_up_to_quote.ensures in
+    let ds = chars c.take_up_to_quote.result.now in
+    text_none c.args.cursor.now.rest c.take_up_to_quote.new.self.rest (i.0 ++ ds) (run_more _ _ _ i.0 ds i.2 run.moves run.unquoted) c.in_default.ensures.found
 
-pub chunks-preserved-in-Continue-branch-3 : goal.chunks-preserved-in-Continue-branch-3
-chunks-preserved-in-Continue-branch-3 c =
-    let i = c.chunks.invariant in
-    let e = c.take_chunk-chunk.ensures in
-    let ds = take c.take_chunk-chunk.result.length c.take_chunk-chunk.new.room in
-    let x = c.in-Some.c in
-    let on = e.unclosed c.if-chunk.false in
-    let more = chunk_more _ _ _ i.0 ds i.2 on in
-    let other : (x == 34) ≡ false = wide_other _ _ x (e.stops c.if-chunk.false c.if-chunk-lt-CHUNK.true) c.in-Some.ensures.found in (
+pub returns-in_default-take_if-clause-ok : goal.returns-in_default-take_if-clause-ok
+returns-in_default-take_if-clause-ok c =
+    let i = c.runs.invariant in
+    let run = c.take_up_to_quote.ensures in
+    let ds = chars c.take_up_to_quote.result.now in
+    let read = run_worded c.args.nodes.now _ _ _ i.0 i.1 c.in_ok-push_text.ensures c.take_up_to_quote.utf8 in
+    let x = c.in-Some.quote in
+    let end = c.in_default-take_if.ensures.found in
+    let closing : x ≡ 34 = at_quote _ _ x run.stops c.in-Some.ensures.found in
+    text_read _ c.take_if.new.self.rest (i.0 ++ ds) c.args.nodes.now _ _ read c.in_ok-leaf.ensures
+    (closed _ _ _ _ (i.0 ++ ds) x (run_more _ _ _ i.0 ds i.2 run.moves run.unquoted) c.in-Some.ensures.found closing end.1)
+    (ap (starts_with (λ d. d == 34)) end.1 ∙ end.0)
+
+pub runs-preserved : goal.runs-preserved
+runs-preserved c =
+    let i = c.runs.invariant in
+    let run = c.take_up_to_quote.ensures in
+    let ds = chars c.take_up_to_quote.result.now in
+    let read = run_worded c.args.nodes.now _ _ _ i.0 i.1 c.in_ok-push_text.ensures c.take_up_to_quote.utf8 in
+    let x = c.in-Some.quote in
+    let closing : x ≡ 34 = at_quote _ _ x run.stops c.in-Some.ensures.found in (
       (i.0 ++ ds) ++ (x ∷ []),
-      char_worded c.args.nodes.now _ _ (i.0 ++ ds) x (chunk_worded c.args.nodes.now _ _ _ i.0 ds i.1 c.in_ok-push_text.ensures c.ascii.ensures e.ascii) c.in_ok-push_char.ensures.pushed,
-      plain_more _ _ _ (i.0 ++ ds) x more other c.in-Some.ensures.found,
-      grind (arith, common_steps),
-      grind (arith, common_steps),
-    )
-
-pub chunks-preserved : goal.chunks-preserved
-chunks-preserved c =
-    let i = c.chunks.invariant in
-    let e = c.take_chunk-chunk.ensures in
-    let ds = take c.take_chunk-chunk.result.length c.take_chunk-chunk.new.room in
-    let on = e.unclosed c.if-chunk.false in (
-      i.0 ++ ds,
-      chunk_worded c.args.nodes.now _ _ _ i.0 ds i.1 c.in_ok-push_text.ensures c.ascii.ensures e.ascii,
-      chunk_more _ _ _ i.0 ds i.2 on,
+      char_worded c.args.nodes.now _ _ (i.0 ++ ds) x read c.in_ok-push_char.ensures.pushed,
+      quote_more _ _ _ _ (i.0 ++ ds) x c.in-Some-take_if._doubled (run_more _ _ _ i.0 ds i.2 run.moves run.unquoted) closing (eqb-true c.in-Some-take_if._doubled 34 c.in-Some-take_if.ensures.found.0)
+          c.in-Some.ensures.found c.in-Some-take_if.ensures.found.1,
       grind (arith, common_steps),
       grind (arith, common_steps),
     )

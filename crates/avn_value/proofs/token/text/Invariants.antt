@@ -4,9 +4,9 @@ use Rattle.avn_value.specs.Ahead.{Advances}
 use Rattle.avn_value.proofs.token.text.Given as goal
 
 -- The characters that were read, each quote twice, stand before what is ahead.
-abbrev pub invariant-chunks : goal.invariant-chunks
-invariant-chunks l =
+abbrev pub invariant-runs : goal.invariant-runs
+invariant-runs l =
     (cs : List ℕ) × (l.nodes ≡ record l.fn.nodes { word = utf8_of cs }) × (l.fn.cursor.rest ≡ (34 ∷ quote_is_doubled cs) ++ l.cursor.rest) × (l.cursor.ahead ≡ l.cursor.rest) × Advances 2 l.fn.cursor l.cursor
 
-abbrev pub decreases-chunks : goal.decreases-chunks
-decreases-chunks l = length l.cursor.rest
+abbrev pub decreases-runs : goal.decreases-runs
+decreases-runs l = length l.cursor.rest

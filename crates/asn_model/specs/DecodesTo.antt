@@ -15,7 +15,6 @@ mutual
         → as_members n t ≡ Some look → FieldsDecodeTo n (all_fields fs added) (map look (field_names (all_fields fs added))) vs → DecodesTo n (Shape.seq kind fs added) (Some t) (Value.members vs)
     decodes_list : (s : Shape) (t : Tree) (slots : List Slot) (vs : Values) → as_list n t ≡ Some slots → EachDecodesTo n s slots vs → DecodesTo n (Shape.list_of s) (Some t) (Value.list vs)
     decodes_set : (s : Shape) (t : Tree) (slots : List Slot) (vs : Values) → as_list n t ≡ Some slots → EachDecodesTo n s slots vs → DecodesTo n (Shape.set_of s) (Some t) (bag_of vs)
-    -- A table decodes to what its list decodes to, with the last entry of each key.
     decodes_table : (s : Shape) (t : Tree) (vs : Values) → DecodesTo n (Shape.list_of s) (Some t) (Value.list vs) → DecodesTo n (Shape.table s) (Some t) (Value.list (table_of vs))
     decodes_choice : (alts : Alternatives) (added : AlternativeAdditions) (t : Tree) (name : List ℕ) (u : Tree) (id : List ℕ) (s : Shape) (v : Value)
         → as_choice n t ≡ Some (Some (name, u)) → alternative_named same_identifier (all_alternatives alts added) name ≡ Some (id, s) → DecodesTo n s (Some u) v → DecodesTo n (Shape.choice alts added) (Some t) (Value.choice id v)

@@ -186,7 +186,7 @@ abbrev pub put_entries : Values → Values → Values
 put_entries found Values.no_values = found
 put_entries found (Values.value e es) = put_entries (put_entry e found) es
 
--- The last entry of each key, in byte order of keys.
+-- The last entry of each key, in byte order of keys: what a table decodes to of what its list decodes to.
 abbrev pub table_of : Values → Values
 table_of es = put_entries Values.no_values es
 
@@ -195,7 +195,7 @@ abbrev pub are_above : List ℕ → Values → Bool
 are_above key Values.no_values = true
 are_above key (Values.value e es) = match_ordering (slice_cmp nat_cmp key (key_of e)) true false false && are_above key es
 
--- The keys rise strictly, by bytes.
+-- The keys rise strictly, by bytes: each has one entry, and entries are in their order.
 abbrev pub keys_rise : Values → Bool
 keys_rise Values.no_values = true
 keys_rise (Values.value e es) = are_above (key_of e) es && keys_rise es
@@ -255,7 +255,6 @@ mutual
     fits_list : {s : Shape} {vs : Values} → FitsEach s vs → Fits (Shape.list_of s) (Value.list vs)
     -- Each multiset is one value, whose elements are in order.
     fits_set : {s : Shape} {vs : Values} → FitsEach s vs → sort_values vs ≡ vs → Fits (Shape.set_of s) (Value.bag vs)
-    -- Each key has one entry, and entries are in byte order of keys.
     fits_table : {s : Shape} {vs : Values} → FitsEach s vs → keys_rise vs ≡ true → Fits (Shape.table s) (Value.list vs)
     fits_choice : {alts : Alternatives} {added : AlternativeAdditions} {i : List ℕ} {v : Value} → FitsAlternative (all_alternatives alts added) i v → Fits (Shape.choice alts added) (Value.choice i v)
     fits_loop : {b : Shape} {v : Value} → Fits (unfold_loop b) v → Fits (Shape.loop b) v

@@ -102,7 +102,7 @@ impl<D: Eq + Hash + Drop> SetOf<D> {
     pub fn to_vec(&self, alloc: Global) -> Result<Vec<&D>, OutOfMemory>
         ensures { IfOk result (λ elements. map (deref {X = D}) elements.items ≡ self.now) }
     {
-        let mut elements = Vec::new(alloc);
+        let mut elements = Vec::with_capacity(alloc, self.total)?;
         for (element, count) in &self.counts {
             for _ in 0..*count {
                 elements.push(element)?;

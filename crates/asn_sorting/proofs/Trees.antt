@@ -1,5 +1,5 @@
 -- The trees of sorted values, and slots of equal trees.
-use Rattle.std.proofs.Common.{◌≡◌, ℕ, List, [], ◌∷◌, ◌++◌, map, Option, Some, refl, sym, ap, ◌∙◌, String, Global}
+use Rattle.std.proofs.Common.{◌≡◌, ℕ, List, [], ◌∷◌, ◌++◌, map, Option, Some, refl, sym, ap, ◌∙◌}
 use Rattle.std.specs.List.{AllByRecursion}
 use Rattle.std.specs.Ordering.{on, nat_cmp}
 use Rattle.std.specs.Cmp.Lexicographic.{slice_cmp}
@@ -16,7 +16,7 @@ map-map f g [] = refl
 map-map f g (x ∷ xs) = ap (λ l. f (g x) ∷ l) (map-map f g xs)
 
 -- Values that are sorted by the texts of their trees have the sorted trees.
-pub trees-sorted : {V T : Type 0} (text : T → List ℕ) (tree : V → T) (entries : List (String Global × V)) (values sorted : List V) → map value_of entries ≡ values → AllByRecursion (λ p. text_of p ≡ text (tree (value_of p))) entries
+pub trees-sorted : {V T : Type 0} (text : T → List ℕ) (tree : V → T) (entries : List (List ℕ × V)) (values sorted : List V) → map value_of entries ≡ values → AllByRecursion (λ p. text_of p ≡ text (tree (value_of p))) entries
     → sorted ≡ map value_of (sort (by_text text_of) entries) → map tree sorted ≡ sort (by_text text) (map tree values)
 trees-sorted text tree entries values sorted all texts e =
     ap (map tree) e

@@ -1,5 +1,5 @@
 -- Sets in the order of their texts.
-use Rattle.std.proofs.Common.{◌≡◌, ◌≢◌, List, [], ◌∷◌, map, All, Option, Some, ap, refl, sym, ◌∙◌, String, Vec, Global}
+use Rattle.std.proofs.Common.{◌≡◌, ◌≢◌, List, [], ◌∷◌, map, All, Option, Some, ap, refl, sym, ◌∙◌, ℕ, Vec, Global}
 use Rattle.std.proofs.lemmas.List.Elements.{recursion_from_All}
 use Rattle.std.specs.Prelude.{option_map}
 use Rattle.avn_grammar.specs.Print.{print}
@@ -21,7 +21,7 @@ use Rattle.asn_traits.specs.Writing.{Frame, IsWrittenAsSet, present_values}
 use Rattle.avn_rules.proofs.Building.{avn_same, present-trees}
 
 abbrev pub Entry : Type 0
-Entry = String Global × AvnValue
+Entry = List ℕ × AvnValue
 
 -- The text of the entry is that of its value.
 abbrev pub HasText : Entry → Type 0

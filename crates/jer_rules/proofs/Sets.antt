@@ -1,5 +1,5 @@
 -- Sets in the order of their texts.
-use Rattle.std.proofs.Common.{◌≡◌, ◌≢◌, List, [], ◌∷◌, map, All, Option, Some, false, ap, refl, sym, subst, ◌∙◌, String, Vec, Global}
+use Rattle.std.proofs.Common.{◌≡◌, ◌≢◌, List, [], ◌∷◌, map, All, Option, Some, false, ap, refl, sym, subst, ◌∙◌, ℕ, Vec, Global}
 use Rattle.std.proofs.lemmas.Bool.{or_parts}
 use Rattle.std.proofs.lemmas.List.Elements.{recursion_from_All}
 use Rattle.std.specs.List.{AllByRecursion}
@@ -24,7 +24,7 @@ use Rattle.jer_rules.proofs.Building.{json_same, present-items}
 use Rattle.jer_rules.proofs.Floats.{items-without_float}
 
 abbrev pub Entry : Type 0
-Entry = String Global × JsonValue
+Entry = List ℕ × JsonValue
 
 -- The text of the entry is that of its value, unless that holds a float.
 abbrev pub HasText : Entry → Type 0

@@ -11,7 +11,7 @@ ghost use Rattle.std.specs.Fmt.{signed_decimal};
 ghost use Rattle.std.specs.Prelude.{◌≡◌, ◌++◌, IfOk};
 
 use asn_core::{OutOfMemory, WholeNumber};
-use asn_sorting::values_by_text;
+use asn_sorting::ByText;
 use asn_traits::{Field, field_name};
 use avn_value::AvnValue;
 use std::alloc::Global;
@@ -64,12 +64,12 @@ pub fn in_text_order(alloc: Global, items: Vec<AvnValue>) -> Result<Vec<AvnValue
     ensures { IfOk result (λ sorted. list_trees sorted.items
         ≡ sorted_trees (list_trees items.items)) }
 {
-    let mut entries = Vec::with_capacity(alloc, items.len())?;
+    let mut entries = ByText::new(alloc);
     for item in items {
         let text = format!(in alloc; "{item}")?;
-        entries.push_reserved((text, item));
+        entries.add(text, item)?;
     }
-    values_by_text(alloc, entries)
+    entries.into_sorted()
 }
 
 /// Returns the choice of this alternative and payload, which is boxed.

@@ -14,7 +14,7 @@ ghost use Rattle.serde_json.specs.Written.{items_have_float};
 ghost use Rattle.std.specs.Prelude.{◌≡◌, ◌++◌, false, IfOk, OnOk, MatchOption};
 
 use asn_core::OutOfMemory;
-use asn_sorting::values_by_text;
+use asn_sorting::ByText;
 use asn_traits::{Field, field_name};
 use serde_json::{Map, Number, Value};
 use std::alloc::Global;
@@ -85,12 +85,12 @@ pub fn in_text_order(alloc: Global, items: Vec<Value>) -> Result<Vec<Value>, Out
     ensures { IfOk result (λ sorted. items_have_float (items_view items.items) ≡ false
         → items_view sorted.items ≡ sorted_items (items_view items.items)) }
 {
-    let mut entries = Vec::with_capacity(alloc, items.len())?;
+    let mut entries = ByText::new(alloc);
     for item in items {
         let text = item.to_string(alloc)?;
-        entries.push_reserved((text, item));
+        entries.add(text, item)?;
     }
-    values_by_text(alloc, entries)
+    entries.into_sorted()
 }
 
 /// Puts a member into an object, in the place of one of that name.

@@ -1,13 +1,11 @@
-use Rattle.std.proofs.Common.{◌≡◌, ◌++◌, ◌+◌, ◌≤◌, length, map, All}
-use Rattle.std.specs.Prelude.{vec_len, vec_capacity}
+use Rattle.std.proofs.Common.{◌≡◌, ◌++◌, map, All}
 use Rattle.asn_sorting.specs.Entries.{value_of}
 use Rattle.jer_rules.proofs.Sets.{HasText}
 use Rattle.jer_rules.proofs.jer.build.in_text_order.Given as goal
 
--- The values of the entries so far, each with its text, and those that are left, are all, and there is room for them.
+-- The values of the entries so far, each with its text, and those that are left, are all.
 abbrev pub invariant-loop-item : goal.invariant-loop-item
 invariant-loop-item l = record {
-  values : map value_of l.entries.items ++ l.item-iterator.rest.items ≡ l.fn.items.items;
-  texts : All HasText l.entries.items;
-  room : vec_len l.entries + length l.item-iterator.rest.items ≤ vec_capacity l.entries;
+  values : map value_of l.entries ++ l.item-iterator.rest.items ≡ l.fn.items.items;
+  texts : All HasText l.entries;
 }

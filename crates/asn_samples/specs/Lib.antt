@@ -24,3 +24,5 @@ pub mod NewPartElement
 pub mod OldReport
 pub mod NewReport
 pub mod Samples
+pub mod Blank
+pub mod Wrap

@@ -4,6 +4,7 @@
 //! its file of `specs/`: its fields, items or alternatives, and the value of each Rust value.
 #![tactic(auto, using(asn_traits::proofs::Passing::field_steps))]
 
+mod blank;
 mod constrained_bit_string;
 mod defaulted;
 mod ext_choice;
@@ -28,7 +29,9 @@ mod test_type_a;
 mod very;
 mod visitor;
 mod with_null_opt;
+mod wrap;
 
+pub use blank::Blank;
 pub use constrained_bit_string::ConstrainedBitString;
 pub use defaulted::Defaulted;
 pub use ext_choice::ExtChoice;
@@ -53,3 +56,4 @@ pub use test_type_a::TestTypeA;
 pub use very::Very;
 pub use visitor::SampleVisitor;
 pub use with_null_opt::WithNullOpt;
+pub use wrap::{Wrap1, Wrap2};

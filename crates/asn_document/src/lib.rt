@@ -4,6 +4,8 @@
 #![tactic(auto)]
 
 mod document;
+mod document_map;
 mod equality;
 
 pub use document::Document;
+pub use document_map::DocumentMap;

@@ -50,12 +50,12 @@ entry_shape = closed_seq entry_fields
 abbrev pub entry : List ℕ → Value → Value
 entry key v = Value.members (Slots.present (codes "key") (Value.text key) (Slots.present (codes "value") v Slots.no_slots))
 
--- The alternative of a number by its `i64`: one that is none, and no float, is from 2^63 to 2^64-1.
+-- The identifier of a number's alternative, by the number as an `i64`: a whole number that is none is from 2^63 to 2^64-1.
 abbrev pub number_name : Option ℤ → List ℕ
 number_name (Some z) = codes "integer"
 number_name None = codes "decimal"
 
--- The payload of a number by its `i64` and its digits.
+-- The payload of a number, by the number as an `i64` and its digits.
 abbrev pub number_payload : Option ℤ → List ℕ → Value
 number_payload (Some z) digits = Value.int z
 number_payload None digits = Value.text digits
@@ -70,7 +70,7 @@ document_name (array ds) = codes "array"
 document_name (object ms) = codes "object"
 
 abbrev mutual
-  -- The payload.
+  -- The value in the alternative: the payload of the choice.
   pub document_payload : Data → Value
   document_payload null = Value.null
   document_payload (boolean b) = Value.boolean b

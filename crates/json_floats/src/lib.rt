@@ -1,5 +1,7 @@
-//! Tests whether a JSON value holds a number that JER does not have. The test is one walk over
-//! the value that was read, since `serde_json` reads every number of JSON.
+//! Tests whether a JSON value holds a float: a number that is neither an `i64` nor a `u64`.
+//! `serde_json` reads every number of JSON, and ASN.1 text has whole numbers alone.
+#![tactic(auto)]
+
 ghost use Rattle.serde_json.specs.View.{view, items_view, members_view};
 ghost use Rattle.serde_json.specs.Written.{has_float, items_have_float, members_have_float};
 ghost use Rattle.std.specs.Prelude.{◌≡◌};

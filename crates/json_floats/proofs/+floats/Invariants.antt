@@ -1,7 +1,7 @@
 use Rattle.std.proofs.Common.{◌≡◌, drop}
 use Rattle.serde_json.specs.View.{items_view, members_view}
 use Rattle.serde_json.specs.Written.{items_have_float, members_have_float}
-use Rattle.jer_rules.proofs.jer.floats.+floats.Given as goal
+use Rattle.json_floats.proofs.+floats.Given as goal
 
 -- What is left to look at decides.
 abbrev pub invariant-items_hold_float-loop-item : goal.invariant-items_hold_float-loop-item

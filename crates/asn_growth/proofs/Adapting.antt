@@ -1,0 +1,115 @@
+-- What a value is as another version of its type has it.
+use Rattle.std.proofs.Common.{◌≡◌, refl, ap, sym, ◌∙◌, ℕ, Bool, true, false, not, if◌then◌else◌, List, [], ◌∷◌, map}
+use Rattle.std.specs.Cmp.{IsTotalOrder}
+use Rattle.std.specs.FinMap.{IsAntisymmetric}
+use Rattle.std.specs.Ordering.{is_gt, on}
+use Rattle.std.specs.declared.cmp.Ordering.{Ordering}
+use Rattle.asn_core.specs.declared.tag.Tag.{Tag}
+use Rattle.asn_model.specs.Readable.{is_readable}
+use Rattle.asn_model.specs.Shape.{Shape, Fields, Plain, Presence, unfold_loop}
+use Rattle.asn_model.specs.Sorting.{insert_in_order, sort}
+use Rattle.asn_model.specs.Value.{Value, Values, Slots, bag_of, elements, is_kept, is_plain, ordered_by, sort_values, value_cmp, values, with_field}
+use Rattle.asn_model.proofs.Bags.{elements-values}
+use Rattle.asn_model.proofs.Sorting.{insert-insert, sort-map}
+use Rattle.asn_model.proofs.ValueOrder.{value_cmp_total, value_cmp-IsAntisymmetric}
+use Rattle.asn_growth.specs.Adapted.{adapted, adapted_in, adapted_each, adapted_slots, without_loops}
+use Rattle.asn_growth.specs.Grows.{has_parts}
+use Rattle.asn_growth.proofs.Unfolding.{has_none, opened-head}
+
+-- A value without parts stays.
+pub adapted-same : (s : Shape) (v : Value) → has_parts s ≡ false → adapted s v ≡ v
+adapted-same (Shape.seq kind fs added) v e = has_none e
+adapted-same (Shape.list_of s) v e = has_none e
+adapted-same (Shape.set_of s) v e = has_none e
+adapted-same (Shape.table s) v e = has_none e
+adapted-same (Shape.choice alts added) v e = has_none e
+adapted-same (Shape.loop s) v e = has_none e
+adapted-same s v e = refl
+
+-- By a loop that can be read a value is what it is by the loop opened.
+pub adapted-loop : (b : Shape) (v : Value) → is_readable (Shape.loop b) ≡ true → adapted (Shape.loop b) v ≡ adapted (unfold_loop b) v
+adapted-loop b v e = ap (λ s. adapted_in s v) (opened-head b e)
+
+no_members : (d : Plain) (ms ks : Slots) → is_plain d (Value.members ms) ≡ is_plain d (Value.members ks)
+no_members (Plain.boolean true) ms ks = refl
+no_members (Plain.boolean false) ms ks = refl
+no_members d ms ks = refl
+
+no_list : (d : Plain) (vs ws : Values) → is_plain d (Value.list vs) ≡ is_plain d (Value.list ws)
+no_list (Plain.boolean true) vs ws = refl
+no_list (Plain.boolean false) vs ws = refl
+no_list d vs ws = refl
+
+no_bag : (d : Plain) (vs ws : Values) → is_plain d (Value.bag vs) ≡ is_plain d (Value.bag ws)
+no_bag (Plain.boolean true) vs ws = refl
+no_bag (Plain.boolean false) vs ws = refl
+no_bag d vs ws = refl
+
+no_choice : (d : Plain) (i : List ℕ) (v w : Value) → is_plain d (Value.choice i v) ≡ is_plain d (Value.choice i w)
+no_choice (Plain.boolean true) i v w = refl
+no_choice (Plain.boolean false) i v w = refl
+no_choice d i v w = refl
+
+-- What a DEFAULT names has no parts.
+plain-adapted : (d : Plain) (s : Shape) (v : Value) → is_plain d (adapted_in s v) ≡ is_plain d v
+plain-adapted d (Shape.seq kind fs added) (Value.members ms) = no_members d _ _
+plain-adapted d (Shape.list_of s) (Value.list vs) = no_list d _ _
+plain-adapted d (Shape.set_of s) (Value.bag vs) = no_bag d _ _
+plain-adapted d (Shape.table s) (Value.list vs) = no_list d _ _
+plain-adapted d (Shape.choice alts added) (Value.choice i v) = no_choice d i _ _
+plain-adapted d s v = refl
+
+pub kept-adapted : (p : Presence) (s : Shape) (v : Value) → is_kept p (adapted s v) ≡ is_kept p v
+kept-adapted (Presence.default d) s v = ap not (plain-adapted d (without_loops s) v)
+kept-adapted Presence.required s v = refl
+kept-adapted Presence.optional s v = refl
+
+-- A field's value is adapted where it stands.
+pub field-adapted : (n : List ℕ) (t : Tag) (p : Presence) (s : Shape) (fs : Fields) (v : Value) (vs : Slots) → adapted_slots (Fields.field n t p s fs) (with_field p n v vs) ≡ with_field p n (adapted s v) (adapted_slots fs vs)
+field-adapted n t p s fs v vs = by (is_kept p v) ∙ ap (λ b. if b then Slots.present n (adapted s v) (adapted_slots fs vs) else Slots.absent n (adapted_slots fs vs)) (sym (kept-adapted p s v))
+  where
+    by : (b : Bool) → adapted_slots (Fields.field n t p s fs) (if b then Slots.present n v vs else Slots.absent n vs) ≡ (if b then Slots.present n (adapted s v) (adapted_slots fs vs) else Slots.absent n (adapted_slots fs vs))
+    by true = refl
+    by false = refl
+
+pub no-slots : (vs : Slots) → adapted_slots Fields.no_fields vs ≡ Slots.no_slots
+no-slots Slots.no_slots = refl
+no-slots (Slots.absent m vs) = refl
+no-slots (Slots.present m v vs) = refl
+
+pub elements-adapted : (s : Shape) (vs : Values) → elements (adapted_each s vs) ≡ map (adapted s) (elements vs)
+elements-adapted s Values.no_values = refl
+elements-adapted s (Values.value v vs) = ap (λ l. adapted s v ∷ l) (elements-adapted s vs)
+
+values-adapted : (s : Shape) (xs : List Value) → values (λ v. v) (map (adapted s) xs) ≡ adapted_each s (values (λ v. v) xs)
+values-adapted s [] = refl
+values-adapted s (x ∷ xs) = ap (Values.value (adapted s x)) (values-adapted s xs)
+
+-- Elements may be put in order before they are adapted.
+pub adapted-ordered : (s : Shape) (cmp : Value → Value → Ordering) (vs : Values) → ordered_by cmp (adapted_each s vs) ≡ adapted_each s (ordered_by (on (adapted s) cmp) vs)
+adapted-ordered s cmp vs =
+    ap (λ l. values (λ v. v) (sort cmp l)) (elements-adapted s vs)
+    ∙ ap (values (λ v. v)) (sort-map cmp (adapted s) (elements vs))
+    ∙ values-adapted s (sort (on (adapted s) cmp) (elements vs))
+
+-- What is sorted after a change is so whatever the order was before.
+module _ {X : Type 0} (cmp : X → X → Ordering) (o : IsTotalOrder cmp) (same : IsAntisymmetric cmp) (f : X → X) (other : X → X → Ordering) where
+  image-insert : (x : X) (ys : List X) → sort cmp (map f (insert_in_order other x ys)) ≡ insert_in_order cmp (f x) (sort cmp (map f ys))
+  image-insert x [] = refl
+  image-insert x (y ∷ ys) = by (image-insert x ys) (is_gt (other x y))
+    where
+      by : sort cmp (map f (insert_in_order other x ys)) ≡ insert_in_order cmp (f x) (sort cmp (map f ys)) → (b : Bool) → sort cmp (map f (if b then y ∷ insert_in_order other x ys else x ∷ y ∷ ys)) ≡ insert_in_order cmp (f x) (insert_in_order cmp (f y) (sort cmp (map f ys)))
+      by rest true = ap (insert_in_order cmp (f y)) rest ∙ insert-insert cmp o same (f y) (f x) (sort cmp (map f ys))
+      by rest false = refl
+
+  sort-image : (xs : List X) → sort cmp (map f (sort other xs)) ≡ sort cmp (map f xs)
+  sort-image [] = refl
+  sort-image (x ∷ xs) = image-insert x (sort other xs) ∙ ap (insert_in_order cmp (f x)) (sort-image xs)
+
+-- A set is adapted whatever the order of its elements.
+pub set-adapted : (s : Shape) (vs : Values) → adapted (Shape.set_of s) (bag_of vs) ≡ bag_of (adapted_each s vs)
+set-adapted s vs =
+    ap (λ l. Value.bag (values (λ v. v) (sort value_cmp l))) (elements-adapted s (sort_values vs))
+    ∙ ap (λ l. Value.bag (values (λ v. v) (sort value_cmp (map (adapted s) l)))) (elements-values (sort value_cmp (elements vs)))
+    ∙ ap (λ l. Value.bag (values (λ v. v) l)) (sort-image value_cmp value_cmp_total value_cmp-IsAntisymmetric (adapted s) value_cmp (elements vs))
+    ∙ ap (λ l. Value.bag (values (λ v. v) (sort value_cmp l))) (sym (elements-adapted s vs))

@@ -1,2 +1,4 @@
 pub mod Unfolding
 pub mod Adapting
+pub mod Versions
+pub mod Forward

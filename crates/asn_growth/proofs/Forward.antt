@@ -1,0 +1,307 @@
+-- What an older reader makes of a text of a newer version.
+use Rattle.std.proofs.Common.{◌≡◌, refl, ap, sym, ◌∙◌, subst, ℕ, Bool, true, false, ◌&&◌, if◌then◌else◌, List, [], ◌∷◌, ◌++◌, map, Option, Some, None, Result, Ok, Err, ◌⊎◌, inl, inr}
+use Rattle.std.specs.List.{AllByRecursion}
+use Rattle.std.specs.Ordering.{is_gt, on}
+use Rattle.std.specs.declared.cmp.Ordering.{Ordering}
+use Rattle.serde_json.specs.Data.{Data}
+use Rattle.avn_grammar.specs.Tree.{Tree as AvnTree}
+use Rattle.asn_core.specs.declared.tag.Tag.{Tag}
+use Rattle.asn_fault.specs.Failure.{Cause}
+use Rattle.asn_model.specs.Components.{Component, Standing, component_names, components, reading_order, root_order, tag_cmp}
+use Rattle.asn_model.specs.DecodesTo.{DecodesTo, EachDecodesTo, FieldsDecodeTo}
+use Rattle.asn_model.specs.FailsWith.{Path}
+use Rattle.asn_model.specs.Leaf.{LeafFailure, as_leaf, codec_of, leaf, refined}
+use Rattle.asn_model.specs.Notation.{Notation, IsText}
+use Rattle.asn_model.specs.Readable.{is_readable, are_fields_readable, suits}
+use Rattle.asn_model.specs.Shape.{Shape, SeqKind, Fields, FieldAdditions, Alternatives, AlternativeAdditions, Presence, all_alternatives, all_fields, all_items, field_names, is_item, join_fields, unfold_loop, alternative_named}
+use Rattle.asn_model.specs.Sorting.{insert_in_order, sort}
+use Rattle.asn_model.specs.Tree.{Tree, Slot, as_choice, as_list, as_members, same_identifier}
+use Rattle.asn_model.specs.Value.{Value, Values, Slots, bag_of, may_lack, with_field}
+use Rattle.asn_model.specs.declared.leaves.LeafKind.TheVariants.{Item}
+use Rattle.asn_model.proofs.Meanings.{not_other}
+use Rattle.asn_model.proofs.Readables.{and-left, and-right, fields_read, unfolded-readable}
+use Rattle.asn_model.proofs.Sorting.{each-sort}
+use Rattle.asn_growth.specs.Adapted.{adapted, adapted_each, adapted_slots}
+use Rattle.asn_growth.specs.Grows.{Grows, BeginsFields}
+use Rattle.asn_growth.specs.Unknown.{ComesUpon, EachComesUpon, FieldsComeUpon}
+use Rattle.asn_growth.proofs.Adapting.{adapted-loop, adapted-same, field-adapted, no-slots, set-adapted}
+use Rattle.asn_growth.proofs.Unfolding.{grows-unfolded}
+use Rattle.asn_growth.proofs.Versions.{alternatives-begin, alternatives-joined, Found, choice-adapted, fields-begin, find, found-again, joined-begin, none_some, readable-alternatives, readable-named}
+
+-- A reader comes upon an unknown name in the slot.
+abbrev Upon : Notation → Shape → Slot → Type 0
+Upon n s slot = (t : Tree) × (slot ≡ Some t) × (p : Path) × (w : Cause) × ComesUpon n s t p w
+
+-- The slot decodes to the adapted value, or a reader comes upon an unknown name in it.
+abbrev Met : Notation → Shape → Slot → Value → Type 0
+Met n s slot v = DecodesTo n s slot (adapted s v) ⊎ Upon n s slot
+
+same_head : {x y : Slot} {xs ys : List Slot} → x ∷ xs ≡ y ∷ ys → x ≡ y
+same_head e = cc e
+
+same_tail : {x y : Slot} {xs ys : List Slot} → x ∷ xs ≡ y ∷ ys → xs ≡ ys
+same_tail e = cc e
+
+-- Some component is so.
+abbrev SomeComponent : (Component → Type 0) → List Component → Type 0
+SomeComponent P [] = ⊥
+SomeComponent P (c ∷ cs) = P c ⊎ SomeComponent P cs
+
+-- What holds of a component wherever it stands.
+abbrev Anywhere : (List ℕ → Presence → Shape → Type 0) → Component → Type 0
+Anywhere Q c = Q c.name c.presence c.shape
+
+-- What holds of some element holds of some of the sorted list.
+module _ (cmp : Component → Component → Ordering) (P : Component → Type 0) where
+  some-insert : (x : Component) (ys : List Component) → P x ⊎ SomeComponent P ys → SomeComponent P (insert_in_order cmp x ys)
+  some-insert x [] h = h
+  some-insert x (y ∷ ys) h = by (λ k. some-insert x ys k) (is_gt (cmp x y)) h
+    where
+      by : (P x ⊎ SomeComponent P ys → SomeComponent P (insert_in_order cmp x ys)) → (b : Bool) → P x ⊎ (P y ⊎ SomeComponent P ys) → SomeComponent P (if b then y ∷ insert_in_order cmp x ys else x ∷ y ∷ ys)
+      by later true (inl p) = inr (later (inl p))
+      by later true (inr (inl p)) = inl p
+      by later true (inr (inr h)) = inr (later (inr h))
+      by later false h = h
+
+  some-sort : (xs : List Component) → SomeComponent P xs → SomeComponent P (sort cmp xs)
+  some-sort [] h = elim h [ ]
+  some-sort (x ∷ xs) (inl p) = some-insert x (sort cmp xs) (inl p)
+  some-sort (x ∷ xs) (inr h) = some-insert x (sort cmp xs) (inr (some-sort xs h))
+
+-- What holds of fields holds of the components in the order of reading.
+module _ (Q : List ℕ → Presence → Shape → Type 0) where
+  abbrev all_of : List Component → Type 0
+  all_of cs = AllByRecursion (Anywhere Q) cs
+
+  abbrev some_of : List Component → Type 0
+  some_of cs = SomeComponent (Anywhere Q) cs
+
+  all-added : (fs : Fields) → all_of (components Standing.root fs) → all_of (components Standing.addition fs)
+  all-added Fields.no_fields h = tt
+  all-added (Fields.field n t p s fs) h = (h.0, all-added fs h.1)
+
+  some-added : (fs : Fields) → some_of (components Standing.root fs) → some_of (components Standing.addition fs)
+  some-added Fields.no_fields h = elim h [ ]
+  some-added (Fields.field n t p s fs) (inl h) = inl h
+  some-added (Fields.field n t p s fs) (inr h) = inr (some-added fs h)
+
+  all-parted : (fs more : Fields) → all_of (components Standing.root (join_fields fs more)) → all_of (components Standing.root fs) × all_of (components Standing.root more)
+  all-parted Fields.no_fields more h = (tt, h)
+  all-parted (Fields.field n t p s fs) more h = let r = all-parted fs more h.1 in ((h.0, r.0), r.1)
+
+  some-parted : (fs more : Fields) → some_of (components Standing.root (join_fields fs more)) → some_of (components Standing.root fs) ⊎ some_of (components Standing.root more)
+  some-parted Fields.no_fields more h = inr h
+  some-parted (Fields.field n t p s fs) more (inl h) = inl (inl h)
+  some-parted (Fields.field n t p s fs) more (inr h) = by (some-parted fs more h)
+    where
+      by : some_of (components Standing.root fs) ⊎ some_of (components Standing.root more) → some_of (components Standing.root (Fields.field n t p s fs)) ⊎ some_of (components Standing.root more)
+      by (inl k) = inl (inr k)
+      by (inr k) = inr k
+
+  all-appended : (cs ds : List Component) → all_of cs → all_of ds → all_of (cs ++ ds)
+  all-appended [] ds h k = k
+  all-appended (c ∷ cs) ds h k = (h.0, all-appended cs ds h.1 k)
+
+  some-appended : (cs ds : List Component) → some_of cs ⊎ some_of ds → some_of (cs ++ ds)
+  some-appended [] ds (inl h) = elim h [ ]
+  some-appended [] ds (inr h) = h
+  some-appended (c ∷ cs) ds (inl (inl h)) = inl h
+  some-appended (c ∷ cs) ds (inl (inr h)) = inr (some-appended cs ds (inl h))
+  some-appended (c ∷ cs) ds (inr h) = inr (some-appended cs ds (inr h))
+
+  all-root : (kind : SeqKind) (fs : Fields) → all_of (components Standing.root fs) → all_of (root_order kind fs)
+  all-root SeqKind.sequence fs h = h
+  all-root SeqKind.set fs h = each-sort (on (λ (c : Component). c.tag) tag_cmp) (Anywhere Q) (components Standing.root fs) h
+
+  some-root : (kind : SeqKind) (fs : Fields) → some_of (components Standing.root fs) → some_of (root_order kind fs)
+  some-root SeqKind.sequence fs h = h
+  some-root SeqKind.set fs h = some-sort (on (λ (c : Component). c.tag) tag_cmp) (Anywhere Q) (components Standing.root fs) h
+
+  pub all-read : (kind : SeqKind) (fs : Fields) (added : FieldAdditions) → all_of (components Standing.root (all_fields fs added)) → all_of (reading_order kind fs added)
+  all-read kind fs FieldAdditions.closed_fields h = all-root kind fs h
+  all-read kind fs (FieldAdditions.extended_fields more) h = let r = all-parted fs more h in all-appended (root_order kind fs) (components Standing.addition more) (all-root kind fs r.0) (all-added more r.1)
+
+  pub some-read : (kind : SeqKind) (fs : Fields) (added : FieldAdditions) → some_of (components Standing.root (all_fields fs added)) → some_of (reading_order kind fs added)
+  some-read kind fs FieldAdditions.closed_fields h = some-root kind fs h
+  some-read kind fs (FieldAdditions.extended_fields more) h = some-appended (root_order kind fs) (components Standing.addition more) (by (some-parted fs more h))
+    where
+      by : some_of (components Standing.root fs) ⊎ some_of (components Standing.root more) → some_of (root_order kind fs) ⊎ some_of (components Standing.addition more)
+      by (inl k) = inl (some-root kind fs k)
+      by (inr k) = inr (some-added more k)
+
+-- What an older reader makes of the slots of fields, of which the newer version has these values.
+data FieldsMet (n : Notation) (look : List ℕ → Slot) : Fields → Slots → Type 0 where
+  met_end : (vs : Slots) → FieldsMet n look Fields.no_fields vs
+  met_present : (name : List ℕ) (t : Tag) (p : Presence) (s : Shape) (fs : Fields) (v : Value) (vs : Slots) → Met n s (look name) v → FieldsMet n look fs vs → FieldsMet n look (Fields.field name t p s fs) (with_field p name v vs)
+  met_absent : (name : List ℕ) (t : Tag) (p : Presence) (s : Shape) (fs : Fields) (vs : Slots) → look name ≡ None → may_lack p ≡ true → FieldsMet n look fs vs → FieldsMet n look (Fields.field name t p s fs) (Slots.absent name vs)
+
+module _ (n : Notation) (look : List ℕ → Slot) where
+  abbrev UponField : List ℕ → Presence → Shape → Type 0
+  UponField name p s = Upon n s (look name)
+
+  abbrev IsRead : List ℕ → Presence → Shape → Type 0
+  IsRead name p s = (((v : Value) × DecodesTo n s (look name) v) ⊎ ((look name ≡ None) × (may_lack p ≡ true))) ⊎ UponField name p s
+
+  read-met : (name : List ℕ) (p : Presence) (s : Shape) (v : Value) → Met n s (look name) v → IsRead name p s
+  read-met name p s v (inl d) = inl (inl (adapted s v, d))
+  read-met name p s v (inr u) = inr u
+
+  -- Each field is read, or an unknown name is in it.
+  each-read : {fs : Fields} {vs : Slots} → FieldsMet n look fs vs → AllByRecursion (Anywhere IsRead) (components Standing.root fs)
+  each-read (FieldsMet.met_end vs) = tt
+  each-read (FieldsMet.met_present name t p s fs v vs m ms) = (read-met name p s v m, each-read ms)
+  each-read (FieldsMet.met_absent name t p s fs vs e lack ms) = (inl (inr (e, lack)), each-read ms)
+
+  -- All are read, or an unknown name is in one.
+  all-or-some : {fs : Fields} {vs : Slots} → FieldsMet n look fs vs → FieldsDecodeTo n fs (map look (field_names fs)) (adapted_slots fs vs) ⊎ SomeComponent (Anywhere UponField) (components Standing.root fs)
+  all-or-some (FieldsMet.met_end vs) = inl (subst (FieldsDecodeTo n Fields.no_fields []) (sym (no-slots vs)) FieldsDecodeTo.decodes_end)
+  all-or-some (FieldsMet.met_present name t p s fs v vs m ms) = by m (all-or-some ms)
+    where
+      by : Met n s (look name) v → FieldsDecodeTo n fs (map look (field_names fs)) (adapted_slots fs vs) ⊎ SomeComponent (Anywhere UponField) (components Standing.root fs)
+          → FieldsDecodeTo n (Fields.field name t p s fs) (look name ∷ map look (field_names fs)) (adapted_slots (Fields.field name t p s fs) (with_field p name v vs)) ⊎ SomeComponent (Anywhere UponField) (components Standing.root (Fields.field name t p s fs))
+      by (inl d) (inl ds) = inl (subst (FieldsDecodeTo n (Fields.field name t p s fs) (look name ∷ map look (field_names fs))) (sym (field-adapted name t p s fs v vs)) (FieldsDecodeTo.decodes_present name t p s fs (look name) (map look (field_names fs)) (adapted s v) (adapted_slots fs vs) d ds))
+      by (inl d) (inr u) = inr (inr u)
+      by (inr u) ds = inr (inl u)
+  all-or-some (FieldsMet.met_absent name t p s fs vs e lack ms) = by (all-or-some ms)
+    where
+      by : FieldsDecodeTo n fs (map look (field_names fs)) (adapted_slots fs vs) ⊎ SomeComponent (Anywhere UponField) (components Standing.root fs)
+          → FieldsDecodeTo n (Fields.field name t p s fs) (look name ∷ map look (field_names fs)) (Slots.absent name (adapted_slots fs vs)) ⊎ SomeComponent (Anywhere UponField) (components Standing.root (Fields.field name t p s fs))
+      by (inl ds) = inl (subst (λ slot. FieldsDecodeTo n (Fields.field name t p s fs) (slot ∷ map look (field_names fs)) (Slots.absent name (adapted_slots fs vs))) (sym e) (FieldsDecodeTo.decodes_absent name t p s fs (map look (field_names fs)) (adapted_slots fs vs) lack ds))
+      by (inr u) = inr (inr u)
+
+  abbrev FirstUpon : List Component → Type 0
+  FirstUpon cs = (p : Path) × (w : Cause) × FieldsComeUpon n cs (map look (component_names cs)) p w
+
+  upon-here : (c : Component) (cs : List Component) → Upon n c.shape (look c.name) → FirstUpon (c ∷ cs)
+  upon-here c cs (t, e, p, w, u) = (c.name ∷ p, w, subst (λ slot. FieldsComeUpon n (c ∷ cs) (slot ∷ map look (component_names cs)) (c.name ∷ p) w) (sym e) (FieldsComeUpon.upon_field c cs t (map look (component_names cs)) p w u))
+
+  -- The first of them in the order of reading.
+  first-upon : (cs : List Component) → AllByRecursion (Anywhere IsRead) cs → SomeComponent (Anywhere UponField) cs → FirstUpon cs
+  first-upon [] h k = elim k [ ]
+  first-upon (c ∷ cs) h k = by (λ j. first-upon cs h.1 j) h.0 k
+    where
+      by : (SomeComponent (Anywhere UponField) cs → FirstUpon cs) → IsRead c.name c.presence c.shape → UponField c.name c.presence c.shape ⊎ SomeComponent (Anywhere UponField) cs → FirstUpon (c ∷ cs)
+      by later h (inl u) = upon-here c cs u
+      by later (inr u) (inr ks) = upon-here c cs u
+      by later (inl (inl (v, d))) (inr ks) = let r = later ks in (r.0, r.1, FieldsComeUpon.past_present c cs (look c.name) (map look (component_names cs)) v r.0 r.1 d r.2)
+      by later (inl (inr (e, lack))) (inr ks) =
+          let r = later ks in
+          (r.0, r.1, subst (λ slot. FieldsComeUpon n (c ∷ cs) (slot ∷ map look (component_names cs)) r.0 r.1) (sym e) (FieldsComeUpon.past_absent c cs (map look (component_names cs)) r.0 r.1 lack r.2))
+
+  seq-met : (kind : SeqKind) (fs : Fields) (added : FieldAdditions) (t : Tree) (vs : Slots) → as_members n t ≡ Some look → FieldsMet n look (all_fields fs added) vs → Met n (Shape.seq kind fs added) (Some t) (Value.members vs)
+  seq-met kind fs added t vs e m = by (all-or-some m)
+    where
+      by : FieldsDecodeTo n (all_fields fs added) (map look (field_names (all_fields fs added))) (adapted_slots (all_fields fs added) vs) ⊎ SomeComponent (Anywhere UponField) (components Standing.root (all_fields fs added)) → Met n (Shape.seq kind fs added) (Some t) (Value.members vs)
+      by (inl d) = inl (DecodesTo.decodes_seq kind fs added t look (adapted_slots (all_fields fs added) vs) e d)
+      by (inr u) =
+          let r = first-upon (reading_order kind fs added) (all-read IsRead kind fs added (each-read m)) (some-read UponField kind fs added u) in
+          inr (t, refl, r.0, r.1, ComesUpon.in_field kind fs added t look r.0 r.1 e r.2)
+
+-- An item, or why there is none.
+item_of : (n : Notation) (t : Tree) → ((i : List ℕ) × (as_leaf n Item t ≡ Ok (Value.item i))) ⊎ ((b : LeafFailure) × (as_leaf n Item t ≡ Err b))
+item_of Notation.jer (Tree.json (Data.string x)) = inl (x, refl)
+item_of Notation.avn (Tree.avn (AvnTree.enumerated x)) = inl (x, refl)
+item_of n t = inr (_, refl)
+
+no_err : {v : Value} {b : LeafFailure} → ◌≡◌ {A = Option (Result Value LeafFailure)} (Some (Err b)) (Some (Ok v)) → ⊥
+no_err e = cc e
+
+same_ok : {v w : Value} → ◌≡◌ {A = Option (Result Value LeafFailure)} (Some (Ok v)) (Some (Ok w)) → v ≡ w
+same_ok e = cc e
+
+item-met : (n : Notation) (items added more : List (List ℕ)) (t : Tree) (v : Value) → leaf n (Shape.enum items (Some (added ++ more))) t ≡ Some (Ok v) → Met n (Shape.enum items (Some added)) (Some t) v
+item-met n items added more t v e = by (item_of n t)
+  where
+    newer : Shape
+    newer = Shape.enum items (Some (added ++ more))
+
+    older : Shape
+    older = Shape.enum items (Some added)
+
+    of_item : (i : List ℕ) → as_leaf n Item t ≡ Ok (Value.item i) → v ≡ Value.item i → (b : Bool) → is_item (all_items items (Some added)) i ≡ b → Met n older (Some t) v
+    of_item i is same true known =
+        inl (DecodesTo.decodes_leaf older t v (ap (λ r. Some (refined (codec_of n) older r)) is
+        ∙ ap (λ b. Some (if b then Ok (Value.item i) else Err (LeafFailure.because (Cause.invalid_enum_discriminant (codec_of n) i)))) known ∙ ap (λ w. Some (Ok w)) (sym same)))
+    of_item i is same false unknown = inr (t, refl, [], Cause.invalid_enum_discriminant (codec_of n) i, ComesUpon.unknown_item items added t i is unknown)
+
+    tested : (i : List ℕ) (b : Bool) → Some (if b then Ok (Value.item i) else Err (LeafFailure.because (Cause.invalid_enum_discriminant (codec_of n) i))) ≡ Some (Ok v) → v ≡ Value.item i
+    tested i true f = sym (same_ok f)
+    tested i false f = absurd (no_err f)
+
+    by : ((i : List ℕ) × (as_leaf n Item t ≡ Ok (Value.item i))) ⊎ ((b : LeafFailure) × (as_leaf n Item t ≡ Err b)) → Met n older (Some t) v
+    by (inl (i, is)) = of_item i is (tested i (is_item (all_items items (Some (added ++ more))) i) (sym (ap (λ r. Some (refined (codec_of n) newer r)) is) ∙ e)) (is_item (all_items items (Some added)) i) refl
+    by (inr (b, is)) = absurd (no_err (sym (ap (λ r. Some (refined (codec_of n) newer r)) is) ∙ e))
+
+-- Of elements, all decode or there is a first in which a reader comes upon an unknown name.
+abbrev EachMet : Notation → Shape → List Slot → Values → Type 0
+EachMet n s slots vs = EachDecodesTo n s slots (adapted_each s vs) ⊎ ((p : Path) × (w : Cause) × EachComesUpon n s slots p w)
+
+one-met : (n : Notation) (s : Shape) (slot : Slot) (rest : List Slot) (v : Value) (vs : Values) → Met n s slot v → EachMet n s rest vs → EachMet n s (slot ∷ rest) (Values.value v vs)
+one-met n s slot rest v vs (inl d) (inl ds) = inl (EachDecodesTo.decodes_one s slot rest (adapted s v) (adapted_each s vs) d ds)
+one-met n s slot rest v vs (inl d) (inr (p, w, u)) = inr (p, w, EachComesUpon.upon_later s slot rest (adapted s v) p w d u)
+one-met n s slot rest v vs (inr (t, e, p, w, u)) r = inr (p, w, subst (λ c. EachComesUpon n s (c ∷ rest) p w) (sym e) (EachComesUpon.upon_here s t rest p w u))
+
+list-met : (n : Notation) (s : Shape) (t : Tree) (slots : List Slot) (vs : Values) → as_list n t ≡ Some slots → EachMet n s slots vs → Met n (Shape.list_of s) (Some t) (Value.list vs)
+list-met n s t slots vs e (inl ds) = inl (DecodesTo.decodes_list s t slots (adapted_each s vs) e ds)
+list-met n s t slots vs e (inr (p, w, u)) = inr (t, refl, p, w, ComesUpon.in_list s t slots p w e u)
+
+set-met : (n : Notation) (s : Shape) (t : Tree) (slots : List Slot) (vs : Values) → as_list n t ≡ Some slots → EachMet n s slots vs → Met n (Shape.set_of s) (Some t) (bag_of vs)
+set-met n s t slots vs e (inl ds) = inl (subst (DecodesTo n (Shape.set_of s) (Some t)) (sym (set-adapted s vs)) (DecodesTo.decodes_set s t slots (adapted_each s vs) e ds))
+set-met n s t slots vs e (inr (p, w, u)) = inr (t, refl, p, w, ComesUpon.in_set s t slots p w e u)
+
+some_tree : {x y : Tree} → ◌≡◌ {A = Slot} (Some x) (Some y) → x ≡ y
+some_tree f = cc f
+
+loop-met : (n : Notation) (b : Shape) (t : Tree) (v : Value) → is_readable (Shape.loop b) ≡ true → Met n (unfold_loop b) (Some t) v → Met n (Shape.loop b) (Some t) v
+loop-met n b t v a (inl d) = inl (DecodesTo.decodes_loop b t (adapted (Shape.loop b) v) (subst (DecodesTo n (unfold_loop b) (Some t)) (sym (adapted-loop b v a)) d))
+loop-met n b t v a (inr (u, e, p, w, h)) = inr (t, refl, p, w, ComesUpon.in_loop b t p w (subst (λ x. ComesUpon n (unfold_loop b) x p w) (sym (some_tree e)) h))
+
+payload-met : (n : Notation) (alts : Alternatives) (added : AlternativeAdditions) (t u : Tree) (name id : List ℕ) (s : Shape) (v : Value) → as_choice n t ≡ Some (Some (name, u)) → alternative_named same_identifier (all_alternatives alts added) name ≡ Some (id, s) → Met n s (Some u) v
+    → Met n (Shape.choice alts added) (Some t) (Value.choice id v)
+payload-met n alts added t u name id s v e f (inl d) =
+    inl (subst (DecodesTo n (Shape.choice alts added) (Some t)) (sym (choice-adapted alts added id s v (found-again (all_alternatives alts added) name id s f))) (DecodesTo.decodes_choice alts added t name u id s (adapted s v) e f d))
+payload-met n alts added t u name id s v e f (inr (x, same, p, w, h)) = inr (t, refl, p, w, ComesUpon.in_payload alts added t u name id s p w e f (subst (λ y. ComesUpon n s y p w) (sym (some_tree same)) h))
+
+chosen : {n : Notation} (alts : Alternatives) (added : AlternativeAdditions) (t u : Tree) (name id : List ℕ) (s : Shape) (v : Value) → is_readable (Shape.choice alts added) ≡ true → as_choice n t ≡ Some (Some (name, u))
+    → Found (all_alternatives alts added) name id s → ((r : Shape) → is_readable r ≡ true → Grows r s → Met n r (Some u) v) → Met n (Shape.choice alts added) (Some t) (Value.choice id v)
+chosen {n} alts added t u name id s v a e (inl (r, f, g)) payload =
+    payload-met n alts added t u name id r v e f (payload r (readable-named (all_alternatives alts added) name id r (readable-alternatives alts added a) f) g)
+chosen {n} alts added t u name id s v a e (inr f) payload = inr (t, refl, [], Cause.no_valid_choice [], ComesUpon.unknown_alternative alts added t u name [] e f)
+
+mutual
+  -- An older reader reads what a newer one reads as the value without what it lacks, or comes upon a name that it lacks.
+  pub forward : {n : Notation} {old new : Shape} {slot : Slot} {v : Value} → IsText n → is_readable old ≡ true → Grows old new → DecodesTo n new slot v → Met n old slot v
+  forward {n} {slot = slot} {v = v} x a (Grows.grows_same {s} e) h = inl (subst (DecodesTo n s slot) (sym (adapted-same s v e)) h)
+  forward {n} x a g (DecodesTo.decodes_free s slot v e) = absurd (not_other n x e)
+  forward {n} x a (Grows.grows_enum items added more) (DecodesTo.decodes_leaf s t v e) = item-met n items added more t v e
+  forward {n} x a (Grows.grows_closed_seq {kind} {fs} m) (DecodesTo.decodes_seq kind2 gs added t look vs e hs) =
+      let read = fields_read kind fs FieldAdditions.closed_fields a in
+      seq-met n look kind fs FieldAdditions.closed_fields t vs e (fields-forward look x (fields-begin m) read.parts hs refl)
+  forward {n} x a (Grows.grows_seq {kind} {fs} {gs} {added} {more} m k) (DecodesTo.decodes_seq kind2 gs2 added2 t look vs e hs) =
+      let read = fields_read kind fs (FieldAdditions.extended_fields added) a in
+      seq-met n look kind fs (FieldAdditions.extended_fields added) t vs e (fields-forward look x (joined-begin m k) read.parts hs refl)
+  forward {n} x a (Grows.grows_list {s} g) (DecodesTo.decodes_list r t slots vs e hs) = list-met n s t slots vs e (each-forward x a g hs)
+  forward {n} x a (Grows.grows_set {s} g) (DecodesTo.decodes_set r t slots vs e hs) = set-met n s t slots vs e (each-forward x a g hs)
+  forward {n} x a (Grows.grows_closed_choice {alts} {bs} m) (DecodesTo.decodes_choice bs2 added t name u id s v e f h) = chosen alts AlternativeAdditions.closed_alternatives t u name id s v a e (find name id s (alternatives-begin m) f) (λ r b g. forward x b g h)
+  forward {n} x a (Grows.grows_choice {alts} {bs} {added} {more} m k) (DecodesTo.decodes_choice bs2 added2 t name u id s v e f h) = chosen alts (AlternativeAdditions.extended_alternatives added) t u name id s v a e (find name id s (alternatives-joined m k) f) (λ r b g. forward x b g h)
+  forward {n} x a (Grows.grows_loop {b} g) (DecodesTo.decodes_loop c t v h) = loop-met n b t v a (forward x (unfolded-readable b a) (grows-unfolded (Grows.grows_loop g)) h)
+  forward x a (Grows.grows_closed_seq m) (DecodesTo.decodes_leaf s t v e) = absurd (none_some refl e)
+  forward x a (Grows.grows_seq m k) (DecodesTo.decodes_leaf s t v e) = absurd (none_some refl e)
+  forward x a (Grows.grows_list g) (DecodesTo.decodes_leaf s t v e) = absurd (none_some refl e)
+  forward x a (Grows.grows_set g) (DecodesTo.decodes_leaf s t v e) = absurd (none_some refl e)
+  forward x a (Grows.grows_table g) (DecodesTo.decodes_leaf s t v e) = absurd (none_some refl e)
+  forward x a (Grows.grows_closed_choice m) (DecodesTo.decodes_leaf s t v e) = absurd (none_some refl e)
+  forward x a (Grows.grows_choice m k) (DecodesTo.decodes_leaf s t v e) = absurd (none_some refl e)
+  forward x a (Grows.grows_loop g) (DecodesTo.decodes_leaf s t v e) = absurd (none_some refl e)
+
+  each-forward : {n : Notation} {old new : Shape} {slots : List Slot} {vs : Values} → IsText n → is_readable old ≡ true → Grows old new → EachDecodesTo n new slots vs → EachMet n old slots vs
+  each-forward {old = old} x a g (EachDecodesTo.decodes_none s) = inl (EachDecodesTo.decodes_none old)
+  each-forward {n} {old = old} x a g (EachDecodesTo.decodes_one s slot rest v vs h hs) = one-met n old slot rest v vs (forward x a g h) (each-forward x a g hs)
+
+  fields-forward : {n : Notation} {old new : Fields} {slots : List Slot} {vs : Slots} (look : List ℕ → Slot) → IsText n → BeginsFields old new → are_fields_readable 0 old ≡ true → FieldsDecodeTo n new slots vs → slots ≡ map look (field_names new) → FieldsMet n look old vs
+  fields-forward {vs = vs} look x BeginsFields.begins_fields a h e = FieldsMet.met_end vs
+  fields-forward {n} look x (BeginsFields.begins_field {n = name} {t} {p} {s} {r} {fs} {gs} g m) a (FieldsDecodeTo.decodes_present name2 t2 p2 r2 gs2 slot rest v vs h hs) e =
+      let first = and-right (suits p s) (is_readable s) (and-left (suits p s && is_readable s) (are_fields_readable 0 fs) a) in
+      FieldsMet.met_present name t p s fs v vs (subst (λ c. Met n s c v) (same_head e) (forward x first g h)) (fields-forward look x m (and-right (suits p s && is_readable s) (are_fields_readable 0 fs) a) hs (same_tail e))
+  fields-forward {n} look x (BeginsFields.begins_field {n = name} {t} {p} {s} {r} {fs} {gs} g m) a (FieldsDecodeTo.decodes_absent name2 t2 p2 r2 gs2 rest vs lack hs) e =
+      FieldsMet.met_absent name t p s fs vs (sym (same_head e)) lack (fields-forward look x m (and-right (suits p s && is_readable s) (are_fields_readable 0 fs) a) hs (same_tail e))

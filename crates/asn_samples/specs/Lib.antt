@@ -23,4 +23,6 @@ pub mod NewPart
 pub mod NewPartElement
 pub mod OldReport
 pub mod NewReport
+pub mod OldMode
+pub mod NewMode
 pub mod Samples

@@ -29,11 +29,11 @@ use Rattle.asn_growth.proofs.Unfolding.{grows-unfolded}
 use Rattle.asn_growth.proofs.Versions.{alternatives-begin, alternatives-joined, Found, choice-adapted, fields-begin, find, found-again, joined-begin, none_some, readable-alternatives, readable-named}
 
 -- A reader comes upon an unknown name in the slot.
-abbrev Upon : Notation → Shape → Slot → Type 0
+abbrev pub Upon : Notation → Shape → Slot → Type 0
 Upon n s slot = (t : Tree) × (slot ≡ Some t) × (p : Path) × (w : Cause) × ComesUpon n s t p w
 
 -- The slot decodes to the adapted value, or a reader comes upon an unknown name in it.
-abbrev Met : Notation → Shape → Slot → Value → Type 0
+abbrev pub Met : Notation → Shape → Slot → Value → Type 0
 Met n s slot v = DecodesTo n s slot (adapted s v) ⊎ Upon n s slot
 
 same_head : {x y : Slot} {xs ys : List Slot} → x ∷ xs ≡ y ∷ ys → x ≡ y
@@ -305,3 +305,8 @@ mutual
       FieldsMet.met_present name t p s fs v vs (subst (λ c. Met n s c v) (same_head e) (forward x first g h)) (fields-forward look x m (and-right (suits p s && is_readable s) (are_fields_readable 0 fs) a) hs (same_tail e))
   fields-forward {n} look x (BeginsFields.begins_field {n = name} {t} {p} {s} {r} {fs} {gs} g m) a (FieldsDecodeTo.decodes_absent name2 t2 p2 r2 gs2 rest vs lack hs) e =
       FieldsMet.met_absent name t p s fs vs (sym (same_head e)) lack (fields-forward look x m (and-right (suits p s && is_readable s) (are_fields_readable 0 fs) a) hs (same_tail e))
+
+-- The same of a tree.
+pub read-or-upon : {n : Notation} {s : Shape} {t : Tree} (v : Value) → Met n s (Some t) v → DecodesTo n s (Some t) (adapted s v) ⊎ ((p : Path) × (w : Cause) × ComesUpon n s t p w)
+read-or-upon v (inl d) = inl d
+read-or-upon {n} {s} v (inr (u, e, p, w, h)) = inr (p, w, subst (λ x. ComesUpon n s x p w) (sym (some_tree e)) h)

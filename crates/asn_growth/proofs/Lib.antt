@@ -2,3 +2,4 @@ pub mod Unfolding
 pub mod Adapting
 pub mod Versions
 pub mod Forward
+pub mod Unknowns

@@ -40,3 +40,8 @@ mutual
 -- No place of the tree that a reader of the shape looks at names an alternative or item that the shape lacks.
 abbrev pub Known : Notation → Shape → Tree → Type 0
 Known n s t = (p : Path) (w : Cause) → ComesUpon n s t p w → ⊥
+
+-- A reason is another one, but for the name of the type in a refusal of a choice, which is the type's own word.
+abbrev pub IsAsMuch : Cause → Cause → Type 0
+IsAsMuch (Cause.no_valid_choice name) w = (other : List ℕ) × (w ≡ Cause.no_valid_choice other)
+IsAsMuch w x = x ≡ w

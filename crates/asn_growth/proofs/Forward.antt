@@ -23,14 +23,14 @@ use Rattle.asn_model.proofs.Readables.{and-left, and-right, fields_read, unfolde
 use Rattle.asn_model.proofs.Sorting.{each-sort}
 use Rattle.asn_growth.specs.Adapted.{adapted, adapted_each, adapted_slots}
 use Rattle.asn_growth.specs.Grows.{Grows, BeginsFields}
-use Rattle.asn_growth.specs.Unknown.{ComesUpon, EachComesUpon, FieldsComeUpon}
+use Rattle.asn_growth.specs.ComesUpon.{ComesUpon, EachComesUpon, FieldsComeUpon, IsUnknown}
 use Rattle.asn_growth.proofs.Adapting.{adapted-loop, adapted-same, field-adapted, no-slots, set-adapted}
 use Rattle.asn_growth.proofs.Unfolding.{grows-unfolded}
 use Rattle.asn_growth.proofs.Versions.{alternatives-begin, alternatives-joined, Found, choice-adapted, fields-begin, find, found-again, joined-begin, none_some, readable-alternatives, readable-named}
 
 -- A reader comes upon an unknown name in the slot.
 abbrev pub Upon : Notation → Shape → Slot → Type 0
-Upon n s slot = (t : Tree) × (slot ≡ Some t) × (p : Path) × (w : Cause) × ComesUpon n s t p w
+Upon n s slot = (t : Tree) × (slot ≡ Some t) × (p : Path) × (w : Cause) × ComesUpon n s t p w × IsUnknown w
 
 -- The slot decodes to the adapted value, or a reader comes upon an unknown name in it.
 abbrev pub Met : Notation → Shape → Slot → Value → Type 0
@@ -170,10 +170,10 @@ module _ (n : Notation) (look : List ℕ → Slot) where
       by (inr u) = inr (inr u)
 
   abbrev FirstUpon : List Component → Type 0
-  FirstUpon cs = (p : Path) × (w : Cause) × FieldsComeUpon n cs (map look (component_names cs)) p w
+  FirstUpon cs = (p : Path) × (w : Cause) × FieldsComeUpon n cs (map look (component_names cs)) p w × IsUnknown w
 
   upon-here : (c : Component) (cs : List Component) → Upon n c.shape (look c.name) → FirstUpon (c ∷ cs)
-  upon-here c cs (t, e, p, w, u) = (c.name ∷ p, w, subst (λ slot. FieldsComeUpon n (c ∷ cs) (slot ∷ map look (component_names cs)) (c.name ∷ p) w) (sym e) (FieldsComeUpon.upon_field c cs t (map look (component_names cs)) p w u))
+  upon-here c cs (t, e, p, w, u, k) = (c.name ∷ p, w, subst (λ slot. FieldsComeUpon n (c ∷ cs) (slot ∷ map look (component_names cs)) (c.name ∷ p) w) (sym e) (FieldsComeUpon.upon_field c cs t (map look (component_names cs)) p w u), k)
 
   -- The first of them in the order of reading.
   first-upon : (cs : List Component) → AllByRecursion (Anywhere IsRead) cs → SomeComponent (Anywhere UponField) cs → FirstUpon cs
@@ -183,10 +183,10 @@ module _ (n : Notation) (look : List ℕ → Slot) where
       by : (SomeComponent (Anywhere UponField) cs → FirstUpon cs) → IsRead c.name c.presence c.shape → UponField c.name c.presence c.shape ⊎ SomeComponent (Anywhere UponField) cs → FirstUpon (c ∷ cs)
       by later h (inl u) = upon-here c cs u
       by later (inr u) (inr ks) = upon-here c cs u
-      by later (inl (inl (v, d))) (inr ks) = let r = later ks in (r.0, r.1, FieldsComeUpon.past_present c cs (look c.name) (map look (component_names cs)) v r.0 r.1 d r.2)
+      by later (inl (inl (v, d))) (inr ks) = let r = later ks in (r.0, r.1, FieldsComeUpon.past_present c cs (look c.name) (map look (component_names cs)) v r.0 r.1 d r.2, r.3)
       by later (inl (inr (e, lack))) (inr ks) =
           let r = later ks in
-          (r.0, r.1, subst (λ slot. FieldsComeUpon n (c ∷ cs) (slot ∷ map look (component_names cs)) r.0 r.1) (sym e) (FieldsComeUpon.past_absent c cs (map look (component_names cs)) r.0 r.1 lack r.2))
+          (r.0, r.1, subst (λ slot. FieldsComeUpon n (c ∷ cs) (slot ∷ map look (component_names cs)) r.0 r.1) (sym e) (FieldsComeUpon.past_absent c cs (map look (component_names cs)) r.0 r.1 lack r.2), r.3)
 
   seq-met : (kind : SeqKind) (fs : Fields) (added : FieldAdditions) (t : Tree) (vs : Slots) → as_members n t ≡ Some look → FieldsMet n look (all_fields fs added) vs → Met n (Shape.seq kind fs added) (Some t) (Value.members vs)
   seq-met kind fs added t vs e m = by (all-or-some m)
@@ -195,7 +195,7 @@ module _ (n : Notation) (look : List ℕ → Slot) where
       by (inl d) = inl (DecodesTo.decodes_seq kind fs added t look (adapted_slots (all_fields fs added) vs) e d)
       by (inr u) =
           let r = first-upon (reading_order kind fs added) (all-read IsRead kind fs added (each-read m)) (some-read UponField kind fs added u) in
-          inr (t, refl, r.0, r.1, ComesUpon.in_field kind fs added t look r.0 r.1 e r.2)
+          inr (t, refl, r.0, r.1, ComesUpon.in_field kind fs added t look r.0 r.1 e r.2, r.3)
 
 -- An item, or why there is none.
 item_of : (n : Notation) (t : Tree) → ((i : List ℕ) × (as_leaf n Item t ≡ Ok (Value.item i))) ⊎ ((b : LeafFailure) × (as_leaf n Item t ≡ Err b))
@@ -222,7 +222,7 @@ item-met n items added more t v e = by (item_of n t)
     of_item i is same true known =
         inl (DecodesTo.decodes_leaf older t v (ap (λ r. Some (refined (codec_of n) older r)) is
         ∙ ap (λ b. Some (if b then Ok (Value.item i) else Err (LeafFailure.because (Cause.invalid_enum_discriminant (codec_of n) i)))) known ∙ ap (λ w. Some (Ok w)) (sym same)))
-    of_item i is same false unknown = inr (t, refl, [], Cause.invalid_enum_discriminant (codec_of n) i, ComesUpon.unknown_item items added t i is unknown)
+    of_item i is same false unknown = inr (t, refl, [], Cause.invalid_enum_discriminant (codec_of n) i, ComesUpon.unknown_item items added t i is unknown, tt)
 
     tested : (i : List ℕ) (b : Bool) → Some (if b then Ok (Value.item i) else Err (LeafFailure.because (Cause.invalid_enum_discriminant (codec_of n) i))) ≡ Some (Ok v) → v ≡ Value.item i
     tested i true f = sym (same_ok f)
@@ -234,39 +234,39 @@ item-met n items added more t v e = by (item_of n t)
 
 -- Of elements, all decode or there is a first in which a reader comes upon an unknown name.
 abbrev EachMet : Notation → Shape → List Slot → Values → Type 0
-EachMet n s slots vs = EachDecodesTo n s slots (adapted_each s vs) ⊎ ((p : Path) × (w : Cause) × EachComesUpon n s slots p w)
+EachMet n s slots vs = EachDecodesTo n s slots (adapted_each s vs) ⊎ ((p : Path) × (w : Cause) × EachComesUpon n s slots p w × IsUnknown w)
 
 one-met : (n : Notation) (s : Shape) (slot : Slot) (rest : List Slot) (v : Value) (vs : Values) → Met n s slot v → EachMet n s rest vs → EachMet n s (slot ∷ rest) (Values.value v vs)
 one-met n s slot rest v vs (inl d) (inl ds) = inl (EachDecodesTo.decodes_one s slot rest (adapted s v) (adapted_each s vs) d ds)
-one-met n s slot rest v vs (inl d) (inr (p, w, u)) = inr (p, w, EachComesUpon.upon_later s slot rest (adapted s v) p w d u)
-one-met n s slot rest v vs (inr (t, e, p, w, u)) r = inr (p, w, subst (λ c. EachComesUpon n s (c ∷ rest) p w) (sym e) (EachComesUpon.upon_here s t rest p w u))
+one-met n s slot rest v vs (inl d) (inr (p, w, u, k)) = inr (p, w, EachComesUpon.upon_later s slot rest (adapted s v) p w d u, k)
+one-met n s slot rest v vs (inr (t, e, p, w, u, k)) r = inr (p, w, subst (λ c. EachComesUpon n s (c ∷ rest) p w) (sym e) (EachComesUpon.upon_here s t rest p w u), k)
 
 list-met : (n : Notation) (s : Shape) (t : Tree) (slots : List Slot) (vs : Values) → as_list n t ≡ Some slots → EachMet n s slots vs → Met n (Shape.list_of s) (Some t) (Value.list vs)
 list-met n s t slots vs e (inl ds) = inl (DecodesTo.decodes_list s t slots (adapted_each s vs) e ds)
-list-met n s t slots vs e (inr (p, w, u)) = inr (t, refl, p, w, ComesUpon.in_list s t slots p w e u)
+list-met n s t slots vs e (inr (p, w, u, k)) = inr (t, refl, p, w, ComesUpon.in_list s t slots p w e u, k)
 
 set-met : (n : Notation) (s : Shape) (t : Tree) (slots : List Slot) (vs : Values) → as_list n t ≡ Some slots → EachMet n s slots vs → Met n (Shape.set_of s) (Some t) (bag_of vs)
 set-met n s t slots vs e (inl ds) = inl (subst (DecodesTo n (Shape.set_of s) (Some t)) (sym (set-adapted s vs)) (DecodesTo.decodes_set s t slots (adapted_each s vs) e ds))
-set-met n s t slots vs e (inr (p, w, u)) = inr (t, refl, p, w, ComesUpon.in_set s t slots p w e u)
+set-met n s t slots vs e (inr (p, w, u, k)) = inr (t, refl, p, w, ComesUpon.in_set s t slots p w e u, k)
 
 some_tree : {x y : Tree} → ◌≡◌ {A = Slot} (Some x) (Some y) → x ≡ y
 some_tree f = cc f
 
 loop-met : (n : Notation) (b : Shape) (t : Tree) (v : Value) → is_readable (Shape.loop b) ≡ true → Met n (unfold_loop b) (Some t) v → Met n (Shape.loop b) (Some t) v
 loop-met n b t v a (inl d) = inl (DecodesTo.decodes_loop b t (adapted (Shape.loop b) v) (subst (DecodesTo n (unfold_loop b) (Some t)) (sym (adapted-loop b v a)) d))
-loop-met n b t v a (inr (u, e, p, w, h)) = inr (t, refl, p, w, ComesUpon.in_loop b t p w (subst (λ x. ComesUpon n (unfold_loop b) x p w) (sym (some_tree e)) h))
+loop-met n b t v a (inr (u, e, p, w, h, k)) = inr (t, refl, p, w, ComesUpon.in_loop b t p w (subst (λ x. ComesUpon n (unfold_loop b) x p w) (sym (some_tree e)) h), k)
 
 payload-met : (n : Notation) (alts : Alternatives) (added : AlternativeAdditions) (t u : Tree) (name id : List ℕ) (s : Shape) (v : Value) → as_choice n t ≡ Some (Some (name, u)) → alternative_named same_identifier (all_alternatives alts added) name ≡ Some (id, s) → Met n s (Some u) v
     → Met n (Shape.choice alts added) (Some t) (Value.choice id v)
 payload-met n alts added t u name id s v e f (inl d) =
     inl (subst (DecodesTo n (Shape.choice alts added) (Some t)) (sym (choice-adapted alts added id s v (found-again (all_alternatives alts added) name id s f))) (DecodesTo.decodes_choice alts added t name u id s (adapted s v) e f d))
-payload-met n alts added t u name id s v e f (inr (x, same, p, w, h)) = inr (t, refl, p, w, ComesUpon.in_payload alts added t u name id s p w e f (subst (λ y. ComesUpon n s y p w) (sym (some_tree same)) h))
+payload-met n alts added t u name id s v e f (inr (x, same, p, w, h, k)) = inr (t, refl, p, w, ComesUpon.in_payload alts added t u name id s p w e f (subst (λ y. ComesUpon n s y p w) (sym (some_tree same)) h), k)
 
 chosen : {n : Notation} (alts : Alternatives) (added : AlternativeAdditions) (t u : Tree) (name id : List ℕ) (s : Shape) (v : Value) → is_readable (Shape.choice alts added) ≡ true → as_choice n t ≡ Some (Some (name, u))
     → Found (all_alternatives alts added) name id s → ((r : Shape) → is_readable r ≡ true → Grows r s → Met n r (Some u) v) → Met n (Shape.choice alts added) (Some t) (Value.choice id v)
 chosen {n} alts added t u name id s v a e (inl (r, f, g)) payload =
     payload-met n alts added t u name id r v e f (payload r (readable-named (all_alternatives alts added) name id r (readable-alternatives alts added a) f) g)
-chosen {n} alts added t u name id s v a e (inr f) payload = inr (t, refl, [], Cause.no_valid_choice [], ComesUpon.unknown_alternative alts added t u name [] e f)
+chosen {n} alts added t u name id s v a e (inr f) payload = inr (t, refl, [], Cause.no_valid_choice [], ComesUpon.unknown_alternative alts added t u name [] e f, tt)
 
 mutual
   -- An older reader reads what a newer one reads as the value without what it lacks, or comes upon a name that it lacks.
@@ -307,6 +307,6 @@ mutual
       FieldsMet.met_absent name t p s fs vs (sym (same_head e)) lack (fields-forward look x m (and-right (suits p s && is_readable s) (are_fields_readable 0 fs) a) hs (same_tail e))
 
 -- The same of a tree.
-pub read-or-upon : {n : Notation} {s : Shape} {t : Tree} (v : Value) → Met n s (Some t) v → DecodesTo n s (Some t) (adapted s v) ⊎ ((p : Path) × (w : Cause) × ComesUpon n s t p w)
+pub read-or-upon : {n : Notation} {s : Shape} {t : Tree} (v : Value) → Met n s (Some t) v → DecodesTo n s (Some t) (adapted s v) ⊎ ((p : Path) × (w : Cause) × ComesUpon n s t p w × IsUnknown w)
 read-or-upon v (inl d) = inl d
-read-or-upon {n} {s} v (inr (u, e, p, w, h)) = inr (p, w, subst (λ x. ComesUpon n s x p w) (sym (some_tree e)) h)
+read-or-upon {n} {s} v (inr (u, e, p, w, h, k)) = inr (p, w, subst (λ x. ComesUpon n s x p w) (sym (some_tree e)) h, k)

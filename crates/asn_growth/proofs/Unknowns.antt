@@ -1,7 +1,7 @@
 -- A reader that comes upon an unknown name refuses there, and for no other reason.
 use Rattle.std.proofs.Common.{◌≡◌, refl, ap, sym, ◌∙◌, subst, ℕ, Bool, true, false, if◌then◌else◌, List, [], ◌∷◌, map, Option, Some, None, Result, Ok, Err}
 use Rattle.asn_fault.specs.Failure.{Cause}
-use Rattle.asn_model.specs.Components.{Component, component_names, reading_order}
+use Rattle.asn_model.specs.Components.{Component, Standing, component_names, reading_order}
 use Rattle.asn_model.specs.DecodesTo.{DecodesTo}
 use Rattle.asn_model.specs.FailsWith.{FailsWith, EachFailsWith, FieldsFailWith, Path}
 use Rattle.asn_model.specs.Leaf.{LeafFailure, IsFailureOf, as_leaf, codec_of, leaf, refined}
@@ -11,7 +11,7 @@ use Rattle.asn_model.specs.Tree.{Tree, Slot, as_choice, as_list, as_members, sam
 use Rattle.asn_model.specs.Value.{Value, may_lack}
 use Rattle.asn_model.specs.declared.leaves.LeafKind.TheVariants.{Item}
 use Rattle.asn_model.proofs.Meanings.{apart, not_other}
-use Rattle.asn_growth.specs.Unknown.{ComesUpon, EachComesUpon, FieldsComeUpon, IsAsMuch}
+use Rattle.asn_growth.specs.ComesUpon.{ComesUpon, EachComesUpon, FieldsComeUpon, IsAsMuch}
 use Rattle.asn_growth.proofs.Versions.{none_some}
 
 pub some_same : {A : Type 0} {x y : A} {o : Option A} → o ≡ Some x → o ≡ Some y → x ≡ y
@@ -42,6 +42,7 @@ mutual
 
   pub fields-fail-upon : {n : Notation} {cs : List Component} {slots : List Slot} {p : Path} {w : Cause} → FieldsComeUpon n cs slots p w → FieldsFailWith n cs slots p w
   fields-fail-upon (FieldsComeUpon.upon_field c cs t rest p w h) = FieldsFailWith.field_fails c cs t rest p w (fails-upon h)
+  fields-fail-upon (FieldsComeUpon.upon_missing c cs rest needed at) = FieldsFailWith.addition_is_missing c cs rest needed at
   fields-fail-upon (FieldsComeUpon.past_present c cs slot rest v p w d h) = FieldsFailWith.after_present c cs slot rest v p w d (fields-fail-upon h)
   fields-fail-upon (FieldsComeUpon.past_absent c cs rest p w lack h) = FieldsFailWith.after_absent c cs rest p w lack (fields-fail-upon h)
 
@@ -55,6 +56,9 @@ Same p q w y = (q ≡ p) × IsAsMuch w y
 
 not_both : (b : Bool) → b ≡ true → b ≡ false → ⊥
 not_both b e f = let d : true ≡ false = sym e ∙ f in cc d
+
+not_root : Standing.root ≡ Standing.addition → ⊥
+not_root e = cc e
 
 because_of : {w y : Cause} → LeafFailure.because w ≡ LeafFailure.because y → w ≡ y
 because_of e = cc e
@@ -152,6 +156,10 @@ mutual
   one_field : {n : Notation} {cs : List Component} {slots : List Slot} {p q : Path} {w y : Cause} → IsText n → FieldsComeUpon n cs slots p w → FieldsFailWith n cs slots q y → Same p q w y
   one_field x (FieldsComeUpon.upon_field c cs t rest p w h) (FieldsFailWith.field_fails c2 cs2 t2 rest2 q y k) = let r = one_place x h k in (ap (λ l. c.name ∷ l) r.0, r.1)
   one_field x (FieldsComeUpon.upon_field c cs t rest p w h) (FieldsFailWith.after_present c2 cs2 slot rest2 v q y d k) = absurd (apart x d (fails-upon h))
+  one_field x (FieldsComeUpon.upon_missing c cs rest needed at) (FieldsFailWith.field_is_missing c2 cs2 rest2 q y needed2 at2 k) = absurd (not_root (sym at2 ∙ at))
+  one_field x (FieldsComeUpon.upon_missing c cs rest needed at) (FieldsFailWith.addition_is_missing c2 cs2 rest2 needed2 at2) = (refl, refl)
+  one_field x (FieldsComeUpon.upon_missing c cs rest needed at) (FieldsFailWith.after_present c2 cs2 slot rest2 v q y d k) = absurd (nothing x d)
+  one_field x (FieldsComeUpon.upon_missing c cs rest needed at) (FieldsFailWith.after_absent c2 cs2 rest2 q y lack k) = absurd (not_both (may_lack c.presence) lack needed)
   one_field x (FieldsComeUpon.past_present c cs slot rest v p w d h) (FieldsFailWith.field_fails c2 cs2 t rest2 q y k) = absurd (apart x d k)
   one_field x (FieldsComeUpon.past_present c cs slot rest v p w d h) (FieldsFailWith.field_is_missing c2 cs2 rest2 q y needed at k) = absurd (nothing x d)
   one_field x (FieldsComeUpon.past_present c cs slot rest v p w d h) (FieldsFailWith.addition_is_missing c2 cs2 rest2 needed at) = absurd (nothing x d)

@@ -1,3 +1,3 @@
 pub mod Grows
 pub mod Adapted
-pub mod Unknown
+pub mod ComesUpon

@@ -4,7 +4,7 @@
 ghost use Rattle.asn_fault.specs.Failure.{Cause};
 ghost use Rattle.asn_growth.specs.Adapted.{project};
 ghost use Rattle.asn_growth.specs.Grows.{Grows};
-ghost use Rattle.asn_growth.specs.Unknown.{ComesUpon, IsAsMuch, Known};
+ghost use Rattle.asn_growth.specs.ComesUpon.{ComesUpon, IsAsMuch, IsUnknown, Known};
 ghost use Rattle.asn_model.specs.DecodesTo.{DecodesTo};
 ghost use Rattle.asn_model.specs.FailsWith.{FailsWith, Path};
 ghost use Rattle.asn_model.specs.Notation.{Notation, IsText};
@@ -29,12 +29,12 @@ pub fn older_readers_read_newer_texts()
     ensures unknown { (n : Notation) (old new : Shape) (t : Tree) (v : Value) → IsText n
         → is_readable old ≡ true → Grows old new → DecodesTo n new (Some t) v
         → DecodesTo n old (Some t) (project old v)
-        ⊎ ((p : Path) × (w : Cause) × ComesUpon n old t p w) }
+        ⊎ ((p : Path) × (w : Cause) × ComesUpon n old t p w × IsUnknown w) }
 {}
 
-/// A reader that comes upon an alternative or an item that its type lacks refuses it there, for
-/// that reason and no other.
-pub fn unknown_names_are_refused()
+/// A reader that comes upon an alternative or an item that its type lacks, or upon the absence of
+/// an addition that its type requires, refuses it there, for that reason and no other.
+pub fn other_versions_are_refused()
     ensures refused { (n : Notation) (s : Shape) (t : Tree) (p : Path) (w : Cause)
         → ComesUpon n s t p w → FailsWith n s (Some t) p w }
     ensures no_other { (n : Notation) (s : Shape) (t : Tree) (p q : Path) (w x : Cause) → IsText n

@@ -7,13 +7,13 @@ use Rattle.asn_model.specs.Shape.{Shape}
 use Rattle.asn_model.specs.Tree.{Tree}
 use Rattle.asn_model.specs.Value.{Value}
 use Rattle.asn_growth.specs.Adapted.{project}
-use Rattle.asn_growth.specs.Unknown.{ComesUpon, Known}
+use Rattle.asn_growth.specs.ComesUpon.{ComesUpon, IsUnknown, Known}
 use Rattle.asn_growth.proofs.Forward.{Met, forward, read-or-upon}
 use Rattle.asn_growth.proofs.laws.older_readers_read_newer_texts.Goals as goal
 
-where_known : {n : Notation} {s : Shape} {t : Tree} {v : Value} → Known n s t → DecodesTo n s (Some t) v ⊎ ((p : Path) × (w : Cause) × ComesUpon n s t p w) → DecodesTo n s (Some t) v
+where_known : {n : Notation} {s : Shape} {t : Tree} {v : Value} → Known n s t → DecodesTo n s (Some t) v ⊎ ((p : Path) × (w : Cause) × ComesUpon n s t p w × IsUnknown w) → DecodesTo n s (Some t) v
 where_known k (inl d) = d
-where_known k (inr (p, w, u)) = absurd (k p w u)
+where_known k (inr (p, w, u, i)) = absurd (k p w u i)
 
 pub returns : goal.returns
 returns c = record {

@@ -1,5 +1,5 @@
 use Rattle.asn_growth.proofs.Unknowns.{fails-upon, one_place}
-use Rattle.asn_growth.proofs.laws.unknown_names_are_refused.Goals as goal
+use Rattle.asn_growth.proofs.laws.other_versions_are_refused.Goals as goal
 
 pub returns : goal.returns
 returns c = record {

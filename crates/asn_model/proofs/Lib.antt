@@ -3,6 +3,8 @@ pub mod Readables
 pub mod Sorting
 pub mod ValueOrder
 pub mod Bags
+pub mod Entries
+pub mod Decimals
 mod SetExamples
 mod OrderExamples
 pub mod StringFacts

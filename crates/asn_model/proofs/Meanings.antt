@@ -7,7 +7,7 @@ use Rattle.asn_model.specs.Notation.{Notation, IsText}
 use Rattle.asn_model.specs.Components.{Component, Standing, component_names, components, reading_order, root_order, tag_cmp}
 use Rattle.asn_model.specs.Shape.{FieldAdditions, Fields, SeqKind, Shape, all_fields, field_names, join_fields}
 use Rattle.asn_model.specs.Tree.{Slot, Tree}
-use Rattle.asn_model.specs.Value.{Slots, Value, Values, bag_of, may_lack, with_field}
+use Rattle.asn_model.specs.Value.{Slots, Value, Values, bag_of, may_lack, table_of, with_field}
 use Rattle.asn_model.specs.DecodesTo.{DecodesTo, EachDecodesTo, FieldsDecodeTo}
 use Rattle.asn_model.specs.FailsWith.{FailsWith, EachFailsWith, FieldsFailWith, Path}
 use Rattle.asn_model.proofs.Sorting.{each-sort}
@@ -42,6 +42,9 @@ named {x} {y} e f = let d : ◌≡◌ {A = Option (Option Member)} (Some (Some x
 empty_named : {y : Member} {o : Option (Option Member)} → o ≡ Some None → o ≡ Some (Some y) → ⊥
 empty_named {y} e f = let d : ◌≡◌ {A = Option (Option Member)} (Some None) (Some (Some y)) = sym e ∙ f in cc d
 
+same_elements : {vs ws : Values} → Value.list vs ≡ Value.list ws → vs ≡ ws
+same_elements e = cc e
+
 mutual
   -- A slot decodes to at most one value by a shape.
   pub one : {n : Notation} {s : Shape} {slot : Slot} {v : Value} → IsText n → DecodesTo n s slot v → {w : Value} → DecodesTo n s slot w → v ≡ w
@@ -50,17 +53,20 @@ mutual
   one {n} x (DecodesTo.decodes_seq kind fs more t look vs e h) (DecodesTo.decodes_free s2 slot v f) = absurd (not_other n x f)
   one {n} x (DecodesTo.decodes_list s t slots vs e h) (DecodesTo.decodes_free s2 slot v f) = absurd (not_other n x f)
   one {n} x (DecodesTo.decodes_set s t slots vs e h) (DecodesTo.decodes_free s2 slot v f) = absurd (not_other n x f)
+  one {n} x (DecodesTo.decodes_table s t vs h) (DecodesTo.decodes_free s2 slot v f) = absurd (not_other n x f)
   one {n} x (DecodesTo.decodes_choice alts added t name u id s v e f h) (DecodesTo.decodes_free s2 slot w g) = absurd (not_other n x g)
   one {n} x (DecodesTo.decodes_loop body t v h) (DecodesTo.decodes_free s2 slot w f) = absurd (not_other n x f)
   one x (DecodesTo.decodes_leaf s t v e) (DecodesTo.decodes_leaf s2 t2 w f) = ok_same e f
   one x (DecodesTo.decodes_leaf s t v e) (DecodesTo.decodes_seq kind fs more t2 look vs f h) = absurd (none_some refl e)
   one x (DecodesTo.decodes_leaf s t v e) (DecodesTo.decodes_list s2 t2 slots vs f h) = absurd (none_some refl e)
   one x (DecodesTo.decodes_leaf s t v e) (DecodesTo.decodes_set s2 t2 slots vs f h) = absurd (none_some refl e)
+  one x (DecodesTo.decodes_leaf s t v e) (DecodesTo.decodes_table s2 t2 vs h) = absurd (none_some refl e)
   one x (DecodesTo.decodes_leaf s t v e) (DecodesTo.decodes_choice alts added t2 name u id s2 w f g h) = absurd (none_some refl e)
   one x (DecodesTo.decodes_leaf s t v e) (DecodesTo.decodes_loop body t2 w h) = absurd (none_some refl e)
   one x (DecodesTo.decodes_seq kind fs more t look vs e h) (DecodesTo.decodes_leaf s2 t2 v f) = absurd (none_some refl f)
   one x (DecodesTo.decodes_list s t slots vs e h) (DecodesTo.decodes_leaf s2 t2 v f) = absurd (none_some refl f)
   one x (DecodesTo.decodes_set s t slots vs e h) (DecodesTo.decodes_leaf s2 t2 v f) = absurd (none_some refl f)
+  one x (DecodesTo.decodes_table s t vs h) (DecodesTo.decodes_leaf s2 t2 v f) = absurd (none_some refl f)
   one x (DecodesTo.decodes_choice alts added t name u id s v e f h) (DecodesTo.decodes_leaf s2 t2 w g) = absurd (none_some refl g)
   one x (DecodesTo.decodes_loop body t v h) (DecodesTo.decodes_leaf s2 t2 w f) = absurd (none_some refl f)
   one {n} x (DecodesTo.decodes_seq kind fs more t look vs e h) (DecodesTo.decodes_seq kind2 fs2 more2 t2 look2 ws f k) =
@@ -69,6 +75,7 @@ mutual
       ap Value.list (one_each x h (subst (λ m. EachDecodesTo n s2 m ws) (some_same f e) k))
   one {n} x (DecodesTo.decodes_set s t slots vs e h) (DecodesTo.decodes_set s2 t2 slots2 ws f k) =
       ap bag_of (one_each x h (subst (λ m. EachDecodesTo n s2 m ws) (some_same f e) k))
+  one x (DecodesTo.decodes_table s t vs h) (DecodesTo.decodes_table s2 t2 ws k) = ap (λ es. Value.list (table_of es)) (same_elements (one x h k))
   one {n} x (DecodesTo.decodes_choice alts added t name u id s v e f h) (DecodesTo.decodes_choice alts2 added2 t2 name2 u2 id2 s2 w g i k) =
       let m : ◌≡◌ {A = Member} (name2, u2) (name, u) = named g e in
       let c : ◌≡◌ {A = List ℕ × Shape} (id2, s2) (id, s) = some_same (rw (ap (λ (r : Member). r.0) m) at i) f in
@@ -169,6 +176,7 @@ mutual
   apart {n} x (DecodesTo.decodes_seq kind fs more t look vs e h) (FailsWith.fails_free s2 slot p y f) = not_other n x f
   apart {n} x (DecodesTo.decodes_list s t slots vs e h) (FailsWith.fails_free s2 slot p y f) = not_other n x f
   apart {n} x (DecodesTo.decodes_set s t slots vs e h) (FailsWith.fails_free s2 slot p y f) = not_other n x f
+  apart {n} x (DecodesTo.decodes_table s t vs h) (FailsWith.fails_free s2 slot p y f) = not_other n x f
   apart {n} x (DecodesTo.decodes_choice alts added t name u id s v e f h) (FailsWith.fails_free s2 slot p y g) = not_other n x g
   apart {n} x (DecodesTo.decodes_loop body t v h) (FailsWith.fails_free s2 slot p y f) = not_other n x f
   apart x (DecodesTo.decodes_leaf s t v e) (FailsWith.fails_leaf s2 t2 blame w f blamed) = ok_err e f
@@ -178,6 +186,7 @@ mutual
   apart x (DecodesTo.decodes_leaf s t v e) (FailsWith.fails_list s2 t2 slots p w f h) = none_some refl e
   apart x (DecodesTo.decodes_leaf s t v e) (FailsWith.fails_no_set s2 t2 w f blamed) = none_some refl e
   apart x (DecodesTo.decodes_leaf s t v e) (FailsWith.fails_set s2 t2 slots p w f h) = none_some refl e
+  apart x (DecodesTo.decodes_leaf s t v e) (FailsWith.fails_table s2 t2 p w h) = none_some refl e
   apart x (DecodesTo.decodes_leaf s t v e) (FailsWith.fails_no_choice alts added t2 w f blamed) = none_some refl e
   apart x (DecodesTo.decodes_leaf s t v e) (FailsWith.fails_no_member alts added t2 r f) = none_some refl e
   apart x (DecodesTo.decodes_leaf s t v e) (FailsWith.fails_unnamed alts added t2 name u r f g) = none_some refl e
@@ -192,6 +201,8 @@ mutual
   apart x (DecodesTo.decodes_set s t slots vs e h) (FailsWith.fails_leaf s2 t2 blame y f blamed) = none_some refl f
   apart x (DecodesTo.decodes_set s t slots vs e h) (FailsWith.fails_no_set s2 t2 w f blamed) = none_some f e
   apart {n} x (DecodesTo.decodes_set s t slots vs e h) (FailsWith.fails_set s2 t2 slots2 p w f k) = apart_each x (subst (λ m. EachDecodesTo n s m vs) (some_same e f) h) k
+  apart x (DecodesTo.decodes_table s t vs h) (FailsWith.fails_leaf s2 t2 blame y f blamed) = none_some refl f
+  apart x (DecodesTo.decodes_table s t vs h) (FailsWith.fails_table s2 t2 p w k) = apart x h k
   apart x (DecodesTo.decodes_choice alts added t name u id s v e f h) (FailsWith.fails_leaf s2 t2 blame y g blamed) = none_some refl g
   apart x (DecodesTo.decodes_choice alts added t name u id s v e f h) (FailsWith.fails_no_choice alts2 added2 t2 w g blamed) = none_some g e
   apart x (DecodesTo.decodes_choice alts added t name u id s v e f h) (FailsWith.fails_no_member alts2 added2 t2 r g) = empty_named g e

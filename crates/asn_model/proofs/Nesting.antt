@@ -22,6 +22,7 @@ use Rattle.asn_model.specs.Canonical.{jer_data, jer_items, jer_members, sorted_i
 use Rattle.asn_model.specs.CharacterStrings.{alphabet_number, alphabet_of, bmp_number, universal_tag}
 use Rattle.asn_model.specs.Arcs.{arc_numbers, identifier_or}
 use Rattle.asn_model.specs.BitLeaves.{no_bits, sized_bits}
+use Rattle.asn_model.specs.Decimals.{is_decimal}
 use Rattle.asn_model.specs.Leaf.{LeafFailure, leaf, declared_bits, length_in, octets_or, or_blame, as_leaf, kind_of, refine, refined, time_or, within_alphabet}
 use Rattle.asn_model.specs.Notation.{Notation}
 use Rattle.asn_model.specs.Range.{is_between}
@@ -32,6 +33,7 @@ use Rattle.asn_model.specs.Tree.{Tree, Slot, as_list, as_members, as_choice, ite
 use Rattle.asn_model.specs.Value.{Value, Values, Slots, elements, is_kept, sort_values, value_cmp}
 use Rattle.asn_model.specs.declared.leaves.LeafKind.{LeafKind}
 use Rattle.asn_model.proofs.Bags.{each-ordered, jer_items-sorted}
+use Rattle.asn_model.proofs.Entries.{table-depth}
 use Rattle.asn_model.specs.declared.leaves.LeafKind.TheVariants.{Null, Boolean, Number, Text, Time, Date, Item, Octets, Any, Oid, Bits}
 
 -- How deep a tree of JSON nests.
@@ -147,6 +149,7 @@ refine-flat Shape.bmp (Value.text t) n h = placed-flat (universal_tag bmp_number
 refine-flat Shape.utc (Value.text t) n h = timed-flat t Value.utc (utc_of_text t) n (λ k. h)
 refine-flat Shape.gen (Value.text t) n h = timed-flat t Value.gen (generalized_of_text t) n (λ k. h)
 refine-flat Shape.day (Value.text t) n h = timed-flat t Value.day (day_of_text t) n (λ k. h)
+refine-flat Shape.decimal (Value.text t) n h = tested-flat (is_decimal t) (Value.text t) _ n h
 refine-flat s v n h = h
 
 refined-flat : (s : Shape) (r : Result Value LeafFailure) (n : ℕ) → answer_depth r ≤ n → answer_depth (refined Jer s r) ≤ n
@@ -235,6 +238,7 @@ mutual
   decodes-depth (DecodesTo.decodes_set s t slots vs e h) =
       let o = list-opened t slots e in
       let below = set-below o.inner vs (each-depth o.inner h o.parts) in omega (arith, below, o.outer)
+  decodes-depth (DecodesTo.decodes_table s t vs h) = let below = decodes-depth h in let fewer = table-depth vs in omega (arith, below, fewer)
   decodes-depth (DecodesTo.decodes_choice alts added t name u id s v e f h) = let below = decodes-depth h in let outer = choice-opened t name u e in omega (arith, below, outer)
   decodes-depth (DecodesTo.decodes_loop body t v h) = decodes-depth h
   decodes-depth (DecodesTo.decodes_free s slot v e) = no_other e

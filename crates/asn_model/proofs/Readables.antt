@@ -1,10 +1,12 @@
 -- A loop that can be read can be read unfolded, and what the parts of a shape that can be read are.
 use Rattle.std.proofs.Common.{◌≡◌, refl, ap, ◌∙◌, subst, arith, ℕ, zero, suc, ◌≤◌, ◌<◌, ◌∷◌, ◌++◌, Bool, true, false, not, ◌&&◌, nat_eq, nat_le, nat_lt, if◌then◌else◌, Option, Some, None}
+use Rattle.std.specs.Prelude.{codes}
+use Rattle.std.specs.Str.{bytes_eq}
 use Rattle.std.proofs.lemmas.Bool.{leb-true, le-leb, ltb-true, lt-ltb, eq-eqb}
 use Rattle.std.proofs.lemmas.Bool.Decides.{eqb_tells}
 use Rattle.asn_core.specs.declared.tag.Tag.{Tag}
-use Rattle.asn_model.specs.Shape.{Shape, SeqKind, Fields, FieldAdditions, all_fields, join_fields, Alternatives, AlternativeAdditions, Plain, Presence, fill, fill_fields, fill_added_fields, fill_alternatives, fill_added_alternatives, unfold_loop, opened, all_alternatives, join_alternatives, field_names, identifiers, tags, tag_eq, has_tag, tags_distinct, alternative_tagged, are_distinct, end_tag}
-use Rattle.asn_model.specs.Readable.{differ_ignoring_case, are_identifiers, all_field_names, is_of_shape, suits, has_alternative, are_distinguishable, is_readable, is_readable_in, are_fields_readable, are_added_fields_readable, are_alternatives_readable, are_added_alternatives_readable}
+use Rattle.asn_model.specs.Shape.{Alphabet, Shape, SeqKind, Fields, FieldAdditions, all_fields, join_fields, Alternatives, AlternativeAdditions, Plain, Presence, fill, fill_fields, fill_added_fields, fill_alternatives, fill_added_alternatives, unfold_loop, opened, all_alternatives, join_alternatives, field_names, identifiers, tags, tag_eq, has_tag, tags_distinct, alternative_tagged, are_distinct, end_tag}
+use Rattle.asn_model.specs.Readable.{are_key_and_value, has_no_additions, is_entry, is_required, is_sequence, is_utf8_string, differ_ignoring_case, are_identifiers, all_field_names, is_of_shape, suits, has_alternative, are_distinguishable, is_readable, is_readable_in, are_fields_readable, are_added_fields_readable, are_alternatives_readable, are_added_alternatives_readable}
 
 pub and-left : (a b : Bool) → (a && b) ≡ true → a ≡ true
 and-left true b e = refl
@@ -45,6 +47,35 @@ tags-fill (Alternatives.alternative n t s alts) k r = ap (λ l. t ∷ l) (tags-f
 told-fill : (alts : Alternatives) (added : AlternativeAdditions) (k : ℕ) (r : Shape) → are_distinguishable (all_alternatives (fill_alternatives alts k r) (fill_added_alternatives added k r)) ≡ are_distinguishable (all_alternatives alts added)
 told-fill alts added k r =
     rw (all_alternatives-fill alts added k r, identifiers-fill (all_alternatives alts added) k r, tags-fill (all_alternatives alts added) k r) refl
+
+no_entry : {P : Type 0} → false ≡ true → P
+no_entry e = cc e
+
+text-filled : (s : Shape) (k : ℕ) (r : Shape) → is_utf8_string s ≡ true → is_utf8_string (fill s k r) ≡ true
+text-filled (Shape.text Alphabet.utf8) k r e = refl
+text-filled s k r e = no_entry e
+
+-- A key and a value are those of the filled fields.
+fields-filled : (fs : Fields) (k : ℕ) (r : Shape) → are_key_and_value fs ≡ true → are_key_and_value (fill_fields fs k r) ≡ true
+fields-filled (Fields.field key t p s (Fields.field value u q v Fields.no_fields)) k r e =
+    let named = bytes_eq key (codes "key") && is_required p in
+    let valued = bytes_eq value (codes "value") && is_required q in
+    let rest = and-right named (is_utf8_string s && valued) e in
+    and-both _ _ (and-left named (is_utf8_string s && valued) e) (and-both _ _ (text-filled s k r (and-left (is_utf8_string s) valued rest)) (and-right (is_utf8_string s) valued rest))
+fields-filled fs k r e = no_entry e
+
+additions-filled : (added : FieldAdditions) (k : ℕ) (r : Shape) → has_no_additions added ≡ true → has_no_additions (fill_added_fields added k r) ≡ true
+additions-filled FieldAdditions.closed_fields k r e = refl
+additions-filled (FieldAdditions.extended_fields Fields.no_fields) k r e = refl
+additions-filled (FieldAdditions.extended_fields (Fields.field n t p s fs)) k r e = no_entry e
+
+-- An entry stays one where it is filled.
+entry-filled : (s : Shape) (k : ℕ) (r : Shape) → is_entry s ≡ true → is_entry (fill s k r) ≡ true
+entry-filled (Shape.seq kind fs added) k r e =
+    let fields = and-right (is_sequence kind) (are_key_and_value fs && has_no_additions added) e in
+    and-both _ _ (and-left (is_sequence kind) (are_key_and_value fs && has_no_additions added) e)
+    (and-both _ _ (fields-filled fs k r (and-left (are_key_and_value fs) (has_no_additions added) fields)) (additions-filled added k r (and-right (are_key_and_value fs) (has_no_additions added) fields)))
+entry-filled s k r e = no_entry e
 
 has_alternative-fill : (alts : Alternatives) (k : ℕ) (r : Shape) → has_alternative (fill_alternatives alts k r) ≡ has_alternative alts
 has_alternative-fill Alternatives.no_alternatives k r = refl
@@ -94,7 +125,7 @@ mutual
       (loosen_added_fields added l (and-right (are_fields_readable loops fs) (are_added_fields_readable loops added) parts)))
   loosen (Shape.list_of s) l e = loosen s (within_part l) e
   loosen (Shape.set_of s) l e = loosen s (within_part l) e
-  loosen (Shape.table s) l e = loosen s (within_part l) e
+  loosen (Shape.table s) {loops} {bare} l e = and-both _ _ (and-left (is_entry s) (is_readable_in loops 0 s) e) (loosen s (within_part l) (and-right (is_entry s) (is_readable_in loops 0 s) e))
   loosen (Shape.choice alts added) {loops} {bare} {loops2} {bare2} l e =
       let names = has_alternative alts && are_distinguishable (all_alternatives alts added) in
       let parts = and-right names (are_alternatives_readable loops alts && are_added_alternatives_readable loops added) e in
@@ -150,7 +181,8 @@ mutual
       (added_fields-readable added k r h (and-right (are_fields_readable (suc k) fs) (are_added_fields_readable (suc k) added) parts)))
   fill-readable (Shape.list_of s) k bare bare2 r h l e = fill-readable s k 0 0 r h (omega arith) e
   fill-readable (Shape.set_of s) k bare bare2 r h l e = fill-readable s k 0 0 r h (omega arith) e
-  fill-readable (Shape.table s) k bare bare2 r h l e = fill-readable s k 0 0 r h (omega arith) e
+  fill-readable (Shape.table s) k bare bare2 r h l e =
+      and-both _ _ (entry-filled s k r (and-left (is_entry s) (is_readable_in (suc k) 0 s) e)) (fill-readable s k 0 0 r h (omega arith) (and-right (is_entry s) (is_readable_in (suc k) 0 s) e))
   fill-readable (Shape.choice alts added) k bare bare2 r h l e =
       let names = has_alternative alts && are_distinguishable (all_alternatives alts added) in
       let parts = and-right names (are_alternatives_readable (suc k) alts && are_added_alternatives_readable (suc k) added) e in

@@ -1,14 +1,16 @@
 -- The names and tags of the parts of a shape, by those of the parts that a program holds.
-use Rattle.std.proofs.Common.{◌≡◌, refl, ap, sym, ◌∙◌, arith, rules, Bor, ℕ, zero, suc, ◌+◌, ◌<◌, List, [], ◌∷◌, ◌++◌, map, take, get_or, length, Bool, true, false, ◌&&◌, Option, Some, None, string_bytes, append-nil}
+use Rattle.std.proofs.Common.{◌≡◌, refl, ap, sym, ◌∙◌, arith, rules, Bor, ℕ, zero, suc, ◌+◌, ◌<◌, List, [], ◌∷◌, ◌++◌, map, take, get_or, length, ◌==◌, Bool, true, false, ◌&&◌, Option, Some, None, string_bytes, append-nil}
+use Rattle.std.proofs.lemmas.Bool.{ne_eqb}
 use Rattle.std.proofs.lemmas.List.{take_more}
 use Rattle.std.specs.Global.{Vec}
 use Rattle.asn_model.specs.Enclosing.{loops_step, loops_of, unguarded_step, unguarded_of, entries_of}
-use Rattle.asn_model.specs.Readable.{all_field_names, are_identifiers, has_alternative, are_distinguishable, suits, is_readable_in, are_fields_readable, are_added_fields_readable, are_alternatives_readable, are_added_alternatives_readable}
+use Rattle.asn_model.specs.Readable.{are_key_and_value, has_no_additions, is_entry, is_sequence, all_field_names, are_identifiers, has_alternative, are_distinguishable, suits, is_readable_in, are_fields_readable, are_added_fields_readable, are_alternatives_readable, are_added_alternatives_readable}
 use Rattle.asn_model.specs.declared.readable.Enclosing.{Enclosing, fold-roll-Enclosing}
 use Rattle.asn_model.specs.declared.readable.Enclosing.TheVariants.{rolls-Part}
 use Rattle.asn_model.specs.declared.readable.Enclosing.TheViews.{Part}
+use Rattle.asn_model.specs.Shape as spec
 use Rattle.asn_model.specs.Shape.{Shape, Alternatives, all_alternatives, join_alternatives, field_names, identifiers, tags, are_distinct}
-use Rattle.asn_model.specs.ShapeView.{added_field_views, shape_view, presence_view, field_views, alternative_views}
+use Rattle.asn_model.specs.ShapeView.{added_field_views, kind_view, shape_view, presence_view, field_views, alternative_views}
 use Rattle.asn_model.specs.declared.shape_type.AlternativeShape.{AlternativeShape}
 use Rattle.asn_model.specs.declared.shape_type.FieldShape.{FieldShape}
 use Rattle.asn_model.specs.declared.shape_type.SeqKind.{SeqKind}
@@ -55,6 +57,26 @@ added_fields_viewed loops (Some more) = refl
 added_alternatives_viewed : (loops : ℕ) (added : Option (Vec AlternativeShape)) → are_added_alternatives_readable loops (added_alternative_views added) ≡ are_alternatives_readable loops (alternative_views (entries_of added))
 added_alternatives_viewed loops None = refl
 added_alternatives_viewed loops (Some more) = refl
+
+-- Another number of fields than two is no key and value.
+pub other_count : (fs : List FieldShape) → (length fs ≡ 2 → ⊥) → are_key_and_value (field_views fs) ≡ false
+other_count [] h = refl
+other_count (f ∷ []) h = refl
+other_count (f ∷ g ∷ []) h = absurd (h refl)
+other_count (f ∷ g ∷ e ∷ fs) h = refl
+
+pub additions_viewed : (added : Option (Vec FieldShape)) → has_no_additions (added_field_views added) ≡ (length (entries_of added) == 0)
+additions_viewed None = refl
+additions_viewed (Some more) = by more.items
+  where
+    by : (fs : List FieldShape) → has_no_additions (spec.FieldAdditions.extended_fields (field_views fs)) ≡ (length fs == 0)
+    by [] = refl
+    by (f ∷ fs) = sym (ne_eqb (suc (length fs)) 0 (λ none. omega (arith, none)))
+
+-- A SEQUENCE is an entry where its fields are a key and a value, and no field was added.
+pub entry_viewed : (k : SeqKind) (fs : Vec FieldShape) (added : Option (Vec FieldShape))
+    → is_entry (shape_view (Seq k fs added)) ≡ (is_sequence (kind_view k) && (are_key_and_value (field_views fs.items) && has_no_additions (added_field_views added)))
+entry_viewed k fs added = ap is_entry (sequence_viewed k fs added)
 
 -- A sequence can be read where its names are identifiers and distinct, and its fields can be read.
 pub sequence_readable : (loops bare : ℕ) (k : SeqKind) (fs : Vec FieldShape) (added : Option (Vec FieldShape))

@@ -28,7 +28,7 @@ use Rattle.asn_model.specs.BitLeaves.{another_length, no_bits, sized_bits}
 use Rattle.asn_model.specs.Canonical.{jer_data, jer_items, jer_members, canonical_text}
 use Rattle.asn_model.specs.Leaf.{leaf, octets_or, or_blame, refined}
 use Rattle.asn_model.specs.Notation.{Notation}
-use Rattle.asn_model.specs.Readable.{is_readable, are_fields_readable, are_alternatives_readable, are_added_alternatives_readable, suits, has_alternative, are_distinguishable, are_identifiers, differ_ignoring_case, has_identifier, has_128_bits}
+use Rattle.asn_model.specs.Readable.{is_entry, is_readable, are_fields_readable, are_alternatives_readable, are_added_alternatives_readable, suits, has_alternative, are_distinguishable, are_identifiers, differ_ignoring_case, has_identifier, has_128_bits}
 use Rattle.asn_model.specs.Range.{at_most}
 use Rattle.asn_model.specs.DecodesTo.{DecodesTo, EachDecodesTo, FieldsDecodeTo}
 use Rattle.asn_model.specs.Shape.{Shape, Fields, Alternatives, AlternativeAdditions, all_alternatives, join_alternatives, field_names, identifiers, tags, has_tag, tags_distinct, end_tag, are_distinct, is_item, alternative_named}
@@ -40,6 +40,7 @@ use Rattle.asn_model.specs.Writes.{Writes, Finds, value_slots, slot_names}
 use Rattle.asn_model.proofs.ArcTexts.{dotted-read}
 use Rattle.asn_model.proofs.Bags.{each-ordered, jer_items-sorted, sort-ordered_by}
 use Rattle.asn_model.proofs.BitsRead.{padded-octets}
+use Rattle.asn_model.proofs.Entries.{table-rising}
 use Rattle.asn_model.proofs.Readables.{and-left, and-right, and-both, unfolded-readable, fields_read}
 use Rattle.asn_model.proofs.StringFacts.{string_kept, units_kept}
 use Rattle.asn_model.proofs.TimeFacts.{day_kept, generalized_kept, utc_kept}
@@ -113,6 +114,10 @@ module _ (n : Notation) (tree : Value → Tree) (w : Writes n tree) where
         let written = ordered_by by vs in
         subst (DecodesTo n (Shape.set_of s) (Some (tree (Value.bag vs)))) (ap Value.bag (sort-ordered_by by vs ∙ sorted))
         (DecodesTo.decodes_set s _ _ written (w.set vs) (each-decodes n tree s written (each-ordered (IsReadBack n tree s) by vs (each_written a fit can))))
+    decodes_written a (Fits.fits_table {s} {vs} fit rise) can =
+        let entries = each_written (and-right (is_entry s) (is_readable s) a) fit can in
+        subst (λ es. DecodesTo n (Shape.table s) (Some (tree (Value.list vs))) (Value.list es)) (table-rising vs rise)
+        (DecodesTo.decodes_table s _ vs (DecodesTo.decodes_list s _ _ vs (w.list vs) (each-decodes n tree s vs entries)))
     decodes_written a (Fits.fits_choice {alts} {added} {i} {v} fit) can =
         let whole = all_alternatives alts added in
         let names = has_alternative alts && are_distinguishable whole in
@@ -182,6 +187,7 @@ leaf-written Shape.bmp (Value.units u) a e can = ap Some (units_kept Jer u can e
 leaf-written Shape.utc (Value.utc n) a e can = ap Some (utc_kept Jer n can)
 leaf-written Shape.gen (Value.gen n) a e can = ap Some (generalized_kept Jer n can)
 leaf-written Shape.day (Value.day n) a e can = ap Some (day_kept Jer n can)
+leaf-written Shape.decimal (Value.text t) a e can = rw e refl
 leaf-written (Shape.enum items added) (Value.item i) a e can = rw e refl
 leaf-written Shape.octets (Value.octets o) a e can = ap (λ r. Some (refined Jer Shape.octets (octets_or r))) (decode_of-encode_upper o (octets-bytes o e))
 leaf-written Shape.any (Value.octets o) a e can = ap (λ r. Some (refined Jer Shape.any (octets_or r))) (decode_of-encode_upper o (octets-bytes o e))

@@ -17,7 +17,7 @@ use Rattle.asn_model.specs.Arcs.{checked_identifier, listed_text}
 use Rattle.asn_model.specs.Canonical.{avn_tree, avn_trees, avn_fields, canonical_text}
 use Rattle.asn_model.specs.Leaf.{LeafFailure, leaf, number_or, or_blame, refined}
 use Rattle.asn_model.specs.Notation.{Notation}
-use Rattle.asn_model.specs.Readable.{is_readable, are_fields_readable, are_alternatives_readable, are_added_alternatives_readable, suits, has_alternative, are_distinguishable, are_identifiers, are_no_keywords, differ_ignoring_case}
+use Rattle.asn_model.specs.Readable.{is_entry, is_readable, are_fields_readable, are_alternatives_readable, are_added_alternatives_readable, suits, has_alternative, are_distinguishable, are_identifiers, are_no_keywords, differ_ignoring_case}
 use Rattle.asn_model.specs.Shape.{Shape, Fields, Alternatives, all_items, all_alternatives, field_names, identifiers, tags, has_tag, tags_distinct, end_tag, are_distinct, is_item}
 use Rattle.asn_model.specs.Sorting.{by_text}
 use Rattle.asn_model.specs.Tree.{Tree, Slot, or_else, as_members, tree_slots, field_slot}
@@ -59,6 +59,7 @@ leaf-written Shape.bmp (Value.units u) a e can = ap Some (units_kept Avn u can e
 leaf-written Shape.utc (Value.utc n) a e can = ap Some (utc_kept Avn n can)
 leaf-written Shape.gen (Value.gen n) a e can = ap Some (generalized_kept Avn n can)
 leaf-written Shape.day (Value.day n) a e can = ap Some (day_kept Avn n can)
+leaf-written Shape.decimal (Value.text t) a e can = rw e refl
 leaf-written (Shape.enum items added) (Value.item i) a e can = rw e refl
 leaf-written Shape.octets (Value.octets o) a e can = refl
 leaf-written Shape.any (Value.octets o) a e can = refl
@@ -163,6 +164,7 @@ leaf-formed Shape.bmp (Value.units u) a e can = units_utf8 u can
 leaf-formed Shape.utc (Value.utc n) a e can = utc_text_utf8 n can
 leaf-formed Shape.gen (Value.gen n) a e can = generalized_text_utf8 n can
 leaf-formed Shape.day (Value.day n) a e can = day_text_utf8 n can
+leaf-formed Shape.decimal (Value.text t) a e can = can
 leaf-formed (Shape.enum items added) (Value.item i) a e can = word_of_item (all_items items added) i (and-left (are_no_keywords (all_items items added)) (are_distinct (all_items items added)) a) e
 leaf-formed Shape.octets (Value.octets o) a e can = e
 leaf-formed Shape.any (Value.octets o) a e can = e
@@ -189,6 +191,7 @@ mutual
   well-formed a (Fits.fits_list {s} {vs} fit) can = trees-formed vs (each-formed a fit can)
   well-formed a (Fits.fits_set {s} {vs} fit sorted) can =
       subst (λ ts. are_well_formed ts ≡ true) (sym (avn_trees-sorted vs)) (trees-formed _ (each-ordered IsFormed (by_text (canonical_text Notation.avn)) vs (each-formed a fit can)))
+  well-formed a (Fits.fits_table {s} {vs} fit rise) can = trees-formed vs (each-formed (and-right (is_entry s) (is_readable s) a) fit can)
   well-formed a (Fits.fits_choice {alts} {added} {i} {v} fit) can =
       let whole = all_alternatives alts added in
       let names = has_alternative alts && are_distinguishable whole in

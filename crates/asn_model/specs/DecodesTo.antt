@@ -5,7 +5,7 @@ use Rattle.asn_model.specs.Notation.{Notation}
 use Rattle.asn_model.specs.Shape.{Shape, SeqKind, Fields, FieldAdditions, Alternatives, AlternativeAdditions, Presence, all_fields, all_alternatives, unfold_loop, alternative_named, field_names}
 use Rattle.asn_model.specs.Tree.{Tree, Slot, as_list, as_members, as_choice, same_identifier}
 use Rattle.asn_model.specs.Leaf.{leaf}
-use Rattle.asn_model.specs.Value.{Value, Values, Slots, bag_of, may_lack, with_field}
+use Rattle.asn_model.specs.Value.{Value, Values, Slots, bag_of, may_lack, table_of, with_field}
 
 mutual
   -- The slot decodes to the value by the shape.
@@ -15,6 +15,7 @@ mutual
         → as_members n t ≡ Some look → FieldsDecodeTo n (all_fields fs added) (map look (field_names (all_fields fs added))) vs → DecodesTo n (Shape.seq kind fs added) (Some t) (Value.members vs)
     decodes_list : (s : Shape) (t : Tree) (slots : List Slot) (vs : Values) → as_list n t ≡ Some slots → EachDecodesTo n s slots vs → DecodesTo n (Shape.list_of s) (Some t) (Value.list vs)
     decodes_set : (s : Shape) (t : Tree) (slots : List Slot) (vs : Values) → as_list n t ≡ Some slots → EachDecodesTo n s slots vs → DecodesTo n (Shape.set_of s) (Some t) (bag_of vs)
+    decodes_table : (s : Shape) (t : Tree) (vs : Values) → DecodesTo n (Shape.list_of s) (Some t) (Value.list vs) → DecodesTo n (Shape.table s) (Some t) (Value.list (table_of vs))
     decodes_choice : (alts : Alternatives) (added : AlternativeAdditions) (t : Tree) (name : List ℕ) (u : Tree) (id : List ℕ) (s : Shape) (v : Value)
         → as_choice n t ≡ Some (Some (name, u)) → alternative_named same_identifier (all_alternatives alts added) name ≡ Some (id, s) → DecodesTo n s (Some u) v → DecodesTo n (Shape.choice alts added) (Some t) (Value.choice id v)
     decodes_loop : (body : Shape) (t : Tree) (v : Value) → DecodesTo n (unfold_loop body) (Some t) v → DecodesTo n (Shape.loop body) (Some t) v

@@ -26,6 +26,7 @@ mutual
     fails_list : (s : Shape) (t : Tree) (slots : List Slot) (p : Path) (w : Cause) → as_list n t ≡ Some slots → EachFailsWith n s slots p w → FailsWith n (Shape.list_of s) (Some t) p w
     fails_no_set : (s : Shape) (t : Tree) (w : Cause) → as_list n t ≡ None → IsFailureOf n t (set_mismatch n) w → FailsWith n (Shape.set_of s) (Some t) [] w
     fails_set : (s : Shape) (t : Tree) (slots : List Slot) (p : Path) (w : Cause) → as_list n t ≡ Some slots → EachFailsWith n s slots p w → FailsWith n (Shape.set_of s) (Some t) p w
+    fails_table : (s : Shape) (t : Tree) (p : Path) (w : Cause) → FailsWith n (Shape.list_of s) (Some t) p w → FailsWith n (Shape.table s) (Some t) p w
     fails_no_choice : (alts : Alternatives) (added : AlternativeAdditions) (t : Tree) (w : Cause) → as_choice n t ≡ None → IsFailureOf n t (choice_mismatch n) w → FailsWith n (Shape.choice alts added) (Some t) [] w
     fails_no_member : (alts : Alternatives) (added : AlternativeAdditions) (t : Tree) (type_name : List ℕ) → as_choice n t ≡ Some None → FailsWith n (Shape.choice alts added) (Some t) [] (Cause.no_valid_choice type_name)
     fails_unnamed : (alts : Alternatives) (added : AlternativeAdditions) (t : Tree) (name : List ℕ) (u : Tree) (type_name : List ℕ) → as_choice n t ≡ Some (Some (name, u)) → alternative_named same_identifier (all_alternatives alts added) name ≡ None

@@ -1,5 +1,5 @@
 -- What a tree decodes to by a shape whose values have no parts, and why it decodes to nothing.
-use Rattle.std.specs.Prelude.{◌≡◌, ◌≤◌, ◌^◌, ℕ, ℤ, pos, List, Option, Some, None, Result, Ok, Err, Bool, false, if◌then◌else◌, option_and_then, option_map, codes, string_bytes}
+use Rattle.std.specs.Prelude.{◌≡◌, ◌≤◌, ◌^◌, ℕ, ℤ, pos, List, ◌++◌, Option, Some, None, Result, Ok, Err, Bool, false, if◌then◌else◌, option_and_then, option_map, codes, string_bytes}
 use Rattle.std.specs.Str.{chars, is_utf8}
 use Rattle.serde_json.specs.Data.{Data, Num}
 use Rattle.serde_json.specs.Find.{as_number, as_str, as_u64, get_member}
@@ -19,6 +19,7 @@ use Rattle.asn_model.specs.CharacterStrings.{alphabet_number, alphabet_of, bmp_n
 use Rattle.asn_core.specs.BitStrings.{all_bits, bits_of}
 use Rattle.asn_model.specs.Arcs.{dotted_identifier, braced_arcs, checked_identifier}
 use Rattle.asn_model.specs.BitLeaves.{no_bits, sized_bits}
+use Rattle.asn_model.specs.Decimals.{is_decimal}
 use Rattle.asn_model.specs.Digits.{signed_number}
 use Rattle.asn_model.specs.Notation.{Notation}
 use Rattle.asn_model.specs.Range.{is_between}
@@ -31,7 +32,7 @@ use Rattle.asn_model.specs.declared.leaves.Leaf.{Leaf}
 use Rattle.asn_model.specs.declared.leaves.Leaf.TheVariants as put
 use Rattle.asn_model.specs.declared.leaves.OwnedLeaf.{OwnedLeaf}
 use Rattle.asn_model.specs.declared.leaves.OwnedLeaf.TheVariants as got
-use Rattle.asn_model.specs.declared.words.TheConstants.{AVN_ARCS, AVN_BITS, AVN_CHOICE, AVN_ITEM, AVN_LIST, AVN_MEMBERS, AVN_NO_UTF8, AVN_NUMBER, AVN_OCTETS, AVN_SET, AVN_SET_OF, AVN_STRING, BOOLEAN, JER_ARCS, JER_ARRAY, JER_BITS, JER_DATE, JER_DIGITS, JER_ITEM, JER_NUMBER, JER_OBJECT, JER_STRING, JER_TIME, JER_UNKNOWN, NULL}
+use Rattle.asn_model.specs.declared.words.TheConstants.{AVN_ARCS, AVN_BITS, AVN_CHOICE, AVN_ITEM, AVN_LIST, AVN_MEMBERS, AVN_NO_UTF8, AVN_NUMBER, AVN_OCTETS, AVN_SET, AVN_SET_OF, AVN_STRING, BOOLEAN, JER_ARCS, JER_ARRAY, JER_BITS, JER_DATE, JER_DIGITS, JER_ITEM, JER_NUMBER, JER_OBJECT, JER_STRING, JER_TIME, JER_UNKNOWN, NO_DECIMAL, NULL}
 
 -- Why a tree decodes to no value: it is of another kind than what is needed, or as told.
 pub data LeafFailure : Type 0 where
@@ -179,6 +180,7 @@ kind_of Shape.bmp = Some Text
 kind_of Shape.utc = Some Time
 kind_of Shape.gen = Some Time
 kind_of Shape.day = Some Date
+kind_of Shape.decimal = Some Text
 kind_of (Shape.enum items added) = Some Item
 kind_of Shape.octets = Some Octets
 kind_of Shape.any = Some Any
@@ -196,6 +198,10 @@ abbrev pub time_or : List ℕ → (ℤ → Value) → Option ℤ → Result Valu
 time_or text value (Some n) = Ok (value n)
 time_or text value None = Err (LeafFailure.because (Cause.invalid_date text))
 
+-- Why a text is no number from 2^63 to 2^64-1.
+abbrev pub no_decimal : List ℕ → Cause
+no_decimal text = Cause.custom (NO_DECIMAL.now ++ text)
+
 -- The value of the shape that a value of its kind is, or why it is none.
 abbrev pub refine : Codec → Shape → Value → Result Value LeafFailure
 refine c (Shape.int least greatest width) (Value.int n) = if is_between least greatest n then Ok (Value.int n) else Err (LeafFailure.because (Cause.integer_overflow width))
@@ -205,6 +211,7 @@ refine c Shape.bmp (Value.text t) = within_alphabet (universal_tag bmp_number) (
 refine c Shape.utc (Value.text t) = time_or t Value.utc (utc_of_text t)
 refine c Shape.gen (Value.text t) = time_or t Value.gen (generalized_of_text t)
 refine c Shape.day (Value.text t) = time_or t Value.day (day_of_text t)
+refine c Shape.decimal (Value.text t) = if is_decimal t then Ok (Value.text t) else Err (LeafFailure.because (no_decimal t))
 refine c s v = Ok v
 
 -- The same, of an answer.

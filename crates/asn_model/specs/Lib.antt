@@ -6,6 +6,7 @@ pub mod Shape
 pub mod Components
 pub mod ShapeView
 pub mod CharacterStrings
+pub mod Decimals
 pub mod Value
 pub mod Digits
 pub mod Tree

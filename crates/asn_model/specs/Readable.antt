@@ -1,9 +1,10 @@
 -- When a shape can be read: its names tell its parts apart, AVN can spell them, and its loops end.
-use Rattle.std.specs.Prelude.{ℕ, suc, ℤ, pos, negsuc, ◌-◌, ◌^◌, nat_le, nat_lt, List, [], ◌∷◌, ◌++◌, Bool, true, false, not, ◌&&◌, if◌then◌else◌}
+use Rattle.std.specs.Prelude.{ℕ, suc, ℤ, pos, negsuc, ◌-◌, ◌^◌, nat_le, nat_lt, List, [], ◌∷◌, ◌++◌, Bool, true, false, not, ◌&&◌, if◌then◌else◌, codes}
+use Rattle.std.specs.Str.{bytes_eq}
 use Rattle.avn_grammar.specs.WellFormed.{is_identifier, is_keyword}
 use Rattle.asn_model.specs.CharacterStrings.{is_string_of}
 use Rattle.asn_model.specs.Range.{at_most, is_between}
-use Rattle.asn_model.specs.Shape.{Shape, Fields, FieldAdditions, Alternatives, AlternativeAdditions, Plain, Presence, all_items, all_alternatives, are_distinct, is_item, field_names, identifiers, tags, has_tag, tags_distinct, end_tag}
+use Rattle.asn_model.specs.Shape.{Alphabet, Shape, SeqKind, Fields, FieldAdditions, Alternatives, AlternativeAdditions, Plain, Presence, all_items, all_alternatives, are_distinct, is_item, field_names, identifiers, tags, has_tag, tags_distinct, end_tag}
 use Rattle.asn_model.specs.Tree.{same_identifier}
 
 -- An identifier is one of these but for the case of ASCII letters.
@@ -57,6 +58,36 @@ has_alternative (Alternatives.alternative i t s alts) = true
 abbrev pub are_distinguishable : Alternatives → Bool
 are_distinguishable alts = (are_identifiers (identifiers alts) && differ_ignoring_case (identifiers alts)) && (tags_distinct (tags alts) && not (has_tag (tags alts) end_tag))
 
+-- The field has to be present.
+abbrev pub is_required : Presence → Bool
+is_required Presence.required = true
+is_required p = false
+
+-- The shape is that of UTF8String.
+abbrev pub is_utf8_string : Shape → Bool
+is_utf8_string (Shape.text Alphabet.utf8) = true
+is_utf8_string s = false
+
+-- There are two fields, `key`, which is a UTF8String, and `value`, and both have to be present.
+abbrev pub are_key_and_value : Fields → Bool
+are_key_and_value (Fields.field key t p k (Fields.field value u q v Fields.no_fields)) = (bytes_eq key (codes "key") && is_required p) && (is_utf8_string k && (bytes_eq value (codes "value") && is_required q))
+are_key_and_value fs = false
+
+-- There is no extension addition.
+abbrev pub has_no_additions : FieldAdditions → Bool
+has_no_additions (FieldAdditions.extended_fields (Fields.field n t p s fs)) = false
+has_no_additions added = true
+
+-- The kind is that of a SEQUENCE and not of a SET.
+abbrev pub is_sequence : SeqKind → Bool
+is_sequence SeqKind.sequence = true
+is_sequence SeqKind.set = false
+
+-- The shape is that of a table's entry: a SEQUENCE of a key and a value, without additions.
+abbrev pub is_entry : Shape → Bool
+is_entry (Shape.seq kind fs added) = is_sequence kind && (are_key_and_value fs && has_no_additions added)
+is_entry s = false
+
 abbrev mutual
   -- The shape can be read within so many loops, of which the innermost ones, so many, hold it directly and not as a part of a list, sequence, set, table or choice.
   pub is_readable_in : ℕ → ℕ → Shape → Bool
@@ -66,7 +97,7 @@ abbrev mutual
       (are_identifiers (all_field_names fs added) && are_distinct (all_field_names fs added)) && (are_fields_readable loops fs && are_added_fields_readable loops added)
   is_readable_in loops bare (Shape.list_of s) = is_readable_in loops 0 s
   is_readable_in loops bare (Shape.set_of s) = is_readable_in loops 0 s
-  is_readable_in loops bare (Shape.table s) = is_readable_in loops 0 s
+  is_readable_in loops bare (Shape.table s) = is_entry s && is_readable_in loops 0 s
   is_readable_in loops bare (Shape.choice alts added) =
       (has_alternative alts && are_distinguishable (all_alternatives alts added)) && (are_alternatives_readable loops alts && are_added_alternatives_readable loops added)
   is_readable_in loops bare (Shape.loop s) = is_readable_in (suc loops) (suc bare) s
@@ -93,6 +124,6 @@ abbrev mutual
   are_added_alternatives_readable loops AlternativeAdditions.closed_alternatives = true
   are_added_alternatives_readable loops (AlternativeAdditions.extended_alternatives alts) = are_alternatives_readable loops alts
 
--- The shape can be read: names are identifiers of AVN and distinct, identifiers of alternatives differ in more than case, their tags are distinct and none is that of the end of contents, no item is a keyword, a choice has an alternative, a default is a value of its field, integers have at most 128 bits, and each `back` means a loop around it, with a list, sequence, set, table or choice between.
+-- The shape can be read: names are identifiers of AVN and distinct, identifiers of alternatives differ in more than case, their tags are distinct and none is that of the end of contents, no item is a keyword, a choice has an alternative, a default is a value of its field, the entry of a table is a SEQUENCE of a key and a value, integers have at most 128 bits, and each `back` means a loop around it, with a list, sequence, set, table or choice between.
 abbrev pub is_readable : Shape → Bool
 is_readable s = is_readable_in 0 0 s

@@ -2,7 +2,7 @@
 use Rattle.std.specs.Prelude.{◌≡◌, ℕ, ℤ, pos, ◌+◌, ◌&&◌, nat_eq, List, [], ◌∷◌, ◌++◌, Bool, true, false, not, if◌then◌else◌, Option, Some, None}
 use Rattle.std.specs.Str.{bytes_eq}
 use Rattle.std.specs.declared.cmp.Ordering.{Ordering}
-use Rattle.std.specs.Ordering.{int_cmp, int_eq, on}
+use Rattle.std.specs.Ordering.{int_cmp, int_eq, match_ordering, nat_cmp, on}
 use Rattle.std.specs.Cmp.Lexicographic.{slice_cmp}
 use Rattle.avn_grammar.specs.Chars.{all}
 use Rattle.avn_grammar.specs.WellFormed.{is_octet, is_arc}
@@ -11,6 +11,7 @@ use Rattle.asn_core.specs.declared.tag.Tag.{Tag}
 use Rattle.asn_strings.specs.Alphabets.{all_within, is_bmp}
 use Rattle.asn_times.specs.Held.{is_held_day, is_held_nanosecond, is_held_second}
 use Rattle.asn_model.specs.CharacterStrings.{is_string_of}
+use Rattle.asn_model.specs.Decimals.{is_decimal}
 use Rattle.asn_model.specs.Range.{is_between}
 use Rattle.asn_model.specs.Sorting.{sort}
 use Rattle.asn_model.specs.Shape.{Shape, SeqKind, Fields, FieldAdditions, Alternatives, AlternativeAdditions, Plain, Presence, all_fields, all_items, all_alternatives, unfold_loop, is_item}
@@ -170,6 +171,35 @@ sort_values vs = ordered_by value_cmp vs
 abbrev pub bag_of : Values → Value
 bag_of vs = Value.bag (sort_values vs)
 
+-- The key of a table's entry: the text of its first member.
+abbrev pub key_of : Value → List ℕ
+key_of (Value.members (Slots.present n (Value.text key) ms)) = key
+key_of v = []
+
+-- Entries in byte order of their keys, with e at the place of its key, where it takes the place of one that has the same key.
+abbrev pub put_entry : Value → Values → Values
+put_entry e Values.no_values = Values.value e Values.no_values
+put_entry e (Values.value f fs) = match_ordering (slice_cmp nat_cmp (key_of e) (key_of f)) (Values.value e (Values.value f fs)) (Values.value e fs) (Values.value f (put_entry e fs))
+
+-- The entries, with these put at their keys one after another.
+abbrev pub put_entries : Values → Values → Values
+put_entries found Values.no_values = found
+put_entries found (Values.value e es) = put_entries (put_entry e found) es
+
+-- The last entry of each key, in byte order of keys: what a table decodes to of what its list decodes to.
+abbrev pub table_of : Values → Values
+table_of es = put_entries Values.no_values es
+
+-- The key of each entry is above this one.
+abbrev pub are_above : List ℕ → Values → Bool
+are_above key Values.no_values = true
+are_above key (Values.value e es) = match_ordering (slice_cmp nat_cmp key (key_of e)) true false false && are_above key es
+
+-- The keys rise strictly, by bytes: each has one entry, and entries are in their order.
+abbrev pub keys_rise : Values → Bool
+keys_rise Values.no_values = true
+keys_rise (Values.value e es) = are_above (key_of e) es && keys_rise es
+
 -- The value is the one that a DEFAULT names.
 abbrev pub is_plain : Plain → Value → Bool
 is_plain (Plain.boolean true) (Value.boolean c) = c
@@ -209,6 +239,7 @@ is_leaf_of Shape.bmp (Value.units u) = all_within is_bmp u
 is_leaf_of Shape.utc (Value.utc n) = is_held_second n
 is_leaf_of Shape.gen (Value.gen n) = is_held_nanosecond n
 is_leaf_of Shape.day (Value.day n) = is_held_day n
+is_leaf_of Shape.decimal (Value.text t) = is_decimal t
 is_leaf_of (Shape.enum items added) (Value.item i) = is_item (all_items items added) i
 is_leaf_of Shape.octets (Value.octets o) = all is_octet o
 is_leaf_of Shape.any (Value.octets o) = all is_octet o
@@ -224,6 +255,7 @@ mutual
     fits_list : {s : Shape} {vs : Values} → FitsEach s vs → Fits (Shape.list_of s) (Value.list vs)
     -- Each multiset is one value, whose elements are in order.
     fits_set : {s : Shape} {vs : Values} → FitsEach s vs → sort_values vs ≡ vs → Fits (Shape.set_of s) (Value.bag vs)
+    fits_table : {s : Shape} {vs : Values} → FitsEach s vs → keys_rise vs ≡ true → Fits (Shape.table s) (Value.list vs)
     fits_choice : {alts : Alternatives} {added : AlternativeAdditions} {i : List ℕ} {v : Value} → FitsAlternative (all_alternatives alts added) i v → Fits (Shape.choice alts added) (Value.choice i v)
     fits_loop : {b : Shape} {v : Value} → Fits (unfold_loop b) v → Fits (Shape.loop b) v
 

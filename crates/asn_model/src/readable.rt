@@ -5,20 +5,23 @@ ghost use Rattle.asn_model.specs.CharacterStrings.{is_string_of};
 ghost use Rattle.asn_model.specs.Readable.{is_readable, is_readable_in, are_fields_readable};
 ghost use Rattle.asn_model.specs.Readable.{are_alternatives_readable, has_128_bits, is_of_shape};
 ghost use Rattle.asn_model.specs.Readable.{suits, has_alternative, are_distinguishable};
+ghost use Rattle.asn_model.specs.Readable.{are_key_and_value, is_entry, is_required};
+ghost use Rattle.asn_model.specs.Readable.{has_no_additions, is_sequence, is_utf8_string};
 ghost use Rattle.asn_model.specs.Shape.{has_tag, tags_distinct, join_alternatives};
 ghost use Rattle.asn_model.specs.ShapeView.{alphabet_view, shape_view, plain_view, presence_view};
-ghost use Rattle.asn_model.specs.ShapeView.{field_views, alternative_views};
+ghost use Rattle.asn_model.specs.ShapeView.{added_field_views, alternative_views};
+ghost use Rattle.asn_model.specs.ShapeView.{field_views, kind_view};
 ghost use Rattle.avn_grammar.specs.Chars.{all};
 ghost use Rattle.avn_grammar.specs.WellFormed.{is_octet};
-ghost use Rattle.std.specs.Prelude.{◌≡◌, ◌++◌, ◌&&◌, map, nat_le, nat_lt, pos};
-ghost use Rattle.std.specs.Str.{is_utf8};
+ghost use Rattle.std.specs.Prelude.{◌≡◌, ◌++◌, ◌&&◌, map, nat_le, nat_lt, pos, string_bytes};
+ghost use Rattle.std.specs.Str.{bytes_eq, is_utf8};
 
 use crate::leaves::are_octets;
 use crate::names::{
     are_distinct, are_identifiers, are_no_keywords, differ_ignoring_case, has_name,
 };
 use crate::tags::same_tag;
-use crate::{Alphabet, AlternativeShape, FieldShape, Plain, PresenceShape, Shape};
+use crate::{Alphabet, AlternativeShape, FieldShape, Plain, PresenceShape, SeqKind, Shape};
 use asn_core::Tag;
 use asn_strings::character_sets::{
     Graphic, Ia5, Numeric, Printable, Visible, are_within, is_within,
@@ -41,6 +44,7 @@ pub enum Enclosing<'a> {
 /// Names are identifiers of AVN and distinct in a SEQUENCE, SET or ENUMERATED. No item is a keyword
 /// of AVN. A CHOICE has an alternative; its identifiers differ in more than case, and its tags are
 /// distinct and none is that of the end of contents. A default is a value of its field's shape.
+/// The entry of a table is a SEQUENCE of `key`, a UTF8String, and `value`, both required.
 /// Each `Back` means a `Loop` around it, with a list, sequence, set, table or choice between, so
 /// that each level of a value takes up a part of its text.
 pub fn is_readable(shape: &Shape) -> bool
@@ -81,7 +85,9 @@ fn is_readable_in(shape: &Shape, around: &Enclosing<'_>) -> bool
         }
         Shape::ListOf(element) => is_readable_in(element, &Enclosing::Part(&*around)),
         Shape::SetOf(element) => is_readable_in(element, &Enclosing::Part(&*around)),
-        Shape::Table(entry) => is_readable_in(entry, &Enclosing::Part(&*around)),
+        Shape::Table(entry) => {
+            is_entry(entry) && is_readable_in(entry, &Enclosing::Part(&*around))
+        }
         Shape::Choice {
             alternatives,
             added,
@@ -137,6 +143,72 @@ fn are_alternatives_readable(alternatives: &[AlternativeShape], around: &Enclosi
         }
     }
     true
+}
+
+/// Returns whether the shape is that of a table's entry: a SEQUENCE of a key and a value, without
+/// additions.
+#[tactic(auto, using(crate::proofs::ShapeNames::entry_viewed))]
+fn is_entry(shape: &Shape) -> bool
+    ensures { result ≡ is_entry (shape_view shape.now) }
+{
+    match shape {
+        Shape::Seq {
+            kind,
+            fields,
+            added,
+        } => is_sequence(*kind) && (are_key_and_value(fields) && has_no_additions(added)),
+        _ => false,
+    }
+}
+
+/// Returns whether the kind is that of a SEQUENCE and not of a SET.
+fn is_sequence(kind: SeqKind) -> bool
+    ensures { result ≡ is_sequence (kind_view kind) }
+{
+    match kind {
+        SeqKind::Sequence => true,
+        SeqKind::Set => false,
+    }
+}
+
+/// Returns whether no field was added.
+#[tactic(auto, using(crate::proofs::ShapeNames::additions_viewed))]
+fn has_no_additions(added: &Option<Vec<FieldShape>>) -> bool
+    ensures { result ≡ has_no_additions (added_field_views added.now) }
+{
+    entries(added).is_empty()
+}
+
+/// Returns whether the fields are `key`, which is a UTF8String, and `value`, both required.
+fn are_key_and_value(fields: &[FieldShape]) -> bool
+    ensures { result ≡ are_key_and_value (field_views fields.now) }
+{
+    match fields {
+        [key, value] => {
+            is_required(key, "key") && (is_utf8_string(&key.shape) && is_required(value, "value"))
+        }
+        _ => false,
+    }
+}
+
+/// Returns whether the field has this name and has to be present.
+fn is_required(field: &FieldShape, name: &str) -> bool
+    ensures { result ≡ (bytes_eq (string_bytes field.now.name) name.now
+        && is_required (presence_view field.now.presence)) }
+{
+    field.name.as_str() == name && matches!(field.presence, PresenceShape::Required)
+}
+
+/// Returns whether the shape is that of UTF8String.
+fn is_utf8_string(shape: &Shape) -> bool
+    ensures { result ≡ is_utf8_string (shape_view shape.now) }
+{
+    matches!(
+        shape,
+        Shape::Str {
+            alphabet: Alphabet::Utf8
+        }
+    )
 }
 
 /// Returns that the numbers from the least to the greatest have at most 128 bits, as the types of

@@ -22,6 +22,9 @@ pub const OUTSIDE_ALPHABET: &str = "character outside the alphabet at place";
 /// The refusal to encode a time whose year has no place in its text.
 pub const OUTSIDE_YEARS: &str = "time outside the years of its text";
 
+/// The refusal of a text that is no number from 2^63 to 2^64-1, before the text.
+pub const NO_DECIMAL: &str = "Failed to parse decimal number: ";
+
 /// The refusal to encode or decode a TeletexString.
 pub const NO_TELETEX: &str = "TeletexString is not supported";
 

@@ -1,11 +1,11 @@
 -- Lists of values that are written, one longer.
-use Rattle.std.proofs.Common.{◌≡◌, ℕ, ◌+◌, ◌<◌, ◌≤◌, List, [], ◌∷◌, ◌++◌, map, take, drop, get_or, length, Some, ap, refl, sym, ◌∙◌, subst, suc, inl, inr, drop-cons}
+use Rattle.std.proofs.Common.{◌≡◌, ℕ, ◌+◌, ◌<◌, ◌≤◌, List, [], ◌∷◌, ◌++◌, map, take, drop, get_or, length, Some, true, ap, refl, sym, ◌∙◌, subst, suc, inl, inr, drop-cons}
 use Rattle.std.proofs.lemmas.List.{map_push, take_more, take_all, take-append-drop}
 use Rattle.asn_fault.specs.declared.encode.EncodeError.{EncodeError}
 use Rattle.asn_fault.specs.EncodeCause.{EncodeCause, encode_cause}
 use Rattle.asn_model.specs.Notation.{Notation}
 use Rattle.asn_model.specs.Shape.{Shape}
-use Rattle.asn_model.specs.Value.{Value, Values, values, Fits, FitsEach}
+use Rattle.asn_model.specs.Value.{Value, Values, values, Fits, FitsEach, keys_rise}
 use Rattle.asn_model.specs.Writable.{Writable, WritableEach, FirstUnencodable, EachFirstUnencodable}
 use Rattle.asn_traits.specs.Writing.{Frame, push, close, as_list, present_values, Maps, Written, FailsToEncode}
 
@@ -42,12 +42,25 @@ pub record Collected {S T : Type 0} (holds : S → List Frame → Type 0) (n : N
 pub collected-none : {S T : Type 0} (holds : S → List Frame → Type 0) (n : Notation) (s : Shape) (f : T → Value) (old now : S) → Maps holds (λ fs. [] ∷ fs) old now → Collected holds n s f old [] now
 collected-none holds n s f old now h = record { held = h; fit = FitsEach.fits_none; writable = tt }
 
-collected-push : {S T : Type 0} {holds : S → List Frame → Type 0} {n : Notation} {s : Shape} {f : T → Value} {old : S} {xs : List T} {now next : S} (x : T) → Collected holds n s f old xs now → Written holds n s (f x) now next → Collected holds n s f old (xs ++ x ∷ []) next
+pub collected-push : {S T : Type 0} {holds : S → List Frame → Type 0} {n : Notation} {s : Shape} {f : T → Value} {old : S} {xs : List T} {now next : S} (x : T) → Collected holds n s f old xs now → Written holds n s (f x) now next → Collected holds n s f old (xs ++ x ∷ []) next
 collected-push {S} {T} {holds} {n} {s} {f} {old} {xs} {now} {next} x c w = record {
   held = λ fs h. subst (λ vs. holds next (vs ∷ fs)) (sym (map_push (λ y. Some (f y)) xs x)) (w.added (slots_of f xs ∷ fs) (c.held fs h));
   fit = fits-more s f xs x c.fit w.fit;
   writable = writable-more n f xs x c.writable w.writable;
 }
+
+-- What is collected is a table, where its keys rise.
+pub collected-table : {S T : Type 0} {holds : S → List Frame → Type 0} {n : Notation} {s : Shape} {f : T → Value} {old : S} {xs : List T} {now next : S} → Collected holds n s f old xs now → keys_rise (values f xs) ≡ true → Maps holds (close as_list) now next
+    → Written holds n (Shape.table s) (Value.list (values f xs)) old next
+collected-table {S} {T} {holds} {n} {s} {f} {old} {xs} {now} {next} c rise e =
+    record { added = λ fs o. subst (λ vs. holds next (push (Some (Value.list vs)) fs)) (present-slots f xs) (e (slots_of f xs ∷ fs) (c.held fs o)); fit = Fits.fits_table c.fit rise; writable = c.writable }
+
+-- The first item that isn't written refuses the list of all.
+pub collected-refused : {S T : Type 0} {holds : S → List Frame → Type 0} {n : Notation} {s : Shape} {f : T → Value} {old : S} (done : List T) (x : T) (more : List T) {now : S} (e : EncodeError) → Collected holds n s f old done now → FailsToEncode n (f x) e
+    → FailsToEncode n (Value.list (values f (done ++ x ∷ more))) e
+collected-refused done x more e c (FailsToEncode.no_memory o) = FailsToEncode.no_memory o
+collected-refused done x more e c (FailsToEncode.write_free o) = FailsToEncode.write_free o
+collected-refused {S} {T} {holds} {n} {s} {f} done x more e c (FailsToEncode.blocked b k) = FailsToEncode.blocked (blocks-later n f done more x (encode_cause e.kind) c.writable b) k
 
 pub collected-more : {S T : Type 0} {holds : S → List Frame → Type 0} {n : Notation} {s : Shape} {f : T → Value} {old : S} (xs : List T) (i : ℕ) {now next : S} (x : T) → i < length xs → x ≡ get_or xs i x → Collected holds n s f old (take i xs) now → Written holds n s (f x) now next → Collected holds n s f old (take (i + 1) xs) next
 collected-more xs i x h e c w = rw (take_more xs i x h, ← e) (collected-push x c w)
@@ -58,8 +71,6 @@ collected-all {S} {T} {holds} {n} {s} {f} {old} xs i {now} {next} h c e =
     record { added = λ fs o. subst (λ vs. holds next (push (Some (Value.list vs)) fs)) (present-slots f xs) (e (slots_of f xs ∷ fs) (d.held fs o)); fit = Fits.fits_list d.fit; writable = d.writable }
 
 pub collected-blocks : {S T : Type 0} {holds : S → List Frame → Type 0} {n : Notation} {s : Shape} {f : T → Value} {old : S} (xs : List T) (i : ℕ) {now : S} (x : T) (e : EncodeError) → i < length xs → x ≡ get_or xs i x → Collected holds n s f old (take i xs) now → FailsToEncode n (f x) e → FailsToEncode n (Value.list (values f xs)) e
-collected-blocks xs i x e h is c (FailsToEncode.no_memory o) = FailsToEncode.no_memory o
-collected-blocks xs i x e h is c (FailsToEncode.write_free o) = FailsToEncode.write_free o
-collected-blocks {S} {T} {holds} {n} {s} {f} xs i x e h is c (FailsToEncode.blocked b k) =
+collected-blocks {S} {T} {holds} {n} {s} {f} xs i x e h is c k =
     let whole : take i xs ++ (x ∷ drop (suc i) xs) ≡ xs = ap (λ y. take i xs ++ (y ∷ drop (suc i) xs)) is ∙ (ap (λ ys. take i xs ++ ys) (sym (drop-cons xs i x h)) ∙ take-append-drop i xs) in
-    FailsToEncode.blocked (subst (λ ys. EachFirstUnencodable n (values f ys) (encode_cause e.kind)) whole (blocks-later n f (take i xs) (drop (suc i) xs) x (encode_cause e.kind) c.writable b)) k
+    subst (λ ys. FailsToEncode n (Value.list (values f ys)) e) whole (collected-refused (take i xs) x (drop (suc i) xs) e c k)

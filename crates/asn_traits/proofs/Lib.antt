@@ -13,10 +13,13 @@ pub use Rattle.asn_model.proofs.Nesting
 pub use Rattle.asn_model.proofs.SameText
 pub use Rattle.asn_model.proofs.ShapeNames
 pub use Rattle.asn_model.proofs.Ranges
+pub use Rattle.asn_model.proofs.Entries
+pub use Rattle.asn_model.proofs.Decimals
 pub mod Steps
 pub mod Refusing
 pub mod LeafValues
 pub mod TextLeaves
+pub mod DecimalTexts
 pub mod ReadingOrder
 pub mod Taking
 pub mod Reading

@@ -1,5 +1,5 @@
 -- A SET whose fields are read one at a time, in the order of their tags.
-use Rattle.std.proofs.Common.{◌≡◌, refl, sym, subst, ap, ◌∙◌, ℕ, suc, ◌+◌, ◌<◌, ◌≤◌, List, [], ◌∷◌, ◌++◌, append-nil, map, take, drop, drop-cons, get_or, length, Option, Some, None, Result, Ok, Err, arith, zero, Bool, true, false, not, if◌then◌else◌}
+use Rattle.std.proofs.Common.{◌≡◌, refl, sym, subst, ap, ◌∙◌, ℕ, suc, ◌+◌, ◌<◌, ◌≤◌, List, [], ◌∷◌, ◌++◌, map, take, drop, drop-cons, get_or, length, Option, Some, None, Result, Ok, Err, arith, zero, Bool, true, false, not, if◌then◌else◌}
 use Rattle.std.proofs.lemmas.List.{length-map, map-append, map_push, take_all, take_more, take-append-drop}
 use Rattle.std.specs.List.{AllByRecursion}
 use Rattle.asn_fault.specs.Failure.{Failure}
@@ -7,17 +7,16 @@ use Rattle.asn_model.specs.Components.{Component, component_names, reading_order
 use Rattle.asn_model.specs.DecodesTo.{DecodesTo}
 use Rattle.asn_model.specs.FailsWith.{FailsWith}
 use Rattle.asn_model.specs.Notation.{Notation}
-use Rattle.asn_model.specs.Shape.{Shape, SeqKind, Fields, FieldAdditions, Plain, Presence, all_fields}
+use Rattle.asn_model.specs.Shape.{Shape, SeqKind, Fields, FieldAdditions, Plain, Presence}
 use Rattle.asn_model.specs.Tree.{Slot, head_slot}
 use Rattle.asn_model.specs.Value.{Value, is_plain}
 use Rattle.asn_traits.specs.Answer.{AnswerBy, Refuses}
-use Rattle.asn_traits.specs.FieldAnswer.{Ahead, TakesDefault, TakesField, TakesSlot}
+use Rattle.asn_traits.specs.FieldAnswer.{Ahead, TakesDefault, TakesField}
 use Rattle.asn_traits.specs.Opening.{OpensMembers}
 use Rattle.asn_traits.specs.Passing.{ComponentFailsWith, RefusesFields, TakesFields, allows, default_slot, may_take}
-use Rattle.asn_traits.specs.ReadingSlots.{slots_read}
 use Rattle.asn_traits.specs.SetFields.{SetAnswer, TakesPlace, component_at, kept_slot, listed_components, places_read}
 use Rattle.asn_traits.specs.declared.asn_type.Field.{Field}
-use Rattle.asn_traits.specs.Writing.{Frame, head_name, members_value, tail_names}
+use Rattle.asn_traits.specs.Writing.{tail_names}
 use Rattle.asn_traits.proofs.Grouping.{all_taken, second_refused}
 use Rattle.asn_traits.proofs.Members.{members_read, members_refused}
 use Rattle.asn_traits.proofs.TagOrder.{all-stand, parts-read}

@@ -6,6 +6,7 @@ pub use Rattle.asn_model.specs.Shape
 pub use Rattle.asn_model.specs.Components
 pub use Rattle.asn_model.specs.ShapeView
 pub use Rattle.asn_model.specs.CharacterStrings
+pub use Rattle.asn_model.specs.Decimals
 pub use Rattle.asn_model.specs.Value
 pub use Rattle.asn_model.specs.Digits
 pub use Rattle.asn_model.specs.Tree

@@ -20,7 +20,7 @@ use asn_fault::{DecodeError, EncodeError};
 
 /// Returns the error within `FieldError` with the field's name, and by the decoder's codec. Out of
 /// memory stays as it is.
-fn within_field<D: Decoder>(decoder: &D, name: &'static str, error: DecodeError) -> DecodeError
+pub fn within_field<D: Decoder>(decoder: &D, name: &'static str, error: DecodeError) -> DecodeError
     ensures { (codec : Codec) × (notation_of codec ≡ D.notation)
         × ((failure_of result ≡ wrapped name.now codec (failure_of error))
         ⊎ (failure_of result ≡ at_root Cause.out_of_memory codec)) }

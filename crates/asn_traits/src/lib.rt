@@ -8,6 +8,7 @@
 mod alternative;
 mod asn_type;
 mod bit_string;
+mod decimal;
 mod decoder;
 mod encoder;
 mod field_names;
@@ -33,12 +34,13 @@ pub use asn_model::{
     SeqKind, Shape, is_readable, laws,
 };
 pub use asn_type::{AsnType, Choice, Constructed, Enumerated, Field, Fields, Presence, SetField};
+pub use decimal::Decimal;
 pub use decoder::{Decode, DecodeChoice, Decoder};
 pub use encoder::{Encode, Encoder};
 pub use field_names::FieldNames;
 pub use fields::{
-    read_addition, read_default_field, read_field, read_optional_field, write_default_field,
-    write_field, write_optional_field,
+    read_addition, read_default_field, read_field, read_optional_field, within_field,
+    write_default_field, write_field, write_optional_field,
 };
 pub use group::{FieldGroup, read_groups, write_groups};
 pub use integer_type::IntegerType;

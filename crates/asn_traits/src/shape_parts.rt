@@ -80,6 +80,19 @@ impl FieldShapes {
         self.push::<T>(name, tag, PresenceShape::Default(default))
     }
 
+    /// Adds a field of this shape behind the others that has to be present.
+    ///
+    /// # Errors
+    ///
+    /// `OutOfMemory` alone.
+    pub fn required_of(&mut self, name: &str, tag: Tag, shape: Shape) -> Result<(), OutOfMemory>
+        ensures { OnOk result (field_views self.new.items.items
+            ≡ with_last_field (field_views self.old.items.items) name.now tag
+            AbstractPresence.required (shape_view shape)) }
+    {
+        self.push_of(name, tag, PresenceShape::Required, shape)
+    }
+
     /// Adds a field of type `T` behind the others, with a copy of its name and with the shape that
     /// its type gives.
     ///
@@ -96,8 +109,27 @@ impl FieldShapes {
             ≡ with_last_field (field_views self.old.items.items) name.now tag
             (presence_view presence) T.shape_of) }
     {
-        let name = String::from_str(self.alloc, name)?;
         let shape = T::shape(self.alloc)?;
+        self.push_of(name, tag, presence, shape)
+    }
+
+    /// Adds a field of this shape behind the others, with a copy of its name.
+    ///
+    /// # Errors
+    ///
+    /// `OutOfMemory` alone.
+    fn push_of(
+        &mut self,
+        name: &str,
+        tag: Tag,
+        presence: PresenceShape,
+        shape: Shape,
+    ) -> Result<(), OutOfMemory>
+        ensures { OnOk result (field_views self.new.items.items
+            ≡ with_last_field (field_views self.old.items.items) name.now tag
+            (presence_view presence) (shape_view shape)) }
+    {
+        let name = String::from_str(self.alloc, name)?;
         self.items.push(FieldShape {
             name,
             tag,
@@ -187,8 +219,26 @@ impl AlternativeShapes {
             ≡ with_last_alternative (alternative_views self.old.items.items) identifier.now tag
             T.shape_of) }
     {
-        let identifier = String::from_str(self.alloc, identifier)?;
         let shape = T::shape(self.alloc)?;
+        self.alternative_of(identifier, tag, shape)
+    }
+
+    /// Adds an alternative of this shape behind the others.
+    ///
+    /// # Errors
+    ///
+    /// `OutOfMemory` alone.
+    pub fn alternative_of(
+        &mut self,
+        identifier: &str,
+        tag: Tag,
+        shape: Shape,
+    ) -> Result<(), OutOfMemory>
+        ensures { OnOk result (alternative_views self.new.items.items
+            ≡ with_last_alternative (alternative_views self.old.items.items) identifier.now tag
+            (shape_view shape)) }
+    {
+        let identifier = String::from_str(self.alloc, identifier)?;
         self.items.push(AlternativeShape {
             identifier,
             tag,

@@ -1,4 +1,4 @@
-use Rattle.std.proofs.Common.{ℕ, ◌∙◌, ap, append-nil, arith, map, refl, sym}
+use Rattle.std.proofs.Common.{ℕ, ◌∙◌, ap, append-nil, arith, map, refl}
 use Rattle.std.proofs.lemmas.List.{map-append}
 use Rattle.asn_core.specs.declared.tag.Tag.{Tag}
 use Rattle.asn_model.specs.Shape.{SeqKind, are_distinct}

@@ -12,11 +12,11 @@ use Rattle.asn_model.specs.DecodesTo.{DecodesTo, EachDecodesTo, FieldsDecodeTo}
 use Rattle.asn_model.specs.FailsWith.{Path}
 use Rattle.asn_model.specs.Leaf.{LeafFailure, as_leaf, codec_of, leaf, refined}
 use Rattle.asn_model.specs.Notation.{Notation, IsText}
-use Rattle.asn_model.specs.Readable.{is_readable, are_fields_readable, suits}
+use Rattle.asn_model.specs.Readable.{is_entry, is_readable, are_fields_readable, suits}
 use Rattle.asn_model.specs.Shape.{Shape, SeqKind, Fields, FieldAdditions, Alternatives, AlternativeAdditions, Presence, all_alternatives, all_fields, all_items, field_names, is_item, join_fields, unfold_loop, alternative_named}
 use Rattle.asn_model.specs.Sorting.{insert_in_order, sort}
 use Rattle.asn_model.specs.Tree.{Tree, Slot, as_choice, as_list, as_members, same_identifier}
-use Rattle.asn_model.specs.Value.{Value, Values, Slots, bag_of, may_lack, with_field}
+use Rattle.asn_model.specs.Value.{Value, Values, Slots, bag_of, may_lack, table_of, with_field}
 use Rattle.asn_model.specs.declared.leaves.LeafKind.TheVariants.{Item}
 use Rattle.asn_model.proofs.Meanings.{not_other}
 use Rattle.asn_model.proofs.Readables.{and-left, and-right, fields_read, unfolded-readable}
@@ -24,7 +24,7 @@ use Rattle.asn_model.proofs.Sorting.{each-sort}
 use Rattle.asn_growth.specs.Adapted.{adapted, adapted_each, adapted_slots}
 use Rattle.asn_growth.specs.Grows.{Grows, BeginsFields}
 use Rattle.asn_growth.specs.ComesUpon.{ComesUpon, EachComesUpon, FieldsComeUpon, IsUnknown}
-use Rattle.asn_growth.proofs.Adapting.{adapted-loop, adapted-same, field-adapted, no-slots, set-adapted}
+use Rattle.asn_growth.proofs.Adapting.{adapted-loop, adapted-same, field-adapted, no-slots, set-adapted, table-adapted}
 use Rattle.asn_growth.proofs.Unfolding.{grows-unfolded}
 use Rattle.asn_growth.proofs.Versions.{alternatives-begin, alternatives-joined, Found, choice-adapted, fields-begin, find, found-again, joined-begin, none_some, readable-alternatives, readable-named}
 
@@ -256,6 +256,10 @@ loop-met : (n : Notation) (b : Shape) (t : Tree) (v : Value) → is_readable (Sh
 loop-met n b t v a (inl d) = inl (DecodesTo.decodes_loop b t (adapted (Shape.loop b) v) (subst (DecodesTo n (unfold_loop b) (Some t)) (sym (adapted-loop b v a)) d))
 loop-met n b t v a (inr (u, e, p, w, h, k)) = inr (t, refl, p, w, ComesUpon.in_loop b t p w (subst (λ x. ComesUpon n (unfold_loop b) x p w) (sym (some_tree e)) h), k)
 
+table-met : (n : Notation) (s : Shape) (t : Tree) (vs : Values) → is_entry s ≡ true → Met n (Shape.list_of s) (Some t) (Value.list vs) → Met n (Shape.table s) (Some t) (Value.list (table_of vs))
+table-met n s t vs e (inl d) = inl (subst (λ es. DecodesTo n (Shape.table s) (Some t) (Value.list es)) (sym (table-adapted s vs e)) (DecodesTo.decodes_table s t (adapted_each s vs) d))
+table-met n s t vs e (inr (u, same, p, w, h, k)) = inr (t, refl, p, w, ComesUpon.in_table s t p w (subst (λ x. ComesUpon n (Shape.list_of s) x p w) (sym (some_tree same)) h), k)
+
 payload-met : (n : Notation) (alts : Alternatives) (added : AlternativeAdditions) (t u : Tree) (name id : List ℕ) (s : Shape) (v : Value) → as_choice n t ≡ Some (Some (name, u)) → alternative_named same_identifier (all_alternatives alts added) name ≡ Some (id, s) → Met n s (Some u) v
     → Met n (Shape.choice alts added) (Some t) (Value.choice id v)
 payload-met n alts added t u name id s v e f (inl d) =
@@ -285,6 +289,8 @@ mutual
   forward {n} x a (Grows.grows_closed_choice {alts} {bs} m) (DecodesTo.decodes_choice bs2 added t name u id s v e f h) = chosen alts AlternativeAdditions.closed_alternatives t u name id s v a e (find name id s (alternatives-begin m) f) (λ r b g. forward x b g h)
   forward {n} x a (Grows.grows_choice {alts} {bs} {added} {more} m k) (DecodesTo.decodes_choice bs2 added2 t name u id s v e f h) = chosen alts (AlternativeAdditions.extended_alternatives added) t u name id s v a e (find name id s (alternatives-joined m k) f) (λ r b g. forward x b g h)
   forward {n} x a (Grows.grows_loop {b} g) (DecodesTo.decodes_loop c t v h) = loop-met n b t v a (forward x (unfolded-readable b a) (grows-unfolded (Grows.grows_loop g)) h)
+  forward {n} x a (Grows.grows_table {s} g) (DecodesTo.decodes_table r t vs h) =
+      table-met n s t vs (and-left (is_entry s) (is_readable s) a) (forward x (and-right (is_entry s) (is_readable s) a) (Grows.grows_list g) h)
   forward x a (Grows.grows_closed_seq m) (DecodesTo.decodes_leaf s t v e) = absurd (none_some refl e)
   forward x a (Grows.grows_seq m k) (DecodesTo.decodes_leaf s t v e) = absurd (none_some refl e)
   forward x a (Grows.grows_list g) (DecodesTo.decodes_leaf s t v e) = absurd (none_some refl e)

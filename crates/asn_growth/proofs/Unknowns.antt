@@ -34,6 +34,7 @@ mutual
   fails-upon (ComesUpon.in_field kind fs added t look p w e h) = FailsWith.fails_seq kind fs added t look p w e (fields-fail-upon h)
   fails-upon (ComesUpon.in_list s t slots p w e h) = FailsWith.fails_list s t slots p w e (each-fails-upon h)
   fails-upon (ComesUpon.in_set s t slots p w e h) = FailsWith.fails_set s t slots p w e (each-fails-upon h)
+  fails-upon (ComesUpon.in_table s t p w h) = FailsWith.fails_table s t p w (fails-upon h)
   fails-upon (ComesUpon.in_loop body t p w h) = FailsWith.fails_loop body t p w (fails-upon h)
 
   pub each-fails-upon : {n : Notation} {s : Shape} {slots : List Slot} {p : Path} {w : Cause} → EachComesUpon n s slots p w → EachFailsWith n s slots p w
@@ -131,6 +132,11 @@ set_place w x e each (FailsWith.fails_no_set s2 t2 y f blamed) = absurd (none_so
 set_place {n} w x e each (FailsWith.fails_set s t slots2 q y f k) = each q y (subst (λ m. EachFailsWith n s m q y) (some_same f e) k)
 set_place {n} w x e each (FailsWith.fails_free s2 slot q y k) = absurd (not_other n x k)
 
+table_place : {n : Notation} {s : Shape} {t : Tree} {p q : Path} {y : Cause} (w : Cause) → IsText n → ((r : Path) (z : Cause) → FailsWith n (Shape.list_of s) (Some t) r z → Same p r w z) → FailsWith n (Shape.table s) (Some t) q y → Same p q w y
+table_place w x list (FailsWith.fails_leaf s2 t2 b y f blamed) = absurd (none_some refl f)
+table_place w x list (FailsWith.fails_table s2 t2 q y k) = list q y k
+table_place {n} w x list (FailsWith.fails_free s2 slot q y k) = absurd (not_other n x k)
+
 loop_place : {n : Notation} {body : Shape} {t : Tree} {p q : Path} {y : Cause} (w : Cause) → IsText n → ((r : Path) (z : Cause) → FailsWith n (unfold_loop body) (Some t) r z → Same p r w z) → FailsWith n (Shape.loop body) (Some t) q y → Same p q w y
 loop_place w x turn (FailsWith.fails_leaf s2 t2 b y f blamed) = absurd (none_some refl f)
 loop_place w x turn (FailsWith.fails_loop body2 t2 q y k) = turn q y k
@@ -145,6 +151,7 @@ mutual
   one_place x (ComesUpon.in_field kind fs added t look p w e h) k = field_place _ x e (λ r z j. one_field x h j) k
   one_place x (ComesUpon.in_list s t slots p w e h) k = list_place _ x e (λ r z j. one_element x h j) k
   one_place x (ComesUpon.in_set s t slots p w e h) k = set_place _ x e (λ r z j. one_element x h j) k
+  one_place x (ComesUpon.in_table s t p w h) k = table_place _ x (λ r z j. one_place x h j) k
   one_place x (ComesUpon.in_loop body t p w h) k = loop_place _ x (λ r z j. one_place x h j) k
 
   one_element : {n : Notation} {s : Shape} {slots : List Slot} {p q : Path} {w y : Cause} → IsText n → EachComesUpon n s slots p w → EachFailsWith n s slots q y → Same p q w y

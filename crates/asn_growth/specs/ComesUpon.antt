@@ -24,6 +24,7 @@ mutual
         → as_members n t ≡ Some look → FieldsComeUpon n (reading_order kind fs added) (map look (component_names (reading_order kind fs added))) p w → ComesUpon n (Shape.seq kind fs added) t p w
     in_list : (s : Shape) (t : Tree) (slots : List Slot) (p : Path) (w : Cause) → as_list n t ≡ Some slots → EachComesUpon n s slots p w → ComesUpon n (Shape.list_of s) t p w
     in_set : (s : Shape) (t : Tree) (slots : List Slot) (p : Path) (w : Cause) → as_list n t ≡ Some slots → EachComesUpon n s slots p w → ComesUpon n (Shape.set_of s) t p w
+    in_table : (s : Shape) (t : Tree) (p : Path) (w : Cause) → ComesUpon n (Shape.list_of s) t p w → ComesUpon n (Shape.table s) t p w
     in_loop : (body : Shape) (t : Tree) (p : Path) (w : Cause) → ComesUpon n (unfold_loop body) t p w → ComesUpon n (Shape.loop body) t p w
 
   -- The same in an element, and those before it decode.

@@ -1,133 +1,39 @@
 -- What an older reader makes of a text of a newer version.
 use Rattle.std.proofs.Common.{◌≡◌, refl, ap, sym, ◌∙◌, subst, ℕ, Bool, true, false, ◌&&◌, if◌then◌else◌, List, [], ◌∷◌, ◌++◌, map, Option, Some, None, Result, Ok, Err, ◌⊎◌, inl, inr}
 use Rattle.std.specs.List.{AllByRecursion}
-use Rattle.std.specs.Ordering.{is_gt, on}
-use Rattle.std.specs.declared.cmp.Ordering.{Ordering}
 use Rattle.serde_json.specs.Data.{Data}
 use Rattle.avn_grammar.specs.Tree.{Tree as AvnTree}
 use Rattle.asn_core.specs.declared.tag.Tag.{Tag}
 use Rattle.asn_fault.specs.Failure.{Cause}
-use Rattle.asn_model.specs.Components.{Component, Standing, component_names, components, reading_order, root_order, tag_cmp}
+use Rattle.asn_model.specs.Components.{Component, Standing, components, reading_order, with_additions}
 use Rattle.asn_model.specs.DecodesTo.{DecodesTo, EachDecodesTo, FieldsDecodeTo}
 use Rattle.asn_model.specs.FailsWith.{Path}
 use Rattle.asn_model.specs.Leaf.{LeafFailure, as_leaf, codec_of, leaf, refined}
 use Rattle.asn_model.specs.Notation.{Notation, IsText}
 use Rattle.asn_model.specs.Readable.{is_entry, is_readable, are_fields_readable, suits}
 use Rattle.asn_model.specs.Shape.{Shape, SeqKind, Fields, FieldAdditions, Alternatives, AlternativeAdditions, Presence, all_alternatives, all_fields, all_items, field_names, is_item, join_fields, unfold_loop, alternative_named}
-use Rattle.asn_model.specs.Sorting.{insert_in_order, sort}
 use Rattle.asn_model.specs.Tree.{Tree, Slot, as_choice, as_list, as_members, same_identifier}
 use Rattle.asn_model.specs.Value.{Value, Values, Slots, bag_of, may_lack, table_of, with_field}
 use Rattle.asn_model.specs.declared.leaves.LeafKind.TheVariants.{Item}
 use Rattle.asn_model.proofs.Meanings.{not_other}
 use Rattle.asn_model.proofs.Readables.{and-left, and-right, fields_read, unfolded-readable}
-use Rattle.asn_model.proofs.Sorting.{each-sort}
 use Rattle.asn_growth.specs.Adapted.{adapted, adapted_each, adapted_slots}
 use Rattle.asn_growth.specs.Grows.{Grows, BeginsFields}
 use Rattle.asn_growth.specs.ComesUpon.{ComesUpon, EachComesUpon, FieldsComeUpon, IsUnknown}
 use Rattle.asn_growth.proofs.Adapting.{adapted-loop, adapted-same, field-adapted, no-slots, set-adapted, table-adapted}
+use Rattle.asn_growth.proofs.Stopping.{IsRead, SomeComponent, Stops, Upon, all-read, first-stop, some-read}
 use Rattle.asn_growth.proofs.Unfolding.{grows-unfolded}
 use Rattle.asn_growth.proofs.Versions.{alternatives-begin, alternatives-joined, Found, choice-adapted, fields-begin, find, found-again, joined-begin, none_some, readable-alternatives, readable-named}
 
--- A reader comes upon an unknown name in the slot.
-abbrev pub Upon : Notation → Shape → Slot → Type 0
-Upon n s slot = (t : Tree) × (slot ≡ Some t) × (p : Path) × (w : Cause) × ComesUpon n s t p w × IsUnknown w
-
 -- The slot decodes to the adapted value, or a reader comes upon an unknown name in it.
 abbrev pub Met : Notation → Shape → Slot → Value → Type 0
-Met n s slot v = DecodesTo n s slot (adapted s v) ⊎ Upon n s slot
+Met n s slot v = DecodesTo n s slot (adapted s v) ⊎ Upon IsUnknown n s slot
 
 same_head : {x y : Slot} {xs ys : List Slot} → x ∷ xs ≡ y ∷ ys → x ≡ y
 same_head e = cc e
 
 same_tail : {x y : Slot} {xs ys : List Slot} → x ∷ xs ≡ y ∷ ys → xs ≡ ys
 same_tail e = cc e
-
--- Some component is so.
-abbrev SomeComponent : (Component → Type 0) → List Component → Type 0
-SomeComponent P [] = ⊥
-SomeComponent P (c ∷ cs) = P c ⊎ SomeComponent P cs
-
--- What holds of a component wherever it stands.
-abbrev Anywhere : (List ℕ → Presence → Shape → Type 0) → Component → Type 0
-Anywhere Q c = Q c.name c.presence c.shape
-
--- What holds of some element holds of some of the sorted list.
-module _ (cmp : Component → Component → Ordering) (P : Component → Type 0) where
-  some-insert : (x : Component) (ys : List Component) → P x ⊎ SomeComponent P ys → SomeComponent P (insert_in_order cmp x ys)
-  some-insert x [] h = h
-  some-insert x (y ∷ ys) h = by (λ k. some-insert x ys k) (is_gt (cmp x y)) h
-    where
-      by : (P x ⊎ SomeComponent P ys → SomeComponent P (insert_in_order cmp x ys)) → (b : Bool) → P x ⊎ (P y ⊎ SomeComponent P ys) → SomeComponent P (if b then y ∷ insert_in_order cmp x ys else x ∷ y ∷ ys)
-      by later true (inl p) = inr (later (inl p))
-      by later true (inr (inl p)) = inl p
-      by later true (inr (inr h)) = inr (later (inr h))
-      by later false h = h
-
-  some-sort : (xs : List Component) → SomeComponent P xs → SomeComponent P (sort cmp xs)
-  some-sort [] h = elim h [ ]
-  some-sort (x ∷ xs) (inl p) = some-insert x (sort cmp xs) (inl p)
-  some-sort (x ∷ xs) (inr h) = some-insert x (sort cmp xs) (inr (some-sort xs h))
-
--- What holds of fields holds of the components in the order of reading.
-module _ (Q : List ℕ → Presence → Shape → Type 0) where
-  abbrev all_of : List Component → Type 0
-  all_of cs = AllByRecursion (Anywhere Q) cs
-
-  abbrev some_of : List Component → Type 0
-  some_of cs = SomeComponent (Anywhere Q) cs
-
-  all-added : (fs : Fields) → all_of (components Standing.root fs) → all_of (components Standing.addition fs)
-  all-added Fields.no_fields h = tt
-  all-added (Fields.field n t p s fs) h = (h.0, all-added fs h.1)
-
-  some-added : (fs : Fields) → some_of (components Standing.root fs) → some_of (components Standing.addition fs)
-  some-added Fields.no_fields h = elim h [ ]
-  some-added (Fields.field n t p s fs) (inl h) = inl h
-  some-added (Fields.field n t p s fs) (inr h) = inr (some-added fs h)
-
-  all-parted : (fs more : Fields) → all_of (components Standing.root (join_fields fs more)) → all_of (components Standing.root fs) × all_of (components Standing.root more)
-  all-parted Fields.no_fields more h = (tt, h)
-  all-parted (Fields.field n t p s fs) more h = let r = all-parted fs more h.1 in ((h.0, r.0), r.1)
-
-  some-parted : (fs more : Fields) → some_of (components Standing.root (join_fields fs more)) → some_of (components Standing.root fs) ⊎ some_of (components Standing.root more)
-  some-parted Fields.no_fields more h = inr h
-  some-parted (Fields.field n t p s fs) more (inl h) = inl (inl h)
-  some-parted (Fields.field n t p s fs) more (inr h) = by (some-parted fs more h)
-    where
-      by : some_of (components Standing.root fs) ⊎ some_of (components Standing.root more) → some_of (components Standing.root (Fields.field n t p s fs)) ⊎ some_of (components Standing.root more)
-      by (inl k) = inl (inr k)
-      by (inr k) = inr k
-
-  all-appended : (cs ds : List Component) → all_of cs → all_of ds → all_of (cs ++ ds)
-  all-appended [] ds h k = k
-  all-appended (c ∷ cs) ds h k = (h.0, all-appended cs ds h.1 k)
-
-  some-appended : (cs ds : List Component) → some_of cs ⊎ some_of ds → some_of (cs ++ ds)
-  some-appended [] ds (inl h) = elim h [ ]
-  some-appended [] ds (inr h) = h
-  some-appended (c ∷ cs) ds (inl (inl h)) = inl h
-  some-appended (c ∷ cs) ds (inl (inr h)) = inr (some-appended cs ds (inl h))
-  some-appended (c ∷ cs) ds (inr h) = inr (some-appended cs ds (inr h))
-
-  all-root : (kind : SeqKind) (fs : Fields) → all_of (components Standing.root fs) → all_of (root_order kind fs)
-  all-root SeqKind.sequence fs h = h
-  all-root SeqKind.set fs h = each-sort (on (λ (c : Component). c.tag) tag_cmp) (Anywhere Q) (components Standing.root fs) h
-
-  some-root : (kind : SeqKind) (fs : Fields) → some_of (components Standing.root fs) → some_of (root_order kind fs)
-  some-root SeqKind.sequence fs h = h
-  some-root SeqKind.set fs h = some-sort (on (λ (c : Component). c.tag) tag_cmp) (Anywhere Q) (components Standing.root fs) h
-
-  pub all-read : (kind : SeqKind) (fs : Fields) (added : FieldAdditions) → all_of (components Standing.root (all_fields fs added)) → all_of (reading_order kind fs added)
-  all-read kind fs FieldAdditions.closed_fields h = all-root kind fs h
-  all-read kind fs (FieldAdditions.extended_fields more) h = let r = all-parted fs more h in all-appended (root_order kind fs) (components Standing.addition more) (all-root kind fs r.0) (all-added more r.1)
-
-  pub some-read : (kind : SeqKind) (fs : Fields) (added : FieldAdditions) → some_of (components Standing.root (all_fields fs added)) → some_of (reading_order kind fs added)
-  some-read kind fs FieldAdditions.closed_fields h = some-root kind fs h
-  some-read kind fs (FieldAdditions.extended_fields more) h = some-appended (root_order kind fs) (components Standing.addition more) (by (some-parted fs more h))
-    where
-      by : some_of (components Standing.root fs) ⊎ some_of (components Standing.root more) → some_of (root_order kind fs) ⊎ some_of (components Standing.addition more)
-      by (inl k) = inl (some-root kind fs k)
-      by (inr k) = inr (some-added more k)
 
 -- What an older reader makes of the slots of fields, of which the newer version has these values.
 data FieldsMet (n : Notation) (look : List ℕ → Slot) : Fields → Slots → Type 0 where
@@ -136,65 +42,70 @@ data FieldsMet (n : Notation) (look : List ℕ → Slot) : Fields → Slots → 
   met_absent : (name : List ℕ) (t : Tag) (p : Presence) (s : Shape) (fs : Fields) (vs : Slots) → look name ≡ None → may_lack p ≡ true → FieldsMet n look fs vs → FieldsMet n look (Fields.field name t p s fs) (Slots.absent name vs)
 
 module _ (n : Notation) (look : List ℕ → Slot) where
-  abbrev UponField : List ℕ → Presence → Shape → Type 0
-  UponField name p s = Upon n s (look name)
+  abbrev is_stop : Component → Type 0
+  is_stop c = Stops IsUnknown n look c
 
-  abbrev IsRead : List ℕ → Presence → Shape → Type 0
-  IsRead name p s = (((v : Value) × DecodesTo n s (look name) v) ⊎ ((look name ≡ None) × (may_lack p ≡ true))) ⊎ UponField name p s
+  read-met : (c : Component) (v : Value) → Met n c.shape (look c.name) v → IsRead IsUnknown n look c
+  read-met c v (inl d) = inl (inl (adapted c.shape v, d))
+  read-met c v (inr u) = inr (inl u)
 
-  read-met : (name : List ℕ) (p : Presence) (s : Shape) (v : Value) → Met n s (look name) v → IsRead name p s
-  read-met name p s v (inl d) = inl (inl (adapted s v, d))
-  read-met name p s v (inr u) = inr u
+  -- The fields as components: the first ones of the root, the others as additions.
+  each-read : (at : Standing) (fs : Fields) {vs : Slots} → FieldsMet n look fs vs → AllByRecursion (IsRead IsUnknown n look) (components at fs)
+  each-read at Fields.no_fields m = tt
+  each-read at (Fields.field name t p s fs) (FieldsMet.met_present name2 t2 p2 s2 fs2 v vs m ms) = (read-met (record { name = name; tag = t; presence = p; shape = s; standing = at }) v m, each-read at fs ms)
+  each-read at (Fields.field name t p s fs) (FieldsMet.met_absent name2 t2 p2 s2 fs2 vs e lack ms) = (inl (inr (e, lack)), each-read at fs ms)
 
-  -- Each field is read, or an unknown name is in it.
-  each-read : {fs : Fields} {vs : Slots} → FieldsMet n look fs vs → AllByRecursion (Anywhere IsRead) (components Standing.root fs)
-  each-read (FieldsMet.met_end vs) = tt
-  each-read (FieldsMet.met_present name t p s fs v vs m ms) = (read-met name p s v m, each-read ms)
-  each-read (FieldsMet.met_absent name t p s fs vs e lack ms) = (inl (inr (e, lack)), each-read ms)
+  each-joined : (fs more : Fields) {vs : Slots} → FieldsMet n look (join_fields fs more) vs → AllByRecursion (IsRead IsUnknown n look) (components Standing.root fs ++ components Standing.addition more)
+  each-joined Fields.no_fields more m = each-read Standing.addition more m
+  each-joined (Fields.field name t p s fs) more (FieldsMet.met_present name2 t2 p2 s2 fs2 v vs m ms) = (read-met (record { name = name; tag = t; presence = p; shape = s; standing = Standing.root }) v m, each-joined fs more ms)
+  each-joined (Fields.field name t p s fs) more (FieldsMet.met_absent name2 t2 p2 s2 fs2 vs e lack ms) = (inl (inr (e, lack)), each-joined fs more ms)
 
-  -- All are read, or an unknown name is in one.
-  all-or-some : {fs : Fields} {vs : Slots} → FieldsMet n look fs vs → FieldsDecodeTo n fs (map look (field_names fs)) (adapted_slots fs vs) ⊎ SomeComponent (Anywhere UponField) (components Standing.root fs)
+  each-met : (fs : Fields) (added : FieldAdditions) {vs : Slots} → FieldsMet n look (all_fields fs added) vs → AllByRecursion (IsRead IsUnknown n look) (with_additions (components Standing.root fs) added)
+  each-met fs FieldAdditions.closed_fields m = each-read Standing.root fs m
+  each-met fs (FieldAdditions.extended_fields more) m = each-joined fs more m
+
+  -- Some field stops the reader, as a component wherever it stands.
+  abbrev SomeField : Fields → Type 0
+  SomeField Fields.no_fields = ⊥
+  SomeField (Fields.field name t p s fs) = Upon IsUnknown n s (look name) ⊎ SomeField fs
+
+  some-fields : (at : Standing) (fs : Fields) → SomeField fs → SomeComponent is_stop (components at fs)
+  some-fields at Fields.no_fields h = elim h [ ]
+  some-fields at (Fields.field name t p s fs) (inl u) = inl (inl u)
+  some-fields at (Fields.field name t p s fs) (inr h) = inr (some-fields at fs h)
+
+  some-joined : (fs more : Fields) → SomeField (join_fields fs more) → SomeComponent is_stop (components Standing.root fs ++ components Standing.addition more)
+  some-joined Fields.no_fields more h = some-fields Standing.addition more h
+  some-joined (Fields.field name t p s fs) more (inl u) = inl (inl u)
+  some-joined (Fields.field name t p s fs) more (inr h) = inr (some-joined fs more h)
+
+  some-met : (fs : Fields) (added : FieldAdditions) → SomeField (all_fields fs added) → SomeComponent is_stop (with_additions (components Standing.root fs) added)
+  some-met fs FieldAdditions.closed_fields h = some-fields Standing.root fs h
+  some-met fs (FieldAdditions.extended_fields more) h = some-joined fs more h
+
+  -- All are read, or one stops the reader.
+  all-or-some : {fs : Fields} {vs : Slots} → FieldsMet n look fs vs → FieldsDecodeTo n fs (map look (field_names fs)) (adapted_slots fs vs) ⊎ SomeField fs
   all-or-some (FieldsMet.met_end vs) = inl (subst (FieldsDecodeTo n Fields.no_fields []) (sym (no-slots vs)) FieldsDecodeTo.decodes_end)
   all-or-some (FieldsMet.met_present name t p s fs v vs m ms) = by m (all-or-some ms)
     where
-      by : Met n s (look name) v → FieldsDecodeTo n fs (map look (field_names fs)) (adapted_slots fs vs) ⊎ SomeComponent (Anywhere UponField) (components Standing.root fs)
-          → FieldsDecodeTo n (Fields.field name t p s fs) (look name ∷ map look (field_names fs)) (adapted_slots (Fields.field name t p s fs) (with_field p name v vs)) ⊎ SomeComponent (Anywhere UponField) (components Standing.root (Fields.field name t p s fs))
+      by : Met n s (look name) v → FieldsDecodeTo n fs (map look (field_names fs)) (adapted_slots fs vs) ⊎ SomeField fs
+          → FieldsDecodeTo n (Fields.field name t p s fs) (look name ∷ map look (field_names fs)) (adapted_slots (Fields.field name t p s fs) (with_field p name v vs)) ⊎ SomeField (Fields.field name t p s fs)
       by (inl d) (inl ds) = inl (subst (FieldsDecodeTo n (Fields.field name t p s fs) (look name ∷ map look (field_names fs))) (sym (field-adapted name t p s fs v vs)) (FieldsDecodeTo.decodes_present name t p s fs (look name) (map look (field_names fs)) (adapted s v) (adapted_slots fs vs) d ds))
       by (inl d) (inr u) = inr (inr u)
       by (inr u) ds = inr (inl u)
   all-or-some (FieldsMet.met_absent name t p s fs vs e lack ms) = by (all-or-some ms)
     where
-      by : FieldsDecodeTo n fs (map look (field_names fs)) (adapted_slots fs vs) ⊎ SomeComponent (Anywhere UponField) (components Standing.root fs)
-          → FieldsDecodeTo n (Fields.field name t p s fs) (look name ∷ map look (field_names fs)) (Slots.absent name (adapted_slots fs vs)) ⊎ SomeComponent (Anywhere UponField) (components Standing.root (Fields.field name t p s fs))
+      by : FieldsDecodeTo n fs (map look (field_names fs)) (adapted_slots fs vs) ⊎ SomeField fs → FieldsDecodeTo n (Fields.field name t p s fs) (look name ∷ map look (field_names fs)) (Slots.absent name (adapted_slots fs vs)) ⊎ SomeField (Fields.field name t p s fs)
       by (inl ds) = inl (subst (λ slot. FieldsDecodeTo n (Fields.field name t p s fs) (slot ∷ map look (field_names fs)) (Slots.absent name (adapted_slots fs vs))) (sym e) (FieldsDecodeTo.decodes_absent name t p s fs (map look (field_names fs)) (adapted_slots fs vs) lack ds))
       by (inr u) = inr (inr u)
-
-  abbrev FirstUpon : List Component → Type 0
-  FirstUpon cs = (p : Path) × (w : Cause) × FieldsComeUpon n cs (map look (component_names cs)) p w × IsUnknown w
-
-  upon-here : (c : Component) (cs : List Component) → Upon n c.shape (look c.name) → FirstUpon (c ∷ cs)
-  upon-here c cs (t, e, p, w, u, k) = (c.name ∷ p, w, subst (λ slot. FieldsComeUpon n (c ∷ cs) (slot ∷ map look (component_names cs)) (c.name ∷ p) w) (sym e) (FieldsComeUpon.upon_field c cs t (map look (component_names cs)) p w u), k)
-
-  -- The first of them in the order of reading.
-  first-upon : (cs : List Component) → AllByRecursion (Anywhere IsRead) cs → SomeComponent (Anywhere UponField) cs → FirstUpon cs
-  first-upon [] h k = elim k [ ]
-  first-upon (c ∷ cs) h k = by (λ j. first-upon cs h.1 j) h.0 k
-    where
-      by : (SomeComponent (Anywhere UponField) cs → FirstUpon cs) → IsRead c.name c.presence c.shape → UponField c.name c.presence c.shape ⊎ SomeComponent (Anywhere UponField) cs → FirstUpon (c ∷ cs)
-      by later h (inl u) = upon-here c cs u
-      by later (inr u) (inr ks) = upon-here c cs u
-      by later (inl (inl (v, d))) (inr ks) = let r = later ks in (r.0, r.1, FieldsComeUpon.past_present c cs (look c.name) (map look (component_names cs)) v r.0 r.1 d r.2, r.3)
-      by later (inl (inr (e, lack))) (inr ks) =
-          let r = later ks in
-          (r.0, r.1, subst (λ slot. FieldsComeUpon n (c ∷ cs) (slot ∷ map look (component_names cs)) r.0 r.1) (sym e) (FieldsComeUpon.past_absent c cs (map look (component_names cs)) r.0 r.1 lack r.2), r.3)
 
   seq-met : (kind : SeqKind) (fs : Fields) (added : FieldAdditions) (t : Tree) (vs : Slots) → as_members n t ≡ Some look → FieldsMet n look (all_fields fs added) vs → Met n (Shape.seq kind fs added) (Some t) (Value.members vs)
   seq-met kind fs added t vs e m = by (all-or-some m)
     where
-      by : FieldsDecodeTo n (all_fields fs added) (map look (field_names (all_fields fs added))) (adapted_slots (all_fields fs added) vs) ⊎ SomeComponent (Anywhere UponField) (components Standing.root (all_fields fs added)) → Met n (Shape.seq kind fs added) (Some t) (Value.members vs)
+      by : FieldsDecodeTo n (all_fields fs added) (map look (field_names (all_fields fs added))) (adapted_slots (all_fields fs added) vs) ⊎ SomeField (all_fields fs added) → Met n (Shape.seq kind fs added) (Some t) (Value.members vs)
       by (inl d) = inl (DecodesTo.decodes_seq kind fs added t look (adapted_slots (all_fields fs added) vs) e d)
       by (inr u) =
-          let r = first-upon (reading_order kind fs added) (all-read IsRead kind fs added (each-read m)) (some-read UponField kind fs added u) in
+          let r = first-stop IsUnknown n look (reading_order kind fs added) (all-read (IsRead IsUnknown n look) kind fs added (each-met fs added m)) (some-read is_stop kind fs added (some-met fs added u)) in
           inr (t, refl, r.0, r.1, ComesUpon.in_field kind fs added t look r.0 r.1 e r.2, r.3)
 
 -- An item, or why there is none.

@@ -1,5 +1,6 @@
 pub mod Unfolding
 pub mod Adapting
 pub mod Versions
+pub mod Stopping
 pub mod Forward
 pub mod Unknowns

@@ -4,3 +4,4 @@ pub mod Versions
 pub mod Stopping
 pub mod Forward
 pub mod Unknowns
+pub mod Relaying

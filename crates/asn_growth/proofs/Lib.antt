@@ -5,3 +5,4 @@ pub mod Stopping
 pub mod Forward
 pub mod Unknowns
 pub mod Relaying
+pub mod Backward

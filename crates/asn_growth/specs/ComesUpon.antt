@@ -52,3 +52,7 @@ Known n s t = (p : Path) (w : Cause) → ComesUpon n s t p w → IsUnknown w →
 abbrev pub IsAsMuch : Cause → Cause → Type 0
 IsAsMuch (Cause.no_valid_choice name) w = (other : List ℕ) × (w ≡ Cause.no_valid_choice other)
 IsAsMuch w x = x ≡ w
+
+-- The reason is the absence of an addition.
+abbrev pub IsMissing : Cause → Type 0
+IsMissing w = (name : List ℕ) × (w ≡ Cause.missing_field name)

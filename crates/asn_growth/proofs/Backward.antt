@@ -1,5 +1,5 @@
 -- What a newer reader makes of a text that an older version wrote, what it writes then, and what is left of that for the older version.
-use Rattle.std.proofs.Common.{◌≡◌, refl, ap, sym, ◌∙◌, subst, ℕ, Bool, true, false, not, ◌&&◌, if◌then◌else◌, List, [], ◌∷◌, ◌++◌, append_assoc, map, Option, Some, None, ◌⊎◌, inl, inr}
+use Rattle.std.proofs.Common.{◌≡◌, refl, ap, sym, ◌∙◌, subst, ℕ, Bool, true, false, not, ◌&&◌, if◌then◌else◌, List, [], ◌∷◌, ◌++◌, append_assoc, map, Some, None, ◌⊎◌, inl, inr}
 use Rattle.std.specs.List.{AllByRecursion}
 use Rattle.std.specs.Char.{to_ascii_lowercase}
 use Rattle.std.specs.Str.{bytes_eq}
@@ -12,12 +12,12 @@ use Rattle.asn_model.specs.DecodesTo.{DecodesTo, EachDecodesTo, FieldsDecodeTo}
 use Rattle.asn_model.specs.FailsWith.{Path}
 use Rattle.asn_model.specs.Notation.{Notation, IsText}
 use Rattle.asn_model.specs.Readable.{are_alternatives_readable, are_added_alternatives_readable, are_distinguishable, are_fields_readable, are_identifiers, differ_ignoring_case, has_alternative, has_identifier, is_entry, is_readable, suits}
-use Rattle.asn_model.specs.Shape.{Shape, SeqKind, Fields, FieldAdditions, Alternatives, AlternativeAdditions, Presence, all_alternatives, all_fields, all_items, alternative_named, are_distinct, end_tag, field_names, has_tag, identifiers, is_item, join_fields, tags, tags_distinct, unfold_loop}
+use Rattle.asn_model.specs.Shape.{Shape, SeqKind, Fields, FieldAdditions, Alternatives, AlternativeAdditions, Presence, all_alternatives, all_fields, alternative_named, are_distinct, end_tag, field_names, has_tag, identifiers, is_item, join_fields, tags, tags_distinct, unfold_loop}
 use Rattle.asn_model.specs.Sorting.{by_text}
-use Rattle.asn_model.specs.Tree.{Tree, Slot, as_list, as_members, same_identifier}
-use Rattle.asn_model.specs.Value.{Value, Values, Slots, Fits, FitsAlternative, FitsEach, FitsFields, bag_of, elements, is_kept, is_leaf_of, keys_rise, may_lack, ordered_by, sort_values, table_of, with_field}
+use Rattle.asn_model.specs.Tree.{Slot, as_list, as_members, same_identifier}
+use Rattle.asn_model.specs.Value.{Value, Values, Slots, Fits, FitsAlternative, FitsEach, FitsFields, bag_of, elements, is_kept, is_leaf_of, keys_rise, may_lack, ordered_by, sort_values}
 use Rattle.asn_model.specs.Writable.{Writable, WritableEach, WritableSlots}
-use Rattle.asn_model.specs.Writes.{Finds, Writes, slot_names, value_slots}
+use Rattle.asn_model.specs.Writes.{Finds, slot_names, value_slots}
 use Rattle.asn_model.proofs.Bags.{each-ordered}
 use Rattle.asn_model.proofs.Entries.{table-rising}
 use Rattle.asn_model.proofs.Readables.{and-left, and-right, fields_read, unfolded-readable}

@@ -19,7 +19,7 @@ use Rattle.asn_model.proofs.Meanings.{not_other}
 use Rattle.asn_model.proofs.Readables.{and-left, and-right, fields_read, unfolded-readable}
 use Rattle.asn_growth.specs.Adapted.{adapted, adapted_each, adapted_slots}
 use Rattle.asn_growth.specs.Grows.{Grows, BeginsFields}
-use Rattle.asn_growth.specs.ComesUpon.{ComesUpon, EachComesUpon, FieldsComeUpon, IsUnknown}
+use Rattle.asn_growth.specs.ComesUpon.{ComesUpon, EachComesUpon, IsUnknown}
 use Rattle.asn_growth.proofs.Adapting.{adapted-loop, adapted-same, field-adapted, no-slots, set-adapted, table-adapted}
 use Rattle.asn_growth.proofs.Stopping.{IsRead, SomeComponent, Stops, Upon, all-read, first-stop, some-read}
 use Rattle.asn_growth.proofs.Unfolding.{grows-unfolded}

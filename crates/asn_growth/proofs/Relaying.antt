@@ -12,7 +12,7 @@ use Rattle.asn_model.specs.Canonical.{avn_fields, avn_tree, avn_trees, canonical
 use Rattle.asn_model.specs.Notation.{Notation, IsText}
 use Rattle.asn_model.specs.Readable.{is_readable}
 use Rattle.asn_model.specs.Shape.{Shape, Fields}
-use Rattle.asn_model.specs.Sorting.{by_text, sort}
+use Rattle.asn_model.specs.Sorting.{by_text}
 use Rattle.asn_model.specs.Tree.{Tree}
 use Rattle.asn_model.specs.Value.{Value, Values, Slots, Fits, FitsEach, elements, ordered_by, sort_values, value_cmp, values}
 use Rattle.asn_model.specs.Writable.{Writable, WritableEach}
@@ -213,6 +213,6 @@ members-alike Notation.jer h = ap Data.object (members-same h)
 members-alike Notation.avn {ms} {ks} h = (
   ap braced (normal-same h),
   λ d. ap (λ b. cond b ((123 ∷ []) ++ print_fields (suc d) 0 (avn_fields ms) ++ (10 ∷ []) ++ indent d ++ (125 ∷ [])) (codes "{}")) (present-same h)
-  ∙ ap (λ l. cond (has_fields (avn_fields ks)) ((123 ∷ []) ++ l ++ (10 ∷ []) ++ indent d ++ (125 ∷ [])) (codes "{}")) (rows-same h (suc d) 0),
+      ∙ ap (λ l. cond (has_fields (avn_fields ks)) ((123 ∷ []) ++ l ++ (10 ∷ []) ++ indent d ++ (125 ∷ [])) (codes "{}")) (rows-same h (suc d) 0),
 )
 members-alike Notation.other h = tt

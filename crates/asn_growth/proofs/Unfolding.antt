@@ -1,5 +1,5 @@
 -- Growth survives the unfolding of loops.
-use Rattle.std.proofs.Common.{◌≡◌, refl, ap, sym, ◌∙◌, subst, arith, ℕ, zero, suc, Bool, true, false, ◌&&◌, nat_eq, nat_le, nat_lt, if◌then◌else◌, ◌≤◌, ◌<◌}
+use Rattle.std.proofs.Common.{◌≡◌, refl, ap, sym, arith, ℕ, suc, Bool, true, false, nat_eq, nat_le, nat_lt, if◌then◌else◌, ◌<◌}
 use Rattle.std.proofs.lemmas.Bool.{leb-true, eqb-true}
 use Rattle.asn_model.specs.Readable.{is_readable, is_readable_in}
 use Rattle.asn_model.specs.Shape.{Shape, Fields, Alternatives, fill, fill_fields, fill_alternatives, unfold_loop}

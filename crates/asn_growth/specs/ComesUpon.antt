@@ -1,5 +1,5 @@
 -- Where a reader of a type comes upon what sets the versions of a type apart: an alternative or item that its version lacks, or the absence of an addition that its version requires.
-use Rattle.std.specs.Prelude.{◌≡◌, ℕ, List, [], ◌∷◌, map, Some, None, Err, Ok, true, false}
+use Rattle.std.specs.Prelude.{◌≡◌, ℕ, List, [], ◌∷◌, map, Some, None, Ok, true, false}
 use Rattle.asn_fault.specs.Failure.{Cause}
 use Rattle.asn_model.specs.Components.{Component, Standing, component_names, reading_order}
 use Rattle.asn_model.specs.DecodesTo.{DecodesTo}

@@ -6,3 +6,4 @@ pub mod Forward
 pub mod Unknowns
 pub mod Relaying
 pub mod Backward
+mod Examples

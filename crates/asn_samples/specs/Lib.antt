@@ -23,6 +23,8 @@ pub mod NewPart
 pub mod NewPartElement
 pub mod OldReport
 pub mod NewReport
+pub mod OldMode
+pub mod NewMode
 pub mod Samples
 pub mod Blank
 pub mod Wrap

@@ -105,6 +105,10 @@ pub enum Sample {
     OldReport,
     /// Is its later version, with extension additions.
     NewReport,
+    /// Is an ENUMERATED type with an extension marker that no item follows.
+    OldMode,
+    /// Is its later version, with an item more.
+    NewMode,
     /// Is a SEQUENCE with a NULL that may be absent.
     WithNullOpt,
     /// Is a BIT STRING of a fixed size.
@@ -168,6 +172,8 @@ impl Sample {
             "MarkSet" => Some(Sample::MarkSet),
             "OldReport" => Some(Sample::OldReport),
             "NewReport" => Some(Sample::NewReport),
+            "OldMode" => Some(Sample::OldMode),
+            "NewMode" => Some(Sample::NewMode),
             "WithNullOpt" => Some(Sample::WithNullOpt),
             "ConstrainedBitString" => Some(Sample::ConstrainedBitString),
             "ExtensibleBitString" => Some(Sample::ExtensibleBitString),
@@ -226,6 +232,8 @@ impl Sample {
             Sample::MarkSet => visitor.visit::<crate::MarkSet>(state),
             Sample::OldReport => visitor.visit::<crate::OldReport>(state),
             Sample::NewReport => visitor.visit::<crate::NewReport>(state),
+            Sample::OldMode => visitor.visit::<crate::OldMode>(state),
+            Sample::NewMode => visitor.visit::<crate::NewMode>(state),
             Sample::WithNullOpt => visitor.visit::<crate::WithNullOpt>(state),
             Sample::ConstrainedBitString => visitor.visit::<crate::ConstrainedBitString>(state),
             Sample::ExtensibleBitString => visitor.visit::<crate::ExtensibleBitString>(state),

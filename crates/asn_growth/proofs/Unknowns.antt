@@ -18,17 +18,17 @@ pub some_same : {A : Type 0} {x y : A} {o : Option A} → o ≡ Some x → o ≡
 some_same {A} {x} {y} e f = let d : Some x ≡ Some y = sym e ∙ f in cc d
 
 -- What an enumeration makes of an item that it lacks.
-unknown-leaf : (n : Notation) (items added : List (List ℕ)) (t : Tree) (i : List ℕ) → as_leaf n Item t ≡ Ok (Value.item i) → is_item (all_items items (Some added)) i ≡ false
-    → leaf n (Shape.enum items (Some added)) t ≡ Some (Err (LeafFailure.because (Cause.invalid_enum_discriminant (codec_of n) i)))
+unknown-leaf : (n : Notation) (items : List (List ℕ)) (added : Option (List (List ℕ))) (t : Tree) (i : List ℕ) → as_leaf n Item t ≡ Ok (Value.item i) → is_item (all_items items added) i ≡ false
+    → leaf n (Shape.enum items added) t ≡ Some (Err (LeafFailure.because (Cause.invalid_enum_discriminant (codec_of n) i)))
 unknown-leaf n items added t i is unknown =
-    ap (λ r. Some (refined (codec_of n) (Shape.enum items (Some added)) r)) is
+    ap (λ r. Some (refined (codec_of n) (Shape.enum items added) r)) is
     ∙ ap (λ b. Some (if b then Ok (Value.item i) else Err (LeafFailure.because (Cause.invalid_enum_discriminant (codec_of n) i)))) unknown
 
 mutual
   -- A reader that comes upon an unknown name refuses there.
   pub fails-upon : {n : Notation} {s : Shape} {t : Tree} {p : Path} {w : Cause} → ComesUpon n s t p w → FailsWith n s (Some t) p w
   fails-upon {n} (ComesUpon.unknown_item items added t i is unknown) =
-      FailsWith.fails_leaf (Shape.enum items (Some added)) t _ _ (unknown-leaf n items added t i is unknown) (IsFailureOf.is_because (Cause.invalid_enum_discriminant (codec_of n) i))
+      FailsWith.fails_leaf (Shape.enum items added) t _ _ (unknown-leaf n items added t i is unknown) (IsFailureOf.is_because (Cause.invalid_enum_discriminant (codec_of n) i))
   fails-upon (ComesUpon.unknown_alternative alts added t u name type_name e f) = FailsWith.fails_unnamed alts added t name u type_name e f
   fails-upon (ComesUpon.in_payload alts added t u name id s p w e f h) = FailsWith.fails_payload alts added t name u id s p w e f (fails-upon h)
   fails-upon (ComesUpon.in_field kind fs added t look p w e h) = FailsWith.fails_seq kind fs added t look p w e (fields-fail-upon h)
@@ -80,7 +80,7 @@ empty_named {y} e f = let d : ◌≡◌ {A = Option (Option (List ℕ × Tree))}
 some_member : {x y : List ℕ × Tree} → ◌≡◌ {A = Option (List ℕ × Tree)} (Some x) (Some y) → x ≡ y
 some_member e = cc e
 
-item_place : {n : Notation} {items added : List (List ℕ)} {t : Tree} {i : List ℕ} {q : Path} {y : Cause} → IsText n → as_leaf n Item t ≡ Ok (Value.item i) → is_item (all_items items (Some added)) i ≡ false → FailsWith n (Shape.enum items (Some added)) (Some t) q y
+item_place : {n : Notation} {items : List (List ℕ)} {added : Option (List (List ℕ))} {t : Tree} {i : List ℕ} {q : Path} {y : Cause} → IsText n → as_leaf n Item t ≡ Ok (Value.item i) → is_item (all_items items added) i ≡ false → FailsWith n (Shape.enum items added) (Some t) q y
     → Same [] q (Cause.invalid_enum_discriminant (codec_of n) i) y
 item_place {n} {items} {added} {t} {i} x is unknown (FailsWith.fails_leaf s t2 b y f blamed) =
     (refl, item-reason (Cause.invalid_enum_discriminant (codec_of n) i) (err_of (sym f ∙ unknown-leaf n items added t i is unknown)) blamed)

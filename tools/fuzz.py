@@ -20,8 +20,8 @@ import subprocess
 import sys
 from concurrent.futures import ThreadPoolExecutor
 
-# Older types with the newer ones that extend them, and the alternative of a CHOICE within that the older one lacks.
-PAIRS = {"OldReport": ("NewReport", "flag")}
+# Older types with the newer ones that extend them, and the alternative or item that the older one lacks.
+PAIRS = {"OldReport": ("NewReport", "flag"), "OldMode": ("NewMode", "high")}
 LETTERS = "abcdefghijklmnopqrstuvwxyz"
 SIGNS = ['"', "'", "{", "}", "[", "]", ":", ",", " ", "\n", "-", "0", "9", "e", ".", "\\", "\x00", "é", "\U0001F600", "H", "B"]
 
@@ -156,6 +156,7 @@ TYPES = {
         ("note", string(LETTERS), True),
         ("owner", string(LETTERS), False),
     ),
+    "OldMode": items("low"), "NewMode": items("low", "high"),
     "SimpleEnum": items("Test1", "Test2"), "ExtEnum": items("Test1", "Test2", "Test3"),
     "Inner": inner, "SimpleChoice": simple,
     "ExtChoice": choice(Test1=number(0, 255), Test2=string(LETTERS), Test3=boolean), "Nest": nest,

@@ -90,7 +90,7 @@ modes_grow = Grows.grows_enum (codes "low" ∷ []) [] (codes "high" ∷ [])
 
 -- A reader of the older version comes upon the item.
 unknown : ComesUpon Notation.jer old_mode (Tree.json (Data.string (codes "high"))) [] (Cause.invalid_enum_discriminant Jer (codes "high"))
-unknown = ComesUpon.unknown_item (codes "low" ∷ []) [] (Tree.json (Data.string (codes "high"))) (codes "high") refl refl
+unknown = ComesUpon.unknown_item (codes "low" ∷ []) (Some []) (Tree.json (Data.string (codes "high"))) (codes "high") refl refl
 
 -- Without an extension marker nothing may be added.
 no_marker : Grows (Shape.enum (codes "low" ∷ []) None) new_mode → ⊥

@@ -133,7 +133,7 @@ item-met n items added more t v e = by (item_of n t)
     of_item i is same true known =
         inl (DecodesTo.decodes_leaf older t v (ap (λ r. Some (refined (codec_of n) older r)) is
         ∙ ap (λ b. Some (if b then Ok (Value.item i) else Err (LeafFailure.because (Cause.invalid_enum_discriminant (codec_of n) i)))) known ∙ ap (λ w. Some (Ok w)) (sym same)))
-    of_item i is same false unknown = inr (t, refl, [], Cause.invalid_enum_discriminant (codec_of n) i, ComesUpon.unknown_item items added t i is unknown, tt)
+    of_item i is same false unknown = inr (t, refl, [], Cause.invalid_enum_discriminant (codec_of n) i, ComesUpon.unknown_item items (Some added) t i is unknown, tt)
 
     tested : (i : List ℕ) (b : Bool) → Some (if b then Ok (Value.item i) else Err (LeafFailure.because (Cause.invalid_enum_discriminant (codec_of n) i))) ≡ Some (Ok v) → v ≡ Value.item i
     tested i true f = sym (same_ok f)

@@ -1,5 +1,5 @@
 -- A reader that comes upon an unknown name refuses there, and for no other reason.
-use Rattle.std.proofs.Common.{◌≡◌, refl, ap, sym, ◌∙◌, subst, ℕ, Bool, true, false, if◌then◌else◌, List, [], ◌∷◌, map, Option, Some, None, Result, Ok, Err}
+use Rattle.std.proofs.Common.{◌≡◌, refl, ap, sym, ◌∙◌, subst, ℕ, Bool, true, false, if◌then◌else◌, List, [], ◌∷◌, map, Option, Some, None, Result, Ok, Err, ◌⊎◌, inl, inr}
 use Rattle.asn_fault.specs.Failure.{Cause}
 use Rattle.asn_model.specs.Components.{Component, Standing, component_names, reading_order}
 use Rattle.asn_model.specs.DecodesTo.{DecodesTo}
@@ -11,24 +11,24 @@ use Rattle.asn_model.specs.Tree.{Tree, Slot, as_choice, as_list, as_members, sam
 use Rattle.asn_model.specs.Value.{Value, may_lack}
 use Rattle.asn_model.specs.declared.leaves.LeafKind.TheVariants.{Item}
 use Rattle.asn_model.proofs.Meanings.{apart, not_other}
-use Rattle.asn_growth.specs.ComesUpon.{ComesUpon, EachComesUpon, FieldsComeUpon, IsAsMuch}
+use Rattle.asn_growth.specs.ComesUpon.{ComesUpon, EachComesUpon, FieldsComeUpon, IsAsMuch, IsMissing}
 use Rattle.asn_growth.proofs.Versions.{none_some}
 
 pub some_same : {A : Type 0} {x y : A} {o : Option A} → o ≡ Some x → o ≡ Some y → x ≡ y
 some_same {A} {x} {y} e f = let d : Some x ≡ Some y = sym e ∙ f in cc d
 
 -- What an enumeration makes of an item that it lacks.
-unknown-leaf : (n : Notation) (items added : List (List ℕ)) (t : Tree) (i : List ℕ) → as_leaf n Item t ≡ Ok (Value.item i) → is_item (all_items items (Some added)) i ≡ false
-    → leaf n (Shape.enum items (Some added)) t ≡ Some (Err (LeafFailure.because (Cause.invalid_enum_discriminant (codec_of n) i)))
+unknown-leaf : (n : Notation) (items : List (List ℕ)) (added : Option (List (List ℕ))) (t : Tree) (i : List ℕ) → as_leaf n Item t ≡ Ok (Value.item i) → is_item (all_items items added) i ≡ false
+    → leaf n (Shape.enum items added) t ≡ Some (Err (LeafFailure.because (Cause.invalid_enum_discriminant (codec_of n) i)))
 unknown-leaf n items added t i is unknown =
-    ap (λ r. Some (refined (codec_of n) (Shape.enum items (Some added)) r)) is
+    ap (λ r. Some (refined (codec_of n) (Shape.enum items added) r)) is
     ∙ ap (λ b. Some (if b then Ok (Value.item i) else Err (LeafFailure.because (Cause.invalid_enum_discriminant (codec_of n) i)))) unknown
 
 mutual
   -- A reader that comes upon an unknown name refuses there.
   pub fails-upon : {n : Notation} {s : Shape} {t : Tree} {p : Path} {w : Cause} → ComesUpon n s t p w → FailsWith n s (Some t) p w
   fails-upon {n} (ComesUpon.unknown_item items added t i is unknown) =
-      FailsWith.fails_leaf (Shape.enum items (Some added)) t _ _ (unknown-leaf n items added t i is unknown) (IsFailureOf.is_because (Cause.invalid_enum_discriminant (codec_of n) i))
+      FailsWith.fails_leaf (Shape.enum items added) t _ _ (unknown-leaf n items added t i is unknown) (IsFailureOf.is_because (Cause.invalid_enum_discriminant (codec_of n) i))
   fails-upon (ComesUpon.unknown_alternative alts added t u name type_name e f) = FailsWith.fails_unnamed alts added t name u type_name e f
   fails-upon (ComesUpon.in_payload alts added t u name id s p w e f h) = FailsWith.fails_payload alts added t name u id s p w e f (fails-upon h)
   fails-upon (ComesUpon.in_field kind fs added t look p w e h) = FailsWith.fails_seq kind fs added t look p w e (fields-fail-upon h)
@@ -80,7 +80,7 @@ empty_named {y} e f = let d : ◌≡◌ {A = Option (Option (List ℕ × Tree))}
 some_member : {x y : List ℕ × Tree} → ◌≡◌ {A = Option (List ℕ × Tree)} (Some x) (Some y) → x ≡ y
 some_member e = cc e
 
-item_place : {n : Notation} {items added : List (List ℕ)} {t : Tree} {i : List ℕ} {q : Path} {y : Cause} → IsText n → as_leaf n Item t ≡ Ok (Value.item i) → is_item (all_items items (Some added)) i ≡ false → FailsWith n (Shape.enum items (Some added)) (Some t) q y
+item_place : {n : Notation} {items : List (List ℕ)} {added : Option (List (List ℕ))} {t : Tree} {i : List ℕ} {q : Path} {y : Cause} → IsText n → as_leaf n Item t ≡ Ok (Value.item i) → is_item (all_items items added) i ≡ false → FailsWith n (Shape.enum items added) (Some t) q y
     → Same [] q (Cause.invalid_enum_discriminant (codec_of n) i) y
 item_place {n} {items} {added} {t} {i} x is unknown (FailsWith.fails_leaf s t2 b y f blamed) =
     (refl, item-reason (Cause.invalid_enum_discriminant (codec_of n) i) (err_of (sym f ∙ unknown-leaf n items added t i is unknown)) blamed)
@@ -176,3 +176,17 @@ mutual
   one_field x (FieldsComeUpon.past_absent c cs rest p w lack h) (FieldsFailWith.addition_is_missing c2 cs2 rest2 needed at) = absurd (not_both (may_lack c.presence) lack needed)
   one_field x (FieldsComeUpon.past_absent c cs rest p w lack h) (FieldsFailWith.after_present c2 cs2 slot2 rest2 v2 q y d2 k) = absurd (nothing x d2)
   one_field x (FieldsComeUpon.past_absent c cs rest p w lack h) (FieldsFailWith.after_absent c2 cs2 rest2 q y lack2 k) = one_field x h k
+
+-- What a reader refuses, that either decodes or stops it for a reason of a kind, it refuses where it is stopped.
+pub stopped_at : (K : Cause → Type 0) {n : Notation} {s : Shape} {t : Tree} {v : Value} {q : Path} {y : Cause} → IsText n → DecodesTo n s (Some t) v ⊎ ((p : Path) × (w : Cause) × ComesUpon n s t p w × K w) → FailsWith n s (Some t) q y
+    → (w : Cause) × ComesUpon n s t q w × K w × IsAsMuch w y
+stopped_at K x (inl d) k = absurd (apart x d k)
+stopped_at K {n} {s} {t} x (inr (p, w, u, i)) k = let r = one_place x u k in (w, subst (λ r. ComesUpon n s t r w) (sym r.0) u, i, r.1)
+
+-- A reason that is as much as an absence is that absence.
+pub missing_at : {n : Notation} {s : Shape} {t : Tree} {q : Path} {y : Cause} → (w : Cause) × ComesUpon n s t q w × IsMissing w × IsAsMuch w y → ComesUpon n s t q y × IsMissing y
+missing_at {n} {s} {t} {q} {y} (w, u, (name, is), same) =
+    let e : y ≡ w = by w name is same in (subst (ComesUpon n s t q) (sym e) u, (name, e ∙ is))
+  where
+    by : (z : Cause) (m : List ℕ) → z ≡ Cause.missing_field m → IsAsMuch z y → y ≡ z
+    by z m f a = subst (λ c. IsAsMuch c y → y ≡ c) (sym f) (λ b. b) a

@@ -1,5 +1,5 @@
 -- Where a reader of a type comes upon what sets the versions of a type apart: an alternative or item that its version lacks, or the absence of an addition that its version requires.
-use Rattle.std.specs.Prelude.{◌≡◌, ℕ, List, [], ◌∷◌, map, Some, None, Ok, true, false}
+use Rattle.std.specs.Prelude.{◌≡◌, ℕ, List, [], ◌∷◌, map, Option, Some, None, Ok, true, false}
 use Rattle.asn_fault.specs.Failure.{Cause}
 use Rattle.asn_model.specs.Components.{Component, Standing, component_names, reading_order}
 use Rattle.asn_model.specs.DecodesTo.{DecodesTo}
@@ -12,10 +12,10 @@ use Rattle.asn_model.specs.Value.{Value, may_lack}
 use Rattle.asn_model.specs.declared.leaves.LeafKind.TheVariants.{Item}
 
 mutual
-  -- A reader of the shape comes upon it at the end of this path of fields, and all that it reads before decodes.
+  -- A reader of the shape comes upon an alternative or item that the shape lacks, or upon the absence of an addition that it requires, at the end of this path of fields, and all that it reads before decodes.
   pub data ComesUpon (n : Notation) : Shape → Tree → Path → Cause → Type 0 where
-    unknown_item : (items : List (List ℕ)) (added : List (List ℕ)) (t : Tree) (i : List ℕ) → as_leaf n Item t ≡ Ok (Value.item i) → is_item (all_items items (Some added)) i ≡ false
-        → ComesUpon n (Shape.enum items (Some added)) t [] (Cause.invalid_enum_discriminant (codec_of n) i)
+    unknown_item : (items : List (List ℕ)) (added : Option (List (List ℕ))) (t : Tree) (i : List ℕ) → as_leaf n Item t ≡ Ok (Value.item i) → is_item (all_items items added) i ≡ false
+        → ComesUpon n (Shape.enum items added) t [] (Cause.invalid_enum_discriminant (codec_of n) i)
     unknown_alternative : (alts : Alternatives) (added : AlternativeAdditions) (t u : Tree) (name : List ℕ) (type_name : List ℕ) → as_choice n t ≡ Some (Some (name, u)) → alternative_named same_identifier (all_alternatives alts added) name ≡ None
         → ComesUpon n (Shape.choice alts added) t [] (Cause.no_valid_choice type_name)
     in_payload : (alts : Alternatives) (added : AlternativeAdditions) (t u : Tree) (name id : List ℕ) (s : Shape) (p : Path) (w : Cause)
@@ -32,7 +32,7 @@ mutual
     upon_here : (s : Shape) (t : Tree) (rest : List Slot) (p : Path) (w : Cause) → ComesUpon n s t p w → EachComesUpon n s (Some t ∷ rest) p w
     upon_later : (s : Shape) (slot : Slot) (rest : List Slot) (v : Value) (p : Path) (w : Cause) → DecodesTo n s slot v → EachComesUpon n s rest p w → EachComesUpon n s (slot ∷ rest) p w
 
-  -- The same in a component, and those that are read before it decode or are absent. A required extension addition may be absent itself.
+  -- The same in a component, or it is a required addition that is absent; and those that are read before it decode or are absent.
   pub data FieldsComeUpon (n : Notation) : List Component → List Slot → Path → Cause → Type 0 where
     upon_field : (c : Component) (cs : List Component) (t : Tree) (rest : List Slot) (p : Path) (w : Cause) → ComesUpon n c.shape t p w → FieldsComeUpon n (c ∷ cs) (Some t ∷ rest) (c.name ∷ p) w
     upon_missing : (c : Component) (cs : List Component) (rest : List Slot) → may_lack c.presence ≡ false → c.standing ≡ Standing.addition → FieldsComeUpon n (c ∷ cs) (None ∷ rest) [] (Cause.missing_field c.name)

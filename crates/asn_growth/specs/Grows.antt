@@ -14,7 +14,7 @@ has_parts (Shape.loop s) = true
 has_parts s = false
 
 mutual
-  -- The second shape is a later version of the first, or the first itself.
+  -- The second shape is a later version of the first, or the first itself. Loops are compared body to body, so that each `back` means the same loop in both.
   pub data Grows : Shape → Shape → Type 0 where
     grows_same : {s : Shape} → has_parts s ≡ false → Grows s s
     grows_enum : (items added more : List (List ℕ)) → Grows (Shape.enum items (Some added)) (Shape.enum items (Some (added ++ more)))
@@ -27,7 +27,6 @@ mutual
     grows_closed_choice : {alts bs : Alternatives} → GrowsAlternatives alts bs → Grows (Shape.choice alts AlternativeAdditions.closed_alternatives) (Shape.choice bs AlternativeAdditions.closed_alternatives)
     grows_choice : {alts bs added more : Alternatives} → GrowsAlternatives alts bs → BeginsAlternatives added more
         → Grows (Shape.choice alts (AlternativeAdditions.extended_alternatives added)) (Shape.choice bs (AlternativeAdditions.extended_alternatives more))
-    -- Loops are compared body to body, so that each `back` means the same loop in both.
     grows_loop : {b c : Shape} → Grows b c → Grows (Shape.loop b) (Shape.loop c)
 
   -- The same fields, each with a later version of its shape.

@@ -25,7 +25,8 @@ pub fn growth_survives_unfolding()
 {}
 
 /// An older reader reads a text of a newer version as the value without what it lacks, where it
-/// looks at no alternative and no item that it lacks. Else it comes upon one.
+/// looks at no alternative and no item that it lacks. Else it comes upon one, and whatever it
+/// refuses it refuses there, for that reason.
 pub fn older_readers_read_newer_texts()
     ensures known { (n : Notation) (old new : Shape) (t : Tree) (v : Value) → IsText n
         → is_readable old ≡ true → Grows old new → DecodesTo n new (Some t) v → Known n old t
@@ -34,6 +35,10 @@ pub fn older_readers_read_newer_texts()
         → is_readable old ≡ true → Grows old new → DecodesTo n new (Some t) v
         → DecodesTo n old (Some t) (project old v)
         ⊎ ((p : Path) × (w : Cause) × ComesUpon n old t p w × IsUnknown w) }
+    ensures refused { (n : Notation) (old new : Shape) (t : Tree) (v : Value) (p : Path) (x : Cause)
+        → IsText n → is_readable old ≡ true → Grows old new → DecodesTo n new (Some t) v
+        → FailsWith n old (Some t) p x
+        → (w : Cause) × ComesUpon n old t p w × IsUnknown w × IsAsMuch w x }
 {}
 
 /// A reader that comes upon an alternative or an item that its type lacks, or upon the absence of
@@ -47,7 +52,8 @@ pub fn other_versions_are_refused()
 
 /// A newer reader reads a canonical text of an older version as the lifted value, or it comes upon
 /// the absence of an addition that its version requires: in JER the JSON value that is written, and
-/// in AVN the normal form of what is written, which its text is read as.
+/// in AVN the normal form of what is written, which its text is read as. Whatever it refuses it
+/// refuses there, for that reason.
 pub fn newer_readers_read_older_texts()
     ensures jer { (old new : Shape) (v : Value) → is_readable old ≡ true → is_readable new ≡ true
         → Grows old new → Fits old v → Writable Notation.jer v
@@ -59,6 +65,15 @@ pub fn newer_readers_read_older_texts()
         → DecodesTo Notation.avn new (Some (Tree.avn (normal (avn_tree v)))) (lift new v)
         ⊎ ((p : Path) × (w : Cause) × ComesUpon Notation.avn new (Tree.avn (normal (avn_tree v)))
         p w × IsMissing w) }
+    ensures jer_refused { (old new : Shape) (v : Value) (p : Path) (x : Cause)
+        → is_readable old ≡ true → is_readable new ≡ true → Grows old new → Fits old v
+        → Writable Notation.jer v → FailsWith Notation.jer new (Some (Tree.json (jer_data v))) p x
+        → ComesUpon Notation.jer new (Tree.json (jer_data v)) p x × IsMissing x }
+    ensures avn_refused { (old new : Shape) (v : Value) (p : Path) (x : Cause)
+        → is_readable old ≡ true → is_readable new ≡ true → Grows old new → Fits old v
+        → Writable Notation.avn v
+        → FailsWith Notation.avn new (Some (Tree.avn (normal (avn_tree v)))) p x
+        → ComesUpon Notation.avn new (Tree.avn (normal (avn_tree v))) p x × IsMissing x }
 {}
 
 /// What a newer version writes for the lifted value is the text of the older version, byte for

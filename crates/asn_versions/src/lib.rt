@@ -1,0 +1,45 @@
+//! States which of the sample types are later versions of others, and what follows for their
+//! readers and writers from the laws of versions. `docs/OLD-AND-NEW.md` goes through it.
+#![tactic(auto)]
+
+ghost use Rattle.asn_growth.specs.Adapted.{lift, project};
+ghost use Rattle.asn_growth.specs.ComesUpon.{Known};
+ghost use Rattle.asn_growth.specs.Grows.{Grows};
+ghost use Rattle.asn_model.specs.Canonical.{canonical_text};
+ghost use Rattle.asn_model.specs.DecodesTo.{DecodesTo};
+ghost use Rattle.asn_model.specs.Notation.{Notation, IsText};
+ghost use Rattle.asn_model.specs.Tree.{Tree};
+ghost use Rattle.asn_model.specs.Value.{Fits, Value};
+ghost use Rattle.asn_model.specs.Writable.{Writable};
+ghost use Rattle.asn_samples.specs.ExtEnum.{ext_enum_shape};
+ghost use Rattle.asn_samples.specs.NewMode.{new_mode_shape};
+ghost use Rattle.asn_samples.specs.NewPart.{new_part_shape};
+ghost use Rattle.asn_samples.specs.NewReport.{new_report_shape};
+ghost use Rattle.asn_samples.specs.OldMode.{old_mode_shape};
+ghost use Rattle.asn_samples.specs.OldPart.{old_part_shape};
+ghost use Rattle.asn_samples.specs.OldReport.{old_report_shape};
+ghost use Rattle.asn_samples.specs.SimpleEnum.{simple_enum_shape};
+ghost use Rattle.std.specs.Prelude.{◌≡◌, Some};
+
+/// States which samples are later versions of others. `ExtEnum` is none of `SimpleEnum`, which has
+/// no extension marker.
+pub fn later_versions()
+    ensures mode { Grows old_mode_shape new_mode_shape }
+    ensures part { Grows old_part_shape new_part_shape }
+    ensures report { Grows old_report_shape new_report_shape }
+    ensures no_marker { Grows simple_enum_shape ext_enum_shape → ⊥ }
+{}
+
+/// States what versions of `Part` are to each other: a reader of `OldPart` reads what a reader of
+/// `NewPart` reads, where it is known to it, and a `NewPart` that was read from a text of an
+/// `OldPart` is written as that text.
+pub fn versions_of_part()
+    ensures forward { (n : Notation) (t : Tree) (v : Value) → IsText n
+        → DecodesTo n new_part_shape (Some t) v → Known n old_part_shape t
+        → DecodesTo n old_part_shape (Some t) (project old_part_shape v) }
+    ensures relay { (n : Notation) (v : Value) → IsText n → Fits old_part_shape v → Writable n v
+        → canonical_text n (lift new_part_shape v) ≡ canonical_text n v }
+{
+    asn_growth::laws::older_readers_read_newer_texts();
+    asn_growth::laws::relays_keep_texts();
+}

@@ -7,7 +7,7 @@ ghost use Rattle.asn_growth.specs.ComesUpon.{Known};
 ghost use Rattle.asn_growth.specs.Grows.{Grows};
 ghost use Rattle.asn_model.specs.Canonical.{canonical_text};
 ghost use Rattle.asn_model.specs.DecodesTo.{DecodesTo};
-ghost use Rattle.asn_model.specs.Notation.{Notation, IsText};
+ghost use Rattle.asn_model.specs.Notation.{Notation, IsText, notation_of};
 ghost use Rattle.asn_model.specs.Tree.{Tree};
 ghost use Rattle.asn_model.specs.Value.{Fits, Value};
 ghost use Rattle.asn_model.specs.Writable.{Writable};
@@ -16,10 +16,18 @@ ghost use Rattle.asn_samples.specs.NewMode.{new_mode_shape};
 ghost use Rattle.asn_samples.specs.NewPart.{new_part_shape};
 ghost use Rattle.asn_samples.specs.NewReport.{new_report_shape};
 ghost use Rattle.asn_samples.specs.OldMode.{old_mode_shape};
-ghost use Rattle.asn_samples.specs.OldPart.{old_part_shape};
+ghost use Rattle.asn_samples.specs.OldPart.{old_part_shape, old_part_value};
 ghost use Rattle.asn_samples.specs.OldReport.{old_report_shape};
 ghost use Rattle.asn_samples.specs.SimpleEnum.{simple_enum_shape};
+ghost use Rattle.asn_codec.specs.Texts.{HasTree};
+ghost use Rattle.asn_traits.specs.Root.{Reads};
 ghost use Rattle.std.specs.Prelude.{◌≡◌, Some};
+
+use asn_core::Codec;
+use asn_fault::DecodeError;
+use asn_samples::{NewPart, OldPart};
+use asn_upgrades::decode_as_older;
+use std::alloc::Global;
 
 /// States which samples are later versions of others. `ExtEnum` is none of `SimpleEnum`, which has
 /// no extension marker.
@@ -42,4 +50,18 @@ pub fn versions_of_part()
 {
     asn_growth::laws::older_readers_read_newer_texts();
     asn_growth::laws::relays_keep_texts();
+}
+
+/// Decodes a text as an `OldPart`, which may have been written for a `NewPart`.
+///
+/// # Errors
+///
+/// Those of `decode_from_str`.
+pub fn decode_part(codec: Codec, alloc: Global, input: &str) -> Result<OldPart, DecodeError>
+    ensures known { (t : Tree) (v : Value) → HasTree (notation_of codec) input.now t
+        → DecodesTo (notation_of codec) new_part_shape (Some t) v
+        → Known (notation_of codec) old_part_shape t
+        → Reads old_part_value (project old_part_shape v) result }
+{
+    decode_as_older::<OldPart, NewPart>(codec, alloc, input)
 }

@@ -1,4 +1,6 @@
 pub mod Asking
+pub mod Relaying
+pub mod MadeTexts
 pub mod Answering
 pub mod CallsLemmas
 pub mod Known

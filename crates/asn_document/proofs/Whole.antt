@@ -1,10 +1,10 @@
 -- A value holds no float exactly where none of its parts does.
-use Rattle.std.proofs.Common.{◌≡◌, ℕ, zero, suc, ◌<◌, Option, Result, Ok, Err, OnOk, OnErr, List, [], ◌∷◌, ◌++◌, length, get_or, false, refl, ap, ◌∙◌, sym, subst, arith, String, Global, string_bytes}
+use Rattle.std.proofs.Common.{◌≡◌, ℕ, zero, suc, ◌<◌, Result, Ok, Err, OnOk, OnErr, List, [], ◌∷◌, ◌++◌, length, get_or, false, refl, sym, subst, arith}
 use Rattle.std.proofs.lemmas.Bool.{or_from, or_parts}
-use Rattle.std.specs.BTreeMap.{insert_entry}
-use Rattle.std.specs.String.{string_cmp}
+use Rattle.std.specs.Bool.{⊤}
 use Rattle.json_floats.proofs.Putting.{put-false}
-use Rattle.serde_json.proofs.Views.{Entry, members_view-insert_entry}
+use Rattle.serde_json.proofs.Views.{Entry}
+use Rattle.serde_json.specs.Data.{Data, put}
 use Rattle.serde_json.specs.View.{view, items_view, members_view}
 use Rattle.serde_json.specs.Written.{has_float, items_have_float, members_have_float}
 use Rattle.serde_json.specs.declared.value.Value.{Value as JsonValue}
@@ -27,13 +27,8 @@ items_more (w ∷ ws) v none h =
     let (first, others) = or_parts (has_float (view w)) (items_have_float (items_view ws)) none in
     or_from (has_float (view w)) (items_have_float (items_view (ws ++ v ∷ []))) first (items_more ws v others h)
 
--- One member more, or another value of a member.
-pub inserted_whole : (old new : List Entry) (k : String Global) (v : JsonValue) → new ≡ insert_entry string_cmp old k v → has_float (view v) ≡ false → members_have_float (members_view old) ≡ false → members_have_float (members_view new) ≡ false
-inserted_whole old new k v is h none =
-    subst (λ ms. members_have_float ms ≡ false) (sym (ap members_view is ∙ members_view-insert_entry old k v)) (put-false (string_bytes k) (view v) (members_view old) h none)
-
--- After an insertion that may have failed there is no float, as there was none.
-pub insertion_whole : {E : Type 0} (r : Result (Option JsonValue) E) (old new : List Entry) (k : String Global) (v : JsonValue) → OnOk r (new ≡ insert_entry string_cmp old k v) → OnErr r (new ≡ old)
-    → has_float (view v) ≡ false → members_have_float (members_view old) ≡ false → members_have_float (members_view new) ≡ false
-insertion_whole (Ok replaced) old new k v is same h none = inserted_whole old new k v is h none
-insertion_whole (Err e) old new k v is same h none = subst (λ es. members_have_float (members_view es) ≡ false) (sym same) none
+-- After a member was put, or was refused, there is no float, as there was none.
+pub put_whole : {E : Type 0} (r : Result ⊤ E) (old new : List Entry) (k : List ℕ) (d : Data) → OnOk r (members_view new ≡ put k d (members_view old)) → OnErr r (new ≡ old)
+    → has_float d ≡ false → members_have_float (members_view old) ≡ false → members_have_float (members_view new) ≡ false
+put_whole (Ok u) old new k d is same h none = subst (λ ms. members_have_float ms ≡ false) (sym is) (put-false k d (members_view old) h none)
+put_whole (Err e) old new k d is same h none = subst (λ es. members_have_float (members_view es) ≡ false) (sym same) none

@@ -28,6 +28,22 @@ impl DocumentMap {
         }
     }
 
+    /// Returns the map of these members, which hold no float.
+    pub(crate) fn of_whole(members: Map<String, Value>) -> DocumentMap
+        requires { members_have_float (members_view members.entries) ≡ false }
+        ensures { result.members ≡ members }
+    {
+        DocumentMap { members }
+    }
+
+    /// Returns the members.
+    pub(crate) fn members(&self) -> &Map<String, Value>
+        ensures is { result.now ≡ self.now.members }
+        ensures whole { members_have_float (members_view result.now.entries) ≡ false }
+    {
+        &self.members
+    }
+
     /// Puts a value at a key. A value that the key had before is replaced.
     ///
     /// # Errors
@@ -38,13 +54,7 @@ impl DocumentMap {
             ≡ put (string_bytes key) (view value.value) (members_view self.old.members.entries)) }
         ensures kept { OnErr result (self.new.members.entries ≡ self.old.members.entries) }
     {
-        match self.members.insert(key, value.into_value()) {
-            Ok(replaced) => {
-                drop(replaced);
-                Ok(())
-            }
-            Err(_) => Err(OutOfMemory),
-        }
+        put_member(&mut self.members, key, value.into_value())
     }
 
     /// Returns the number of members.
@@ -52,5 +62,29 @@ impl DocumentMap {
         ensures { result ≡ length self.now.members.entries }
     {
         self.members.len()
+    }
+}
+
+/// Puts a value at a key of a map. A value that the key had before is replaced.
+///
+/// # Errors
+///
+/// `OutOfMemory` alone, and then the map is as it was.
+#[tactic(auto, using(crate::proofs::Puts::insertion))]
+pub(crate) fn put_member(
+    members: &mut Map<String, Value>,
+    key: String,
+    value: Value,
+) -> Result<(), OutOfMemory>
+    ensures put { OnOk result (members_view members.new.entries
+        ≡ put (string_bytes key) (view value) (members_view members.old.entries)) }
+    ensures kept { OnErr result (members.new.entries ≡ members.old.entries) }
+{
+    match members.insert(key, value) {
+        Ok(replaced) => {
+            drop(replaced);
+            Ok(())
+        }
+        Err(_) => Err(OutOfMemory),
     }
 }

@@ -6,6 +6,9 @@
 mod document;
 mod document_map;
 mod equality;
+mod impls;
+mod reading;
+mod writing;
 
 pub use document::Document;
 pub use document_map::DocumentMap;

@@ -3,6 +3,7 @@ use denote.Enum.Bare.{sameb}
 use Rattle.std.specs.Prelude.{ℕ, List, [], ◌∷◌, codes, bytes_eq, if◌then◌else◌, Option, Some, None, option_map}
 use Rattle.asn_traits.specs.Shape.{Alphabet, Shape}
 use Rattle.asn_traits.specs.Terms.{signed, unsigned, utf8_string}
+use Rattle.asn_document.specs.Meaning.{document_shape}
 use Rattle.asn_samples.specs.ConstrainedBitString.{constrained_bit_string_shape}
 use Rattle.asn_samples.specs.Defaulted.{defaulted_shape}
 use Rattle.asn_samples.specs.ExtChoice.{ext_choice_shape}
@@ -57,6 +58,7 @@ samples =
     ∷ (codes "BitString", sample_type.BitString, Shape.bits None)
     ∷ (codes "Any", sample_type.Any, Shape.any)
     ∷ (codes "ObjectIdentifier", sample_type.ObjectIdentifier, Shape.oid)
+    ∷ (codes "Document", sample_type.Document, document_shape)
     ∷ (codes "Renamed", sample_type.Renamed, renamed_shape)
     ∷ (codes "Inner", sample_type.Inner, inner_shape)
     ∷ (codes "SimpleEnum", sample_type.SimpleEnum, simple_enum_shape)

@@ -7,6 +7,7 @@ ghost use Rattle.std.specs.Prelude.{◌≡◌, IfOk, is_some};
 
 use crate::SampleVisitor;
 use asn_base::{Any, BitString, Integer, ObjectIdentifier, OctetString, OutOfMemory, SetOf};
+use asn_document::Document;
 use asn_strings::{
     BmpString, GeneralString, GraphicString, Ia5String, NumericString, PrintableString,
     UniversalString, VisibleString,
@@ -74,6 +75,8 @@ pub enum Sample {
     Any,
     /// Is OBJECT IDENTIFIER.
     ObjectIdentifier,
+    /// Is a JSON document.
+    Document,
     /// Is a SEQUENCE whose fields have other names than in Rust.
     Renamed,
     /// Is a CHOICE of one alternative.
@@ -150,6 +153,7 @@ impl Sample {
             "BitString" => Some(Sample::BitString),
             "Any" => Some(Sample::Any),
             "ObjectIdentifier" => Some(Sample::ObjectIdentifier),
+            "Document" => Some(Sample::Document),
             "Renamed" => Some(Sample::Renamed),
             "Inner" => Some(Sample::Inner),
             "SimpleEnum" => Some(Sample::SimpleEnum),
@@ -207,6 +211,7 @@ impl Sample {
             Sample::BitString => visitor.visit::<BitString>(state),
             Sample::Any => visitor.visit::<Any>(state),
             Sample::ObjectIdentifier => visitor.visit::<ObjectIdentifier>(state),
+            Sample::Document => visitor.visit::<Document>(state),
             Sample::Renamed => visitor.visit::<crate::Renamed>(state),
             Sample::Inner => visitor.visit::<crate::Inner>(state),
             Sample::SimpleEnum => visitor.visit::<crate::SimpleEnum>(state),

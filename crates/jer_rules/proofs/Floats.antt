@@ -1,11 +1,9 @@
 -- What JER writes holds no float.
-use Rattle.std.proofs.Common.{◌≡◌, refl, ap, sym, ◌∙◌, subst, ℕ, ℤ, pos, negsuc, List, false, ◌||◌, Ordering, Less, Equal, Greater, Option, Some, None}
-use Rattle.std.proofs.lemmas.Bool.{or_from, or_parts}
-use Rattle.std.specs.Cmp.Lexicographic.{slice_cmp}
+use Rattle.std.proofs.Common.{◌≡◌, refl, ap, sym, ◌∙◌, subst, ℕ, ℤ, pos, negsuc, List, false, Option, Some, None}
+use Rattle.std.proofs.lemmas.Bool.{or_from}
 use Rattle.std.specs.List.{AllByRecursion}
-use Rattle.std.specs.Ordering.{nat_cmp, match_ordering}
 use Rattle.std.specs.Prelude.{option_map, IfSome, ◌≤◌}
-use Rattle.serde_json.specs.Data.{Data, Members, put, depth}
+use Rattle.serde_json.specs.Data.{Data, depth}
 use Rattle.serde_json.specs.Read.{read, max_depth}
 use Rattle.serde_json.specs.Find.{is_float, of_integer}
 use Rattle.serde_json.specs.Written.{compact_text, has_float, items_have_float, members_have_float}
@@ -14,21 +12,8 @@ use Rattle.asn_traits.specs.Notation.{Notation}
 use Rattle.asn_traits.specs.Sorting.{by_text}
 use Rattle.asn_traits.specs.Value.{Value, Values, Slots, elements}
 use Rattle.asn_model.proofs.Bags.{each-ordered, jer_items-sorted}
+use Rattle.json_floats.proofs.Putting.{put-false}
 use Rattle.jer_rules.specs.Text.{ReadsBack}
-
-ordered-false : (o : Ordering) (a b c : Members) → members_have_float a ≡ false → members_have_float b ≡ false → members_have_float c ≡ false → members_have_float (match_ordering o a b c) ≡ false
-ordered-false Less a b c h j k = h
-ordered-false Equal a b c h j k = j
-ordered-false Greater a b c h j k = k
-
-put-false : (n : List ℕ) (d : Data) (ms : Members) → has_float d ≡ false → members_have_float ms ≡ false → members_have_float (put n d ms) ≡ false
-put-false n d Members.no_members h k = or_from (has_float d) false h refl
-put-false n d (Members.member m e ms) h k =
-    let (first, others) = or_parts (has_float e) (members_have_float ms) k in
-    ordered-false (slice_cmp nat_cmp n m) (Members.member n d (Members.member m e ms)) (Members.member m d ms) (Members.member m e (put n d ms))
-    (or_from (has_float d) (has_float e || members_have_float ms) h k)
-    (or_from (has_float d) (members_have_float ms) h others)
-    (or_from (has_float e) (members_have_float (put n d ms)) first (put-false n d ms h others))
 
 integer-false : (n : ℤ) → is_float (of_integer n) ≡ false
 integer-false (pos n) = refl

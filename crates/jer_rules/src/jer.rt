@@ -20,7 +20,6 @@ mod build;
 pub mod de;
 pub mod enc;
 mod faults;
-mod floats;
 mod identifiers;
 mod leaves;
 mod take_apart;

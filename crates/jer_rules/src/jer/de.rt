@@ -16,7 +16,6 @@ ghost use Rattle.std.specs.Prelude.{option_map};
 use super::faults::{
     end_of_input, mismatch, no_digits, no_item, no_json, no_object, no_octets, no_oid, other_length,
 };
-use super::floats::holds_float;
 use super::leaves::{NoLeaf, leaf_of_json};
 use super::take_apart::{into_items, into_members, into_payload};
 use asn_core::Codec;
@@ -24,6 +23,7 @@ use asn_fault::DecodeError;
 use asn_model::words;
 use asn_slots::Pending;
 use asn_traits::{Field, LeafKind, OwnedLeaf, SeqKind};
+use json_floats::holds_float;
 use serde_json::{Map, Value};
 use std::alloc::Global;
 

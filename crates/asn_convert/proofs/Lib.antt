@@ -1,4 +1,5 @@
 pub mod Asking
+pub mod Counting
 pub mod Relaying
 pub mod MadeTexts
 pub mod Answering

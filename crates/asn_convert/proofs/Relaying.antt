@@ -11,7 +11,7 @@ use Rattle.asn_traits.specs.Shape.{Shape}
 use Rattle.asn_traits.specs.Tree.{Tree}
 use Rattle.asn_traits.specs.Value.{Fits, Value}
 use Rattle.asn_traits.specs.Writable.{Writable}
-use Rattle.asn_convert.specs.Made.{IsRelayed, TextLengths}
+use Rattle.asn_convert.specs.Made.{IsRelayed, TextLengths, report_lines}
 
 -- the text in JER decodes to the value
 pub first_read : (s : Shape) (v : Value) (jer : List ℕ) → is_readable s ≡ true → Fits s v → IsRelayed v → ReadsBack Notation.jer v jer → TextDecodesTo Notation.jer s jer v
@@ -42,3 +42,11 @@ measured s v jer avn back a b c fits relayed is read forth home is_a is_b is_c =
       of_avn = is_b ∙ ap length (sym ((forth.equal v v read fits relayed.avn).1 refl));
       of_back = is_c ∙ ap length (sym ((home.equal v v second fits relayed.jer).1 refl));
     }
+
+-- the lines on a document are by the lengths of its value's texts
+pub lines_measured : (n jer avn back : ℕ) (v : Value) → TextLengths v jer avn back
+    → report_lines n jer avn back ≡ report_lines n (length (canonical_text Notation.jer v)) (length (canonical_text Notation.avn v)) (length (canonical_text Notation.jer v))
+lines_measured n jer avn back v t =
+    ap (λ a. report_lines n a avn back) t.of_jer
+    ∙ ap (λ b. report_lines n (length (canonical_text Notation.jer v)) b back) t.of_avn
+    ∙ ap (report_lines n (length (canonical_text Notation.jer v)) (length (canonical_text Notation.avn v))) t.of_back

@@ -63,9 +63,9 @@ fn relay<T: Encode + Decode>(alloc: Global, value: &T) -> Result<Lengths, Transc
     let avn = transcode::<T>(alloc, Codec::Jer, Codec::Avn, jer.as_str())?;
     let back = transcode::<T>(alloc, Codec::Avn, Codec::Jer, avn.as_str())?;
     Ok(Lengths {
-        jer: jer.len(),
-        avn: avn.len(),
-        back: back.len(),
+        jer: jer.as_str().len(),
+        avn: avn.as_str().len(),
+        back: back.as_str().len(),
     })
 }
 

@@ -1,7 +1,7 @@
 //! Runs the program: reads an input, decides what it asks for, converts the text at the Rust type
 //! of the sample that it names, and writes the result. Each step below `run` is one function, and
 //! returns a `Status`.
-ghost use Rattle.std.specs.Prelude.{◌≡◌, ◌≢◌, ◌<◌, ◌⊎◌, ◌++◌, ◌∷◌, [], ℕ, List, length, IsUtf8};
+ghost use Rattle.std.specs.Prelude.{◌≡◌, ◌≢◌, ◌≤◌, ◌<◌, ◌⊎◌, ◌++◌, ◌∷◌, [], ℕ, List, length, IsUtf8};
 ghost use Rattle.std.specs.Prelude.{Some, None, true, string_bytes};
 ghost use Rattle.std.specs.Io.KnownBytes.{Keeps};
 ghost use Rattle.asn_convert.specs.Faults.{Increased};
@@ -114,6 +114,7 @@ pub fn run<S: Source, K: Sink>(alloc: Global, source: &mut S, sink: &mut K) -> S
 }
 
 /// Does what a request asks for, with the text after it.
+#[tactic(auto, using(crate::proofs::Answering::conversion_answers, crate::proofs::Answering::report_answers))]
 fn respond<K: Sink>(alloc: Global, request: Request, text: &str, sink: &mut K) -> Status
     requires { HasFewEntries request }
     ensures answer { AnswersTo request text.now

@@ -4,6 +4,7 @@ ghost use Rattle.std.specs.Prelude.{◌≡◌, IfSome};
 ghost use Rattle.asn_convert.specs.Lines.{words};
 ghost use Rattle.asn_convert.specs.Requests.{HasFewEntries, before_text, count_of};
 ghost use Rattle.asn_convert.specs.Requests.{notation_named, request_for, request_of_words};
+ghost use Rattle.asn_samples.specs.Samples.{sample_named};
 
 use crate::lines::next_word;
 use asn_core::Codec;
@@ -59,7 +60,11 @@ fn count(word: &str) -> Option<u32>
     ensures { result ≡ count_of word.now }
 {
     // A sign is no digit.
-    if word.len() > 6 || word.starts_with('+') {
+    let first = *word.as_bytes().first()?;
+    if first < b'0' {
+        return None;
+    }
+    if word.len() > 6 {
         return None;
     }
     let number = word.parse::<u32>().ok()?;

@@ -24,12 +24,12 @@ some_same : (a b : Request) {o : Option Request} → o ≡ Some a → o ≡ Some
 some_same a b e f = let d : ◌≡◌ {A = Option Request} (Some a) (Some b) = sym e ∙ f in cc d
 
 -- the request of an input is that of its line and its text
-line_requests : (input text line rest : List ℕ) (request : Request) → input ≡ text → line ≡ request_line text → rest ≡ text_part text → before_text rest (request_of_words (words line)) ≡ Some request → request_of input ≡ Some request
+line_requests : (input text line rest : List ℕ) (request : Request) → input ≡ text → line ≡ request_line text → rest ≡ text_part text → before_text (request_of_words (words line)) rest ≡ Some request → request_of input ≡ Some request
 line_requests input text line rest request same is_line is_rest named =
-    ap request_of same ∙ ap (λ l. before_text (text_part text) (request_of_words (words l))) (sym is_line) ∙ ap (λ t. before_text t (request_of_words (words line))) (sym is_rest) ∙ named
+    ap request_of same ∙ ap (λ l. before_text (request_of_words (words l)) (text_part text)) (sym is_line) ∙ ap (before_text (request_of_words (words line))) (sym is_rest) ∙ named
 
 -- an input whose line is a request is one that asks for something
-pub requests_something : (input text line rest : List ℕ) (request : Request) → input ≡ text → line ≡ request_line text → rest ≡ text_part text → before_text rest (request_of_words (words line)) ≡ Some request → request_of input ≡ None → ⊥
+pub requests_something : (input text line rest : List ℕ) (request : Request) → input ≡ text → line ≡ request_line text → rest ≡ text_part text → before_text (request_of_words (words line)) rest ≡ Some request → request_of input ≡ None → ⊥
 requests_something input text line rest request same is_line is_rest named none =
     let d : ◌≡◌ {A = Option Request} None (Some request) = sym none ∙ line_requests input text line rest request same is_line is_rest named in cc d
 
@@ -39,7 +39,7 @@ within_limit told whole above = omega (arith, ap length (whole_input told whole)
 
 -- the text of an input that is answered is answered as its line says
 pub answerable_text : (input text line rest : List ℕ) (request : Request) → RequestsValue input → input ≡ text → line ≡ request_line text → rest ≡ text_part text
-    → before_text rest (request_of_words (words line)) ≡ Some request → IsAnswerable request rest
+    → before_text (request_of_words (words line)) rest ≡ Some request → IsAnswerable request rest
 answerable_text input text line rest request asks same is_line is_rest named =
     let e : asks.asks ≡ request = some_same asks.asks request asks.for_request (line_requests input text line rest request same is_line is_rest named) in
     subst (IsAnswerable request) (ap text_part same ∙ sym is_rest) (subst (λ m. IsAnswerable m (text_part input)) e asks.answerable)

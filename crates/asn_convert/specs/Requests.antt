@@ -37,13 +37,13 @@ request_of_words (from ∷ to ∷ name ∷ []) = request_for (notation_named fro
 request_of_words (from ∷ to ∷ name ∷ other ∷ more) = None
 
 -- the request, unless it is one to make a document and stands before a text
-abbrev pub before_text : List ℕ → Option Request → Option Request
-before_text (b ∷ bs) (Some (Make n)) = None
-before_text text asked = asked
+abbrev pub before_text : Option Request → List ℕ → Option Request
+before_text (Some (Make n)) (b ∷ bs) = None
+before_text asked text = asked
 
 -- the request that an input makes
 abbrev pub request_of : List ℕ → Option Request
-request_of input = before_text (text_part input) (request_of_words (words (request_line input)))
+request_of input = before_text (request_of_words (words (request_line input))) (text_part input)
 
 -- a document of the request has at most so many entries as one may have
 abbrev pub HasFewEntries : Request → Type 0

@@ -1,8 +1,8 @@
 //! Reads a request line: `<from> <to> <type>`, three words, of which the first two name a text
 //! notation and the third a sample type; or `make <n>`, with a number of entries.
-ghost use Rattle.std.specs.Prelude.{◌≡◌, IfSome};
+ghost use Rattle.std.specs.Prelude.{◌≡◌};
 ghost use Rattle.asn_convert.specs.Lines.{words};
-ghost use Rattle.asn_convert.specs.Requests.{HasFewEntries, before_text, count_of};
+ghost use Rattle.asn_convert.specs.Requests.{before_text, count_of};
 ghost use Rattle.asn_convert.specs.Requests.{notation_named, request_for, request_of_words};
 ghost use Rattle.asn_samples.specs.Samples.{sample_named};
 
@@ -98,8 +98,7 @@ fn of_line(line: &str) -> Option<Request>
 /// Returns the request that a line makes before a text, or `None` where it makes none: a document
 /// is made without a text.
 pub fn requested(line: &str, text: &str) -> Option<Request>
-    ensures asked { result ≡ before_text text.now (request_of_words (words line.now)) }
-    ensures few { IfSome result HasFewEntries }
+    ensures { result ≡ before_text (request_of_words (words line.now)) text.now }
 {
     match of_line(line)? {
         Request::Make { entries } if !text.is_empty() => None,

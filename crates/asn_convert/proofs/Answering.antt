@@ -3,9 +3,14 @@ use Rattle.std.proofs.Common.{◌≡◌, ◌≢◌, refl, ◌++◌, ◌∷◌, [
 use Rattle.asn_core.specs.declared.codec.Codec.{Codec}
 use Rattle.asn_traits.specs.Shape.{Shape}
 use Rattle.asn_codec.specs.Conversion.{Converts, Refuses, refusal_of, is_refusal_out_of_memory}
-use Rattle.asn_convert.specs.ExpectedOutput.{Answers, Outcome, refusal_line}
+use Rattle.asn_convert.specs.ExpectedOutput.{Answers, AnswersTo, Outcome, refusal_line}
 use Rattle.asn_convert.specs.Faults.{Increased}
+use Rattle.asn_convert.specs.Made.{report}
 use Rattle.asn_convert.specs.Transfer.{Transfer}
+use Rattle.asn_convert.specs.declared.request.Request.{Request}
+use Rattle.asn_convert.specs.declared.request.Request.TheVariants.{Convert, Make}
+use Rattle.asn_samples.specs.Samples.{sample_shape}
+use Rattle.asn_samples.specs.declared.sample.Sample.{Sample}
 use Rattle.asn_codec.specs.declared.conversion.TranscodeError.{TranscodeError}
 use Rattle.asn_convert.specs.declared.status.Status.{Status}
 use Rattle.asn_convert.specs.declared.status.Status.TheVariants.{Done, Refused, BadRequest, ReadFault, WriteFault, WantOfMemory, TooLong, NotText}
@@ -34,14 +39,31 @@ no_refusal due t r (Outcome.whole a) e = cc e
 no_refusal due t r (Outcome.cut rose front) e = cc e
 no_refusal due t r (Outcome.unwritten keeps) e = cc e
 
+-- what is said of the answer to a text is said of the request for it
+pub conversion_answers : (from to : Codec) (sample : Sample) (text : List ℕ) (t : Transfer) (r : Status) → Answers from to (sample_shape sample) text t r → AnswersTo (Convert from to sample) text t r
+conversion_answers from to sample text t Done h = h
+conversion_answers from to sample text t Refused h = h
+conversion_answers from to sample text t WriteFault h = h
+conversion_answers from to sample text t WantOfMemory h = h
+conversion_answers from to sample text t BadRequest h = h
+conversion_answers from to sample text t ReadFault h = h
+conversion_answers from to sample text t TooLong h = h
+conversion_answers from to sample text t NotText h = h
+
+-- the report on a document answers the request for it
+pub report_answers : (n : ℕ) (text : List ℕ) (t : Transfer) (r : Status) → Outcome (report n) Done t r → AnswersTo (Make n) text t r
+report_answers n text t r (Outcome.whole a) = record { bytes = report n; has = refl; appended = a }
+report_answers n text t r (Outcome.cut rose front) = (rose, record { bytes = report n; has = inl refl; appended = front })
+report_answers n text t r (Outcome.unwritten keeps) = keeps
+
 -- where no write fails and nothing is refused, the answer is written or memory runs out
-pub done_or_hungry : (from to : Codec) (s : Shape) (text : List ℕ) (t : Transfer) (r : Status) → Answers from to s text t r
+pub done_or_hungry : (asked : Request) (text : List ℕ) (t : Transfer) (r : Status) → AnswersTo asked text t r
     → r ≢ Refused → (Increased t.faults_before t.faults_after → ⊥) → (r ≡ Done) ⊎ (r ≡ WantOfMemory)
-done_or_hungry from to s text t Done h not_refused steady = inl refl
-done_or_hungry from to s text t Refused h not_refused steady = absurd (not_refused refl)
-done_or_hungry from to s text t WriteFault h not_refused steady = absurd (steady h.0)
-done_or_hungry from to s text t WantOfMemory h not_refused steady = inr refl
-done_or_hungry from to s text t BadRequest h not_refused steady = absurd h
-done_or_hungry from to s text t ReadFault h not_refused steady = absurd h
-done_or_hungry from to s text t TooLong h not_refused steady = absurd h
-done_or_hungry from to s text t NotText h not_refused steady = absurd h
+done_or_hungry asked text t Done h not_refused steady = inl refl
+done_or_hungry asked text t Refused h not_refused steady = absurd (not_refused refl)
+done_or_hungry asked text t WriteFault h not_refused steady = absurd (steady h.0)
+done_or_hungry asked text t WantOfMemory h not_refused steady = inr refl
+done_or_hungry asked text t BadRequest h not_refused steady = absurd h
+done_or_hungry asked text t ReadFault h not_refused steady = absurd h
+done_or_hungry asked text t TooLong h not_refused steady = absurd h
+done_or_hungry asked text t NotText h not_refused steady = absurd h

@@ -1,13 +1,11 @@
 -- What an input asks for, from its bytes as they were read.
 use Rattle.std.proofs.Common.{◌≡◌, sym, ap, ◌∙◌, subst, ℕ, List, ◌++◌, Option, Some, None, append-nil, length, ◌<◌, arith}
 use Rattle.std.specs.Io.KnownBytes.{Consumes, IsAtEnd}
-use Rattle.asn_codec.specs.Conversion.{IsConvertible}
 use Rattle.asn_convert.specs.Input.{IsWholeInput, input_limit}
 use Rattle.asn_convert.specs.Transfer.{Transfer}
 use Rattle.asn_convert.specs.Lines.{request_line, text_part, words}
-use Rattle.asn_samples.specs.Samples.{sample_shape}
-use Rattle.asn_convert.specs.Requests.{request_of, request_of_words}
-use Rattle.asn_convert.specs.Run.{RequestsValue}
+use Rattle.asn_convert.specs.Requests.{before_text, request_of, request_of_words}
+use Rattle.asn_convert.specs.Run.{IsAnswerable, RequestsValue}
 use Rattle.asn_convert.specs.declared.request.Request.{Request}
 
 known_input : (old new : Option (List ℕ)) (input taken : List ℕ) → old ≡ Some input → Consumes old new taken → IsAtEnd new → input ≡ taken
@@ -25,23 +23,23 @@ whole_input told whole = known_input _ _ _ _ told whole.taken whole.ended
 some_same : (a b : Request) {o : Option Request} → o ≡ Some a → o ≡ Some b → a ≡ b
 some_same a b e f = let d : ◌≡◌ {A = Option Request} (Some a) (Some b) = sym e ∙ f in cc d
 
--- the request of an input is that of its line
-line_requests : (input text line : List ℕ) (request : Request) → input ≡ text → line ≡ request_line text → request_of_words (words line) ≡ Some request → request_of input ≡ Some request
-line_requests input text line request same is_line named = ap (λ l. request_of_words (words l)) (ap request_line same ∙ sym is_line) ∙ named
+-- the request of an input is that of its line and its text
+line_requests : (input text line rest : List ℕ) (request : Request) → input ≡ text → line ≡ request_line text → rest ≡ text_part text → before_text (request_of_words (words line)) rest ≡ Some request → request_of input ≡ Some request
+line_requests input text line rest request same is_line is_rest named =
+    ap request_of same ∙ ap (λ l. before_text (request_of_words (words l)) (text_part text)) (sym is_line) ∙ ap (before_text (request_of_words (words line))) (sym is_rest) ∙ named
 
 -- an input whose line is a request is one that asks for something
-pub requests_something : (input text line : List ℕ) (request : Request) → input ≡ text → line ≡ request_line text → request_of_words (words line) ≡ Some request → request_of input ≡ None → ⊥
-requests_something input text line request same is_line named none =
-    let d : ◌≡◌ {A = Option Request} None (Some request) = sym none ∙ line_requests input text line request same is_line named in cc d
+pub requests_something : (input text line rest : List ℕ) (request : Request) → input ≡ text → line ≡ request_line text → rest ≡ text_part text → before_text (request_of_words (words line)) rest ≡ Some request → request_of input ≡ None → ⊥
+requests_something input text line rest request same is_line is_rest named none =
+    let d : ◌≡◌ {A = Option Request} None (Some request) = sym none ∙ line_requests input text line rest request same is_line is_rest named in cc d
 
 -- a known input that was read whole is not above the limit
 pub within_limit : {t : Transfer} {input taken : List ℕ} → t.bytes_before ≡ Some input → IsWholeInput t taken → input_limit < length input → ⊥
 within_limit told whole above = omega (arith, ap length (whole_input told whole), whole.within, above)
 
--- the text of an input that asks for a value is converted as its line says
-pub convertible_text : (input text line rest : List ℕ) (request : Request) → RequestsValue input → input ≡ text → line ≡ request_line text → rest ≡ text_part text
-    → request_of_words (words line) ≡ Some request → IsConvertible request.from request.to (sample_shape request.sample) rest
-convertible_text input text line rest request asks same is_line is_rest named =
-    let e : asks.asks ≡ request = some_same asks.asks request asks.for_request (line_requests input text line request same is_line named) in
-    subst (λ r. IsConvertible request.from request.to (sample_shape request.sample) r) (ap text_part same ∙ sym is_rest)
-    (subst (λ m. IsConvertible m.from m.to (sample_shape m.sample) (text_part input)) e asks.convertible)
+-- the text of an input that is answered is answered as its line says
+pub answerable_text : (input text line rest : List ℕ) (request : Request) → RequestsValue input → input ≡ text → line ≡ request_line text → rest ≡ text_part text
+    → before_text (request_of_words (words line)) rest ≡ Some request → IsAnswerable request rest
+answerable_text input text line rest request asks same is_line is_rest named =
+    let e : asks.asks ≡ request = some_same asks.asks request asks.for_request (line_requests input text line rest request same is_line is_rest named) in
+    subst (IsAnswerable request) (ap text_part same ∙ sym is_rest) (subst (λ m. IsAnswerable m (text_part input)) e asks.answerable)

@@ -1,4 +1,8 @@
 pub mod Asking
+pub mod Counting
+pub mod FewEntries
+pub mod Relaying
+pub mod MadeTexts
 pub mod Answering
 pub mod CallsLemmas
 pub mod Known

@@ -5,7 +5,11 @@ use Rattle.asn_core.specs.declared.codec.Codec.{Codec}
 use Rattle.asn_traits.specs.Shape.{Shape}
 use Rattle.asn_codec.specs.Conversion.{Converts, Refuses, refusal_of, error_text}
 use Rattle.asn_convert.specs.Faults.{Increased, AppendsFront}
+use Rattle.asn_convert.specs.Made.{report}
 use Rattle.asn_convert.specs.Transfer.{Transfer}
+use Rattle.asn_convert.specs.declared.request.Request.{Request}
+use Rattle.asn_convert.specs.declared.request.Request.TheVariants.{Convert, Make}
+use Rattle.asn_samples.specs.Samples.{sample_shape}
 use Rattle.asn_convert.specs.declared.status.Status.{Status}
 use Rattle.asn_convert.specs.declared.status.Status.TheVariants.{Done, Refused, WriteFault, WantOfMemory}
 use Rattle.asn_codec.specs.declared.conversion.TranscodeError.{TranscodeError}
@@ -42,6 +46,20 @@ pub record WroteFront (sink : Transfer) (P : List ℕ → Type 0) : Type 0 where
   pub has : P bytes
   pub appended : AppendsFront sink.bytes_before sink.bytes_after bytes
 
+-- the bytes are what is expected for the request: the answer to its text, or the report on its document
+abbrev pub IsAnswerTo : Request → List ℕ → List ℕ → Type 0
+IsAnswerTo (Convert from to sample) text due = IsAnswer from to (sample_shape sample) text due
+IsAnswerTo (Make n) text due = due ≡ report n
+
+-- the bytes are the line of a fault for which the text is refused; a document that is made is never refused
+abbrev pub IsRefusalTo : Request → List ℕ → List ℕ → Type 0
+IsRefusalTo (Convert from to sample) text due = IsRefusal from to (sample_shape sample) text due
+IsRefusalTo (Make n) text due = ⊥
+
+-- the bytes are what is expected for the request, an answer or a refusal
+abbrev pub IsOutputTo : Request → List ℕ → List ℕ → Type 0
+IsOutputTo asked text due = IsAnswerTo asked text due ⊎ IsRefusalTo asked text due
+
 -- What a status says of bytes that were due: all of them were written, or a write was cut short, or memory ran out before any was.
 pub data Outcome (due : List ℕ) (status : Status) (sink : Transfer) : Status → Type 0 where
   whole : Appends sink.bytes_before sink.bytes_after due → Outcome due status sink status
@@ -55,3 +73,11 @@ Answers from to s text sink Refused = Wrote sink (IsRefusal from to s text)
 Answers from to s text sink WriteFault = Increased sink.faults_before sink.faults_after × WroteFront sink (IsExpectedOutput from to s text)
 Answers from to s text sink WantOfMemory = Keeps sink.bytes_before sink.bytes_after
 Answers from to s text sink _ = ⊥
+
+-- what a status says of the answer to a request: what was written, and why a write was cut short
+abbrev pub AnswersTo : Request → List ℕ → Transfer → Status → Type 0
+AnswersTo asked text sink Done = Wrote sink (IsAnswerTo asked text)
+AnswersTo asked text sink Refused = Wrote sink (IsRefusalTo asked text)
+AnswersTo asked text sink WriteFault = Increased sink.faults_before sink.faults_after × WroteFront sink (IsOutputTo asked text)
+AnswersTo asked text sink WantOfMemory = Keeps sink.bytes_before sink.bytes_after
+AnswersTo asked text sink _ = ⊥

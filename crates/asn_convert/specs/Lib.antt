@@ -3,6 +3,7 @@ pub mod ExpectedOutput
 pub mod Faults
 pub mod Input
 pub mod Lines
+pub mod Made
 pub mod Memory
 pub mod Requests
 pub mod Run

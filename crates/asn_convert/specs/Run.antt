@@ -1,30 +1,29 @@
 -- What the program reads and writes.
 use Rattle.std.specs.Prelude.{◌≡◌, ◌≤◌, ℕ, List, length, Some, IsUtf8}
-use Rattle.asn_core.specs.declared.codec.Codec.{Codec}
-use Rattle.asn_traits.specs.Shape.{Shape}
 use Rattle.asn_convert.specs.Faults.{Increased}
 use Rattle.asn_convert.specs.Input.{input_limit}
 use Rattle.asn_convert.specs.Lines.{text_part}
 use Rattle.asn_samples.specs.Samples.{sample_shape}
 use Rattle.asn_convert.specs.Requests.{request_of}
 use Rattle.asn_codec.specs.Conversion.{IsConvertible}
-use Rattle.asn_convert.specs.ExpectedOutput.{Wrote, WroteFront, IsExpectedOutput}
+use Rattle.asn_convert.specs.ExpectedOutput.{Wrote, WroteFront, IsOutputTo}
 use Rattle.asn_convert.specs.Transfer.{Transfer}
 use Rattle.asn_convert.specs.declared.request.Request.{Request}
+use Rattle.asn_convert.specs.declared.request.Request.TheVariants.{Convert, Make}
 
 -- the input is a request, and bytes that are expected for its text in this way were written
-pub record Answered (sink : Transfer) (ExpectedOutput : Codec → Codec → Shape → List ℕ → List ℕ → Type 0) (input : List ℕ) : Type 0 where
+pub record Answered (sink : Transfer) (ExpectedOutput : Request → List ℕ → List ℕ → Type 0) (input : List ℕ) : Type 0 where
   pub utf8 : IsUtf8 input
   pub asks : Request
   pub for_request : request_of input ≡ Some asks
-  pub wrote : Wrote sink (ExpectedOutput asks.from asks.to (sample_shape asks.sample) (text_part input))
+  pub wrote : Wrote sink (ExpectedOutput asks (text_part input))
 
 -- the input is a request, and a front part of what is expected for its text was written
 pub record CutShort (sink : Transfer) (input : List ℕ) : Type 0 where
   pub utf8 : IsUtf8 input
   pub asks : Request
   pub for_request : request_of input ≡ Some asks
-  pub wrote : WroteFront sink (IsExpectedOutput asks.from asks.to (sample_shape asks.sample) (text_part input))
+  pub wrote : WroteFront sink (IsOutputTo asks (text_part input))
 
 -- the source tells this input, which is within the limit, and none of its reads fails
 pub record IsRead (source : Transfer) (input : List ℕ) : Type 0 where
@@ -32,8 +31,13 @@ pub record IsRead (source : Transfer) (input : List ℕ) : Type 0 where
   pub within : length input ≤ input_limit
   pub steady : Increased source.faults_before source.faults_after → ⊥
 
--- the input is a request by which its text decodes to a value that can be written
+-- the text decodes to a value that can be written as the request asks, or a document is made
+abbrev pub IsAnswerable : Request → List ℕ → Type 0
+IsAnswerable (Convert from to sample) text = IsConvertible from to (sample_shape sample) text
+IsAnswerable (Make n) text = Unit {0}
+
+-- the input is a request that is answered, and not refused
 pub record RequestsValue (input : List ℕ) : Type 0 where
   pub asks : Request
   pub for_request : request_of input ≡ Some asks
-  pub convertible : IsConvertible asks.from asks.to (sample_shape asks.sample) (text_part input)
+  pub answerable : IsAnswerable asks (text_part input)

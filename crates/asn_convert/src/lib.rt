@@ -7,6 +7,7 @@
 mod io;
 mod io_all;
 mod lines;
+mod made;
 mod memory;
 mod program;
 mod request;

@@ -1,18 +1,20 @@
 //! Runs the program: reads an input, decides what it asks for, converts the text at the Rust type
 //! of the sample that it names, and writes the result. Each step below `run` is one function, and
 //! returns a `Status`.
-ghost use Rattle.std.specs.Prelude.{◌≡◌, ◌≢◌, ◌<◌, ◌⊎◌, ◌++◌, ◌∷◌, [], ℕ, List, length, IsUtf8};
+ghost use Rattle.std.specs.Prelude.{◌≡◌, ◌≢◌, ◌≤◌, ◌<◌, ◌⊎◌, ◌++◌, ◌∷◌, [], ℕ, List, length, IsUtf8};
 ghost use Rattle.std.specs.Prelude.{Some, None, true, string_bytes};
 ghost use Rattle.std.specs.Io.KnownBytes.{Keeps};
 ghost use Rattle.asn_convert.specs.Faults.{Increased};
-ghost use Rattle.asn_convert.specs.Requests.{request_of};
+ghost use Rattle.asn_convert.specs.Made.{report};
+ghost use Rattle.asn_convert.specs.Requests.{HasFewEntries, request_of};
 ghost use Rattle.asn_samples.specs.Samples.{sample_shape};
-ghost use Rattle.asn_convert.specs.ExpectedOutput.{Answers, IsAnswer, IsRefusal, Outcome};
-ghost use Rattle.asn_convert.specs.ExpectedOutput.{refusal_line};
+ghost use Rattle.asn_convert.specs.ExpectedOutput.{Answers, AnswersTo, IsAnswerTo, IsRefusalTo};
+ghost use Rattle.asn_convert.specs.ExpectedOutput.{Outcome, refusal_line};
 ghost use Rattle.asn_convert.specs.Input.{ReadPastLimit, ReadWhole, input_limit};
 ghost use Rattle.asn_convert.specs.Transfer.{transfer_of};
 ghost use Rattle.asn_codec.specs.Conversion.{IsConvertible, refusal_of, is_refusal_out_of_memory};
-ghost use Rattle.asn_convert.specs.Run.{Answered, CutShort, IsRead, RequestsValue};
+ghost use Rattle.asn_convert.specs.Run.{Answered, CutShort, IsAnswerable, IsRead, RequestsValue};
+ghost use Rattle.asn_convert.specs.declared.request.TheConstants.{MOST_ENTRIES};
 ghost use Rattle.asn_convert.specs.declared.status.Status.TheVariants.{Done, Refused, BadRequest};
 ghost use Rattle.asn_convert.specs.declared.status.Status.TheVariants.{ReadFault, WriteFault};
 ghost use Rattle.asn_convert.specs.declared.status.Status.TheVariants.{WantOfMemory, TooLong};
@@ -21,29 +23,31 @@ ghost use Rattle.asn_convert.specs.declared.status.Status.TheVariants.{NotText};
 use crate::io::{Sink, Source};
 use crate::io_all::{Stopped, read_to_end, write_all};
 use crate::lines::split_request;
+use crate::made::report_on;
 use crate::request::{Request, requested};
 use crate::status::Status;
 use asn_codec::{TranscodeError, transcode};
-use asn_core::Codec;
-use asn_samples::SampleVisitor;
+use asn_core::{Codec, OutOfMemory};
+use asn_samples::{Sample, SampleVisitor};
 use asn_traits::{Decode, Encode};
 use std::alloc::Global;
 
 /// Reads the whole input, and writes the canonical text of the value that its text decodes to, or
-/// the line of the error. It looks for a request only in an input that was read to its end.
+/// the line of the error; or makes a document, and writes the report on its texts. It looks for a
+/// request only in an input that was read to its end.
 ///
 /// Statuses are decided in the order `ReadFault`, `TooLong`, `NotText`, `BadRequest`, `Refused`,
 /// `WriteFault`; `WantOfMemory` may come anywhere, and then nothing was written.
 pub fn run<S: Source, K: Sink>(alloc: Global, source: &mut S, sink: &mut K) -> Status
     // Each status comes only under its cause. `Done` means that the input is a request, and that
-    // the canonical text and a line feed were written.
+    // the canonical text and a line feed were written, or the report on the document.
     ensures done { result ≡ Done
         → ReadWhole (transfer_of S.left S.faults source.old source.new)
-        (Answered (transfer_of K.written K.faults sink.old sink.new) IsAnswer) }
+        (Answered (transfer_of K.written K.faults sink.old sink.new) IsAnswerTo) }
     // The input is a request, and the line of an error by which its text is refused was written.
     ensures refused { result ≡ Refused
         → ReadWhole (transfer_of S.left S.faults source.old source.new)
-        (Answered (transfer_of K.written K.faults sink.old sink.new) IsRefusal) }
+        (Answered (transfer_of K.written K.faults sink.old sink.new) IsRefusalTo) }
     // The input is text, and its first line is no request.
     ensures bad_request { result ≡ BadRequest
         → ReadWhole (transfer_of S.left S.faults source.old source.new)
@@ -74,7 +78,8 @@ pub fn run<S: Source, K: Sink>(alloc: Global, source: &mut S, sink: &mut K) -> S
         → IsUtf8 input → request_of input ≢ None → ¬ Increased (K.faults sink.old) (K.faults
         sink.new)
         → (result ≡ Done) ⊎ (result ≡ Refused) ⊎ (result ≡ WantOfMemory) }
-    // A request whose text decodes to a value that can be encoded is done.
+    // A request whose text decodes to a value that can be encoded is done, and so is one to make a
+    // document.
     ensures answers_values { (input : List ℕ)
         → IsRead (transfer_of S.left S.faults source.old source.new) input
         → IsUtf8 input → RequestsValue input → ¬ Increased (K.faults sink.old) (K.faults sink.new)
@@ -103,21 +108,52 @@ pub fn run<S: Source, K: Sink>(alloc: Global, source: &mut S, sink: &mut K) -> S
         return Status::NotText;
     };
     let (line, text) = split_request(text);
-    match requested(line) {
-        Some(request) => convert(alloc, request, text, sink),
+    match requested(line, text) {
+        Some(request) => respond(alloc, request, text, sink),
         None => Status::BadRequest,
+    }
+}
+
+/// Does what a request asks for, with the text after it.
+#[tactic(auto, using(crate::proofs::Answering::conversion_answers, crate::proofs::Answering::report_answers))]
+fn respond<K: Sink>(alloc: Global, request: Request, text: &str, sink: &mut K) -> Status
+    requires { HasFewEntries request }
+    ensures answer { AnswersTo request text.now
+        (transfer_of K.written K.faults sink.old sink.new) result }
+    ensures complete { IsAnswerable request text.now → result ≢ Refused }
+{
+    match request {
+        Request::Convert { from, to, sample } => convert(alloc, from, to, sample, text, sink),
+        Request::Make { entries } => make(alloc, entries, sink),
+    }
+}
+
+/// Makes the document of so many entries, and writes the report on its texts. It is never refused.
+fn make<K: Sink>(alloc: Global, entries: u32, sink: &mut K) -> Status
+    requires { entries ≤ MOST_ENTRIES }
+    ensures { Outcome (report entries) Done
+        (transfer_of K.written K.faults sink.old sink.new) result }
+{
+    match report_on(alloc, entries) {
+        Ok(lines) => written(sink, lines.as_bytes(), Status::Done),
+        Err(OutOfMemory) => Status::WantOfMemory,
     }
 }
 
 /// Converts a text as a value of the request's sample type: runs `convert_as` at the Rust type of
 /// that sample. A text that can be converted is not refused (`complete`).
-fn convert<K: Sink>(alloc: Global, request: Request, text: &str, sink: &mut K) -> Status
-    ensures answer { Answers request.from request.to (sample_shape request.sample) text.now
+fn convert<K: Sink>(
+    alloc: Global,
+    from: Codec,
+    to: Codec,
+    sample: Sample,
+    text: &str,
+    sink: &mut K,
+) -> Status
+    ensures answer { Answers from to (sample_shape sample) text.now
         (transfer_of K.written K.faults sink.old sink.new) result }
-    ensures complete { IsConvertible request.from request.to (sample_shape request.sample) text.now
-        → result ≢ Refused }
+    ensures complete { IsConvertible from to (sample_shape sample) text.now → result ≢ Refused }
 {
-    let Request { from, to, sample } = request;
     sample.accept(
         Conversion {
             alloc,

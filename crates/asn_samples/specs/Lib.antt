@@ -25,6 +25,10 @@ pub mod OldReport
 pub mod NewReport
 pub mod OldMode
 pub mod NewMode
+pub mod TreeShape
+pub mod Tree
+pub mod OldTree
+pub mod NewTree
 pub mod Samples
 pub mod Blank
 pub mod Wrap

@@ -16,8 +16,10 @@ use Rattle.asn_samples.specs.Nest.{nest_shape}
 use Rattle.asn_samples.specs.Nested.{nested_shape}
 use Rattle.asn_samples.specs.NewMode.{new_mode_shape}
 use Rattle.asn_samples.specs.NewReport.{new_report_shape}
+use Rattle.asn_samples.specs.NewTree.{new_tree_shape}
 use Rattle.asn_samples.specs.OldMode.{old_mode_shape}
 use Rattle.asn_samples.specs.OldReport.{old_report_shape}
+use Rattle.asn_samples.specs.OldTree.{old_tree_shape}
 use Rattle.asn_samples.specs.Renamed.{renamed_shape}
 use Rattle.asn_samples.specs.SimpleChoice.{simple_choice_shape}
 use Rattle.asn_samples.specs.SimpleEnum.{simple_enum_shape}
@@ -77,6 +79,8 @@ samples =
     ∷ (codes "NewReport", sample_type.NewReport, new_report_shape)
     ∷ (codes "OldMode", sample_type.OldMode, old_mode_shape)
     ∷ (codes "NewMode", sample_type.NewMode, new_mode_shape)
+    ∷ (codes "OldTree", sample_type.OldTree, old_tree_shape)
+    ∷ (codes "NewTree", sample_type.NewTree, new_tree_shape)
     ∷ (codes "WithNullOpt", sample_type.WithNullOpt, with_null_opt_shape)
     ∷ (codes "ConstrainedBitString", sample_type.ConstrainedBitString, constrained_bit_string_shape)
     ∷ (codes "ExtensibleBitString", sample_type.ExtensibleBitString, extensible_bit_string_shape)

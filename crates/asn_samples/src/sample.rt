@@ -109,6 +109,10 @@ pub enum Sample {
     OldMode,
     /// Is its later version, with an item more.
     NewMode,
+    /// Is a SEQUENCE that holds itself, with an extension marker that no addition follows.
+    OldTree,
+    /// Is its later version, with an extension addition.
+    NewTree,
     /// Is a SEQUENCE with a NULL that may be absent.
     WithNullOpt,
     /// Is a BIT STRING of a fixed size.
@@ -174,6 +178,8 @@ impl Sample {
             "NewReport" => Some(Sample::NewReport),
             "OldMode" => Some(Sample::OldMode),
             "NewMode" => Some(Sample::NewMode),
+            "OldTree" => Some(Sample::OldTree),
+            "NewTree" => Some(Sample::NewTree),
             "WithNullOpt" => Some(Sample::WithNullOpt),
             "ConstrainedBitString" => Some(Sample::ConstrainedBitString),
             "ExtensibleBitString" => Some(Sample::ExtensibleBitString),
@@ -234,6 +240,8 @@ impl Sample {
             Sample::NewReport => visitor.visit::<crate::NewReport>(state),
             Sample::OldMode => visitor.visit::<crate::OldMode>(state),
             Sample::NewMode => visitor.visit::<crate::NewMode>(state),
+            Sample::OldTree => visitor.visit::<crate::OldTree>(state),
+            Sample::NewTree => visitor.visit::<crate::NewTree>(state),
             Sample::WithNullOpt => visitor.visit::<crate::WithNullOpt>(state),
             Sample::ConstrainedBitString => visitor.visit::<crate::ConstrainedBitString>(state),
             Sample::ExtensibleBitString => visitor.visit::<crate::ExtensibleBitString>(state),

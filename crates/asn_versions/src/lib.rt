@@ -15,9 +15,11 @@ ghost use Rattle.asn_samples.specs.ExtEnum.{ext_enum_shape};
 ghost use Rattle.asn_samples.specs.NewMode.{new_mode_shape};
 ghost use Rattle.asn_samples.specs.NewPart.{new_part_shape};
 ghost use Rattle.asn_samples.specs.NewReport.{new_report_shape};
+ghost use Rattle.asn_samples.specs.NewTree.{new_tree_shape};
 ghost use Rattle.asn_samples.specs.OldMode.{old_mode_shape};
 ghost use Rattle.asn_samples.specs.OldPart.{old_part_shape, old_part_value};
 ghost use Rattle.asn_samples.specs.OldReport.{old_report_shape};
+ghost use Rattle.asn_samples.specs.OldTree.{old_tree_shape};
 ghost use Rattle.asn_samples.specs.SimpleEnum.{simple_enum_shape};
 ghost use Rattle.asn_codec.specs.Texts.{HasTree};
 ghost use Rattle.asn_traits.specs.Root.{Reads};
@@ -35,6 +37,7 @@ pub fn later_versions()
     ensures mode { Grows old_mode_shape new_mode_shape }
     ensures part { Grows old_part_shape new_part_shape }
     ensures report { Grows old_report_shape new_report_shape }
+    ensures tree { Grows old_tree_shape new_tree_shape }
     ensures no_marker { Grows simple_enum_shape ext_enum_shape → ⊥ }
 {}
 

@@ -14,5 +14,6 @@ returns c = record {
   mode = Grows.grows_enum (codes "low" ∷ []) [] (codes "high" ∷ []);
   part = part_grows;
   report = Grows.grows_seq (GrowsFields.grows_field (Grows.grows_same refl) (GrowsFields.grows_field (Grows.grows_set part_grows) GrowsFields.grows_no_fields)) BeginsFields.begins_fields;
+  tree = Grows.grows_loop (Grows.grows_seq (GrowsFields.grows_field (Grows.grows_list (Grows.grows_same refl)) GrowsFields.grows_no_fields) BeginsFields.begins_fields);
   no_marker = no_marker;
 }

@@ -1,5 +1,5 @@
 -- The document that is made is written and read in both notations.
-use Rattle.std.proofs.Common.{◌≡◌, ◌≤◌, ◌<◌, ◌≤ℤ◌, ◌+◌, ◌*◌, ◌^◌, ◌-ℤ◌, ◌%◌, ◌==◌, ℕ, zero, suc, ℤ, pos, negsuc, nat_lt, List, [], ◌∷◌, ◌++◌, Bool, true, false, if◌then◌else◌, Option, Some, None, Ordering, Less, Equal, Greater, decimal, refl, sym, ap, subst, arith}
+use Rattle.std.proofs.Common.{◌≡◌, ◌≤◌, ◌<◌, ◌≤ℤ◌, ◌+◌, ◌*◌, ◌^◌, ◌-ℤ◌, ◌%◌, ◌==◌, ℕ, zero, suc, ℤ, pos, negsuc, nat_lt, List, ◌∷◌, ◌++◌, Bool, true, false, if◌then◌else◌, Option, Some, None, Ordering, Less, Equal, Greater, decimal, refl, arith}
 use Rattle.std.proofs.Math.Nat.{mul-le-mul}
 use Rattle.std.proofs.lemmas.Bool.{or_from}
 use Rattle.std.proofs.lemmas.Fmt.{IsAscii-decimal}

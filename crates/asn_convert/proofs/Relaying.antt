@@ -1,5 +1,5 @@
 -- A value whose texts are read again is relayed from one notation to the other and back.
-use Rattle.std.proofs.Common.{◌≡◌, ◌↔◌, ◌≤◌, ℕ, List, length, true, refl, sym, ap, ◌∙◌}
+use Rattle.std.proofs.Common.{◌≡◌, ◌↔◌, ℕ, List, length, true, refl, sym, ap, ◌∙◌}
 use Rattle.asn_core.specs.declared.codec.Codec.TheVariants.{Jer, Avn}
 use Rattle.asn_codec.specs.Conversion.{IsConvertible}
 use Rattle.asn_codec.specs.Texts.{DecodesOnlyTo, HasTree, IsShallow, ReadsBack, TextDecodesTo}

@@ -1,5 +1,5 @@
 -- What an input asks for.
-use Rattle.std.specs.Prelude.{ℕ, List, [], ◌∷◌, bytes_eq, codes, if◌then◌else◌, length, nat_le, Bool, Option, Some, None, ◌≤◌}
+use Rattle.std.specs.Prelude.{ℕ, List, [], ◌∷◌, bytes_eq, codes, if◌then◌else◌, length, nat_le, Option, Some, None, ◌≤◌}
 use Rattle.std.specs.Option.{option_and_then, option_map}
 use Rattle.asn_core.specs.declared.codec.Codec.{Codec}
 use Rattle.asn_core.specs.declared.codec.Codec.TheVariants.{Jer, Avn}

@@ -1,4 +1,4 @@
-use Rattle.std.proofs.Common.{◌≡◌, ◌+◌, suc, ap, sym, ◌∙◌, arith, true≢false, string_bytes}
+use Rattle.std.proofs.Common.{◌≡◌, ◌+◌, suc, ap, sym, ◌∙◌, arith, true≢false}
 use Rattle.serde_json.proofs.Views.{members_view-insert_entry, view-Object}
 use Rattle.serde_json.specs.Data.{Data, put}
 use Rattle.serde_json.specs.View.{members_view, view}

@@ -1,4 +1,4 @@
-use Rattle.std.proofs.Common.{ap, ◌∙◌, get_or, arith}
+use Rattle.std.proofs.Common.{ap, ◌∙◌, get_or}
 use Rattle.asn_convert.proofs.Counting.{few_parsed, many_parsed, none_long, none_parsed, none_signed}
 use Rattle.asn_convert.proofs.request.count.Goals as goal
 

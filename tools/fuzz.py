@@ -20,8 +20,8 @@ import subprocess
 import sys
 from concurrent.futures import ThreadPoolExecutor
 
-# Older types with the newer ones that extend them, and the alternative or item that the older one lacks.
-PAIRS = {"OldReport": ("NewReport", "flag"), "OldMode": ("NewMode", "high")}
+# Older types with the newer ones that extend them, and the alternative or item that the older one lacks, if any.
+PAIRS = {"OldReport": ("NewReport", "flag"), "OldMode": ("NewMode", "high"), "OldTree": ("NewTree", None)}
 LETTERS = "abcdefghijklmnopqrstuvwxyz"
 SIGNS = ['"', "'", "{", "}", "[", "]", ":", ",", " ", "\n", "-", "0", "9", "e", ".", "\\", "\x00", "é", "\U0001F600", "H", "B"]
 
@@ -110,6 +110,14 @@ def nest(r, depth=6):
     return list_of(lambda r: nest(r, depth - 1), 3 if depth else 0)(r)
 
 
+def tree(*added):
+    """Of rows of extension additions, which each tree has at every depth."""
+    def make(r, depth=4):
+        kids = list_of(lambda r: make(r, depth - 1), 3 if depth else 0)
+        return fields(("kids", kids, False), *added)(r)
+    return make
+
+
 def moment(form):
     def make(r):
         year, month, day = r.randint(1950, 2049), r.randint(1, 12), r.randint(1, 28)
@@ -157,6 +165,7 @@ TYPES = {
         ("owner", string(LETTERS), False),
     ),
     "OldMode": items("low"), "NewMode": items("low", "high"),
+    "OldTree": tree(), "NewTree": tree(("label", string(LETTERS), True)),
     "SimpleEnum": items("Test1", "Test2"), "ExtEnum": items("Test1", "Test2", "Test3"),
     "Inner": inner, "SimpleChoice": simple,
     "ExtChoice": choice(Test1=number(0, 255), Test2=string(LETTERS), Test3=boolean), "Nest": nest,
@@ -209,7 +218,8 @@ def breaches(program, source, target, name, text, is_damaged):
         if convert(program, "avn", "jer", name, written) != convert(program, "jer", "jer", name, text):
             found.append("round")
     for older, (newer, lacking) in PAIRS.items():
-        if newer == name and lacking not in written and convert(program, target, target, older, written)[0] != 0:
+        known = newer == name and (lacking is None or lacking not in written)
+        if known and convert(program, target, target, older, written)[0] != 0:
             found.append(f"grows: {older}")
     return found
 

@@ -62,8 +62,8 @@ fn a_set_of(rt: HostRuntime) -> Result<(), Fail> {
 fn a_document(rt: HostRuntime) -> Result<(), Fail> {
     let input =
         "{\"object\":[{\"key\":\"a\",\"value\":{\"array\":[{\"integer\":1},{\"null\":null}]}}]}";
-    let due =
-        "object : {\n  {\n    key \"a\",\n    value array : {\n      integer : 1,\n      null : NULL\n    }\n  }\n}";
+    let due = "object : {\n  {\n    key \"a\",\n    value array : {\n      integer : 1,\n      \
+               null : NULL\n    }\n  }\n}";
     assert_due::<Document>(&rt, rt.alloc(), Codec::Jer, Codec::Avn, input, due)
 }
 

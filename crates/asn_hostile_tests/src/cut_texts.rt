@@ -25,13 +25,15 @@ fn is_unexpected_token(error: &DecodeError) -> bool {
 fn json_that_is_cut_short(rt: HostRuntime) -> Result<(), Fail> {
     const WHOLE: &str =
         "{\"grappa\":{\"length\":2,\"value\":\"80\"},\"juice\":0,\"wine\":{\"Wine\":4}}";
-    for end in 0..WHOLE.len() {
-        match jer::decode::<TestTypeA>(rt.alloc(), &WHOLE[..end]) {
-            Ok(_) => assert!(rt; false, "{end}"),
-            Err(error) => assert!(rt; is_no_json(&error), "{end}"),
+    let mut text = String::new(rt.alloc());
+    for c in WHOLE.chars() {
+        match jer::decode::<TestTypeA>(rt.alloc(), text.as_str()) {
+            Ok(_) => assert!(rt; false, "{text}"),
+            Err(error) => assert!(rt; is_no_json(&error), "{text}"),
         }
+        text.push(c)?;
     }
-    assert!(rt; jer::decode::<TestTypeA>(rt.alloc(), WHOLE).is_ok());
+    assert!(rt; jer::decode::<TestTypeA>(rt.alloc(), text.as_str()).is_ok());
     Ok(())
 }
 
@@ -39,12 +41,14 @@ fn json_that_is_cut_short(rt: HostRuntime) -> Result<(), Fail> {
 #[test]
 fn notation_that_is_cut_short(rt: HostRuntime) -> Result<(), Fail> {
     const WHOLE: &str = "{\n  juice 0,\n  wine Wine : 4,\n  grappa '10'B\n}";
-    for end in 0..WHOLE.len() {
-        match avn::decode::<TestTypeA>(rt.alloc(), &WHOLE[..end]) {
-            Ok(_) => assert!(rt; false, "{end}"),
-            Err(error) => assert!(rt; is_unexpected_token(&error), "{end}"),
+    let mut text = String::new(rt.alloc());
+    for c in WHOLE.chars() {
+        match avn::decode::<TestTypeA>(rt.alloc(), text.as_str()) {
+            Ok(_) => assert!(rt; false, "{text}"),
+            Err(error) => assert!(rt; is_unexpected_token(&error), "{text}"),
         }
+        text.push(c)?;
     }
-    assert!(rt; avn::decode::<TestTypeA>(rt.alloc(), WHOLE).is_ok());
+    assert!(rt; avn::decode::<TestTypeA>(rt.alloc(), text.as_str()).is_ok());
     Ok(())
 }

@@ -1,7 +1,7 @@
-//! Converts values and changes collections where memory may be refused. The tests say so where it
+//! Converts values and changes an object where memory may be refused. The tests say so where it
 //! was, and then nothing has changed; with ample memory each has its due answer. A script refuses
 //! the memory of one allocation after the other (`tools/refused_memory.sh`).
-use asn_base::{Bits, SetOf};
+use asn_base::SetOf;
 use asn_codec::transcode;
 use asn_core::{Codec, OutOfMemory};
 use asn_document::{Document, DocumentMap};
@@ -65,36 +65,6 @@ fn a_document(rt: HostRuntime) -> Result<(), Fail> {
     let due = "object : {\n  {\n    key \"a\",\n    value array : {\n      integer : 1,\n      \
                null : NULL\n    }\n  }\n}";
     assert_due::<Document>(&rt, rt.alloc(), Codec::Jer, Codec::Avn, input, due)
-}
-
-/// A set has the elements that it had where one more is refused memory.
-#[test]
-fn a_set_after_a_refusal(rt: HostRuntime) -> Result<(), Fail> {
-    let mut set = SetOf::new(rt.alloc());
-    for element in 0..20u8 {
-        let before = set.len();
-        if set.insert(element).is_err() {
-            assert_eq!(rt; set.len(), before);
-            return Err(Fail::from(REFUSED));
-        }
-    }
-    assert_eq!(rt; set.len(), 20);
-    Ok(())
-}
-
-/// A bit string has the bits that it had where one more is refused memory.
-#[test]
-fn a_bit_string_after_a_refusal(rt: HostRuntime) -> Result<(), Fail> {
-    let mut bits = Bits::new(rt.alloc());
-    for place in 0..100usize {
-        if bits.push(true).is_err() {
-            assert_eq!(rt; bits.len(), place);
-            assert!(rt; (0..place).all(|k| bits.get(k) == Some(true)));
-            return Err(Fail::from(REFUSED));
-        }
-    }
-    assert_eq!(rt; bits.len(), 100);
-    Ok(())
 }
 
 /// Puts a member into the object.

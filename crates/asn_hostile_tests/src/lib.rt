@@ -8,4 +8,8 @@ mod cut_texts;
 #[cfg(test)]
 mod odd_types;
 #[cfg(test)]
+mod pieces;
+#[cfg(test)]
 mod refused_memory;
+#[cfg(test)]
+mod refused_request;

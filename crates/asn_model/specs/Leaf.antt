@@ -229,6 +229,7 @@ leaf_value put.Null = Value.null
 leaf_value (put.Boolean b) = Value.boolean b
 leaf_value (put.Number n) = Value.int (signed n.negative n.magnitude)
 leaf_value (put.Text s) = Value.text s.now
+leaf_value (put.OwnedText s) = Value.text (string_bytes s)
 leaf_value (put.Item s) = Value.item s.now
 leaf_value (put.Octets o) = Value.octets o.now
 leaf_value (put.Arcs a) = Value.arcs a.now

@@ -62,12 +62,14 @@ impl LeafKind {
 }
 
 /// A value without parts that is written.
-#[derive(Clone, Copy)]
+#[derive(Drop)]
 pub enum Leaf<'a> {
     Null,
     Boolean(bool),
     Number(WholeNumber),
     Text(&'a str),
+    /// A text that is handed over, and need not be copied.
+    OwnedText(String),
     /// The name of an item of an enumeration.
     Item(&'a str),
     Octets(&'a [u8]),

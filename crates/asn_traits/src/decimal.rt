@@ -111,7 +111,7 @@ impl TextType for Decimal {
     fn put_text<E: Encoder>(&self, encoder: &mut E) -> Result<(), EncodeError> {
         let number = self.number();
         match format!(in encoder.allocator(); "{number}") {
-            Ok(text) => encoder.put_leaf(Leaf::Text(text.as_str())),
+            Ok(text) => encoder.put_leaf(Leaf::OwnedText(text)),
             Err(_) => Err(EncodeError::out_of_memory(encoder.codec())),
         }
     }

@@ -346,7 +346,7 @@ impl TextType for BmpString {
     fn put_text<E: Encoder>(&self, encoder: &mut E) -> Result<(), EncodeError> {
         units_are_within(self.units());
         match self.to_text(encoder.allocator()) {
-            Ok(text) => encoder.put_leaf(Leaf::Text(text.as_str())),
+            Ok(text) => encoder.put_leaf(Leaf::OwnedText(text)),
             Err(UnitFault::Surrogate { place }) => Err(encoder.no_unicode(place)),
             Err(UnitFault::OutOfMemory) => Err(EncodeError::out_of_memory(encoder.codec())),
         }

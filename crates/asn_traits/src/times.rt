@@ -45,7 +45,7 @@ fn put_time<E: Encoder>(
     ensures { IsPutTime E.holds E.notation written encoder.old result encoder.new }
 {
     match written {
-        Ok(text) => encoder.put_leaf(Leaf::Text(text.as_str())),
+        Ok(text) => encoder.put_leaf(Leaf::OwnedText(text)),
         Err(TimeFault::OutOfMemory) => Err(EncodeError::out_of_memory(encoder.codec())),
         Err(_) => Err(outside_years(encoder.allocator(), encoder.codec())),
     }

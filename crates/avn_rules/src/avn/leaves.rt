@@ -30,6 +30,7 @@ pub fn avn_of_leaf(alloc: Global, leaf: Leaf<'_>) -> Result<AvnValue, EncodeErro
             Err(_) => Err(EncodeError::out_of_memory(Codec::Avn)),
         },
         Leaf::Text(text) => Ok(AvnValue::CharString(copy_of(alloc, text)?)),
+        Leaf::OwnedText(text) => Ok(AvnValue::CharString(text)),
         Leaf::Item(name) => Ok(AvnValue::Enumerated(copy_of(alloc, name)?)),
         Leaf::Octets(octets) => match Vec::from_slice(alloc, octets) {
             Ok(octets) => Ok(AvnValue::OctetString(octets)),

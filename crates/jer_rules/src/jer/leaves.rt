@@ -43,6 +43,7 @@ pub fn json_of_leaf(alloc: Global, leaf: Leaf<'_>) -> Result<Value, EncodeError>
             None => Err(encode_error(JerEncodeErrorKind::ExceedsSupportedIntSize { value })),
         },
         Leaf::Text(text) => json_of_text(alloc, text),
+        Leaf::OwnedText(text) => Ok(Value::String(text)),
         Leaf::Item(name) => json_of_text(alloc, name),
         Leaf::Octets(octets) => match hex::encode_upper(alloc, octets) {
             Ok(text) => Ok(Value::String(text)),

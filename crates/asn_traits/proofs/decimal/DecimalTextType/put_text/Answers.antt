@@ -11,5 +11,5 @@ pub returns-in-Ok-clause-written : goal.returns-in-Ok-clause-written
 returns-in-Ok-clause-written g c =
     let number = c.args.self.now in
     let range = c.number-number.ensures.range in
-    let text = c.as_str.ensures.value ∙ c.in-Ok.ensures.ok ∙ ap decimal c.number-number.ensures.number in
+    let text = c.in-Ok.ensures.ok ∙ ap decimal c.number-number.ensures.number in
     on_ok_weaker c.put_leaf.result (leaf_written Shape.decimal (Value.text (decimal number)) _ (ap Value.text text) (is_decimal-written number range.0 range.1)) c.put_leaf.ensures.put

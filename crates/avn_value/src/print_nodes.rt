@@ -43,6 +43,7 @@ pub(crate) fn print_node<W: fmt::Write>(
         NodeKind::Sequence => print_fields(nodes, node, levels, f),
         NodeKind::SequenceOf => print_list(nodes, node, levels, f),
         NodeKind::Choice => {
+            let _count = nodes.len();
             let payload = node + 1;
             f.write_str(nodes.name(payload))?;
             f.write_str(" : ")?;

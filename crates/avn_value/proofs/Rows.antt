@@ -7,7 +7,7 @@ use Rattle.std.proofs.lemmas.Bool.{cond-true, cond-false}
 use Rattle.std.proofs.lemmas.List.{take_more, append-nil}
 use Rattle.avn_grammar.specs.Tree.{Tree, Trees, Fields, sequence, sequence_of, choice, no_trees, tree, no_fields, field, absent}
 use Rattle.avn_grammar.specs.Print.{print, print_rows, print_fields, has_fields, separator, indent}
-use Rattle.avn_value.proofs.Joins.{join}
+use Rattle.avn_value.proofs.Joins.{join, seen, fields-next}
 use Rattle.avn_value.proofs.Walks.{chained, chained-none, chained-push, entry}
 use Rattle.avn_value.specs.Levels.{depth_of, closing_of}
 use Rattle.avn_value.specs.View.{trees_in, fields_in}
@@ -117,3 +117,12 @@ trees-next see xs i x h =
 pub count-trees : {A : Type 0} (see : A → Tree) (xs : List A) → count_of (trees_in (map see xs)) ≡ length xs
 count-trees see [] = refl
 count-trees see (x ∷ xs) = omega (arith, count-trees see xs)
+
+entry-seen : {S A : Type 0} (see : A → Tree) (name : String S) (o : Option A) → entry (string_bytes name) (option_map see o) no_fields ≡ seen see ((name, o) ∷ [])
+entry-seen see name (Some v) = refl
+entry-seen see name None = refl
+
+-- The first fields of a sequence, with the next one.
+pub field-next : {S A : Type 0} (see : A → Tree) (xs : List (String S × Option A)) (i : ℕ) (x : String S × Option A) (o : Option A) → i < length xs → x ≡ get_or xs i x → x.1 ≡ o
+    → join (fields_in (map (λ f. (f.0, option_map see f.1)) (take i xs))) (entry (string_bytes (x.0)) (option_map see o) no_fields) ≡ fields_in (map (λ f. (f.0, option_map see f.1)) (take (i + 1) xs))
+field-next see xs i (name, s) o l e a = ap (λ s. join (seen see (take i xs)) (entry (string_bytes name) (option_map see s) no_fields)) (sym a) ∙ ap (join (seen see (take i xs))) (entry-seen see name s) ∙ fields-next see xs i (name, s) l e

@@ -9,7 +9,7 @@ use Rattle.avn_value.specs.declared.node_kind.NodeKind.TheVariants as kind
 use Rattle.avn_value.proofs.Joins.{join}
 use Rattle.avn_value.proofs.Rows.{count_of, present, count-more, present-more}
 use Rattle.avn_value.proofs.Subtrees.{lists_first, lists_within, has_tree, tree_from-is}
-use Rattle.avn_value.proofs.Walks.{entry, chained, join-next, chained-next, kind_absent, kind_present, some_is, payload_at, Fielding, fielding_begun, fielding_first, fielding_more, fielding_done, Listing, listing_begun, listing_first, listing_more, listing_done}
+use Rattle.avn_value.proofs.Walks.{entry, chained, join-next, chained-next, kind_absent, kind_not_absent, some_is, payload_at, Fielding, fielding_begun, fielding_first, fielding_more, fielding_done, Listing, listing_begun, listing_first, listing_more, listing_done}
 
 -- A node that lists a tree stands below the number of nodes, and says what the tree is.
 pub tree_here : (nodes : List NodeView) (i : ℕ) → (h : HasTree nodes i) → (i < length nodes) × (view_at nodes i ≡ node_view i (h.0, Some (tree_from nodes i)))
@@ -44,8 +44,7 @@ within nodes i j c id slot a h z l e =
 
 -- A child that is no absent field has a tree.
 pub child_present : (nodes : List NodeView) (i : ℕ) (id : List ℕ) (slot : Option Tree) (k : NodeKind) → Child nodes i id slot → k ≡ (view_at nodes i).kind → k ≢ kind.Absent → (t : Tree) × (slot ≡ Some t)
-child_present nodes i id None k h e n = absurd (n (e ∙ ap (λ (v : NodeView). v.kind) h.view))
-child_present nodes i id (Some t) k h e n = (t, refl)
+child_present nodes i id slot k h e n = kind_not_absent slot (λ a. n (e ∙ ap (λ (v : NodeView). v.kind) h.view ∙ a))
 
 pub child_absent : (nodes : List NodeView) (i : ℕ) (id : List ℕ) (slot : Option Tree) (k : NodeKind) → Child nodes i id slot → k ≡ (view_at nodes i).kind → k ≡ kind.Absent → slot ≡ None
 child_absent nodes i id slot k h e a = kind_absent slot (sym (ap (λ (v : NodeView). v.kind) h.view) ∙ sym e ∙ a)
@@ -77,16 +76,16 @@ pub record FieldsWritten (nodes : List NodeView) (node child row : ℕ) : Type 0
 
 pub fields_begun : (nodes : List NodeView) (node child row : ℕ) → kind_of (Some (tree_from nodes node)) ≡ kind.Sequence → child ≡ node + 1 → row ≡ 0 → (w : FieldsWritten nodes node child row) × (no_fields ≡ w.done)
 fields_begun nodes node child row e c r = (
-      record {
-        place = 1;
-        done = no_fields;
-        at = c;
-        walk = fielding_begun (tree_from nodes node) 0 (node_count (tree_from nodes node)) (omega arith) e (omega arith);
-        rows = r;
-        few = omega (arith, c, r);
-      },
-      refl,
-    )
+  record {
+    place = 1;
+    done = no_fields;
+    at = c;
+    walk = fielding_begun (tree_from nodes node) 0 (node_count (tree_from nodes node)) (omega arith) e (omega arith);
+    rows = r;
+    few = omega (arith, c, r);
+  },
+  refl,
+)
 
 -- A row at most is written for a field.
 fewer : (row after child then : ℕ) (id : List ℕ) (slot : Option Tree) → child < then → after ≡ row + present (entry id slot no_fields) → row < child → after < then
@@ -140,16 +139,16 @@ pub record ListWritten (nodes : List NodeView) (node child row : ℕ) : Type 0 w
 
 pub list_begun : (nodes : List NodeView) (node child row : ℕ) → kind_of (Some (tree_from nodes node)) ≡ kind.SequenceOf → child ≡ node + 1 → row ≡ 0 → (w : ListWritten nodes node child row) × (no_trees ≡ w.done)
 list_begun nodes node child row e c r = (
-      record {
-        place = 1;
-        done = no_trees;
-        at = c;
-        walk = listing_begun (tree_from nodes node) 0 (node_count (tree_from nodes node)) (omega arith) e (omega arith);
-        rows = r;
-        few = omega (arith, c, r);
-      },
-      refl,
-    )
+  record {
+    place = 1;
+    done = no_trees;
+    at = c;
+    walk = listing_begun (tree_from nodes node) 0 (node_count (tree_from nodes node)) (omega arith) e (omega arith);
+    rows = r;
+    few = omega (arith, c, r);
+  },
+  refl,
+)
 
 -- The child that comes next, and the values written once it is.
 pub record NextItem (nodes : List NodeView) (node child row : ℕ) (w : ListWritten nodes node child row) : Type 0 where

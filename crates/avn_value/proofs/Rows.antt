@@ -11,7 +11,7 @@ use Rattle.avn_value.proofs.Joins.{join, seen, fields-next}
 use Rattle.avn_value.proofs.Walks.{chained, chained-none, chained-push, entry}
 use Rattle.avn_value.specs.Levels.{depth_of, closing_of}
 use Rattle.avn_value.specs.View.{trees_in, fields_in}
-use Rattle.avn_value.specs.declared.print.Levels.{Levels, Under, the_lemmas}
+use Rattle.avn_value.specs.declared.print.Levels.{Levels, Root, Under, the_lemmas}
 
 -- How many trees there are.
 abbrev pub count_of : Trees → ℕ
@@ -29,6 +29,9 @@ was_ok r x e = ap is_ok e
 
 pub depth-Under : (up : Bor Levels) → depth_of (Under up) ≡ suc (depth_of up.now)
 depth-Under up = search (rules, the_lemmas)
+
+pub depth-Root : depth_of Root ≡ 0
+depth-Root = search (rules, the_lemmas)
 
 pub print-choice : (d : ℕ) (id : List ℕ) (t : Tree) → id ++ (codes " : " ++ print d t) ≡ print d (choice id t)
 unfolding print

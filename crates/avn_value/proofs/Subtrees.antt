@@ -32,11 +32,11 @@ drop-node_views (suc n) i (s ∷ ss) after h = let e : suc i + n ≡ i + suc n =
 -- The nodes from a later place on.
 pub lists_part : (nodes : List NodeView) (i : ℕ) (ss : List NamedSlot) → Lists nodes i ss → (j : ℕ) → j ≤ length ss → (xs rest : List NamedSlot) → drop j ss ≡ xs ++ rest → Lists nodes (i + j) xs
 lists_part nodes i ss h j l xs rest e = record {
-      after = node_views (i + j + length xs) rest ++ h.after;
-      are =
-          sym (drop-drop j i nodes) ∙ ap (drop j) h.are ∙ drop-node_views j i ss h.after l ∙ ap (λ x. node_views (i + j) x ++ h.after) e
-          ∙ ap (λ x. x ++ h.after) (node_views-append (i + j) xs rest) ∙ append_assoc (node_views (i + j) xs) (node_views (i + j + length xs) rest) h.after;
-    }
+  after = node_views (i + j + length xs) rest ++ h.after;
+  are =
+      sym (drop-drop j i nodes) ∙ ap (drop j) h.are ∙ drop-node_views j i ss h.after l ∙ ap (λ x. node_views (i + j) x ++ h.after) e
+      ∙ ap (λ x. x ++ h.after) (node_views-append (i + j) xs rest) ∙ append_assoc (node_views (i + j) xs) (node_views (i + j + length xs) rest) h.after;
+}
 
 -- A node within a tree, and the nodes within it.
 pub lists_within : (nodes : List NodeView) (i : ℕ) (name : List ℕ) (t : Tree) → Lists nodes i (preorder name t) → (j : ℕ) → 0 < j → j < node_count t → Lists nodes (i + j) (node_at t j ∷ slot_descendants (tree_at t j))
@@ -52,3 +52,9 @@ table_lists nodes t e i l =
     let u = under t i l in
     let z : 0 + i ≡ i = omega arith in
     subst (λ k. Lists nodes k (node_at t i ∷ slot_descendants (tree_at t i))) z (lists_part nodes 0 (preorder [] t) all i (omega arith) (node_at t i ∷ slot_descendants (tree_at t i)) u.0 u.1)
+
+pub table_tree : (nodes : List NodeView) (t : Tree) → nodes ≡ node_views 0 (preorder [] t) → (i : ℕ) → i < node_count t → (u : Tree) → tree_at t i ≡ Some u → HasTree nodes i × (tree_from nodes i ≡ u)
+table_tree nodes t e i l u is =
+    let id = (node_at t i).0 in
+    let k : Lists nodes i (preorder id u) = subst (λ o. Lists nodes i ((id, o) ∷ slot_descendants o)) is (table_lists nodes t e i l) in
+    (has_tree nodes i id u k, tree_from-is nodes i id u k)

@@ -41,6 +41,10 @@ pub kind_absent : (o : Option Tree) → kind_of o ≡ kind.Absent → o ≡ None
 kind_absent None e = refl
 kind_absent (Some t) e = absurd (kind_present t e)
 
+pub kind_not_absent : (o : Option Tree) → kind_of o ≢ kind.Absent → (t : Tree) × (o ≡ Some t)
+kind_not_absent None n = absurd (n refl)
+kind_not_absent (Some t) n = (t, refl)
+
 -- The nodes from a place on are these, and others after them.
 pub record From (root : Tree) (i : ℕ) (ss : List NamedSlot) : Type 0 where
   pub after : List NamedSlot

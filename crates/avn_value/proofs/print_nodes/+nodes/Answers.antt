@@ -74,12 +74,14 @@ print_list-children-preserved g t c =
     let w = c.children.invariant.0 in
     let n = list_next nodes c.args.node c.children.child c.children.row c.requires.lists w (subst (λ k. c.children.child < k) c.end-end.ensures c.children-test.true) in
     let k = n.next c.end-child.result (c.children.row + 1) c.end-child.ensures refl in
-    let u = Under c.args.levels in
-    (k.0, λ p.
-      let h0 = c.children.invariant.1 p in
-      let h1 = has_written_of_eq _ _ _ _ _ (ap (λ r. separator r ++ indent (depth_of u)) w.rows ∙ ap (λ l. separator (count_of w.done) ++ indent l) (depth-Under c.args.levels)) (c.begin_row.ensures h0.plain (was_ok _ _ c.in_ok-begin_row.was)) in
-      let h2 = has_written_of_eq _ _ _ _ _ (ap (λ l. print l (tree_from nodes c.children.child)) (depth-Under c.args.levels) ∙ ap (print d) (n.here.has n.item refl).1) (c.print_node.ensures h1.plain (was_ok _ _ c.in_ok-print_node.was)) in
-      put_three g.W.Write.write_str_gives _ _ _ _ _ _ _ _ h0 h1 h2 (rows-more d w.done n.item ∙ ap (print_rows d 0) (sym k.1)))
+    let u = Under c.args.levels in (
+      k.0,
+      λ p.
+          let h0 = c.children.invariant.1 p in
+          let h1 = has_written_of_eq _ _ _ _ _ (ap (λ r. separator r ++ indent (depth_of u)) w.rows ∙ ap (λ l. separator (count_of w.done) ++ indent l) (depth-Under c.args.levels)) (c.begin_row.ensures h0.plain (was_ok _ _ c.in_ok-begin_row.was)) in
+          let h2 = has_written_of_eq _ _ _ _ _ (ap (λ l. print l (tree_from nodes c.children.child)) (depth-Under c.args.levels) ∙ ap (print d) (n.here.has n.item refl).1) (c.print_node.ensures h1.plain (was_ok _ _ c.in_ok-print_node.was)) in
+          put_three g.W.Write.write_str_gives _ _ _ _ _ _ _ _ h0 h1 h2 (rows-more d w.done n.item ∙ ap (print_rows d 0) (sym k.1)),
+    )
 
 pub print_list-children-smaller : goal.print_list-children-smaller
 print_list-children-smaller g t c =
@@ -147,12 +149,14 @@ print_fields-children-preserved g t c =
           let named : a.name.result.now ≡ n.id = a.name.ensures ∙ ap (λ (v : NodeView). v.name) n.here.view in
           let lead = ap (λ r. separator r ++ indent (depth_of u) ++ a.name.result.now ++ codes " ") w.rows ∙ ap (λ l. separator (present w.done) ++ indent l ++ a.name.result.now ++ codes " ") (depth-Under c.args.levels)
           ∙ ap (λ x. separator (present w.done) ++ indent d ++ x ++ codes " ") named in
-          let e = ap (λ o. print_fields d 0 w.done ++ field_row d (present w.done) n.id o) (sym s.1) ∙ fields-more d w.done n.id n.slot ∙ ap (print_fields d 0) (sym k.1) in
-          (k.0, (λ p.
-            let h0 = c.children.invariant.1 p in
-            let h1 = has_written_of_eq _ _ _ _ _ lead (a.begin_field.ensures h0.plain (was_ok _ _ a.in_ok-begin_field-in_default.was)) in
-            let h2 = has_written_of_eq _ _ _ _ _ (ap (λ l. print l (tree_from nodes child)) (depth-Under c.args.levels) ∙ ap (print d) (n.here.has s.0 s.1).1) (a.print_node.ensures h1.plain (was_ok _ _ a.in_ok-print_node-in_default.was)) in
-            subst (λ y. HasWritten g.W.Write.write_str_gives c.write_str.new.self (print_fields d 0 k.0.done) y) (sym a.f-is) (put_three g.W.Write.write_str_gives _ _ _ _ _ _ _ _ h0 h1 h2 e)))
+          let e = ap (λ o. print_fields d 0 w.done ++ field_row d (present w.done) n.id o) (sym s.1) ∙ fields-more d w.done n.id n.slot ∙ ap (print_fields d 0) (sym k.1) in (
+            k.0,
+            (λ p.
+                let h0 = c.children.invariant.1 p in
+                let h1 = has_written_of_eq _ _ _ _ _ lead (a.begin_field.ensures h0.plain (was_ok _ _ a.in_ok-begin_field-in_default.was)) in
+                let h2 = has_written_of_eq _ _ _ _ _ (ap (λ l. print l (tree_from nodes child)) (depth-Under c.args.levels) ∙ ap (print d) (n.here.has s.0 s.1).1) (a.print_node.ensures h1.plain (was_ok _ _ a.in_ok-print_node-in_default.was)) in
+                subst (λ y. HasWritten g.W.Write.write_str_gives c.write_str.new.self (print_fields d 0 k.0.done) y) (sym a.f-is) (put_three g.W.Write.write_str_gives _ _ _ _ _ _ _ _ h0 h1 h2 e)),
+          )
     ]
 
 pub print_fields-children-smaller : goal.print_fields-children-smaller

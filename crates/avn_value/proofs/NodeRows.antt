@@ -1,6 +1,6 @@
 -- Rows of the nodes within a node, as a printer writes them.
-use Rattle.std.proofs.Common.{◌≡◌, ◌≢◌, ℕ, zero, suc, ◌+◌, ◌<◌, ◌≤◌, List, [], ◌∷◌, Option, Some, None, length, refl, sym, ap, subst, ◌∙◌, arith}
-use Rattle.avn_grammar.specs.Tree.{Tree, Trees, Fields, sequence, sequence_of, choice, no_trees, tree, no_fields, field, absent}
+use Rattle.std.proofs.Common.{◌≡◌, ◌≢◌, ℕ, suc, ◌+◌, ◌<◌, ◌≤◌, List, [], ◌∷◌, Option, Some, None, length, refl, sym, ap, subst, ◌∙◌, arith}
+use Rattle.avn_grammar.specs.Tree.{Tree, Trees, Fields, sequence, sequence_of, choice, no_trees, tree, no_fields}
 use Rattle.avn_value.specs.NodeViews.{NodeView, node_view, view_at, kind_of}
 use Rattle.avn_value.specs.Preorder.{NamedSlot, preorder, descendants, slot_descendants, node_at, tree_at, node_count}
 use Rattle.avn_value.specs.Subtrees.{Lists, tree_from, HasTree}

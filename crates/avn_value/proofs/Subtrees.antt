@@ -1,13 +1,13 @@
 -- Trees that nodes list from a place on, and the nodes within them.
-use Rattle.std.proofs.Common.{◌≡◌, ℕ, zero, suc, ◌+◌, ◌<◌, ◌≤◌, List, [], ◌∷◌, ◌++◌, Option, Some, None, length, get_or, drop, refl, sym, ap, subst, ◌∙◌, arith, append_assoc, length-drop}
+use Rattle.std.proofs.Common.{◌≡◌, ℕ, zero, suc, ◌+◌, ◌<◌, ◌≤◌, List, [], ◌∷◌, ◌++◌, Some, length, get_or, drop, sym, ap, subst, ◌∙◌, arith, append_assoc, length-drop}
 use Rattle.std.proofs.lemmas.List.{drop-drop, get_or-drop, append-nil}
 use Rattle.avn_grammar.specs.Tree.{Tree}
-use Rattle.avn_value.specs.Preorder.{NamedSlot, preorder, slot_descendants, descendants, node_at, tree_at, node_count}
+use Rattle.avn_value.specs.Preorder.{NamedSlot, preorder, slot_descendants, node_at, tree_at, node_count}
 use Rattle.avn_value.specs.NodeViews.{NodeView, node_view, node_views, view_at, no_node}
 use Rattle.avn_value.specs.ForestLaws.{first_tree-node_views}
 use Rattle.avn_value.specs.Forest.{forest, first_tree}
 use Rattle.avn_value.specs.Subtrees.{Lists, tree_from, HasTree}
-use Rattle.avn_value.proofs.Extending.{node_views-append, length-node_views}
+use Rattle.avn_value.proofs.Extending.{node_views-append}
 use Rattle.avn_value.proofs.Descendants.{under}
 
 -- The tree that nodes list from a place on is the one that they list first there.

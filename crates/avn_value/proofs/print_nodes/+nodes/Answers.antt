@@ -7,7 +7,7 @@ use Rattle.std.proofs.lemmas.List.{append-nil}
 use Rattle.avn_grammar.specs.Print.{print, print_rows, print_fields, separator, indent}
 use Rattle.avn_grammar.specs.Tree.{no_fields}
 use Rattle.avn_value.specs.Levels.{depth_of}
-use Rattle.avn_value.specs.NodeViews.{NodeView, view_at}
+use Rattle.avn_value.specs.NodeViews.{NodeView}
 use Rattle.avn_value.specs.Subtrees.{tree_from}
 use Rattle.avn_value.specs.declared.print.Levels.{Under}
 use Rattle.avn_value.proofs.Rows.{count_of, present, print-choice, print-list, print-fields, rows-more, fields-more, field_row, no-rows, no-field_rows, was_ok, depth-Under}

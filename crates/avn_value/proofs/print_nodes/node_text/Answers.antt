@@ -1,4 +1,4 @@
-use Rattle.std.proofs.Common.{◌≡◌, ◌++◌, ap, ◌∙◌, string_bytes}
+use Rattle.std.proofs.Common.{◌++◌, ap, ◌∙◌, string_bytes}
 use Rattle.std.proofs.lemmas.Fmt.{contents_after_writes}
 use Rattle.avn_grammar.specs.Print.{print}
 use Rattle.avn_value.specs.Subtrees.{tree_from}

@@ -97,16 +97,18 @@ pub record NextField (nodes : List NodeView) (node child row : ℕ) (w : FieldsW
   pub id : List ℕ
   pub slot : Option Tree
   pub here : Child nodes child id slot
+  pub later : node < child
   pub next : (then after : ℕ) → then ≡ (view_at nodes child).end → after ≡ row + present (entry id slot no_fields) → (k : FieldsWritten nodes node then after) × (k.done ≡ join w.done (entry id slot no_fields))
 
-pub fields_next : (nodes : List NodeView) (node child row : ℕ) → HasTree nodes node → (w : FieldsWritten nodes node child row) → child < (view_at nodes node).end → NextField nodes node child row w
-fields_next nodes node child row h w l =
+pub fields_next : (nodes : List NodeView) (node child row end : ℕ) → (w : FieldsWritten nodes node child row) → HasTree nodes node → end ≡ (view_at nodes node).end → child < end → NextField nodes node child row w
+fields_next nodes node child row end w h is l =
     let t = tree_from nodes node in
-    let f = fielding_first t 0 w.place (node_count t) w.done w.walk (omega (arith, w.at, tree_end nodes node h)) in
+    let f = fielding_first t 0 w.place (node_count t) w.done w.walk (omega (arith, w.at, is, tree_end nodes node h)) in
     let here = within nodes node w.place child f.id f.slot w.at h w.walk.after f.below f.here in record {
       id = f.id;
       slot = f.slot;
       here = here;
+      later = omega (arith, w.at, w.walk.after);
       next = λ then after e r.
           let size : (view_at nodes child).end ≡ suc (child + length (slot_descendants f.slot)) = ap (λ (v : NodeView). v.end) here.view in
           let same : length (slot_descendants (tree_at t w.place)) ≡ length (slot_descendants f.slot) = ap (λ (s : NamedSlot). length (slot_descendants s.1)) f.here in
@@ -124,9 +126,9 @@ fields_next nodes node child row h w l =
           );
     }
 
-pub fields_all : (nodes : List NodeView) (node child row : ℕ) → HasTree nodes node → (w : FieldsWritten nodes node child row) → (view_at nodes node).end ≤ child → tree_from nodes node ≡ sequence w.done
-fields_all nodes node child row h w l =
-    some_is _ _ (fielding_done (tree_from nodes node) 0 w.place (node_count (tree_from nodes node)) w.done w.walk (omega (arith, w.at, tree_end nodes node h)))
+pub fields_all : (nodes : List NodeView) (node child row end : ℕ) → (w : FieldsWritten nodes node child row) → HasTree nodes node → end ≡ (view_at nodes node).end → end ≤ child → sequence w.done ≡ tree_from nodes node
+fields_all nodes node child row end w h is l =
+    sym (some_is _ _ (fielding_done (tree_from nodes node) 0 w.place (node_count (tree_from nodes node)) w.done w.walk (omega (arith, w.at, is, tree_end nodes node h))))
 
 -- The values of a list that were written, up to a child.
 pub record ListWritten (nodes : List NodeView) (node child row : ℕ) : Type 0 where
@@ -154,15 +156,17 @@ list_begun nodes node child row e c r = (
 pub record NextItem (nodes : List NodeView) (node child row : ℕ) (w : ListWritten nodes node child row) : Type 0 where
   pub item : Tree
   pub here : Child nodes child [] (Some item)
+  pub later : node < child
   pub next : (then after : ℕ) → then ≡ (view_at nodes child).end → after ≡ row + 1 → (k : ListWritten nodes node then after) × (k.done ≡ chained w.done (tree item no_trees))
 
-pub list_next : (nodes : List NodeView) (node child row : ℕ) → HasTree nodes node → (w : ListWritten nodes node child row) → child < (view_at nodes node).end → NextItem nodes node child row w
-list_next nodes node child row h w l =
+pub list_next : (nodes : List NodeView) (node child row end : ℕ) → (w : ListWritten nodes node child row) → HasTree nodes node → end ≡ (view_at nodes node).end → child < end → NextItem nodes node child row w
+list_next nodes node child row end w h is l =
     let t = tree_from nodes node in
-    let f = listing_first t 0 w.place (node_count t) w.done w.walk (omega (arith, w.at, tree_end nodes node h)) in
+    let f = listing_first t 0 w.place (node_count t) w.done w.walk (omega (arith, w.at, is, tree_end nodes node h)) in
     let here = within nodes node w.place child [] (Some f.item) w.at h w.walk.after f.below f.here in record {
       item = f.item;
       here = here;
+      later = omega (arith, w.at, w.walk.after);
       next = λ then after e r.
           let size : (view_at nodes child).end ≡ suc (child + length (descendants f.item)) = ap (λ (v : NodeView). v.end) here.view in
           let same : length (slot_descendants (tree_at t w.place)) ≡ length (descendants f.item) = ap (λ (s : NamedSlot). length (slot_descendants s.1)) f.here in
@@ -180,6 +184,6 @@ list_next nodes node child row h w l =
           );
     }
 
-pub list_all : (nodes : List NodeView) (node child row : ℕ) → HasTree nodes node → (w : ListWritten nodes node child row) → (view_at nodes node).end ≤ child → tree_from nodes node ≡ sequence_of w.done
-list_all nodes node child row h w l =
-    some_is _ _ (listing_done (tree_from nodes node) 0 w.place (node_count (tree_from nodes node)) w.done w.walk (omega (arith, w.at, tree_end nodes node h)))
+pub list_all : (nodes : List NodeView) (node child row end : ℕ) → (w : ListWritten nodes node child row) → HasTree nodes node → end ≡ (view_at nodes node).end → end ≤ child → sequence_of w.done ≡ tree_from nodes node
+list_all nodes node child row end w h is l =
+    sym (some_is _ _ (listing_done (tree_from nodes node) 0 w.place (node_count (tree_from nodes node)) w.done w.walk (omega (arith, w.at, is, tree_end nodes node h))))

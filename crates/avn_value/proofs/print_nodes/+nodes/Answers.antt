@@ -1,4 +1,4 @@
-use Rattle.std.proofs.Common.{◌≡◌, ◌<◌, ◌+◌, suc, ◌++◌, arith, refl, sym, ap, subst, ◌∙◌, rules}
+use Rattle.std.proofs.Common.{◌≡◌, ◌+◌, suc, ◌++◌, arith, refl, sym, ap, subst, ◌∙◌, rules}
 use Rattle.std.specs.Prelude.{codes}
 use Rattle.std.specs.Fmt.{HasWritten}
 use Rattle.std.proofs.Output.{has_written_of_eq}
@@ -56,23 +56,21 @@ print_list-children-init g t c =
 
 pub print_list-print_node-requires : goal.print_list-print_node-requires
 print_list-print_node-requires g t c =
-    let w = c.children.invariant.0 in
-    let n = list_next c.args.nodes.now.nodes c.args.node c.children.child c.children.row c.requires.lists w (subst (λ k. c.children.child < k) c.end-end.ensures c.children-test.true) in
+    let n = list_next _ _ _ _ _ c.children.invariant.0 c.requires.lists c.end-end.ensures c.children-test.true in
     let below = n.here.below in
-    let at = w.at in
-    let after = w.walk.after in
-    λ κs o. (grind (arith, common_steps, below, at, after), (search rules, (n.here.has n.item refl).0))
+    let later = n.later in
+    λ κs o. (grind (arith, common_steps, below, later), (search rules, (n.here.has n.item refl).0))
 
 pub print_list-end-child-requires : goal.print_list-end-child-requires
 print_list-end-child-requires g t c =
-    (list_next c.args.nodes.now.nodes c.args.node c.children.child c.children.row c.requires.lists c.children.invariant.0 (subst (λ k. c.children.child < k) c.end-end.ensures c.children-test.true)).here.below
+    (list_next _ _ _ _ _ c.children.invariant.0 c.requires.lists c.end-end.ensures c.children-test.true).here.below
 
 pub print_list-children-preserved : goal.print_list-children-preserved
 print_list-children-preserved g t c =
     let d = suc (depth_of c.args.levels.now) in
     let nodes = c.args.nodes.now.nodes in
     let w = c.children.invariant.0 in
-    let n = list_next nodes c.args.node c.children.child c.children.row c.requires.lists w (subst (λ k. c.children.child < k) c.end-end.ensures c.children-test.true) in
+    let n = list_next _ _ _ _ _ w c.requires.lists c.end-end.ensures c.children-test.true in
     let k = n.next c.end-child.result (c.children.row + 1) c.end-child.ensures refl in
     let u = Under c.args.levels in (
       k.0,
@@ -85,20 +83,18 @@ print_list-children-preserved g t c =
 
 pub print_list-children-smaller : goal.print_list-children-smaller
 print_list-children-smaller g t c =
-    let w = c.children.invariant.0 in
-    let n = list_next c.args.nodes.now.nodes c.args.node c.children.child c.children.row c.requires.lists w (subst (λ k. c.children.child < k) c.end-end.ensures c.children-test.true) in
+    let n = list_next _ _ _ _ _ c.children.invariant.0 c.requires.lists c.end-end.ensures c.children-test.true in
     let e = ap (λ (v : NodeView). v.end) n.here.view in
     omega (arith, e, c.end-child.ensures, c.children-test.true)
 
 pub print_list-returns : goal.print_list-returns
 print_list-returns g t c = λ p ok.
     let d = depth_of c.args.levels.now in
-    let nodes = c.args.nodes.now.nodes in
     let w = c.children.invariant.0 in
-    let all = list_all nodes c.args.node c.children.child c.children.row c.requires.lists w (omega (arith, c.end-end.ensures, c.children-test.false)) in
+    let all = list_all _ _ _ _ _ w c.requires.lists c.end-end.ensures c.children-test.false in
     let h1 = c.write_str.ensures.writes p (was_ok _ _ c.in_ok-write_str.was) in
     let h2 = c.children.invariant.1 h1.plain in
-    put_three g.W.Write.write_str_gives _ _ _ _ _ _ _ _ h1 h2 (c.write_close.ensures h2.plain ok) (print-list d c.children.row w.done (sym w.rows) ∙ ap (print d) (sym all))
+    put_three g.W.Write.write_str_gives _ _ _ _ _ _ _ _ h1 h2 (c.write_close.ensures h2.plain ok) (print-list d c.children.row w.done (sym w.rows) ∙ ap (print d) all)
 
 pub print_fields-children-init : goal.print_fields-children-init
 print_fields-children-init g t c =
@@ -108,31 +104,28 @@ print_fields-children-init g t c =
 
 pub print_fields-kind-requires : goal.print_fields-kind-requires
 print_fields-kind-requires g t c =
-    (fields_next c.args.nodes.now.nodes c.args.node c.children.child c.children.row c.requires.lists c.children.invariant.0 (subst (λ k. c.children.child < k) c.end-end.ensures c.children-test.true)).here.below
+    (fields_next _ _ _ _ _ c.children.invariant.0 c.requires.lists c.end-end.ensures c.children-test.true).here.below
 
 pub print_fields-end-child-requires : goal.print_fields-end-child-requires
 print_fields-end-child-requires g t c =
-    (fields_next c.args.nodes.now.nodes c.args.node c.children.child c.children.row c.requires.lists c.children.invariant.0 (subst (λ k. c.children.child < k) c.end-end.ensures c.children-test.true)).here.below
+    (fields_next _ _ _ _ _ c.children.invariant.0 c.requires.lists c.end-end.ensures c.children-test.true).here.below
 
 pub print_fields-print_node-requires : goal.print_fields-print_node-requires
 print_fields-print_node-requires g t c =
     let nodes = c.args.nodes.now.nodes in
-    let w = c.children.invariant.0 in
-    let n = fields_next nodes c.args.node c.children.child c.children.row c.requires.lists w (subst (λ k. c.children.child < k) c.end-end.ensures c.children-test.true) in
+    let n = fields_next _ _ _ _ _ c.children.invariant.0 c.requires.lists c.end-end.ensures c.children-test.true in
     let s = child_present nodes c.children.child n.id n.slot c.kind.result n.here c.kind.ensures c.in_default.not-Absent in
     let below = n.here.below in
-    let at = w.at in
-    let after = w.walk.after in
-    λ κs o. (grind (arith, common_steps, below, at, after), (search rules, (n.here.has s.0 s.1).0))
+    let later = n.later in
+    λ κs o. (grind (arith, common_steps, below, later), (search rules, (n.here.has s.0 s.1).0))
 
 pub print_fields-children-preserved : goal.print_fields-children-preserved
 print_fields-children-preserved g t c =
     let d = suc (depth_of c.args.levels.now) in
     let nodes = c.args.nodes.now.nodes in
     let child = c.children.child in
-    let row = c.children.row in
     let w = c.children.invariant.0 in
-    let n = fields_next nodes c.args.node child row c.requires.lists w (subst (λ k. child < k) c.end-end.ensures c.children-test.true) in
+    let n = fields_next _ _ _ _ _ w c.requires.lists c.end-end.ensures c.children-test.true in
     elim c.match-kind.branch [
       | print_fields-in-Absent a ↦
           let s = child_absent nodes child n.id n.slot c.kind.result n.here c.kind.ensures a.in-Absent.is in
@@ -161,17 +154,15 @@ print_fields-children-preserved g t c =
 
 pub print_fields-children-smaller : goal.print_fields-children-smaller
 print_fields-children-smaller g t c =
-    let w = c.children.invariant.0 in
-    let n = fields_next c.args.nodes.now.nodes c.args.node c.children.child c.children.row c.requires.lists w (subst (λ k. c.children.child < k) c.end-end.ensures c.children-test.true) in
+    let n = fields_next _ _ _ _ _ c.children.invariant.0 c.requires.lists c.end-end.ensures c.children-test.true in
     let e = ap (λ (v : NodeView). v.end) n.here.view in
     omega (arith, e, c.end-child.ensures, c.children-test.true)
 
 pub print_fields-returns : goal.print_fields-returns
 print_fields-returns g t c = λ p ok.
     let d = depth_of c.args.levels.now in
-    let nodes = c.args.nodes.now.nodes in
     let w = c.children.invariant.0 in
-    let all = fields_all nodes c.args.node c.children.child c.children.row c.requires.lists w (omega (arith, c.end-end.ensures, c.children-test.false)) in
+    let all = fields_all _ _ _ _ _ w c.requires.lists c.end-end.ensures c.children-test.false in
     let h1 = c.write_str.ensures.writes p (was_ok _ _ c.in_ok-write_str.was) in
     let h2 = c.children.invariant.1 h1.plain in
-    put_three g.W.Write.write_str_gives _ _ _ _ _ _ _ _ h1 h2 (c.write_close.ensures h2.plain ok) (print-fields d c.children.row w.done (sym w.rows) ∙ ap (print d) (sym all))
+    put_three g.W.Write.write_str_gives _ _ _ _ _ _ _ _ h1 h2 (c.write_close.ensures h2.plain ok) (print-fields d c.children.row w.done (sym w.rows) ∙ ap (print d) all)

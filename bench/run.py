@@ -10,8 +10,9 @@ librust-hex-dev).
 
 The first table is of the program, beside Python's json module or Rust's serde_json: seconds, user and system, and peak
 memory. The second is of avn_bench beside a plain reader and printer of AVN: MB/s of text read into a table of nodes
-(what types are decoded from) and into a value, both beside the peer's reading, and of text printed, each the best of
-ten turns in a process, and how many times as long twice the input takes.
+(what types are decoded from) and into a value, both beside the peer's reading, and of text printed from a value and
+from a table, both beside the peer's printing, each the best of ten turns in a process, and how many times as long twice
+the input takes.
 
 With -p, the inputs are the files *.in in DIR, each a request line and a text, and the peer is PROGRAM, which takes the
 same requests: seconds and peak memory of both, and ours by its.
@@ -215,11 +216,11 @@ def best_turns(name, size, runs):
 
 
 def compare_avn(name, runs):
-    """Prints the row of one input of the readers and the printer of AVN."""
+    """Prints the row of one input of the readers and the printers of AVN."""
     (read, printed), ours, (reading, printing) = best_turns(name, 1, runs)
     _, ours_twice, _ = best_turns(name, 2, runs)
     row = f"{name:24} {read / 1e6:5.1f}"
-    steps = zip((read, read, printed), ours, (reading, reading, printing), ours_twice)
+    steps = zip((read, read, printed, printed), ours, (reading, reading, printing, printing), ours_twice)
     for amount, mine, peer, twice in steps:
         row += f"  | {1e3 * amount / mine:6.0f} {1e3 * amount / peer:6.0f} {peer / mine:6.2f} {twice / mine:5.2f}"
     print(row, flush=True)
@@ -264,8 +265,9 @@ def main():
         if not os.path.exists(AVN_BENCH):
             subprocess.run(["rt", "run"], cwd=AVN_CRATE, capture_output=True)
         columns = f"{'ours':>6} {'peer':>6} {'speed':>6} {'twice':>5}"
-        print(f"{'AVN':24} {'MB':>5}  | {'reading a table':^26}  | {'reading a value':^26}  | {'printing':^26}")
-        print(f"{'':30}  | {columns}  | {columns}  | {columns}")
+        steps = "reading a table", "reading a value", "printing a value", "printing a table"
+        print(f"{'AVN':24} {'MB':>5}" + "".join(f"  | {step:^26}" for step in steps))
+        print(f"{'':30}" + f"  | {columns}" * len(steps))
     for name in avn_inputs:
         compare_avn(name, runs)
     if part in "string types":

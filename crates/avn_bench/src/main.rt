@@ -1,4 +1,4 @@
-//! Times the readers and the printer of the ASN.1 value notation (X.680) on the text of standard
+//! Times the readers and the printers of the ASN.1 value notation (X.680) on the text of standard
 //! input. Standard output states how many bytes were read and printed, or why the text is refused;
 //! standard error has the least processor time of ten turns of each. `bench/run.py` runs it beside
 //! a native reader and printer on the same texts.
@@ -45,12 +45,31 @@ fn value_time(rt: &HostRuntime, text: &str) -> io::Result<Duration> {
     Ok(least)
 }
 
+/// Returns the least processor time in which a table of the text is printed to a text of its own.
+///
+/// # Errors
+///
+/// Those of the clock.
+fn table_printing_time(rt: &HostRuntime, text: &str) -> io::Result<Duration> {
+    let mut scan = Scan::new(text);
+    let mut least = Duration::MAX;
+    let Ok(table) = NodeTable::parse(rt.alloc(), &mut scan) else {
+        return Ok(least);
+    };
+    for _ in 0..TURNS {
+        let start = rt.process_cpu_time()?;
+        let _text = table.print(rt.alloc(), 0);
+        least = least.min(rt.process_cpu_time()?.saturating_sub(start));
+    }
+    Ok(least)
+}
+
 /// Returns the least processor time in which the value is printed to a text of its own.
 ///
 /// # Errors
 ///
 /// Those of the clock.
-fn printing_time(rt: &HostRuntime, value: &AvnValue) -> io::Result<Duration> {
+fn value_printing_time(rt: &HostRuntime, value: &AvnValue) -> io::Result<Duration> {
     let mut least = Duration::MAX;
     for _ in 0..TURNS {
         let start = rt.process_cpu_time()?;
@@ -58,6 +77,20 @@ fn printing_time(rt: &HostRuntime, value: &AvnValue) -> io::Result<Duration> {
         least = least.min(rt.process_cpu_time()?.saturating_sub(start));
     }
     Ok(least)
+}
+
+/// Times each reader and printer on the text of a value, and prints the times to standard error.
+///
+/// # Errors
+///
+/// Those of the clock and of printing.
+fn print_times(rt: &HostRuntime, text: &str, value: &AvnValue) -> io::Result<()> {
+    let to_table = table_time(rt, text)?.as_nanos();
+    let to_value = value_time(rt, text)?.as_nanos();
+    let of_value = value_printing_time(rt, value)?.as_nanos();
+    let of_table = table_printing_time(rt, text)?.as_nanos();
+    eprintln!(rt; "{to_table} ns to read a table, {to_value} ns to read a value")?;
+    eprintln!(rt; "{of_value} ns to print a value, {of_table} ns to print a table")
 }
 
 /// Reads standard input whole, once for the numbers of bytes and then for the times.
@@ -75,12 +108,7 @@ fn main(rt: HostRuntime) -> io::Result<()> {
                 text.len(),
                 printed.len()
             )?;
-            let table = table_time(&rt, text.as_str())?.as_nanos();
-            let owned = value_time(&rt, text.as_str())?.as_nanos();
-            let printing = printing_time(&rt, &value)?.as_nanos();
-            eprintln!(rt;
-                "{table} ns to read a table, {owned} ns to read a value, {printing} ns to print"
-            )
+            print_times(&rt, text.as_str(), &value)
         }
         Err(error) => println!(rt; "{error}"),
     }

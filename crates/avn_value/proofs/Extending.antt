@@ -13,7 +13,7 @@ use Rattle.avn_value.specs.NodeLists.{NodeList, next_node, with_leaf, with_octet
 use Rattle.avn_value.specs.declared.node_kind.NodeKind.{NodeKind}
 use Rattle.avn_value.specs.declared.node_kind.NodeKind.TheVariants as kind
 
-node_views-append : (i : ℕ) (xs ys : List NamedSlot) → node_views i (xs ++ ys) ≡ node_views i xs ++ node_views (i + length xs) ys
+pub node_views-append : (i : ℕ) (xs ys : List NamedSlot) → node_views i (xs ++ ys) ≡ node_views i xs ++ node_views (i + length xs) ys
 node_views-append i [] ys = let e : i ≡ i + 0 = omega arith in ap (λ j. node_views j ys) e
 node_views-append i (x ∷ xs) ys = let e : suc i + length xs ≡ i + suc (length xs) = omega arith in ap (λ z. node_view i x ∷ z) (node_views-append (suc i) xs ys ∙ ap (λ j. node_views (suc i) xs ++ node_views j ys) e)
 

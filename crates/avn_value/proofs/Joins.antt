@@ -37,7 +37,7 @@ normal-join no_fields gs = refl
 normal-join (field id t fs) gs = ap (field id (normal t)) (normal-join fs gs)
 normal-join (absent id fs) gs = normal-join fs gs
 
-join-nil : (fs : Fields) → join fs no_fields ≡ fs
+pub join-nil : (fs : Fields) → join fs no_fields ≡ fs
 join-nil no_fields = refl
 join-nil (field id t fs) = ap (field id t) (join-nil fs)
 join-nil (absent id fs) = ap (absent id) (join-nil fs)

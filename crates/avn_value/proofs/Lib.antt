@@ -30,3 +30,5 @@ pub mod Extending
 pub mod Putting
 pub mod Tables
 pub mod Walks
+pub mod Subtrees
+pub mod NodeRows

@@ -5,6 +5,7 @@ use Rattle.avn_value.specs.View.{trees_in, fields_in}
 use Rattle.std.proofs.lemmas.List.{drop-drop, drop_at, get_or-drop}
 use Rattle.avn_grammar.specs.Tree.{Tree, Trees, Fields, boolean, null, integer, real, octet_string, bit_string, oid, enumerated, char_string, sequence, sequence_of, choice, no_trees, tree, no_fields, field, absent}
 use Rattle.avn_value.proofs.Descendants.{under}
+use Rattle.avn_value.proofs.Joins.{join, join-nil}
 use Rattle.avn_value.specs.NodeViews.{kind_of}
 use Rattle.avn_value.specs.Preorder.{NamedSlot, descendants, fields_preorder, list_preorder, preorder, slot_descendants, node_at, tree_at, node_count}
 use Rattle.avn_value.specs.declared.node_kind.NodeKind.TheVariants as kind
@@ -39,6 +40,10 @@ kind_present (choice id t) e = cc
 pub kind_absent : (o : Option Tree) → kind_of o ≡ kind.Absent → o ≡ None
 kind_absent None e = refl
 kind_absent (Some t) e = absurd (kind_present t e)
+
+pub kind_not_absent : (o : Option Tree) → kind_of o ≢ kind.Absent → (t : Tree) × (o ≡ Some t)
+kind_not_absent None n = absurd (n refl)
+kind_not_absent (Some t) n = (t, refl)
 
 -- The nodes from a place on are these, and others after them.
 pub record From (root : Tree) (i : ℕ) (ss : List NamedSlot) : Type 0 where
@@ -133,46 +138,35 @@ payload_at root i h e =
     let q = from_first root (i + 1) (k.0, Some k.1) (descendants k.1) f in
     (k.0, k.1, k.2, q.0, q.1)
 
--- Fields, and others after them.
-pub joined : Fields → Fields → Fields
-joined no_fields gs = gs
-joined (field id t fs) gs = field id t (joined fs gs)
-joined (absent id fs) gs = absent id (joined fs gs)
-
-pub joined-none : (fs : Fields) → joined fs no_fields ≡ fs
-unfolding joined
-joined-none no_fields = refl
-joined-none (field id t fs) = ap (field id t) (joined-none fs)
-joined-none (absent id fs) = ap (absent id) (joined-none fs)
-
-pub joined-first : (fs : Fields) → joined no_fields fs ≡ fs
-unfolding joined
-joined-first fs = refl
+-- A field put before the others is one put after those from before.
+pub join-next : (fs gs : Fields) (id : List ℕ) (slot : Option Tree) → join (join fs (entry id slot no_fields)) gs ≡ join fs (entry id slot gs)
+join-next no_fields gs id (Some t) = refl
+join-next no_fields gs id None = refl
+join-next (field n u fs) gs id slot = ap (field n u) (join-next fs gs id slot)
+join-next (absent n fs) gs id slot = ap (absent n) (join-next fs gs id slot)
 
 -- Values, and others after them.
-pub chained : Trees → Trees → Trees
+abbrev pub chained : Trees → Trees → Trees
 chained no_trees us = us
 chained (tree t ts) us = tree t (chained ts us)
 
 pub chained-none : (ts : Trees) → chained ts no_trees ≡ ts
-unfolding chained
 chained-none no_trees = refl
 chained-none (tree t ts) = ap (tree t) (chained-none ts)
 
-pub chained-first : (ts : Trees) → chained no_trees ts ≡ ts
-unfolding chained
-chained-first ts = refl
+-- A value put before the others is one put after those from before.
+pub chained-next : (ts us : Trees) (t : Tree) → chained (chained ts (tree t no_trees)) us ≡ chained ts (tree t us)
+chained-next no_trees us t = refl
+chained-next (tree u ts) us t = ap (tree u) (chained-next ts us t)
 
 module _ {A : Type 0} (see : A → Tree) where
-  pub joined-push : {S : Type 0} (xs : List (String S × Option A)) (name : String S) (o : Option A) (fs : Fields) → joined (fields_in (map (λ f. (f.0, option_map see f.1)) (xs ++ ((name, o) ∷ [])))) fs ≡ joined (fields_in (map (λ f. (f.0, option_map see f.1)) xs)) (entry (string_bytes name) (option_map see o) fs)
-  unfolding joined
-  joined-push [] name (Some v) fs = refl
-  joined-push [] name None fs = refl
-  joined-push ((n, Some w) ∷ xs) name o fs = ap (field (string_bytes n) (see w)) (joined-push xs name o fs)
-  joined-push ((n, None) ∷ xs) name o fs = ap (absent (string_bytes n)) (joined-push xs name o fs)
+  pub join-push : {S : Type 0} (xs : List (String S × Option A)) (name : String S) (o : Option A) (fs : Fields) → join (fields_in (map (λ f. (f.0, option_map see f.1)) (xs ++ ((name, o) ∷ [])))) fs ≡ join (fields_in (map (λ f. (f.0, option_map see f.1)) xs)) (entry (string_bytes name) (option_map see o) fs)
+  join-push [] name (Some v) fs = refl
+  join-push [] name None fs = refl
+  join-push ((n, Some w) ∷ xs) name o fs = ap (field (string_bytes n) (see w)) (join-push xs name o fs)
+  join-push ((n, None) ∷ xs) name o fs = ap (absent (string_bytes n)) (join-push xs name o fs)
 
   pub chained-push : (xs : List A) (v : A) (ts : Trees) → chained (trees_in (map see (xs ++ (v ∷ [])))) ts ≡ chained (trees_in (map see xs)) (tree (see v) ts)
-  unfolding chained
   chained-push [] v ts = refl
   chained-push (w ∷ xs) v ts = ap (tree (see w)) (chained-push xs v ts)
 
@@ -191,7 +185,7 @@ no_more_items (tree t ts) e = absurd (omega (arith, e))
 pub record Fielding (root : Tree) (node child end : ℕ) (done : Fields) : Type 0 where
   pub others : Fields
   pub from : From root child (fields_preorder others)
-  pub whole : tree_at root node ≡ Some (sequence (joined done others))
+  pub whole : tree_at root node ≡ Some (sequence (join done others))
   pub ends : child + length (fields_preorder others) ≡ end
   pub after : node < child
 
@@ -200,18 +194,18 @@ unfolding descendants
 fielding_begun root node end h e f =
     let k = kind_sequence (tree_at root node) e in
     let l : end ≡ node + length (fields_preorder k.0) + 1 = f ∙ ap (λ o. node + length (slot_descendants o) + 1) k.1 in
-    record { others = k.0; from = subst (λ o. From root (node + 1) (slot_descendants o)) k.1 (from_inside root node h); whole = k.1 ∙ ap (λ x. Some (sequence x)) (sym (joined-first k.0)); ends = omega arith; after = omega arith }
+    record { others = k.0; from = subst (λ o. From root (node + 1) (slot_descendants o)) k.1 (from_inside root node h); whole = k.1; ends = omega arith; after = omega arith }
 
 pub fielding_first : (root : Tree) (node child end : ℕ) (done : Fields) (g : Fielding root node child end done) → child < end → FirstField root child g.others
 fielding_first root node child end done g h = first_field root child g.others (omega (arith, g.ends)) g.from
 
-pub fielding_more : (root : Tree) (node child end next : ℕ) (done then : Fields) (g : Fielding root node child end done) (f : FirstField root child g.others) → next ≡ child + length (slot_descendants (tree_at root child)) + 1 → joined then f.others ≡ joined done (entry f.id f.slot f.others) → Fielding root node next end then
+pub fielding_more : (root : Tree) (node child end next : ℕ) (done then : Fields) (g : Fielding root node child end done) (f : FirstField root child g.others) → next ≡ child + length (slot_descendants (tree_at root child)) + 1 → join then f.others ≡ join done (entry f.id f.slot f.others) → Fielding root node next end then
 fielding_more root node child end next done then g f e j =
     let q = f.next next (e ∙ ap (λ (s : NamedSlot). child + length (slot_descendants s.1) + 1) f.here) in
-    record { others = f.others; from = q.0; whole = g.whole ∙ ap (λ x. Some (sequence (joined done x))) f.is ∙ ap (λ x. Some (sequence x)) (sym j); ends = omega (arith, q.1, g.ends); after = omega (arith, g.after) }
+    record { others = f.others; from = q.0; whole = g.whole ∙ ap (λ x. Some (sequence (join done x))) f.is ∙ ap (λ x. Some (sequence x)) (sym j); ends = omega (arith, q.1, g.ends); after = omega (arith, g.after) }
 
 pub fielding_done : (root : Tree) (node child end : ℕ) (done : Fields) → Fielding root node child end done → end ≤ child → tree_at root node ≡ Some (sequence done)
-fielding_done root node child end done g h = g.whole ∙ ap (λ x. Some (sequence (joined done x))) (no_more_fields g.others (omega (arith, g.ends))) ∙ ap (λ x. Some (sequence x)) (joined-none done)
+fielding_done root node child end done g h = g.whole ∙ ap (λ x. Some (sequence (join done x))) (no_more_fields g.others (omega (arith, g.ends))) ∙ ap (λ x. Some (sequence x)) (join-nil done)
 
 -- Values that were walked over, and those that are left.
 pub record Listing (root : Tree) (node child end : ℕ) (done : Trees) : Type 0 where
@@ -226,7 +220,7 @@ unfolding descendants
 listing_begun root node end h e f =
     let k = kind_sequence_of (tree_at root node) e in
     let l : end ≡ node + length (list_preorder k.0) + 1 = f ∙ ap (λ o. node + length (slot_descendants o) + 1) k.1 in
-    record { others = k.0; from = subst (λ o. From root (node + 1) (slot_descendants o)) k.1 (from_inside root node h); whole = k.1 ∙ ap (λ x. Some (sequence_of x)) (sym (chained-first k.0)); ends = omega arith; after = omega arith }
+    record { others = k.0; from = subst (λ o. From root (node + 1) (slot_descendants o)) k.1 (from_inside root node h); whole = k.1; ends = omega arith; after = omega arith }
 
 pub listing_first : (root : Tree) (node child end : ℕ) (done : Trees) (g : Listing root node child end done) → child < end → FirstItem root child g.others
 listing_first root node child end done g h = first_item root child g.others (omega (arith, g.ends)) g.from

@@ -13,5 +13,6 @@ pub mod NodeLists
 pub mod ReadNodes
 pub mod NodeRanges
 pub mod Forest
+pub mod Subtrees
 pub mod ForestLaws
 pub mod TreeCode

@@ -15,6 +15,7 @@ mod nodes;
 mod normal;
 mod parse;
 mod print;
+mod print_nodes;
 mod put;
 mod quoted;
 mod text;

@@ -19,6 +19,7 @@ use crate::cursor::Cursor;
 use crate::node_kind::NodeKind;
 use crate::nodes::Nodes;
 use crate::parse::read_whole;
+use crate::print_nodes::node_text;
 use crate::put::put_value;
 use crate::value::AvnValue;
 use asn_core::{OutOfMemory, Scan};
@@ -270,8 +271,7 @@ impl NodeTable {
         ensures { IfOk result (λ text. (tree : Tree) → tree_at self.now node ≡ Some tree
             → string_bytes text ≡ print 0 tree) }
     {
-        let value = self.to_value(alloc, node)?;
-        let text = value.to_string(alloc)?;
+        let text = node_text(alloc, &self.nodes, node)?;
         Ok(text)
     }
 

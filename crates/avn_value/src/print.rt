@@ -1,5 +1,5 @@
 // The printed text of a value.
-ghost use Rattle.std.specs.Prelude.{◌≡◌};
+ghost use Rattle.std.specs.Prelude.{◌≡◌, ◌++◌, codes};
 ghost use Rattle.std.specs.Fmt.{WritesOnOk};
 ghost use Rattle.avn_grammar.specs.Tree.{sequence, sequence_of, octet_string, bit_string, oid};
 ghost use Rattle.avn_grammar.specs.Tree.{char_string};
@@ -40,8 +40,36 @@ fn separator(row: usize) -> &'static str
     if row == 0 { "\n" } else { ",\n" }
 }
 
+/// Writes what stands before the value of a row of a list.
+pub(crate) fn begin_row<W: fmt::Write>(
+    row: usize,
+    levels: &Levels<'_>,
+    f: &mut fmt::Formatter<W>,
+) -> fmt::Result
+    ensures { WritesOnOk W.write_str_gives f.old result
+        (separator row ++ indent (depth_of levels.now)) f.new }
+{
+    f.write_str(separator(row))?;
+    write_indent(levels, f)
+}
+
+/// Writes what stands before the value of a field, which is its name and a space in a row.
+pub(crate) fn begin_field<W: fmt::Write>(
+    row: usize,
+    name: &str,
+    levels: &Levels<'_>,
+    f: &mut fmt::Formatter<W>,
+) -> fmt::Result
+    ensures { WritesOnOk W.write_str_gives f.old result
+        (separator row ++ indent (depth_of levels.now) ++ name.now ++ codes " ") f.new }
+{
+    begin_row(row, levels, f)?;
+    f.write_str(name)?;
+    f.write_str(" ")
+}
+
 /// Writes the closing brace after so many rows.
-fn write_close<W: fmt::Write>(
+pub(crate) fn write_close<W: fmt::Write>(
     rows: usize,
     levels: &Levels<'_>,
     f: &mut fmt::Formatter<W>,
@@ -72,7 +100,7 @@ fn write_doubled<W: fmt::Write>(text: &str, f: &mut fmt::Formatter<W>) -> fmt::R
 
 /// Writes a text in quotes.
 #[tactic(auto, unfolding(avn_grammar::specs::Print::print))]
-fn write_text<W: fmt::Write>(text: &str, f: &mut fmt::Formatter<W>) -> fmt::Result
+pub(crate) fn write_text<W: fmt::Write>(text: &str, f: &mut fmt::Formatter<W>) -> fmt::Result
     ensures { WritesOnOk W.write_str_gives f.old result (print 0 (char_string text.now)) f.new }
 {
     f.write_str("\"")?;
@@ -82,7 +110,7 @@ fn write_text<W: fmt::Write>(text: &str, f: &mut fmt::Formatter<W>) -> fmt::Resu
 
 /// Writes octets in hexadecimal.
 #[tactic(auto, unfolding(avn_grammar::specs::Print::print))]
-fn write_octets<W: fmt::Write>(octets: &[u8], f: &mut fmt::Formatter<W>) -> fmt::Result
+pub(crate) fn write_octets<W: fmt::Write>(octets: &[u8], f: &mut fmt::Formatter<W>) -> fmt::Result
     ensures { WritesOnOk W.write_str_gives f.old result (print 0 (octet_string octets.now)) f.new }
 {
     f.write_str("'")?;
@@ -92,7 +120,7 @@ fn write_octets<W: fmt::Write>(octets: &[u8], f: &mut fmt::Formatter<W>) -> fmt:
 
 /// Writes a bit string: in binary, or in hexadecimal where it has whole octets.
 #[tactic(auto, unfolding(avn_grammar::specs::Print::print))]
-fn write_bit_string<W: fmt::Write>(
+pub(crate) fn write_bit_string<W: fmt::Write>(
     octets: &[u8],
     bit_length: usize,
     f: &mut fmt::Formatter<W>,
@@ -113,7 +141,7 @@ fn write_bit_string<W: fmt::Write>(
 
 /// Writes the arcs of an object identifier in braces.
 #[tactic(auto, unfolding(avn_grammar::specs::Print::print))]
-fn write_oid<W: fmt::Write>(arcs: &[u32], f: &mut fmt::Formatter<W>) -> fmt::Result
+pub(crate) fn write_oid<W: fmt::Write>(arcs: &[u32], f: &mut fmt::Formatter<W>) -> fmt::Result
     ensures { WritesOnOk W.write_str_gives f.old result (print 0 (oid arcs.now)) f.new }
 {
     f.write_str("{")?;
@@ -166,8 +194,7 @@ fn print_list<W: fmt::Write>(
     let under = Levels::Under(&*levels);
     f.write_str("{")?;
     for (row, item) in list.iter().enumerate() {
-        f.write_str(separator(row))?;
-        write_indent(&under, f)?;
+        begin_row(row, &under, f)?;
         print_at(item, &under, f)?;
     }
     write_close(list.len(), levels, f)
@@ -189,10 +216,7 @@ fn print_fields<W: fmt::Write>(
     for (name, slot) in fields.iter() {
         match slot {
             Some(value) => {
-                f.write_str(separator(row))?;
-                write_indent(&under, f)?;
-                f.write_str(name.as_str())?;
-                f.write_str(" ")?;
+                begin_field(row, name.as_str(), &under, f)?;
                 print_at(value, &under, f)?;
                 row += 1;
             }

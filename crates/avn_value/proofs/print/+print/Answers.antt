@@ -1,16 +1,17 @@
-use Rattle.std.proofs.Common.{arith, ◌≡◌, ◌<◌, ◌+◌, suc, ◌++◌, None, Some, List, length, take, get_or, sym, ap, subst, ◌∙◌, string_bytes, rules}
+use Rattle.std.proofs.Common.{arith, ◌≡◌, ◌<◌, ◌+◌, suc, ◌++◌, None, Some, List, length, length-take-le, take, get_or, sym, ap, subst, ◌∙◌, string_bytes, rules}
 use Rattle.std.specs.Prelude.{codes}
 use Rattle.std.proofs.Output.{has_written_of_eq}
 use Rattle.std.specs.Fmt.{HasWritten}
-use Rattle.std.proofs.lemmas.Grind.{put_three, put_four, put_six}
+use Rattle.std.proofs.lemmas.Grind.{put_three}
 use Rattle.std.proofs.lemmas.List.{take_all, append-nil}
 use Rattle.avn_grammar.specs.Print.{print, print_rows, print_fields, separator, indent}
+use Rattle.avn_value.specs.declared.print.Levels.{Under}
 use Rattle.avn_value.specs.declared.value.AvnValue.{AvnValue}
 use Rattle.avn_value.specs.View.{tree_of, list_trees, fields_trees}
 use Rattle.avn_value.specs.Levels.{depth_of}
 use Rattle.avn_value.proofs.Views.{view-Choice, view-Sequence}
-use Rattle.avn_value.proofs.Rows.{count_of, print-choice, print-list, count-trees, rows-more, was_ok, depth-Under, no-rows, no-field_rows, present, row-some, row-none, present-some, present-none, fields-more, present-more, print-fields}
-use Rattle.avn_value.proofs.print.+print.Goals.{print_fields-in-Some+in_ok-write_str-in-Some+in_ok-write_indent-in-Some+in_ok-write_str-in-Some-2+in_ok-write_str-in-Some-3+in_ok-print_at-in-Some, print_fields-in-None}
+use Rattle.avn_value.proofs.Rows.{count_of, present, print-choice, print-list, print-fields, rows-more, fields-more, present-more, trees-next, count-trees, was_ok, depth-Under, no-rows, no-field_rows, field-next}
+use Rattle.avn_value.proofs.print.+print.Goals.{print_fields-in-Some+in_ok-begin_field-in-Some+in_ok-print_at-in-Some, print_fields-in-None}
 use Rattle.avn_value.proofs.print.+print.Goals as goal
 
 pub print_at-returns-in-Sequence : goal.print_at-returns-in-Sequence
@@ -35,13 +36,16 @@ pub print_list-loop-row-preserved : goal.print_list-loop-row-preserved
 print_list-loop-row-preserved g t c = λ p.
     let d = suc (depth_of c.args.levels.now) in
     let xs = c.deref-item-items.result.now in
-    let e = rows-more tree_of d xs c.loop-row.row c.item-item.result (omega arith) in
+    let i = c.loop-row.row in
+    let x = c.item-item.result in
+    let u = Under c.args.levels in
+    let done = list_trees (take i xs) in
+    let below : i < length xs = omega arith in
+    let count : i ≡ count_of done = sym (count-trees tree_of (take i xs) ∙ omega (arith, length-take-le i xs)) in
     let h0 = c.loop-row.invariant p in
-    let h1 = has_written_of_eq _ _ _ _ _ c.separator.ensures (c.write_str-in-loop-row.ensures.writes h0.plain (was_ok _ _ c.in_ok-write_str-2.was)) in
-    let h2 = has_written_of_eq _ _ _ _ _ (ap indent (depth-Under c.args.levels)) (c.write_indent.ensures h1.plain (was_ok _ _ c.in_ok-write_indent.was)) in
-    let f : print d (tree_of c.item-item.result) ≡ print d (tree_of (get_or xs c.loop-row.row c.item-item.result)) = ap (λ x. print d (tree_of x)) c.item-item.is in
-    let h3 : HasWritten g.W.Write.write_str_gives c.write_indent.new.f (print d (tree_of c.item-item.result)) c.print_at.new.f = has_written_of_eq _ _ _ _ _ (ap (λ k. print k (tree_of c.item-item.result)) (depth-Under c.args.levels)) (c.print_at.ensures h2.plain (was_ok _ _ c.in_ok-print_at.was)) in
-    put_four g.W.Write.write_str_gives _ _ _ _ _ _ _ _ _ _ h0 h1 h2 (has_written_of_eq _ _ _ _ _ f h3) e
+    let h1 = has_written_of_eq _ _ _ _ _ (ap (λ r. separator r ++ indent (depth_of u)) count ∙ ap (λ l. separator (count_of done) ++ indent l) (depth-Under c.args.levels)) (c.begin_row.ensures h0.plain (was_ok _ _ c.in_ok-begin_row.was)) in
+    let h2 = has_written_of_eq _ _ _ _ _ (ap (λ l. print l (tree_of x)) (depth-Under c.args.levels) ∙ ap (λ y. print d (tree_of y)) c.item-item.is) (c.print_at.ensures h1.plain (was_ok _ _ c.in_ok-print_at.was)) in
+    put_three g.W.Write.write_str_gives _ _ _ _ _ _ _ _ h0 h1 h2 (rows-more d done (tree_of (get_or xs i x)) ∙ ap (print_rows d 0) (sym (trees-next tree_of xs i x below)))
 
 pub print_list-returns : goal.print_list-returns
 print_list-returns g t c = λ p ok.
@@ -62,36 +66,35 @@ print_fields-loop-name-preserved g t c =
     let xs = c.deref-name-items.result.now in
     let i = c.loop-name.name-index in
     let x = c.loop-name-item.result in
-    let lt : i < length xs = c.loop-name-test.true in
-    let same : get_or xs i x ≡ x = sym c.loop-name-item.is in
-    let more = fields-more tree_of d xs i x lt in
-    let count = present-more tree_of d xs i x lt in
+    let u = Under c.args.levels in
+    let done = fields_trees (take i xs) in
+    let below : i < length xs = c.loop-name-test.true in
     let was = c.loop-name.invariant in
     elim c.match-slot.branch [
-      | print_fields-in-Some+in_ok-write_str-in-Some+in_ok-write_indent-in-Some+in_ok-write_str-in-Some-2+in_ok-write_str-in-Some-3+in_ok-print_at-in-Some w ↦
+      | print_fields-in-Some+in_ok-begin_field-in-Some+in_ok-print_at-in-Some w ↦
           let v = w.in-Some.value in
-          let y = get_or xs i x in
-          let some : y.1 ≡ Some v = ap (λ y. y.1) same ∙ w.in-Some.is in
-          let k = present-some tree_of d y v some in (
-            omega (arith, count, k, was.0, w.row-is),
+          let id = string_bytes (x.0) in
+          let next = field-next tree_of xs i x (Some v) below c.loop-name-item.is w.in-Some.is in
+          let count = ap present (sym next) ∙ present-more done id (Some (tree_of v)) in (
+            omega (arith, count, was.0, w.row-is),
             omega (arith, was.1, w.row-is),
             (λ p.
                 let h0 = was.2 p in
-                let h1 = has_written_of_eq _ _ _ _ _ (w.separator.ensures ∙ ap separator was.0) (w.write_str-in-Some.ensures.writes h0.plain (was_ok _ _ w.in_ok-write_str-in-Some.was)) in
-                let h2 = has_written_of_eq _ _ _ _ _ (ap indent (depth-Under c.args.levels)) (w.write_indent.ensures h1.plain (was_ok _ _ w.in_ok-write_indent-in-Some.was)) in
-                let h3 = has_written_of_eq _ _ _ _ _ (w.as_str.ensures.value ∙ ap (λ y. string_bytes (y.0)) (sym same)) (w.write_str-in-Some-2.ensures.writes h2.plain (was_ok _ _ w.in_ok-write_str-in-Some-2.was)) in
-                let h4 = w.write_str-in-Some-3.ensures.writes h3.plain (was_ok _ _ w.in_ok-write_str-in-Some-3.was) in
-                let h5 = has_written_of_eq _ _ _ _ _ (ap (λ k. print k (tree_of v)) (depth-Under c.args.levels)) (w.print_at.ensures h4.plain (was_ok _ _ w.in_ok-print_at-in-Some.was)) in
+                let lead = ap (λ r. separator r ++ indent (depth_of u) ++ w.as_str.result.now ++ codes " ") was.0 ∙ ap (λ l. separator (present done) ++ indent l ++ w.as_str.result.now ++ codes " ") (depth-Under c.args.levels)
+                ∙ ap (λ y. separator (present done) ++ indent d ++ y ++ codes " ") w.as_str.ensures.value in
+                let h1 = has_written_of_eq _ _ _ _ _ lead (w.begin_field.ensures h0.plain (was_ok _ _ w.in_ok-begin_field-in-Some.was)) in
+                let h2 = has_written_of_eq _ _ _ _ _ (ap (λ k. print k (tree_of v)) (depth-Under c.args.levels)) (w.print_at.ensures h1.plain (was_ok _ _ w.in_ok-print_at-in-Some.was)) in
                 subst (λ y. HasWritten g.W.Write.write_str_gives c.write_str.new.self (print_fields d 0 (fields_trees (take (i + 1) xs))) y) (sym w.f-is)
-                (put_six g.W.Write.write_str_gives _ _ _ _ _ _ _ _ _ _ _ _ _ _ h0 h1 h2 h3 h4 h5 (ap (λ z. print_fields d 0 (fields_trees (take i xs)) ++ z) (row-some tree_of d (present (take i xs)) y v some) ∙ more))),
+                (put_three g.W.Write.write_str_gives _ _ _ _ _ _ _ _ h0 h1 h2 (fields-more d done id (Some (tree_of v)) ∙ ap (print_fields d 0) next))),
           )
       | print_fields-in-None w ↦
-          let none : (get_or xs i x).1 ≡ None = ap (λ y. y.1) same ∙ w.in-None.is in
-          let k = present-none tree_of d (get_or xs i x) none in (
-            omega (arith, count, k, was.0, w.row-is),
+          let id = string_bytes (x.0) in
+          let next = field-next tree_of xs i x None below c.loop-name-item.is w.in-None.is in
+          let count = ap present (sym next) ∙ present-more done id None in (
+            omega (arith, count, was.0, w.row-is),
             omega (arith, was.1, w.row-is),
             (λ p. subst (λ y. HasWritten g.W.Write.write_str_gives c.write_str.new.self (print_fields d 0 (fields_trees (take (i + 1) xs))) y) (sym w.f-is)
-                (has_written_of_eq _ _ _ _ _ (sym (append-nil (print_fields d 0 (fields_trees (take i xs)))) ∙ ap (λ y. print_fields d 0 (fields_trees (take i xs)) ++ y) (row-none tree_of d (present (take i xs)) (get_or xs i x) none) ∙ more) (was.2 p))),
+                (has_written_of_eq _ _ _ _ _ (sym (append-nil (print_fields d 0 done)) ∙ fields-more d done id None ∙ ap (print_fields d 0) next) (was.2 p))),
           )
     ]
 
@@ -102,5 +105,5 @@ print_fields-returns g t c = λ p ok.
     let h1 = c.write_str.ensures.writes p (was_ok _ _ c.in_ok-write_str.was) in
     let all : take c.loop-name.name-index c.deref-name-items.result.now ≡ xs = take_all c.loop-name.name-index c.deref-name-items.result.now (omega arith) ∙ c.deref-name-items.ensures.value in
     let h2 = has_written_of_eq _ _ _ _ _ (ap (λ v. print_fields (suc d) 0 (fields_trees v)) all) (c.loop-name.invariant.2 h1.plain) in
-    let n : present xs ≡ c.loop-name.row = ap (λ v. present v) (sym all) ∙ sym c.loop-name.invariant.0 in
-    put_three g.W.Write.write_str_gives _ _ _ _ _ _ _ _ h1 h2 (c.write_close.ensures h2.plain ok) (print-fields tree_of d xs c.loop-name.row n)
+    let n : present (fields_trees xs) ≡ c.loop-name.row = ap (λ v. present (fields_trees v)) (sym all) ∙ sym c.loop-name.invariant.0 in
+    put_three g.W.Write.write_str_gives _ _ _ _ _ _ _ _ h1 h2 (c.write_close.ensures h2.plain ok) (print-fields d c.loop-name.row (fields_trees xs) n)

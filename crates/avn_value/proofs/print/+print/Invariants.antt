@@ -12,5 +12,5 @@ invariant-print_list-loop-row g l =
 
 abbrev pub invariant-print_fields-loop-name : goal.invariant-print_fields-loop-name
 invariant-print_fields-loop-name g l =
-    (l.row ≡ present (take l.name-index l.name-items)) × (l.row ≤ l.name-index)
+    (l.row ≡ present (fields_trees (take l.name-index l.name-items))) × (l.row ≤ l.name-index)
     × (IsPlainFormatter l.initial.f → HasWritten g.W.Write.write_str_gives l.initial.f (print_fields (suc (depth_of l.levels)) 0 (fields_trees (take l.name-index l.name-items))) l.f)

@@ -3,7 +3,8 @@ use Rattle.std.specs.Prelude.{option_map}
 use Rattle.std.proofs.lemmas.Grind.{common_steps}
 use Rattle.avn_grammar.specs.Tree.{tree}
 use Rattle.avn_value.specs.View.{tree_of, list_trees, fields_trees}
-use Rattle.avn_value.proofs.Walks.{Fielding, fielding_begun, fielding_first, fielding_more, fielding_done, Listing, listing_begun, listing_first, listing_more, listing_done, joined, chained, joined-push, chained-push, entry, kind_absent, kind_present, some_is}
+use Rattle.avn_value.proofs.Joins.{join}
+use Rattle.avn_value.proofs.Walks.{Fielding, fielding_begun, fielding_first, fielding_more, fielding_done, Listing, listing_begun, listing_first, listing_more, listing_done, chained, join-push, chained-push, entry, kind_absent, kind_present, some_is}
 use Rattle.avn_value.specs.NodeViews.{kind_of}
 use Rattle.avn_value.specs.Preorder.{NamedSlot, tree_at}
 use Rattle.avn_value.proofs.node_table.NodeTable.+value.Goals.{to_fields-in-Absent, to_fields-in_default+in_ok-to_value-in_default}
@@ -25,8 +26,8 @@ to_fields-children-preserved t c =
       | to_fields-in_default+in_ok-to_value-in_default w ↦ ap (option_map tree_of) w.slot-is ∙ sym w.in_ok-to_value-in_default.ensures ∙ ap (λ (s : NamedSlot). s.1) f.here
     ] in
     fielding_more root c.args.node i c.end-end.result c.end-child.result (fields_trees c.children.fields.items) (fields_trees c.push.new.self.items) g f c.end-child.ensures
-    (ap (λ x. joined (fields_trees x) f.others) c.in_ok-push.ensures.items ∙ joined-push tree_of c.children.fields.items c.in_ok-name.name c.match-kind.slot f.others
-    ∙ ap (λ x. joined (fields_trees c.children.fields.items) (entry x (option_map tree_of c.match-kind.slot) f.others)) named ∙ ap (λ x. joined (fields_trees c.children.fields.items) (entry f.id x f.others)) slot)
+    (ap (λ x. join (fields_trees x) f.others) c.in_ok-push.ensures.items ∙ join-push tree_of c.children.fields.items c.in_ok-name.name c.match-kind.slot f.others
+    ∙ ap (λ x. join (fields_trees c.children.fields.items) (entry x (option_map tree_of c.match-kind.slot) f.others)) named ∙ ap (λ x. join (fields_trees c.children.fields.items) (entry f.id x f.others)) slot)
 
 pub to_fields-returns : goal.to_fields-returns
 to_fields-returns t c = fielding_done c.args.self.now c.args.node c.children.child c.end-end.result (fields_trees c.children.fields.items) c.children.invariant c.children-test.false

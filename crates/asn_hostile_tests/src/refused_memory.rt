@@ -5,7 +5,7 @@ use asn_base::SetOf;
 use asn_codec::transcode;
 use asn_core::{Codec, OutOfMemory};
 use asn_document::{Document, DocumentMap};
-use asn_samples::TestTypeA;
+use asn_sample_choices::TestTypeA;
 use asn_traits::{Decode, Encode};
 use serde_json::Value;
 use std::alloc::Global;

@@ -106,16 +106,21 @@ fn tags_of_alternatives(rt: HostRuntime) -> Result<(), Fail> {
     Ok(())
 }
 
-/// A look counts one, and an excerpt as many as it has characters, less than it may have.
+/// A look counts one.
 #[test]
-fn looks_and_copies_are_counted(rt: HostRuntime) -> Result<(), Fail> {
+fn looks_are_counted(rt: HostRuntime) {
     let mut scan = Scan::new("ab");
     scan.has_edge_at_start();
-    assert_eq!(rt; scan.count(), 0);
+    assert_eq!(rt; scan.look(0), Some('a'));
+    assert_eq!(rt; scan.count(), 1);
+}
+
+/// An excerpt counts as many as it has characters, less than it may have.
+#[test]
+fn copies_are_counted(rt: HostRuntime) -> Result<(), Fail> {
+    let mut scan = Scan::new("ab");
+    scan.has_edge_at_start();
     assert_eq!(rt; scan.excerpt(rt.alloc(), 0, 5)?.as_str(), "ab");
     assert_eq!(rt; scan.count(), 2);
-
-    assert_eq!(rt; scan.look(0), Some('a'));
-    assert_eq!(rt; scan.count(), 3);
     Ok(())
 }

@@ -21,7 +21,8 @@ fn refuses_numbers_that_json_lacks(rt: HostRuntime) -> Result<(), Fail> {
             let text = format!(in rt.alloc(); "{error}")?;
             assert_eq!(rt;
                 text.as_str(),
-                "JER encoding error: Exceeds supported integer range -2^63..2^64 (-9223372036854775809) (Codec: JER)"
+                "JER encoding error: Exceeds supported integer range -2^63..2^64 \
+                 (-9223372036854775809) (Codec: JER)"
             );
         }
     }

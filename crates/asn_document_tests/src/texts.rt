@@ -11,11 +11,13 @@ use std::test::Fail;
 const TEXTS: [(Codec, &'static str); 2] = [
     (
         Codec::Jer,
-        "[{\"key\":\"a\",\"value\":{\"decimal\":\"9223372036854775808\"}},{\"key\":\"b\",\"value\":{\"integer\":1}}]",
+        "[{\"key\":\"a\",\"value\":{\"decimal\":\"9223372036854775808\"}},\
+          {\"key\":\"b\",\"value\":{\"integer\":1}}]",
     ),
     (
         Codec::Avn,
-        "{\n  {\n    key \"a\",\n    value decimal : \"9223372036854775808\"\n  },\n  {\n    key \"b\",\n    value integer : 1\n  }\n}",
+        "{\n  {\n    key \"a\",\n    value decimal : \"9223372036854775808\"\n  },\n\
+        \x20 {\n    key \"b\",\n    value integer : 1\n  }\n}",
     ),
 ];
 
@@ -25,7 +27,10 @@ fn a_map_is_encoded(rt: HostRuntime) -> Result<(), Fail> {
     let alloc = rt.alloc();
     let mut map = DocumentMap::new(alloc);
     map.insert(String::from_str(alloc, "b")?, document(&rt, "1")?)?;
-    map.insert(String::from_str(alloc, "a")?, document(&rt, "9223372036854775808")?)?;
+    map.insert(
+        String::from_str(alloc, "a")?,
+        document(&rt, "9223372036854775808")?,
+    )?;
     for row in TEXTS.iter() {
         assert_eq!(rt; row.0.encode_to_string(alloc, &map)?.as_str(), row.1);
     }

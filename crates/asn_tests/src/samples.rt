@@ -133,8 +133,8 @@ fn a_float_is_of_another_kind(rt: HostRuntime) -> Result<(), Fail> {
         Ok(_) => Err(Fail::from("a number")),
         Err(error) => {
             let text = format!(in rt.alloc(); "{error}")?;
-            let kind =
-                "JER decoding error: Found mismatching JSON value. Expected type: number (supported range -2^63..2^64).";
+            let kind = "JER decoding error: Found mismatching JSON value. Expected type: number \
+                 (supported range -2^63..2^64).";
             // The words name the numbers that JER has, and not those of the type.
             assert!(rt; text.starts_with(kind));
             Ok(())

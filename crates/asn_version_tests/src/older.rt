@@ -9,10 +9,7 @@ use jer_rules::jer;
 use std::test::Fail;
 
 /// Lists texts of an alternative that both versions have.
-const KNOWN: [(Codec, &'static str); 2] = [
-    (Codec::Jer, "{\"code\":7}"),
-    (Codec::Avn, "code : 7"),
-];
+const KNOWN: [(Codec, &'static str); 2] = [(Codec::Jer, "{\"code\":7}"), (Codec::Avn, "code : 7")];
 
 /// An alternative that both versions have is decoded from either notation.
 #[test]

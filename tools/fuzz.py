@@ -21,7 +21,12 @@ import sys
 from concurrent.futures import ThreadPoolExecutor
 
 # Older types with the newer ones that extend them, and the alternative or item that the older one lacks, if any.
-PAIRS = {"OldReport": ("NewReport", "flag"), "OldMode": ("NewMode", "high"), "OldTree": ("NewTree", None)}
+PAIRS = {
+    "OldPart": ("NewPart", "flag"),
+    "OldReport": ("NewReport", "flag"),
+    "OldMode": ("NewMode", "high"),
+    "OldTree": ("NewTree", None),
+}
 LETTERS = "abcdefghijklmnopqrstuvwxyz"
 SIGNS = ['"', "'", "{", "}", "[", "]", ":", ",", " ", "\n", "-", "0", "9", "e", ".", "\\", "\x00", "é", "\U0001F600", "H", "B"]
 
@@ -157,6 +162,7 @@ TYPES = {
     "TestTypeA": fields(("juice", number(-9, 9), False), ("wine", inner, False), ("grappa", bits(), False)),
     "Defaulted": fields(("level", number(-9, 9), True)), "SetOf<u8>": list_of(number(0, 255), 9),
     "MarkSet": fields(("mark", number(-9, 1 << 62), False), ("note", string(LETTERS), True)),
+    "OldPart": choice(**old_part), "NewPart": choice(**old_part, flag=boolean),
     "OldReport": fields(identified, ("parts", list_of(choice(**old_part)), False)),
     "NewReport": fields(
         identified,

@@ -2,13 +2,13 @@
 # Runs the tests of refused memory with one allocation refused after the other. A test says where
 # its memory was refused; any other failure is a breach, is printed, and ends the script with status
 # 1. Each run refuses one allocation in every test, and the tests share the allocations of what they
-# run out among them (`crates/asn_hostile_tests/src/pieces.rt`), so a share of runs is enough: it
+# run out among them (`crates/asn_memory_tests/src/pieces.rt`), so a share of runs is enough: it
 # is checked that the last test of each subject needs no more. A run builds the program, which takes
 # tens of seconds, so this is no part of the gate.
 #
 # usage: tools/refused_memory.sh [JOBS]      how many runs side by side: 1 unless given
 top=$(CDPATH= cd -- "$(dirname -- "$0")/.." && pwd) || exit 1
-cd "$top/crates/asn_hostile_tests" || exit 1
+cd "$top/crates/asn_memory_tests" || exit 1
 jobs=${1:-1}
 first=281
 last=320
@@ -24,9 +24,9 @@ while [ "$number" -le "$last" ]; do
     said=$work/$number.said
     counts=$(awk -v ends="$ends" -v is_last="$((number == last))" '
         BEGIN { split(ends, list); for (k in list) is_end[list[k]] = 1 }
-        /^test refused_/ { name = $2; sub(/.*::/, "", name) }
-        /^test refused_/ && / ok$/ { passed += 1 }
-        /^test refused_/ && / FAILED$/ {
+        /^test (requests|values)::/ { name = $2; sub(/.*::/, "", name) }
+        /^test (requests|values)::/ && / ok$/ { passed += 1 }
+        /^test (requests|values)::/ && / FAILED$/ {
             getline
             if (!/memory was refused/) breach = name " answered otherwise"
             else if (is_last && is_end[name]) breach = name " needs more allocations"

@@ -2,7 +2,7 @@
 //! plain call of the type gives, and a group is one field.
 use asn_base::{Class, Constraints, Identifier, Tag};
 use asn_fault::{DecodeError, EncodeError};
-use asn_samples::Struct;
+use asn_sample_fields::Struct;
 use asn_traits::{Decoder, Encoder};
 use avn_rules::avn;
 use avn_value::{AvnValue, parse_avn};

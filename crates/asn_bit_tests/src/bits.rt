@@ -1,7 +1,7 @@
 // Bit strings and object identifiers by calls that no text makes.
 use asn_base::{Bits, Identifier, ObjectIdentifier, Tag};
 use asn_fault::DecodeError;
-use asn_samples::{ConstrainedBitString, ExtensibleBitString};
+use asn_sample_fields::{ConstrainedBitString, ExtensibleBitString};
 use asn_traits::{Decode, Encode, Encoder as _};
 use avn_rules::avn;
 use avn_value::AvnValue;

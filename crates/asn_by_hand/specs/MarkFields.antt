@@ -3,8 +3,8 @@ use Rattle.std.specs.Prelude.{ℕ, Option, Some, codes, option_map, string_bytes
 use Rattle.asn_model.specs.Components.{Component, Standing}
 use Rattle.asn_model.specs.Shape.{FieldAdditions, Presence, all_fields}
 use Rattle.asn_model.specs.Value.{Value}
-use Rattle.asn_samples.specs.MarkSet.{mark_set_fields, mark_set_slots}
-use Rattle.asn_samples.specs.declared.mark_set.MarkSet.{MarkSet}
+use Rattle.asn_sample_fields.specs.MarkSet.{mark_set_fields, mark_set_slots}
+use Rattle.asn_sample_fields.specs.declared.mark_set.MarkSet.{MarkSet}
 use Rattle.asn_traits.specs.Terms.{context, signed, utf8_string}
 use Rattle.asn_traits.specs.Writing.{members_value}
 use Rattle.asn_by_hand.specs.declared.mark_fields.MarkField.{MarkField}

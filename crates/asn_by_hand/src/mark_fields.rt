@@ -4,7 +4,7 @@ ghost use Rattle.asn_by_hand.specs.MarkFields.{mark_set_value, note_component};
 ghost use Rattle.asn_fault.specs.Failure.{failure_of};
 ghost use Rattle.asn_model.specs.Components.{Component};
 ghost use Rattle.asn_model.specs.Shape.{FieldAdditions};
-ghost use Rattle.asn_samples.specs.MarkSet.{mark_set_fields, mark_set_shape};
+ghost use Rattle.asn_sample_fields.specs.MarkSet.{mark_set_fields, mark_set_shape};
 ghost use Rattle.asn_traits.specs.Answer.{Answer};
 ghost use Rattle.asn_traits.specs.SetFields.{PlaceAnswer, SetAnswer, component_at};
 ghost use Rattle.asn_traits.specs.SetFields.{listed_components};
@@ -12,7 +12,7 @@ ghost use Rattle.std.specs.Prelude.{◌≡◌, ◌∷◌, [], Some, map};
 
 use asn_core::Tag;
 use asn_fault::DecodeError;
-use asn_samples::MarkSet;
+use asn_sample_fields::MarkSet;
 use asn_traits::{Decode, Decoder, SetField};
 
 /// Holds what was decoded of one field of a `MarkSet`.

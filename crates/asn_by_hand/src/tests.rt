@@ -1,6 +1,6 @@
 //! Runs the reader on both notations.
 use crate::read_mark_set;
-use asn_samples::MarkSet;
+use asn_sample_fields::MarkSet;
 use avn_rules::avn;
 use jer_rules::jer;
 use std::test::Fail;

@@ -21,34 +21,43 @@ fn is_text_of<T: Encode + Decode + PartialEq + Debug>(
     Ok(())
 }
 
-/// Each kind of value has its text, both ways: at the edges of its range, with quotes in a text,
-/// and with none and two elements in a list.
+/// Booleans and NULL have their texts, both ways.
 #[test]
-fn values_are_their_texts(rt: HostRuntime) -> Result<(), Fail> {
+fn keywords_are_values(rt: HostRuntime) -> Result<(), Fail> {
     let alloc = rt.alloc();
     is_text_of(&rt, alloc, true, "TRUE")?;
     is_text_of(&rt, alloc, false, "FALSE")?;
-    is_text_of(&rt, alloc, (), "NULL")?;
-    // Numbers are written in decimal, and the widest ones whole.
+    is_text_of(&rt, alloc, (), "NULL")
+}
+
+/// Numbers are written in decimal, and the widest ones whole.
+#[test]
+fn numbers_are_their_texts(rt: HostRuntime) -> Result<(), Fail> {
+    let alloc = rt.alloc();
     is_text_of(&rt, alloc, -5i8, "-5")?;
     is_text_of(&rt, alloc, i64::MIN, "-9223372036854775808")?;
-    // A quote in a text is written twice.
     is_text_of(
         &rt,
         alloc,
         u128::MAX,
         "340282366920938463463374607431768211455",
-    )?;
-    is_text_of(
-        &rt,
-        alloc,
-        String::from_str(alloc, "say \"hi\"")?,
-        "\"say \"\"hi\"\"\"",
-    )?;
-    // An empty list is written on one line, and others with a line for each element.
-    let none: Vec<u8> = Vec::new(alloc);
-    is_text_of(&rt, alloc, none, "{}")?;
-    is_text_of(&rt, alloc, [1u8, 2].to_vec(alloc)?, "{\n  1,\n  2\n}")
+    )
+}
+
+/// A quote in a text is written twice.
+#[test]
+fn quotes_are_doubled(rt: HostRuntime) -> Result<(), Fail> {
+    let said = String::from_str(rt.alloc(), "say \"hi\"")?;
+    is_text_of(&rt, rt.alloc(), said, "\"say \"\"hi\"\"\"")
+}
+
+/// An empty list is written on one line, and others with a line for each element.
+#[test]
+fn lists_are_their_texts(rt: HostRuntime) -> Result<(), Fail> {
+    let none: Vec<u8> = Vec::new(rt.alloc());
+    is_text_of(&rt, rt.alloc(), none, "{}")?;
+    let two = [1u8, 2].to_vec(rt.alloc())?;
+    is_text_of(&rt, rt.alloc(), two, "{\n  1,\n  2\n}")
 }
 
 /// Returns a number of letters, with these texts before and after them.

@@ -122,19 +122,20 @@ impl BinaryRules for JsonRules {
     }
 }
 
+/// Lists the text notations, each with the bytes of `true`.
+const TEXTS: [(Codec, &'static [u8]); 2] = [(Codec::Jer, b"true"), (Codec::Avn, b"TRUE")];
+
 /// The bytes of JER and AVN are their texts, and are decoded again. No rules are asked.
 #[test]
 fn text_notations_have_the_bytes_of_their_texts(rt: HostRuntime) -> Result<(), Fail> {
-    let json = Codec::Jer.encode_to_binary(rt.alloc(), &true, &mut NoRules)?;
-    assert_eq!(rt; json.as_slice(), b"true".as_slice());
-    assert!(rt;
-        Codec::Jer.decode_from_binary::<bool, _>(rt.alloc(), json.as_slice(), &mut NoRules)?
-    );
-    let notation = Codec::Avn.encode_to_binary(rt.alloc(), &true, &mut NoRules)?;
-    assert_eq!(rt; notation.as_slice(), b"TRUE".as_slice());
-    assert!(rt;
-        Codec::Avn.decode_from_binary::<bool, _>(rt.alloc(), notation.as_slice(), &mut NoRules)?
-    );
+    for row in TEXTS.iter() {
+        let bytes = row.0.encode_to_binary(rt.alloc(), &true, &mut NoRules)?;
+        assert_eq!(rt; bytes.as_slice(), row.1);
+        assert!(rt;
+            row.0
+                .decode_from_binary::<bool, _>(rt.alloc(), bytes.as_slice(), &mut NoRules)?
+        );
+    }
     Ok(())
 }
 
@@ -215,23 +216,33 @@ fn rules_return_a_remainder(rt: HostRuntime) -> Result<(), Fail> {
     Ok(())
 }
 
+/// Lists codecs with bytes that are refused, and the error: an error of the rules, which is
+/// returned as it is, and one of a text.
+const PASSED_ON: [(Codec, &'static [u8], &'static str); 2] = [
+    (
+        Codec::Cer,
+        b"\xFF",
+        "Decoder doesn't support `REAL` type (Codec: CER)",
+    ),
+    (
+        Codec::Jer,
+        b"{",
+        "Error in Parser: Error parsing JER JSON (Codec: JER)",
+    ),
+];
+
 /// An error of the rules is returned as it is, and so is one of a text.
 #[test]
 fn errors_are_passed_on(rt: HostRuntime) -> Result<(), Fail> {
-    let mut rules = JsonRules { last: Codec::Xer };
-    match Codec::Cer.decode_from_binary::<bool, _>(rt.alloc(), &[0xff], &mut rules) {
-        Ok(_) => return Err(Fail::from("read")),
-        Err(error) => assert_eq!(rt;
-            format!(in rt.alloc(); "{error}")?.as_str(),
-            "Decoder doesn't support `REAL` type (Codec: CER)"
-        ),
-    }
-    match Codec::Jer.decode_from_binary::<bool, _>(rt.alloc(), b"{".as_slice(), &mut rules) {
-        Ok(_) => return Err(Fail::from("read")),
-        Err(error) => assert_eq!(rt;
-            format!(in rt.alloc(); "{error}")?.as_str(),
-            "Error in Parser: Error parsing JER JSON (Codec: JER)"
-        ),
+    for row in PASSED_ON.iter() {
+        let mut rules = JsonRules { last: Codec::Xer };
+        match row
+            .0
+            .decode_from_binary::<bool, _>(rt.alloc(), row.1, &mut rules)
+        {
+            Ok(_) => return Err(Fail::from("read")),
+            Err(error) => assert_eq!(rt; format!(in rt.alloc(); "{error}")?.as_str(), row.2),
+        }
     }
     Ok(())
 }

@@ -12,11 +12,13 @@ use std::test::Fail;
 const REFUSED: [(Codec, &'static str); 3] = [
     (
         Codec::Ber,
-        "Custom error: BER is a binary-based encoding. Call `Codec::encode_to_binary` instead. (Codec: BER)",
+        "Custom error: BER is a binary-based encoding. Call `Codec::encode_to_binary` instead. \
+         (Codec: BER)",
     ),
     (
         Codec::Coer,
-        "Custom error: COER is a binary-based encoding. Call `Codec::encode_to_binary` instead. (Codec: COER)",
+        "Custom error: COER is a binary-based encoding. Call `Codec::encode_to_binary` instead. \
+         (Codec: COER)",
     ),
     (
         Codec::Xer,
@@ -40,7 +42,8 @@ fn other_codecs_have_no_text(rt: HostRuntime) -> Result<(), Fail> {
         Ok(_) => return Err(Fail::from("read")),
         Err(error) => assert_eq!(rt;
             format!(in rt.alloc(); "{error}")?.as_str(),
-            "Custom error: UPER is a binary-based encoding. Call `Codec::decode_from_binary` instead. (Codec: UPER)"
+            "Custom error: UPER is a binary-based encoding. Call `Codec::decode_from_binary` \
+             instead. (Codec: UPER)"
         ),
     }
     Ok(())

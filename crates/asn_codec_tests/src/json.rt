@@ -21,7 +21,8 @@ fn refuses_numbers_that_json_lacks(rt: HostRuntime) -> Result<(), Fail> {
             let text = format!(in rt.alloc(); "{error}")?;
             assert_eq!(rt;
                 text.as_str(),
-                "JER encoding error: Exceeds supported integer range -2^63..2^64 (-9223372036854775809) (Codec: JER)"
+                "JER encoding error: Exceeds supported integer range -2^63..2^64 \
+                 (-9223372036854775809) (Codec: JER)"
             );
         }
     }
@@ -45,11 +46,10 @@ fn gives_the_shapes_of_types(rt: HostRuntime) -> Result<(), Fail> {
     Ok(())
 }
 
-/// An encoder of JER that was given nothing has no text and no JSON value, and one that was given
-/// a value has both.
-/// The error's text is that of the crate `rasn`.
+/// An encoder of JER that was given nothing has no text and no JSON value. The error's text is that
+/// of the crate `rasn`. Both calls consume the encoder, so each has one of its own.
 #[test]
-fn shows_what_stands_at_the_root(rt: HostRuntime) -> Result<(), Fail> {
+fn nothing_stands_at_the_root_at_first(rt: HostRuntime) -> Result<(), Fail> {
     let none = "JER encoding error: No encoded JSON root value found (Codec: JER)";
     match enc::Encoder::new(rt.alloc()).to_string() {
         Ok(_) => return Err(Fail::from("a text of nothing")),
@@ -59,7 +59,12 @@ fn shows_what_stands_at_the_root(rt: HostRuntime) -> Result<(), Fail> {
         Ok(_) => return Err(Fail::from("a value of nothing")),
         Err(error) => assert_eq!(rt; format!(in rt.alloc(); "{error}")?.as_str(), none),
     }
-    // Both calls consume the encoder, so each has one of its own.
+    Ok(())
+}
+
+/// An encoder of JER that was given a value has its text and its JSON value.
+#[test]
+fn shows_what_stands_at_the_root(rt: HostRuntime) -> Result<(), Fail> {
     let mut encoder = enc::Encoder::new(rt.alloc());
     encoder.encode_bool(Tag::BOOL, true, Identifier::EMPTY)?;
     assert_eq!(rt; encoder.to_string()?.as_str(), "true");

@@ -1,7 +1,6 @@
-//! Tests the codecs, and what stands below them, by direct calls, and shows what no contract
-//! states: that calls succeed where there is memory. There is nothing here but tests, a file for
-//! each part of the library. Contracts are proved for every input, so a test has one input of a
-//! kind, or one at each edge.
+//! Tests the codecs by direct calls, and shows what no contract states: that calls succeed where
+//! there is memory. There is nothing here but tests, a file for each part of the library. Contracts
+//! are proved for every input, so a test has one input of a kind, or one at each edge.
 #![tactic(auto)]
 
 #[cfg(test)]
@@ -11,16 +10,10 @@ mod binary;
 #[cfg(test)]
 mod codecs;
 #[cfg(test)]
-mod errors;
+mod integers;
 #[cfg(test)]
 mod json;
 #[cfg(test)]
-mod notation;
-#[cfg(test)]
 mod octets;
-#[cfg(test)]
-mod plain_types;
-#[cfg(test)]
-mod slots;
 #[cfg(test)]
 mod texts;

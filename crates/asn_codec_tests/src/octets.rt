@@ -5,6 +5,7 @@ use asn_fault::DecodeError;
 use asn_traits::{FieldShapes, Shape, is_readable};
 use avn_rules::avn;
 use jer_rules::jer;
+use std::alloc::Global;
 use std::process::Abort;
 use std::test::Fail;
 
@@ -34,35 +35,47 @@ fn octets_are_written_in_capitals_and_read_in_either_case(rt: HostRuntime) -> Re
     Ok(())
 }
 
+/// Lists texts that are no octets, each with the error: whether the text is JSON comes first. AVN
+/// has octets by their form, so only another kind of value can be wrong there. In JSON a string may
+/// be wrong too: `g` is no hexadecimal digit. The errors' texts are those of the crate `rasn`.
+const REFUSED: [(bool, &'static str, &'static str); 3] = [
+    (
+        true,
+        "true",
+        "JER decoding error: Found mismatching JSON value. Expected type: \
+         hex string. Found value: true (Codec: JER)",
+    ),
+    (
+        true,
+        "\"0g\"",
+        "JER decoding error: Found invalid character in octet string (Codec: JER)",
+    ),
+    (
+        false,
+        "TRUE",
+        "AVN decoding error: AVN type mismatch: expected octet string \
+         ('...'H), found TRUE (Codec: AVN)",
+    ),
+];
+
+/// Decodes octets from a text of either notation.
+fn read_octets(alloc: Global, is_json: bool, text: &str) -> Result<OctetString, DecodeError> {
+    if is_json {
+        jer::decode(alloc, text)
+    } else {
+        avn::decode(alloc, text)
+    }
+}
+
 /// A value of another kind is a type mismatch in both notations, and a string that is no pairs of
-/// hexadecimal digits is an error of its own in JER. The texts are those of the crate `rasn`.
+/// hexadecimal digits is an error of its own in JER.
 #[test]
 fn what_is_no_octets_is_refused(rt: HostRuntime) -> Result<(), Fail> {
-    let alloc = rt.alloc();
-    match jer::decode::<OctetString>(alloc, "true") {
-        Ok(_) => assert!(rt; false),
-        Err(error) => assert_eq!(rt;
-            error.to_string(alloc)?.as_str(),
-            "JER decoding error: Found mismatching JSON value. Expected type: \
-             hex string. Found value: true (Codec: JER)"
-        ),
-    }
-    // A string, but `g` is no hexadecimal digit.
-    match jer::decode::<OctetString>(alloc, "\"0g\"") {
-        Ok(_) => assert!(rt; false),
-        Err(error) => assert_eq!(rt;
-            error.to_string(alloc)?.as_str(),
-            "JER decoding error: Found invalid character in octet string (Codec: JER)"
-        ),
-    }
-    // AVN has octets by their form, so only another kind of value can be wrong.
-    match avn::decode::<OctetString>(alloc, "TRUE") {
-        Ok(_) => assert!(rt; false),
-        Err(error) => assert_eq!(rt;
-            error.to_string(alloc)?.as_str(),
-            "AVN decoding error: AVN type mismatch: expected octet string \
-             ('...'H), found TRUE (Codec: AVN)"
-        ),
+    for row in REFUSED.iter() {
+        match read_octets(rt.alloc(), row.0, row.1) {
+            Ok(_) => return Err(Fail::from("read")),
+            Err(error) => assert_eq!(rt; error.to_string(rt.alloc())?.as_str(), row.2),
+        }
     }
     Ok(())
 }

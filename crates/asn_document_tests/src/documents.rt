@@ -4,7 +4,7 @@ use serde_json::Value;
 use std::test::Fail;
 
 /// Returns the document of a JSON text.
-fn document(rt: &impl AllocGlobal, text: &str) -> Result<Document, Fail> {
+pub(crate) fn document(rt: &impl AllocGlobal, text: &str) -> Result<Document, Fail> {
     match Value::from_str(rt.alloc(), text) {
         Ok(value) => match Document::from_value(value) {
             Ok(document) => Ok(document),

@@ -4,3 +4,5 @@
 
 #[cfg(test)]
 mod documents;
+#[cfg(test)]
+mod texts;

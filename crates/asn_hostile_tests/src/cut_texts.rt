@@ -1,6 +1,6 @@
 //! Decodes each front part of a text: none of them is a value, whatever the type.
 use asn_fault::{AvnDecodeErrorKind, CodecDecodeError, DecodeError, DecodeErrorKind};
-use asn_samples::TestTypeA;
+use asn_sample_choices::TestTypeA;
 use avn_rules::avn;
 use jer_rules::jer;
 use std::test::Fail;

@@ -1,7 +1,8 @@
 //! Converts texts of a SEQUENCE without fields, and of types that hand on to another.
 use asn_codec::transcode;
 use asn_core::Codec;
-use asn_samples::{Blank, Wrap2};
+use asn_sample_fields::Blank;
+use asn_sample_trees::Wrap2;
 use asn_traits::{Decode, Encode};
 use std::alloc::{AllocError, Global};
 use std::test::Fail;

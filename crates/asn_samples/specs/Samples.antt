@@ -4,29 +4,31 @@ use Rattle.std.specs.Prelude.{ℕ, List, [], ◌∷◌, codes, bytes_eq, if◌th
 use Rattle.asn_traits.specs.Shape.{Alphabet, Shape}
 use Rattle.asn_traits.specs.Terms.{signed, unsigned, utf8_string}
 use Rattle.asn_document.specs.Meaning.{document_shape}
-use Rattle.asn_samples.specs.ConstrainedBitString.{constrained_bit_string_shape}
-use Rattle.asn_samples.specs.Defaulted.{defaulted_shape}
-use Rattle.asn_samples.specs.ExtChoice.{ext_choice_shape}
-use Rattle.asn_samples.specs.ExtEnum.{ext_enum_shape}
-use Rattle.asn_samples.specs.ExtensibleBitString.{extensible_bit_string_shape}
-use Rattle.asn_samples.specs.ExtensibleBitStringField.{extensible_bit_string_field_shape}
-use Rattle.asn_samples.specs.Inner.{inner_shape}
-use Rattle.asn_samples.specs.MarkSet.{mark_set_shape}
-use Rattle.asn_samples.specs.Nest.{nest_shape}
-use Rattle.asn_samples.specs.Nested.{nested_shape}
-use Rattle.asn_samples.specs.NewMode.{new_mode_shape}
-use Rattle.asn_samples.specs.NewReport.{new_report_shape}
-use Rattle.asn_samples.specs.NewTree.{new_tree_shape}
-use Rattle.asn_samples.specs.OldMode.{old_mode_shape}
-use Rattle.asn_samples.specs.OldReport.{old_report_shape}
-use Rattle.asn_samples.specs.OldTree.{old_tree_shape}
-use Rattle.asn_samples.specs.Renamed.{renamed_shape}
-use Rattle.asn_samples.specs.SimpleChoice.{simple_choice_shape}
-use Rattle.asn_samples.specs.SimpleEnum.{simple_enum_shape}
-use Rattle.asn_samples.specs.Struct.{struct_shape}
-use Rattle.asn_samples.specs.TestTypeA.{test_type_a_shape}
-use Rattle.asn_samples.specs.Very.{very_shape}
-use Rattle.asn_samples.specs.WithNullOpt.{with_null_opt_shape}
+use Rattle.asn_sample_choices.specs.ExtChoice.{ext_choice_shape}
+use Rattle.asn_sample_choices.specs.Inner.{inner_shape}
+use Rattle.asn_sample_choices.specs.NewPart.{new_part_shape}
+use Rattle.asn_sample_choices.specs.NewReport.{new_report_shape}
+use Rattle.asn_sample_choices.specs.OldPart.{old_part_shape}
+use Rattle.asn_sample_choices.specs.OldReport.{old_report_shape}
+use Rattle.asn_sample_choices.specs.SimpleChoice.{simple_choice_shape}
+use Rattle.asn_sample_choices.specs.TestTypeA.{test_type_a_shape}
+use Rattle.asn_sample_fields.specs.ConstrainedBitString.{constrained_bit_string_shape}
+use Rattle.asn_sample_fields.specs.Defaulted.{defaulted_shape}
+use Rattle.asn_sample_fields.specs.ExtEnum.{ext_enum_shape}
+use Rattle.asn_sample_fields.specs.ExtensibleBitString.{extensible_bit_string_shape}
+use Rattle.asn_sample_fields.specs.ExtensibleBitStringField.{extensible_bit_string_field_shape}
+use Rattle.asn_sample_fields.specs.MarkSet.{mark_set_shape}
+use Rattle.asn_sample_fields.specs.Nested.{nested_shape}
+use Rattle.asn_sample_fields.specs.NewMode.{new_mode_shape}
+use Rattle.asn_sample_fields.specs.OldMode.{old_mode_shape}
+use Rattle.asn_sample_fields.specs.Renamed.{renamed_shape}
+use Rattle.asn_sample_fields.specs.SimpleEnum.{simple_enum_shape}
+use Rattle.asn_sample_fields.specs.Struct.{struct_shape}
+use Rattle.asn_sample_fields.specs.Very.{very_shape}
+use Rattle.asn_sample_fields.specs.WithNullOpt.{with_null_opt_shape}
+use Rattle.asn_sample_trees.specs.Nest.{nest_shape}
+use Rattle.asn_sample_trees.specs.NewTree.{new_tree_shape}
+use Rattle.asn_sample_trees.specs.OldTree.{old_tree_shape}
 use Rattle.asn_samples.specs.contracts.sample.Sample.{the_type}
 use Rattle.asn_samples.specs.declared.sample.Sample.{Sample}
 use Rattle.asn_samples.specs.declared.sample.Sample.TheVariants as sample_type
@@ -69,6 +71,8 @@ samples =
     ∷ (codes "ExtEnum", sample_type.ExtEnum, ext_enum_shape)
     ∷ (codes "SimpleChoice", sample_type.SimpleChoice, simple_choice_shape)
     ∷ (codes "ExtChoice", sample_type.ExtChoice, ext_choice_shape)
+    ∷ (codes "OldPart", sample_type.OldPart, old_part_shape)
+    ∷ (codes "NewPart", sample_type.NewPart, new_part_shape)
     ∷ (codes "Nested", sample_type.Nested, nested_shape)
     ∷ (codes "Struct", sample_type.Struct, struct_shape)
     ∷ (codes "TestTypeA", sample_type.TestTypeA, test_type_a_shape)

@@ -89,6 +89,10 @@ pub enum Sample {
     SimpleChoice,
     /// Is a CHOICE with an extension marker.
     ExtChoice,
+    /// Is a CHOICE with an extension marker that no alternative follows.
+    OldPart,
+    /// Is its later version, with an alternative more.
+    NewPart,
     /// Is a SEQUENCE that holds another.
     Nested,
     /// Is a SEQUENCE of one field that may be absent.
@@ -168,6 +172,8 @@ impl Sample {
             "ExtEnum" => Some(Sample::ExtEnum),
             "SimpleChoice" => Some(Sample::SimpleChoice),
             "ExtChoice" => Some(Sample::ExtChoice),
+            "OldPart" => Some(Sample::OldPart),
+            "NewPart" => Some(Sample::NewPart),
             "Nested" => Some(Sample::Nested),
             "Struct" => Some(Sample::Struct),
             "TestTypeA" => Some(Sample::TestTypeA),
@@ -230,6 +236,8 @@ impl Sample {
             Sample::ExtEnum => visitor.visit::<crate::ExtEnum>(state),
             Sample::SimpleChoice => visitor.visit::<crate::SimpleChoice>(state),
             Sample::ExtChoice => visitor.visit::<crate::ExtChoice>(state),
+            Sample::OldPart => visitor.visit::<crate::OldPart>(state),
+            Sample::NewPart => visitor.visit::<crate::NewPart>(state),
             Sample::Nested => visitor.visit::<crate::Nested>(state),
             Sample::Struct => visitor.visit::<crate::Struct>(state),
             Sample::TestTypeA => visitor.visit::<crate::TestTypeA>(state),

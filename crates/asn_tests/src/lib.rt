@@ -1,8 +1,6 @@
-//! Tests the sample types and the program by direct calls. There is nothing here but tests; those
-//! of the codecs stand in `asn_codec_tests`, and most inputs of the program in `asn_cases`.
+//! Tests the sample types, and the calls of both codecs that take one, by direct calls. There is
+//! nothing here but tests; others of the codecs stand in `asn_codec_tests`.
 #![tactic(auto)]
 
-#[cfg(test)]
-mod program;
 #[cfg(test)]
 mod samples;

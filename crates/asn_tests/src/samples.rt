@@ -133,8 +133,8 @@ fn a_float_is_of_another_kind(rt: HostRuntime) -> Result<(), Fail> {
         Ok(_) => Err(Fail::from("a number")),
         Err(error) => {
             let text = format!(in rt.alloc(); "{error}")?;
-            let kind =
-                "JER decoding error: Found mismatching JSON value. Expected type: number (supported range -2^63..2^64).";
+            let kind = "JER decoding error: Found mismatching JSON value. Expected type: number \
+                 (supported range -2^63..2^64).";
             // The words name the numbers that JER has, and not those of the type.
             assert!(rt; text.starts_with(kind));
             Ok(())
@@ -273,12 +273,61 @@ impl SampleVisitor<Tag> for TagOf {
     }
 }
 
-/// Lists names of sample types, each with the universal tag of its type; a CHOICE has none.
-const TAGS: [(&'static str, Tag); 5] = [
+/// Lists the names of the sample types, each with the universal tag of its type; a CHOICE has none.
+/// `Any` is left out, which has none either.
+const TAGS: [(&'static str, Tag); 53] = [
     ("bool", Tag::BOOL),
+    ("Null", Tag::NULL),
+    ("u8", Tag::INTEGER),
+    ("i64", Tag::INTEGER),
+    ("u64", Tag::INTEGER),
+    ("u128", Tag::INTEGER),
+    ("Integer", Tag::INTEGER),
+    ("Utf8String", Tag::UTF8_STRING),
+    ("NumericString", Tag::NUMERIC_STRING),
+    ("PrintableString", Tag::PRINTABLE_STRING),
+    ("VisibleString", Tag::VISIBLE_STRING),
+    ("Ia5String", Tag::IA5_STRING),
+    ("GeneralString", Tag::GENERAL_STRING),
+    ("GraphicString", Tag::GRAPHIC_STRING),
+    ("BmpString", Tag::BMP_STRING),
+    ("UniversalString", Tag::UNIVERSAL_STRING),
+    ("UtcTime", Tag::UTC_TIME),
+    ("GeneralizedTime", Tag::GENERALIZED_TIME),
+    ("Date", Tag::DATE),
     ("SequenceOf<u8>", Tag::SEQUENCE),
+    ("SequenceOf<i64>", Tag::SEQUENCE),
+    ("SequenceOf<bool>", Tag::SEQUENCE),
+    ("SequenceOf<SimpleChoice>", Tag::SEQUENCE),
+    ("SetOf<u8>", Tag::SET),
+    ("OctetString", Tag::OCTET_STRING),
+    ("BitString", Tag::BIT_STRING),
+    ("ObjectIdentifier", Tag::OBJECT_IDENTIFIER),
+    ("Document", Tag::EOC),
+    ("Renamed", Tag::SEQUENCE),
+    ("Inner", Tag::EOC),
+    ("SimpleEnum", Tag::ENUMERATED),
     ("ExtEnum", Tag::ENUMERATED),
+    ("SimpleChoice", Tag::EOC),
     ("ExtChoice", Tag::EOC),
+    ("OldPart", Tag::EOC),
+    ("NewPart", Tag::EOC),
+    ("Nested", Tag::SEQUENCE),
+    ("Struct", Tag::SEQUENCE),
+    ("TestTypeA", Tag::SEQUENCE),
+    ("Very", Tag::SEQUENCE),
+    ("Defaulted", Tag::SEQUENCE),
+    ("MarkSet", Tag::SET),
+    ("OldReport", Tag::SEQUENCE),
+    ("NewReport", Tag::SEQUENCE),
+    ("OldMode", Tag::ENUMERATED),
+    ("NewMode", Tag::ENUMERATED),
+    ("OldTree", Tag::SEQUENCE),
+    ("NewTree", Tag::SEQUENCE),
+    ("WithNullOpt", Tag::SEQUENCE),
+    ("ConstrainedBitString", Tag::BIT_STRING),
+    ("ExtensibleBitString", Tag::BIT_STRING),
+    ("ExtensibleBitStringField", Tag::SEQUENCE),
     ("Nest", Tag::SEQUENCE),
 ];
 

@@ -1,8 +1,8 @@
 -- NewPart is a later version of OldPart.
 use Rattle.std.proofs.Common.{refl}
 use Rattle.asn_growth.specs.Grows.{Grows, GrowsAlternatives, BeginsAlternatives}
-use Rattle.asn_samples.specs.NewPart.{new_part_shape}
-use Rattle.asn_samples.specs.OldPart.{old_part_shape}
+use Rattle.asn_sample_choices.specs.NewPart.{new_part_shape}
+use Rattle.asn_sample_choices.specs.OldPart.{old_part_shape}
 
 -- The alternatives before the marker are the same, and after it the older type has none.
 pub part_grows : Grows old_part_shape new_part_shape

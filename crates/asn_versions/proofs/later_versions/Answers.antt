@@ -1,8 +1,8 @@
 use Rattle.std.proofs.Common.{[], ◌∷◌, refl}
 use Rattle.std.specs.Prelude.{codes}
 use Rattle.asn_growth.specs.Grows.{Grows, GrowsFields, BeginsFields}
-use Rattle.asn_samples.specs.ExtEnum.{ext_enum_shape}
-use Rattle.asn_samples.specs.SimpleEnum.{simple_enum_shape}
+use Rattle.asn_sample_fields.specs.ExtEnum.{ext_enum_shape}
+use Rattle.asn_sample_fields.specs.SimpleEnum.{simple_enum_shape}
 use Rattle.asn_versions.proofs.Parts.{part_grows}
 use Rattle.asn_versions.proofs.later_versions.Goals as goal
 

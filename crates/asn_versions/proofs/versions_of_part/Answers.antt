@@ -1,6 +1,6 @@
 use Rattle.std.proofs.Common.{refl}
-use Rattle.asn_samples.specs.NewPart.{new_part_shape}
-use Rattle.asn_samples.specs.OldPart.{old_part_shape}
+use Rattle.asn_sample_choices.specs.NewPart.{new_part_shape}
+use Rattle.asn_sample_choices.specs.OldPart.{old_part_shape}
 use Rattle.asn_versions.proofs.Parts.{part_grows}
 use Rattle.asn_versions.proofs.versions_of_part.Goals as goal
 

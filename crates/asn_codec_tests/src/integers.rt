@@ -1,0 +1,23 @@
+//! Takes numbers through the bound of the integer types.
+use asn_traits::IntegerType;
+
+/// Returns the sign and magnitude again, by way of a value of the type.
+fn through<I: IntegerType>(negative: bool, magnitude: u128) -> Option<(bool, u128)> {
+    Some(I::of_parts(negative, magnitude)?.parts())
+}
+
+/// A number of a type comes back as it was, and one outside its range is none: at both edges of a
+/// type, at a negative zero, and at the widest magnitudes.
+#[test]
+fn numbers_through_a_type(rt: HostRuntime) {
+    // -128 is the least number of `i8`, and 127 the greatest.
+    assert_eq!(rt; through::<i8>(true, 128), Some((true, 128)));
+    assert_eq!(rt; through::<i8>(true, 129), None);
+    assert_eq!(rt; through::<i8>(false, 128), None);
+    // A negative zero is zero.
+    assert_eq!(rt; through::<i8>(true, 0), Some((false, 0)));
+    // The greatest magnitude fits where there is no sign, and none below zero fits there.
+    assert_eq!(rt; through::<u128>(false, u128::MAX), Some((false, u128::MAX)));
+    assert_eq!(rt; through::<u64>(true, 1), None);
+    assert_eq!(rt; through::<i128>(true, u128::MAX), None);
+}

@@ -1,0 +1,10 @@
+//! Tests what is answered, and what is left, where memory is refused. There is nothing here but
+//! tests; a script refuses one allocation after the other (`tools/refused_memory.sh`).
+#![tactic(auto)]
+
+#[cfg(test)]
+mod pieces;
+#[cfg(test)]
+mod requests;
+#[cfg(test)]
+mod values;

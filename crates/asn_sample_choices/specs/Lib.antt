@@ -1,0 +1,11 @@
+pub mod Inner
+pub mod TestTypeA
+pub mod SimpleChoice
+pub mod ExtChoice
+pub mod Elements
+pub mod OldPart
+pub mod OldPartElement
+pub mod NewPart
+pub mod NewPartElement
+pub mod OldReport
+pub mod NewReport

@@ -1,0 +1,16 @@
+pub mod SimpleEnum
+pub mod ExtEnum
+pub mod Struct
+pub mod Renamed
+pub mod WithNullOpt
+pub mod Nested
+pub mod Very
+pub mod Defaulted
+pub mod ConstrainedBitString
+pub mod ExtensibleBitString
+pub mod MarkedBitString
+pub mod ExtensibleBitStringField
+pub mod MarkSet
+pub mod OldMode
+pub mod NewMode
+pub mod Blank

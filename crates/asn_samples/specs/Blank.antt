@@ -1,8 +1,0 @@
--- SEQUENCE {}
-use Rattle.std.specs.Prelude.{[]}
-use Rattle.asn_traits.specs.Writing.{Frame}
-use Rattle.asn_samples.specs.declared.blank.Blank.{Blank}
-
--- The values of the fields of a Blank, of which there are none.
-abbrev pub blank_slots : Blank → Frame
-blank_slots x = []

@@ -1,0 +1,58 @@
+//! Decodes texts that a program of a later version may have written. The errors' texts are those
+//! of the crate `rasn`.
+use asn_core::Codec;
+use asn_sample_choices::OldPart;
+use asn_sample_trees::{NewTree, OldTree};
+use asn_upgrades::decode_as_older;
+use asn_versions::{decode_part, later_versions};
+use jer_rules::jer;
+use std::test::Fail;
+
+/// Lists texts of an alternative that both versions have.
+const KNOWN: [(Codec, &'static str); 2] = [(Codec::Jer, "{\"code\":7}"), (Codec::Avn, "code : 7")];
+
+/// An alternative that both versions have is decoded from either notation.
+#[test]
+fn a_known_alternative_is_decoded(rt: HostRuntime) -> Result<(), Fail> {
+    for row in KNOWN.iter() {
+        assert_eq!(rt; decode_part(row.0, rt.alloc(), row.1)?, OldPart::Code(7));
+    }
+    Ok(())
+}
+
+/// Lists texts of an alternative that the older version lacks, each with its refusal.
+const UNKNOWN: [(Codec, &'static str, &'static str); 2] = [
+    (
+        Codec::Jer,
+        "{\"flag\":true}",
+        "No valid choice for `OldPart` (Codec: JER)",
+    ),
+    (
+        Codec::Avn,
+        "flag : TRUE",
+        "No valid choice for `OldPart` (Codec: AVN)",
+    ),
+];
+
+/// An alternative that the older version lacks is refused.
+#[test]
+fn an_unknown_alternative_is_refused(rt: HostRuntime) -> Result<(), Fail> {
+    for row in UNKNOWN.iter() {
+        match decode_part(row.0, rt.alloc(), row.1) {
+            Ok(_) => return Err(Fail::from("decoded")),
+            Err(error) => assert_eq!(rt; error.to_string(rt.alloc())?.as_str(), row.2),
+        }
+    }
+    Ok(())
+}
+
+/// Labels, which the older version lacks, are dropped at every depth.
+#[test]
+fn additions_are_dropped_at_every_depth(rt: HostRuntime) -> Result<(), Fail> {
+    later_versions();
+    let text = "{\"kids\":[{\"kids\":[],\"label\":\"x\"}],\"label\":\"y\"}";
+    let tree: OldTree = decode_as_older::<OldTree, NewTree>(Codec::Jer, rt.alloc(), text)?;
+    let written = jer::encode(rt.alloc(), &tree)?;
+    assert_eq!(rt; written.as_str(), "{\"kids\":[{\"kids\":[]}]}");
+    Ok(())
+}

@@ -1,6 +1,7 @@
 //! Defines `EncodeError`: why a value is not encoded, and by which codec. Unlike an error of
 //! decoding it names no fields, so contracts compare it as it is.
-ghost use Rattle.std.specs.Prelude.{◌≡◌, Some};
+ghost use Rattle.std.specs.Prelude.{◌≡◌, MatchResult, Some, false, pos, true};
+ghost use Rattle.asn_core.specs.Bounds.{is_admitted};
 ghost use Rattle.asn_fault.specs.Texts.{encode_kind_text, encode_error_text};
 ghost use Rattle.asn_fault.specs.EncodeCause.{encode_cause, is_encode_out_of_memory};
 
@@ -148,6 +149,30 @@ impl EncodeError {
             },
             codec,
         )
+    }
+
+    /// Checks that the length of a value is one that its type has.
+    ///
+    /// # Errors
+    ///
+    /// `InvalidLength`, exactly where `expected` does not admit the length.
+    pub fn check_length(length: usize, expected: &Size, codec: Codec) -> Result<(), EncodeError>
+        ensures { MatchResult result
+            (λ _. is_admitted pos expected.now.bounds (pos length) ≡ true)
+            (λ error. (is_admitted pos expected.now.bounds (pos length) ≡ false)
+            × (error ≡ record {
+              kind = EncodeErrorKind.InvalidLength length expected.now.bounds;
+              codec = codec;
+            })) }
+    {
+        if expected.contains(&length) {
+            return Ok(());
+        }
+        let kind = EncodeErrorKind::InvalidLength {
+            length,
+            expected: expected.bounds,
+        };
+        Err(EncodeError::from_kind(kind, codec))
     }
 
     /// Returns the error that the length of a value is greater than the platform can count.

@@ -1,18 +1,18 @@
 -- What an error of reading says: the fields that lead to the place, each with the codec of that nesting level, and what is wrong there.
-use Rattle.std.specs.Prelude.{ℕ, List, [], ◌∷◌, string_bytes, Bool, true, false, if◌then◌else◌}
+use Rattle.std.specs.Prelude.{◌≡◌, ℕ, List, [], ◌∷◌, string_bytes, Bool, true, false, if◌then◌else◌}
 use Rattle.asn_core.specs.declared.codec.Codec.{Codec}
 use Rattle.asn_core.specs.declared.codec.Codec.TheVariants as codec
 use Rattle.asn_core.specs.declared.tag.Tag.{Tag}
-use Rattle.asn_fault.specs.declared.decode.CodecDecodeError.{CodecDecodeError}
-use Rattle.asn_fault.specs.declared.decode.CodecDecodeError.TheVariants.{Ber, Jer, Avn}
+use Rattle.asn_fault.specs.declared.codec_specific.CodecDecodeError.{CodecDecodeError}
+use Rattle.asn_fault.specs.declared.codec_specific.CodecDecodeError.TheVariants.{Ber, Cer, Der, Uper, Aper, Jer, Oer, Coer, Xer, Avn}
 use Rattle.asn_fault.specs.declared.ber.BerDecodeErrorKind.TheVariants.{InvalidDate}
 use Rattle.asn_fault.specs.declared.jer.JerDecodeErrorKind.TheVariants.{EndOfInput, TypeMismatch, InvalidJerOctetString, InvalidOIDString, InvalidEnumDiscriminant}
 use Rattle.asn_fault.specs.declared.avn.AvnDecodeErrorKind.TheVariants.{AvnEndOfInput, AvnTypeMismatch, InvalidOid, AvnInvalidEnumDiscriminant, UnexpectedToken, IntegerParseError}
 use Rattle.asn_fault.specs.declared.decode.DecodeErrorKind.{DecodeErrorKind}
-use Rattle.asn_fault.specs.declared.decode.DecodeErrorKind.TheVariants.{CodecSpecific, Custom, FieldError', IntegerOverflow, MissingField, RealNotSupported, Parser, StringConversionFailed, NoValidChoice, ExceedsMaxParseDepth, OutOfMemory}
+use Rattle.asn_fault.specs.declared.decode.DecodeErrorKind.TheVariants.{CodecSpecific, Custom, FieldError', ChoiceIndexExceedsPlatformWidth', IntegerOverflow, MissingField, RealNotSupported, Parser, StringConversionFailed, NoValidChoice, ExceedsMaxParseDepth, OutOfMemory}
 use Rattle.asn_fault.specs.declared.decode.DecodeError.{DecodeError}
 
--- What is wrong at the place itself, with every text as its bytes: a kind of refusal other than `FieldError`, where JER and AVN share a kind the codec that has it.
+-- What is wrong at the place itself: a kind of refusal other than `FieldError`. Those of the text notations have every text as its bytes, and the codec where JER and AVN share the kind.
 pub data Cause : Type 0 where
   parser : List ℕ → Cause
   real_not_supported : Cause
@@ -32,6 +32,8 @@ pub data Cause : Type 0 where
   integer_parse_error : List ℕ → Cause
   custom : List ℕ → Cause
   out_of_memory : Cause
+  -- A kind that no text notation has, as it is.
+  other : DecodeErrorKind → Cause
 
 -- A field on the way, and the codec of that nesting level.
 pub record Level : Type 0 where
@@ -79,6 +81,7 @@ codec_cause (Avn (InvalidOid value)) = Cause.invalid_oid (string_bytes value)
 codec_cause (Avn (AvnInvalidEnumDiscriminant text)) = Cause.invalid_enum_discriminant codec.Avn (string_bytes text)
 codec_cause (Avn (UnexpectedToken found)) = Cause.unexpected_token (string_bytes found)
 codec_cause (Avn (IntegerParseError msg)) = Cause.integer_parse_error (string_bytes msg)
+codec_cause inner = Cause.other (CodecSpecific inner)
 
 -- The refusal of this kind by this codec.
 abbrev pub kind_failure : DecodeErrorKind → Codec → Failure
@@ -93,6 +96,7 @@ kind_failure (StringConversionFailed tag msg) c = at_root (Cause.string_conversi
 kind_failure (NoValidChoice name) c = at_root (Cause.no_valid_choice name.now) c
 kind_failure ExceedsMaxParseDepth c = at_root Cause.exceeds_max_parse_depth c
 kind_failure OutOfMemory c = at_root Cause.out_of_memory c
+kind_failure kind c = at_root (Cause.other kind) c
 
 -- What an error of reading says.
 abbrev pub failure_of : DecodeError → Failure
@@ -106,9 +110,21 @@ root_kind kind = kind
 -- The set of encoding rules that has the kind.
 abbrev pub decode_codec_of : CodecDecodeError → Codec
 decode_codec_of (Ber kind) = codec.Ber
+decode_codec_of (Cer kind) = codec.Cer
+decode_codec_of (Der kind) = codec.Der
+decode_codec_of (Uper kind) = codec.Uper
+decode_codec_of (Aper kind) = codec.Aper
 decode_codec_of (Jer kind) = codec.Jer
+decode_codec_of (Oer kind) = codec.Oer
+decode_codec_of (Coer kind) = codec.Coer
+decode_codec_of (Xer kind) = codec.Xer
 decode_codec_of (Avn kind) = codec.Avn
 
 -- The refusal by the set of encoding rules that has the kind.
 abbrev pub codec_failure : CodecDecodeError → Failure
 codec_failure inner = at_root (codec_cause inner) (decode_codec_of inner)
+
+-- The kind is that the index of an alternative, of so many octets, is too wide, for the reason that the error states.
+abbrev pub ExceedsWidth : ℕ → DecodeError → DecodeErrorKind → Type 0
+ExceedsWidth needed present (ChoiceIndexExceedsPlatformWidth' octets p kind codec) = (octets ≡ needed) × (kind ≡ present.kind) × (codec ≡ present.codec)
+ExceedsWidth needed present kind = ⊥

@@ -1,3 +1,4 @@
+pub mod Joined
 pub mod Failure
 pub mod Texts
 pub mod EncodeCause

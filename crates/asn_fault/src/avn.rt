@@ -17,12 +17,18 @@ pub enum AvnDecodeErrorKind {
     /// The value is of another kind than the type. `needed` names the kind of the type, as
     /// `boolean`, and `found` is the printed value.
     AvnTypeMismatch { needed: &'static str, found: String },
+    /// The text is no string of pairs of hexadecimal digits. This library never makes it.
+    InvalidHexString,
+    /// The text is no string of binary digits. This library never makes it.
+    InvalidBinString,
     /// The arcs in `value` are no OBJECT IDENTIFIER.
     InvalidOid { value: String },
     /// The identifier `discriminant` is that of no item of the ENUMERATED type.
     AvnInvalidEnumDiscriminant { discriminant: String },
     /// The text is not in the notation. `found` is an excerpt of the text from there on.
     UnexpectedToken { found: String },
+    /// A string has no end. This library never makes it.
+    UnterminatedString,
     /// The text of a number, in `msg`, is no number.
     IntegerParseError { msg: String },
 }
@@ -47,12 +53,17 @@ impl fmt::Display for AvnDecodeErrorKind {
             AvnDecodeErrorKind::AvnTypeMismatch { needed, found } => {
                 write!(f, "AVN type mismatch: expected {needed}, found {found}")
             }
+            AvnDecodeErrorKind::InvalidHexString => write!(f, "Invalid hex string in AVN"),
+            AvnDecodeErrorKind::InvalidBinString => write!(f, "Invalid binary string in AVN"),
             AvnDecodeErrorKind::InvalidOid { value } => { write!(f, "Invalid OID in AVN: {value}") }
             AvnDecodeErrorKind::AvnInvalidEnumDiscriminant { discriminant } => {
                 write!(f, "Invalid enumerated discriminant in AVN: {discriminant}")
             }
             AvnDecodeErrorKind::UnexpectedToken { found } => {
                 write!(f, "Unexpected token in AVN: {found}")
+            }
+            AvnDecodeErrorKind::UnterminatedString => {
+                write!(f, "Unterminated string literal in AVN")
             }
             AvnDecodeErrorKind::IntegerParseError { msg } => {
                 write!(f, "Integer parse error in AVN: {msg}")
@@ -71,6 +82,8 @@ pub enum AvnEncodeErrorKind {
     AvnNoRootValueFound,
     /// The value has no text in the notation, for the reason in `msg`.
     AvnEncoder { msg: String },
+    /// The real number is beyond those that are written. This library never makes it.
+    AvnExceedsSupportedRealRange,
 }
 
 /// Prints what is wrong, without the codec's name.
@@ -83,6 +96,9 @@ impl fmt::Display for AvnEncodeErrorKind {
                 write!(f, "No encoded AVN root value found")
             }
             AvnEncodeErrorKind::AvnEncoder { msg } => { write!(f, "Error in AVN encoder: {msg}") }
+            AvnEncodeErrorKind::AvnExceedsSupportedRealRange => {
+                write!(f, "Exceeds supported real value range for AVN encoding")
+            }
         }
     }
 }

@@ -3,53 +3,94 @@
 //! compare what `failure_of` gives of them, the path of fields, the cause and the codec.
 ghost use Rattle.std.specs.Prelude.{◌≡◌, ◌⊎◌, Some, string_bytes};
 ghost use Rattle.std.specs.Fn.{FnReturnsAt};
-ghost use Rattle.asn_fault.specs.Failure.{Cause, at_root, codec_failure, failure_of};
-ghost use Rattle.asn_fault.specs.Failure.{is_out_of_memory, root_kind, wrapped};
-ghost use Rattle.asn_fault.specs.Texts.{codec_decode_text, decode_kind_text, decode_error_text};
-ghost use Rattle.asn_fault.specs.declared.decode.CodecDecodeError.TheVariants.{Ber, Jer, Avn};
+ghost use Rattle.asn_fault.specs.Failure.{Cause, at_root, failure_of, is_out_of_memory, root_kind, wrapped};
+ghost use Rattle.asn_fault.specs.Texts.{decode_kind_text, decode_error_text, needed_text};
 
-use crate::{AvnDecodeErrorKind, BerDecodeErrorKind, JerDecodeErrorKind, RootCause};
-use asn_core::{Codec, Tag};
+mod binary;
+
+use crate::{CodecDecodeError, InnerSubtypeConstraintError, PermittedAlphabetError, RootCause};
+use asn_core::{Bounded, Class, Codec, Tag, Variants, WholeNumber};
 use std::alloc::Global;
 use std::error::Error;
 use std::fmt;
-
-/// Groups the kinds of errors of decoding by the encoding rules that have them.
-#[derive(Debug, Drop)]
-pub enum CodecDecodeError {
-    /// The value breaks a rule that BER has too.
-    Ber(BerDecodeErrorKind),
-    /// The JSON value breaks a rule of JER.
-    Jer(JerDecodeErrorKind),
-    /// The text, or the value of the notation, breaks a rule of AVN.
-    Avn(AvnDecodeErrorKind),
-}
-
-/// Prints the name of the codec in capitals, and then the kind.
-impl fmt::Display for CodecDecodeError {
-    ghost output = { λ error. Some (codec_decode_text error) };
-
-    fn fmt<W: fmt::Write>(&self, f: &mut fmt::Formatter<W>) -> fmt::Result {
-        match self {
-            CodecDecodeError::Ber(kind) => write!(f, "BER decoding error: {kind}"),
-            CodecDecodeError::Jer(kind) => write!(f, "JER decoding error: {kind}"),
-            CodecDecodeError::Avn(kind) => write!(f, "AVN decoding error: {kind}"),
-        }
-    }
-}
 
 /// States why a value is not decoded.
 #[cycle(decode_error)]
 #[derive(Debug, Drop)]
 pub enum DecodeErrorKind {
+    /// The string has a character that the permitted alphabet of its type lacks.
+    PermittedAlphabetError {
+        /// Names the character.
+        reason: PermittedAlphabetError,
+    },
+    /// The size of the value is not one that its type has.
+    SizeConstraintNotSatisfied {
+        /// Holds the size, where it is known.
+        size: Option<usize>,
+        /// States the sizes that the type has.
+        expected: String,
+    },
+    /// The number is not one that its type has.
+    ValueConstraintNotSatisfied {
+        /// Holds the number.
+        value: WholeNumber,
+        /// Holds the bounds of the numbers that the type has.
+        expected: Bounded<i128>,
+    },
+    /// The components of the value break an inner subtype constraint.
+    InnerSubtypeConstraintNotSatisfied {
+        /// States how.
+        reason: InnerSubtypeConstraintError,
+    },
     /// The kind is one that a single set of encoding rules has.
     CodecSpecific {
         /// Holds the kind, and names the encoding rules that have it.
         inner: CodecDecodeError,
     },
+    /// The index is that of no item of the ENUMERATED type.
+    EnumerationIndexNotFound {
+        /// Holds the index.
+        index: usize,
+        /// States whether the index was looked for among the extension additions.
+        extended_list: bool,
+    },
+    /// The index is that of no alternative of the CHOICE type.
+    ChoiceIndexNotFound {
+        /// Holds the index.
+        index: usize,
+        /// Holds the tags of the alternatives.
+        variants: Variants,
+    },
+    /// The index of an alternative is greater than the platform can count.
+    ChoiceIndexExceedsPlatformWidth {
+        /// Counts the octets of the index.
+        needed: u32,
+        /// States why the index is not decoded.
+        present: Box<DecodeError>,
+    },
     /// The cause has words of its own, such as that the library does not have the codec.
     Custom {
         /// Holds the words.
+        msg: String,
+    },
+    /// The number is that of no item of the ENUMERATED type.
+    DiscriminantValueNotFound {
+        /// Holds the number.
+        discriminant: isize,
+    },
+    /// A field is there twice.
+    DuplicateField {
+        /// Names the field.
+        name: &'static str,
+    },
+    /// The value has more elements than are read.
+    ExceedsMaxLength {
+        /// Counts the elements that are read at most.
+        length: u128,
+    },
+    /// The length is greater than the platform can count.
+    LengthExceedsPlatformWidth {
+        /// States the length.
         msg: String,
     },
     /// The value of a field is not decoded. Errors of fields within fields make a chain of these.
@@ -59,18 +100,77 @@ pub enum DecodeErrorKind {
         /// States why its value is not decoded.
         nested: Box<DecodeError>,
     },
+    /// The input ends within a value, and more of it may follow.
+    Incomplete {
+        /// States how much more is needed.
+        needed: Needed,
+    },
+    /// The input ends within a value.
+    Eof,
+    /// A SEQUENCE has another number of components than its type.
+    IncorrectItemNumberInSequence {
+        /// Counts the components of the type.
+        expected: usize,
+        /// Counts the components that are there.
+        actual: usize,
+    },
     /// The number is outside the range of its type.
     IntegerOverflow {
         /// Counts the bits of the type.
         max_width: u32,
+    },
+    /// The number is not one of another integer type.
+    IntegerTypeConversionFailed {
+        /// States why.
+        msg: String,
+    },
+    /// The octets are no REAL.
+    InvalidRealEncoding,
+    /// A REAL is expected, or the value holds one.
+    RealNotSupported,
+    /// The last octet of a bit string has more unused bits than it has bits.
+    InvalidBitString {
+        /// Counts the unused bits.
+        bits: u8,
+    },
+    /// The octet of a BOOLEAN is neither of the two that canonical rules have.
+    InvalidBool {
+        /// Holds the octet.
+        value: u8,
+    },
+    /// The octets of a length are none.
+    ZeroLengthOfLength,
+    /// The number of octets is not the one that is stated.
+    MismatchedLength {
+        /// Counts the octets as stated.
+        expected: usize,
+        /// Counts the octets that are there.
+        actual: usize,
     },
     /// A required extension addition is absent.
     MissingField {
         /// Names the addition.
         name: &'static str,
     },
-    /// A REAL is expected, or the value holds one.
-    RealNotSupported,
+    /// A component of a SEQUENCE or SET is absent, or has no tag.
+    MissingTagClassOrValueInSequenceOrSet {
+        /// Holds the class of the component's tag.
+        class: Class,
+        /// Holds the number of the component's tag.
+        value: u32,
+    },
+    /// The range of an INTEGER is wider than the platform can count.
+    RangeExceedsPlatformWidth {
+        /// Counts the bits that the range needs.
+        needed: u32,
+        /// Counts the bits that the platform has.
+        present: u32,
+    },
+    /// An extension addition that has to be there is absent.
+    RequiredExtensionNotPresent {
+        /// Holds the tag of the addition.
+        tag: Tag,
+    },
     /// The text is no JSON.
     Parser {
         /// Holds what the JSON parser states.
@@ -83,11 +183,36 @@ pub enum DecodeErrorKind {
         /// States which character it is, and where.
         msg: String,
     },
+    /// A string of fixed size has another size.
+    FixedStringConversionFailed {
+        /// Holds the universal tag of the type.
+        tag: Tag,
+        /// Counts the characters of the type.
+        expected: usize,
+        /// Counts the characters that are there.
+        actual: usize,
+    },
     /// The value names no alternative of a CHOICE type.
     NoValidChoice {
         /// Names the CHOICE type.
         name: &'static str,
     },
+    /// An extension addition is there, and the type has no extension marker.
+    TypeNotExtensible,
+    /// Octets follow the value.
+    UnexpectedExtraData {
+        /// Counts them.
+        length: usize,
+    },
+    /// A component is there that the type lacks.
+    UnknownField {
+        /// Holds the place of the component.
+        index: usize,
+        /// Holds the tag of the component.
+        tag: Tag,
+    },
+    /// The input is empty where a SEQUENCE or an INTEGER is expected.
+    UnexpectedEmptyInput,
     /// Braces of AVN are nested beyond the limit of 64 levels.
     ExceedsMaxParseDepth,
     /// Memory ran out.
@@ -226,47 +351,6 @@ impl DecodeError {
     }
 }
 
-/// Wraps a kind of one set of encoding rules in an error of its codec.
-impl From<CodecDecodeError> for DecodeError {
-    ghost from_gives = { λ inner error. failure_of error ≡ codec_failure inner };
-
-    fn from(inner: CodecDecodeError) -> DecodeError {
-        let codec = match &inner {
-            CodecDecodeError::Ber(_) => Codec::Ber,
-            CodecDecodeError::Jer(_) => Codec::Jer,
-            CodecDecodeError::Avn(_) => Codec::Avn,
-        };
-        DecodeError::from_kind(DecodeErrorKind::CodecSpecific { inner }, codec)
-    }
-}
-
-/// Wraps a kind of BER in an error of the codec BER.
-impl From<BerDecodeErrorKind> for DecodeError {
-    ghost from_gives = { λ kind error. failure_of error ≡ codec_failure (Ber kind) };
-
-    fn from(kind: BerDecodeErrorKind) -> DecodeError {
-        DecodeError::from(CodecDecodeError::Ber(kind))
-    }
-}
-
-/// Wraps a kind of JER in an error of the codec JER, so that `?` and `into` take it.
-impl From<JerDecodeErrorKind> for DecodeError {
-    ghost from_gives = { λ kind error. failure_of error ≡ codec_failure (Jer kind) };
-
-    fn from(kind: JerDecodeErrorKind) -> DecodeError {
-        DecodeError::from(CodecDecodeError::Jer(kind))
-    }
-}
-
-/// Wraps a kind of AVN in an error of the codec AVN, so that `?` and `into` take it.
-impl From<AvnDecodeErrorKind> for DecodeError {
-    ghost from_gives = { λ kind error. failure_of error ≡ codec_failure (Avn kind) };
-
-    fn from(kind: AvnDecodeErrorKind) -> DecodeError {
-        DecodeError::from(CodecDecodeError::Avn(kind))
-    }
-}
-
 /// Prints why the value is not decoded. Nested errors are printed in full, each with its codec.
 impl fmt::Display for DecodeErrorKind {
     ghost output = { λ kind. Some (decode_kind_text kind) };
@@ -274,27 +358,137 @@ impl fmt::Display for DecodeErrorKind {
     #[cycle(printing)]
     fn fmt<W: fmt::Write>(&self, f: &mut fmt::Formatter<W>) -> fmt::Result {
         match self {
-            DecodeErrorKind::CodecSpecific { inner } => inner.fmt(f),
-            DecodeErrorKind::Custom { msg } => write!(f, "Custom error: {msg}"),
-            DecodeErrorKind::FieldError { name, nested } => {
-                write!(f, "Error when decoding field `{name}`: ")?;
-                (**nested).fmt(f)
+            DecodeErrorKind::PermittedAlphabetError { reason } => {
+                write!(f, "Alphabet constraint not satisfied {reason}")
             }
+            DecodeErrorKind::SizeConstraintNotSatisfied { size, expected } => write!(
+                f,
+                "Size constraint not satisfied: expected: {expected}; actual: {size:?}"
+            ),
+            DecodeErrorKind::ValueConstraintNotSatisfied { value, expected } => write!(
+                f,
+                "Value constraint not satisfied: expected: {expected}; actual: {value}"
+            ),
+            DecodeErrorKind::InnerSubtypeConstraintNotSatisfied { reason } => {
+                write!(f, "Inner subtype constraint not satisfied: {reason}")
+            }
+            DecodeErrorKind::CodecSpecific { inner } => inner.fmt(f),
+            DecodeErrorKind::EnumerationIndexNotFound {
+                index,
+                extended_list,
+            } => write!(
+                f,
+                "Enumeration index {index} did not match any variant. \
+                 Extended list checked: {extended_list}"
+            ),
+            DecodeErrorKind::ChoiceIndexNotFound { index, .. } => {
+                write!(f, "Choice index {index} did not match any variant")
+            }
+            DecodeErrorKind::ChoiceIndexExceedsPlatformWidth { needed, present } => {
+                let present = &**present;
+                write!(
+                    f,
+                    "Choice index exceeds platform index width. Needed {needed} bytes, \
+                     present: {present}"
+                )
+            }
+            DecodeErrorKind::Custom { msg } => write!(f, "Custom error: {msg}"),
+            DecodeErrorKind::DiscriminantValueNotFound { discriminant } => write!(
+                f,
+                "Discriminant value {discriminant} did not match any variant"
+            ),
+            DecodeErrorKind::DuplicateField { name } => write!(f, "Duplicate field for `{name}`"),
+            DecodeErrorKind::ExceedsMaxLength { length } => {
+                write!(f, "Expected maximum of {length} items")
+            }
+            DecodeErrorKind::LengthExceedsPlatformWidth { msg } => {
+                write!(
+                    f,
+                    "Length of the data exceeds platform address width: {msg}"
+                )
+            }
+            DecodeErrorKind::FieldError { name, nested } => {
+                let nested = &**nested;
+                write!(f, "Error when decoding field `{name}`: {nested}")
+            }
+            DecodeErrorKind::Incomplete { needed } => {
+                write!(f, "Need more data to continue: {needed}")
+            }
+            DecodeErrorKind::Eof => write!(f, "Unexpected EOF when decoding"),
+            DecodeErrorKind::IncorrectItemNumberInSequence { expected, actual } => write!(
+                f,
+                "Invalid item number in Sequence: expected: {expected}; actual: {actual}"
+            ),
             DecodeErrorKind::IntegerOverflow { max_width } => write!(
                 f,
                 "Actual integer larger than expected {max_width} bits"
             ),
-            DecodeErrorKind::MissingField { name } => write!(f, "Missing field `{name}`"),
+            DecodeErrorKind::IntegerTypeConversionFailed { msg } => {
+                write!(f, "Failed to cast integer to another integer type: {msg} ")
+            }
+            DecodeErrorKind::InvalidRealEncoding => write!(f, "Invalid real encoding"),
             DecodeErrorKind::RealNotSupported => {
                 write!(f, "Decoder doesn't support `REAL` type")
             }
+            DecodeErrorKind::InvalidBitString { bits } => write!(
+                f,
+                "BitString contains an invalid amount of unused bits: {bits}"
+            ),
+            DecodeErrorKind::InvalidBool { value } => write!(
+                f,
+                "Bool value is not `0` or `0xFF` as canonical requires. Actual: {value}"
+            ),
+            DecodeErrorKind::ZeroLengthOfLength => write!(f, "Length of Length cannot be zero"),
+            DecodeErrorKind::MismatchedLength { expected, actual } => write!(
+                f,
+                "Expected {expected} bytes, actual length was {actual} bytes"
+            ),
+            DecodeErrorKind::MissingField { name } => write!(f, "Missing field `{name}`"),
+            DecodeErrorKind::MissingTagClassOrValueInSequenceOrSet { class, value } => write!(
+                f,
+                "Expected class: {class}, value: {value} in sequence or set \
+                 Missing tag class or value in sequence or set"
+            ),
+            DecodeErrorKind::RangeExceedsPlatformWidth { needed, present } => write!(
+                f,
+                "Integer range larger than possible to address on this platform. \
+                 needed: {needed} present: {present}"
+            ),
+            DecodeErrorKind::RequiredExtensionNotPresent {
+                tag: Tag { class, value },
+            } => write!(
+                f,
+                "Extension with class `{class}` and tag `{value}` required, but not present"
+            ),
             DecodeErrorKind::Parser { msg } => write!(f, "Error in Parser: {msg}"),
             DecodeErrorKind::StringConversionFailed { tag, msg } => write!(
                 f,
                 "Failed to convert byte array into valid ASN.1 string. \
                  String type as tag: {tag} Error: {msg}"
             ),
+            DecodeErrorKind::FixedStringConversionFailed {
+                tag,
+                expected,
+                actual,
+            } => write!(
+                f,
+                "Failed to convert byte array into valid fixed-sized ASN.1 string. \
+                 String type as tag: {tag}, actual: {actual}, expected: {expected}"
+            ),
             DecodeErrorKind::NoValidChoice { name } => write!(f, "No valid choice for `{name}`"),
+            DecodeErrorKind::TypeNotExtensible => {
+                write!(f, "Attempted to decode extension on non-extensible type")
+            }
+            DecodeErrorKind::UnexpectedExtraData { length } => {
+                write!(f, "Unexpected extra data found: length `{length}` bytes")
+            }
+            DecodeErrorKind::UnknownField { index, tag } => {
+                write!(f, "Unknown field with index {index} and tag {tag}")
+            }
+            DecodeErrorKind::UnexpectedEmptyInput => write!(
+                f,
+                "No input was provided where expected in the given SEQUENCE or INTEGER type"
+            ),
             DecodeErrorKind::ExceedsMaxParseDepth => write!(f, "Exceeded maximum parse depth"),
             DecodeErrorKind::OutOfMemory => write!(f, "Out of memory"),
         }
@@ -310,11 +504,32 @@ impl fmt::Display for DecodeError {
 
     #[cycle(printing)]
     fn fmt<W: fmt::Write>(&self, f: &mut fmt::Formatter<W>) -> fmt::Result {
-        self.kind.fmt(f)?;
+        let kind = &self.kind;
         let codec = self.codec;
-        write!(f, " (Codec: {codec})")
+        write!(f, "{kind} (Codec: {codec})")
     }
 }
 
 /// Has no source: a nested error is printed as part of its field's error.
 impl Error for DecodeError {}
+
+/// States how much more input a value needs.
+#[derive(Clone, Copy, Debug, PartialEq, Eq)]
+pub enum Needed {
+    /// The value does not state how much.
+    Unknown,
+    /// So many more octets are needed, at least.
+    Size(usize),
+}
+
+/// Prints the variant, with the number of octets in parentheses.
+impl fmt::Display for Needed {
+    ghost output = { λ needed. Some (needed_text needed) };
+
+    fn fmt<W: fmt::Write>(&self, f: &mut fmt::Formatter<W>) -> fmt::Result {
+        match self {
+            Needed::Unknown => f.write_str("Unknown"),
+            Needed::Size(octets) => write!(f, "Size({octets})"),
+        }
+    }
+}

@@ -1,39 +1,39 @@
 //! Defines `EncodeError`: why a value is not encoded, and by which codec. Unlike an error of
 //! decoding it names no fields, so contracts compare it as it is.
-ghost use Rattle.std.specs.Prelude.{◌≡◌, Some};
-ghost use Rattle.asn_fault.specs.Texts.{codec_encode_text, encode_kind_text, encode_error_text};
-ghost use Rattle.asn_fault.specs.EncodeCause.{codec_refusal, encode_cause, is_encode_out_of_memory};
-ghost use Rattle.asn_fault.specs.declared.encode.CodecEncodeError.TheVariants.{Jer, Avn};
+ghost use Rattle.std.specs.Prelude.{◌≡◌, MatchResult, Some, false, pos, true};
+ghost use Rattle.asn_core.specs.Bounds.{is_admitted};
+ghost use Rattle.asn_fault.specs.Texts.{encode_kind_text, encode_error_text};
+ghost use Rattle.asn_fault.specs.EncodeCause.{encode_cause, is_encode_out_of_memory};
 
-use crate::{AvnEncodeErrorKind, JerEncodeErrorKind};
-use asn_core::{Bounded, Codec, Size};
+use crate::{CodecEncodeError, PermittedAlphabetError};
+use asn_core::{Bounded, Codec, Size, WholeNumber};
 use std::error::Error;
 use std::fmt;
-
-/// Groups the kinds of errors of encoding by the encoding rules that have them.
-#[derive(Debug, Drop)]
-pub enum CodecEncodeError {
-    /// The value is beyond what JER writes.
-    Jer(JerEncodeErrorKind),
-    /// The value is beyond what AVN writes.
-    Avn(AvnEncodeErrorKind),
-}
-
-/// Prints the name of the codec in capitals, and then the kind.
-impl fmt::Display for CodecEncodeError {
-    ghost output = { λ error. Some (codec_encode_text error) };
-
-    fn fmt<W: fmt::Write>(&self, f: &mut fmt::Formatter<W>) -> fmt::Result {
-        match self {
-            CodecEncodeError::Jer(kind) => write!(f, "JER encoding error: {kind}"),
-            CodecEncodeError::Avn(kind) => write!(f, "AVN encoding error: {kind}"),
-        }
-    }
-}
 
 /// States why a value is not encoded.
 #[derive(Debug, Drop)]
 pub enum EncodeErrorKind {
+    /// The bit string has more unused bits than an octet can state.
+    FailedBitStringUnusedBitsToU8 {
+        /// Counts the unused bits.
+        bits: usize,
+    },
+    /// The length of the value is not one that its type has.
+    InvalidLength {
+        /// Holds the length of the value.
+        length: usize,
+        /// Holds the bounds of the lengths that the type has.
+        expected: Bounded<usize>,
+    },
+    /// The length of the value is greater than the platform can count.
+    LengthExceedsPlatformSize,
+    /// The value has more octets than are kept for it.
+    MoreBytesThanExpected {
+        /// Counts the octets of the value.
+        value: usize,
+        /// Counts the octets that are kept.
+        expected: usize,
+    },
     /// The cause has words of its own, such as that the library does not have the codec.
     Custom {
         /// Holds the words.
@@ -44,12 +44,34 @@ pub enum EncodeErrorKind {
         /// Holds the kind, and names the encoding rules that have it.
         inner: CodecEncodeError,
     },
+    /// The string has a character that the permitted alphabet of its type lacks.
+    AlphabetConstraintNotSatisfied {
+        /// Names the character.
+        reason: PermittedAlphabetError,
+    },
     /// The value's size is not one that its type has.
     SizeConstraintNotSatisfied {
         /// Holds the size of the value.
         size: usize,
         /// Holds the bounds of the sizes that the type has.
         expected: Bounded<usize>,
+    },
+    /// The number is not one that its type has.
+    ValueConstraintNotSatisfied {
+        /// Holds the number.
+        value: WholeNumber,
+        /// Holds the bounds of the numbers that the type has.
+        expected: Bounded<i128>,
+    },
+    /// The number is not one of another integer type.
+    IntegerTypeConversionFailed {
+        /// States why.
+        msg: String,
+    },
+    /// The value of an open type is not encoded.
+    OpaqueConversionFailed {
+        /// States why.
+        msg: String,
     },
     /// The tag of the value is that of no alternative of its CHOICE type.
     VariantNotInChoice,
@@ -77,6 +99,21 @@ impl EncodeError {
         EncodeError { kind, codec }
     }
 
+    /// Returns the error that a string has a character that the permitted alphabet of its type
+    /// lacks.
+    pub fn alphabet_constraint_not_satisfied(
+        reason: PermittedAlphabetError,
+        codec: Codec,
+    ) -> EncodeError
+        ensures { result ≡ record {
+          kind = EncodeErrorKind.AlphabetConstraintNotSatisfied reason;
+          codec = codec;
+        } }
+    {
+        let kind = EncodeErrorKind::AlphabetConstraintNotSatisfied { reason };
+        EncodeError::from_kind(kind, codec)
+    }
+
     /// Returns the error that the size of a value is none of `expected`, of which the bounds are
     /// kept.
     pub fn size_constraint_not_satisfied(size: usize, expected: &Size, codec: Codec) -> EncodeError
@@ -92,6 +129,81 @@ impl EncodeError {
             },
             codec,
         )
+    }
+
+    /// Returns the error that a number is outside `expected`, the bounds of its type.
+    pub fn value_constraint_not_satisfied(
+        value: WholeNumber,
+        expected: &Bounded<i128>,
+        codec: Codec,
+    ) -> EncodeError
+        ensures { result ≡ record {
+          kind = EncodeErrorKind.ValueConstraintNotSatisfied value expected.now;
+          codec = codec;
+        } }
+    {
+        EncodeError::from_kind(
+            EncodeErrorKind::ValueConstraintNotSatisfied {
+                value,
+                expected: *expected,
+            },
+            codec,
+        )
+    }
+
+    /// Checks that the length of a value is one that its type has.
+    ///
+    /// # Errors
+    ///
+    /// `InvalidLength`, exactly where `expected` does not admit the length.
+    pub fn check_length(length: usize, expected: &Size, codec: Codec) -> Result<(), EncodeError>
+        ensures { MatchResult result
+            (λ _. is_admitted pos expected.now.bounds (pos length) ≡ true)
+            (λ error. (is_admitted pos expected.now.bounds (pos length) ≡ false)
+            × (error ≡ record {
+              kind = EncodeErrorKind.InvalidLength length expected.now.bounds;
+              codec = codec;
+            })) }
+    {
+        if expected.contains(&length) {
+            return Ok(());
+        }
+        let kind = EncodeErrorKind::InvalidLength {
+            length,
+            expected: expected.bounds,
+        };
+        Err(EncodeError::from_kind(kind, codec))
+    }
+
+    /// Returns the error that the length of a value is greater than the platform can count.
+    pub fn length_exceeds_platform_size(codec: Codec) -> EncodeError
+        ensures { result ≡ record {
+          kind = EncodeErrorKind.LengthExceedsPlatformSize;
+          codec = codec;
+        } }
+    {
+        EncodeError::from_kind(EncodeErrorKind::LengthExceedsPlatformSize, codec)
+    }
+
+    /// Returns the error that a number is not one of another integer type, for the reason in
+    /// `msg`.
+    pub fn integer_type_conversion_failed(msg: String, codec: Codec) -> EncodeError
+        ensures { result ≡ record {
+          kind = EncodeErrorKind.IntegerTypeConversionFailed msg;
+          codec = codec;
+        } }
+    {
+        EncodeError::from_kind(EncodeErrorKind::IntegerTypeConversionFailed { msg }, codec)
+    }
+
+    /// Returns the error that the value of an open type is not encoded, for the reason in `msg`.
+    pub fn opaque_conversion_failed(msg: String, codec: Codec) -> EncodeError
+        ensures { result ≡ record {
+          kind = EncodeErrorKind.OpaqueConversionFailed msg;
+          codec = codec;
+        } }
+    {
+        EncodeError::from_kind(EncodeErrorKind::OpaqueConversionFailed { msg }, codec)
     }
 
     /// Returns the error that the tag of a value is that of no alternative of its CHOICE type.
@@ -133,49 +245,48 @@ impl EncodeError {
     }
 }
 
-/// Wraps a kind of one set of encoding rules in an error of its codec.
-impl From<CodecEncodeError> for EncodeError {
-    ghost from_gives = { λ inner error. error ≡ codec_refusal inner };
-
-    fn from(inner: CodecEncodeError) -> EncodeError {
-        let codec = match &inner {
-            CodecEncodeError::Jer(_) => Codec::Jer,
-            CodecEncodeError::Avn(_) => Codec::Avn,
-        };
-        EncodeError::from_kind(EncodeErrorKind::CodecSpecific { inner }, codec)
-    }
-}
-
-/// Wraps a kind of JER in an error of the codec JER, so that `?` and `into` take it.
-impl From<JerEncodeErrorKind> for EncodeError {
-    ghost from_gives = { λ kind error. error ≡ codec_refusal (Jer kind) };
-
-    fn from(kind: JerEncodeErrorKind) -> EncodeError {
-        EncodeError::from(CodecEncodeError::Jer(kind))
-    }
-}
-
-/// Wraps a kind of AVN in an error of the codec AVN, so that `?` and `into` take it.
-impl From<AvnEncodeErrorKind> for EncodeError {
-    ghost from_gives = { λ kind error. error ≡ codec_refusal (Avn kind) };
-
-    fn from(kind: AvnEncodeErrorKind) -> EncodeError {
-        EncodeError::from(CodecEncodeError::Avn(kind))
-    }
-}
-
 /// Prints why the value is not encoded.
 impl fmt::Display for EncodeErrorKind {
     ghost output = { λ kind. Some (encode_kind_text kind) };
 
     fn fmt<W: fmt::Write>(&self, f: &mut fmt::Formatter<W>) -> fmt::Result {
         match self {
+            EncodeErrorKind::FailedBitStringUnusedBitsToU8 { bits } => {
+                write!(f, "Failed to convert BIT STRING unused bits to u8: {bits}")
+            }
+            EncodeErrorKind::InvalidLength { length, expected } => {
+                write!(f, "Invalid length, expected: {expected}; actual: {length}")
+            }
+            EncodeErrorKind::LengthExceedsPlatformSize => {
+                write!(
+                    f,
+                    "Invalid length, exceeds platform maximum size usize::MAX"
+                )
+            }
+            EncodeErrorKind::MoreBytesThanExpected { value, expected } => write!(
+                f,
+                "The provided value does not fit in the reserved octets {expected}; \
+                 actual: {value}"
+            ),
             EncodeErrorKind::Custom { msg } => write!(f, "Custom error: {msg}"),
             EncodeErrorKind::CodecSpecific { inner } => inner.fmt(f),
+            EncodeErrorKind::AlphabetConstraintNotSatisfied { reason } => {
+                write!(f, "Alphabet constraint not satisfied: {reason}")
+            }
             EncodeErrorKind::SizeConstraintNotSatisfied { size, expected } => write!(
                 f,
                 "Size constraint not satisfied: expected: {expected}; actual: {size}"
             ),
+            EncodeErrorKind::ValueConstraintNotSatisfied { value, expected } => write!(
+                f,
+                "Value constraint not satisfied: expected: {expected}; actual: {value}"
+            ),
+            EncodeErrorKind::IntegerTypeConversionFailed { msg } => {
+                write!(f, "Failed to cast integer to another integer type: {msg}")
+            }
+            EncodeErrorKind::OpaqueConversionFailed { msg } => {
+                write!(f, "Conversion to opaque type failed: {msg}")
+            }
             EncodeErrorKind::VariantNotInChoice => {
                 write!(f, "Selected Variant not found in Choice")
             }

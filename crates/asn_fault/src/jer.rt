@@ -1,11 +1,11 @@
 //! Defines the kinds of errors that the JSON Encoding Rules of X.697 (JER) alone have, with their
 //! texts.
-ghost use Rattle.std.specs.Prelude.{◌≡◌, Some, decimal};
+ghost use Rattle.std.specs.Prelude.{◌≡◌, Some};
 ghost use Rattle.asn_fault.specs.Failure.{Cause, codec_cause};
 ghost use Rattle.asn_fault.specs.Texts.{jer_decode_text, jer_encode_text};
 ghost use Rattle.asn_core.specs.declared.codec.Codec.TheVariants.{Jer};
 
-use crate::CodecDecodeError;
+use crate::{CodecDecodeError, DigitFault, Utf8Fault};
 use asn_core::WholeNumber;
 use std::error::Error;
 use std::fmt;
@@ -17,13 +17,25 @@ pub enum JerDecodeErrorKind {
     EndOfInput {},
     /// The JSON value is of another kind than the type. `needed` names the kind of the type, as
     /// `hex string`, and `found` is the value as compact JSON.
-    TypeMismatch { needed: &'static str, found: String },
+    TypeMismatch {
+        needed: &'static str,
+        found: String,
+    },
+    /// The digits of a bit string are none. This library never makes it.
+    InvalidJerBitstring {
+        /// States what is wrong with the digits.
+        parse_int_err: DigitFault,
+    },
     /// The string is no hexadecimal text of whole octets.
     InvalidJerOctetString {},
     /// The JSON value is no OBJECT IDENTIFIER. `value` is its compact text.
-    InvalidOIDString { value: String },
+    InvalidOIDString {
+        value: String,
+    },
     /// The string `discriminant` is the identifier of no item of the ENUMERATED type.
-    InvalidEnumDiscriminant { discriminant: String },
+    InvalidEnumDiscriminant {
+        discriminant: String,
+    },
 }
 
 /// Makes errors of JER by the names that the codecs call.
@@ -49,6 +61,9 @@ impl fmt::Display for JerDecodeErrorKind {
                 f,
                 "Found mismatching JSON value. Expected type: {needed}. Found value: {found}"
             ),
+            JerDecodeErrorKind::InvalidJerBitstring { parse_int_err } => {
+                write!(f, "Found invalid byte in bit string: {parse_int_err}")
+            }
             JerDecodeErrorKind::InvalidJerOctetString {} => {
                 write!(f, "Found invalid character in octet string")
             }
@@ -68,13 +83,29 @@ impl Error for JerDecodeErrorKind {}
 /// States why a value has no encoding in JER.
 #[derive(Debug, Drop)]
 pub enum JerEncodeErrorKind {
+    /// The JSON writer refused the value. This library never makes it.
+    JsonEncodingError {
+        /// Holds what the JSON writer states, which is not printed.
+        upstream: String,
+    },
     /// The encoder was given no value at its root.
     NoRootValueFound,
+    /// The encoder refused the value. This library never makes it.
+    JsonEncoder {
+        /// States why.
+        msg: String,
+    },
     /// The number in `value` is below -2^63 or not below 2^64, which are the numbers that are
     /// written.
-    ExceedsSupportedIntSize { value: WholeNumber },
+    ExceedsSupportedIntSize {
+        value: WholeNumber,
+    },
+    /// The real number is beyond those that are written. This library never makes it.
+    ExceedsSupportedRealRange,
     /// The string has octets or units that are no character, and `error` states where.
-    InvalidCharacter { error: Utf8Fault },
+    InvalidCharacter {
+        error: Utf8Fault,
+    },
 }
 
 /// Prints what is wrong, without the codec's name.
@@ -83,11 +114,16 @@ impl fmt::Display for JerEncodeErrorKind {
 
     fn fmt<W: fmt::Write>(&self, f: &mut fmt::Formatter<W>) -> fmt::Result {
         match self {
+            JerEncodeErrorKind::JsonEncodingError { .. } => write!(f, "JsonEncodingError"),
             JerEncodeErrorKind::NoRootValueFound => {
                 write!(f, "No encoded JSON root value found")
             }
+            JerEncodeErrorKind::JsonEncoder { msg } => write!(f, "Error in JSON encoder: {msg}"),
             JerEncodeErrorKind::ExceedsSupportedIntSize { value } => {
                 write!(f, "Exceeds supported integer range -2^63..2^64 ({value})")
+            }
+            JerEncodeErrorKind::ExceedsSupportedRealRange => {
+                write!(f, "Exceeds supported real value range")
             }
             JerEncodeErrorKind::InvalidCharacter { error } => {
                 write!(f, "Invalid character: after {error}")
@@ -98,20 +134,3 @@ impl fmt::Display for JerEncodeErrorKind {
 
 /// Has no source, since no other error lies beneath a kind.
 impl Error for JerEncodeErrorKind {}
-
-/// States where a string stops being text.
-#[derive(Clone, Copy, Debug, PartialEq, Eq)]
-pub struct Utf8Fault {
-    /// Counts the octets before the first one that begins no UTF-8 character, or the 16-bit units
-    /// before the first surrogate.
-    pub valid_up_to: usize,
-}
-
-/// Prints the number of octets or units before the fault, in decimal.
-impl fmt::Display for Utf8Fault {
-    ghost output = { λ fault. Some (decimal fault.valid_up_to) };
-
-    fn fmt<W: fmt::Write>(&self, f: &mut fmt::Formatter<W>) -> fmt::Result {
-        self.valid_up_to.fmt(f)
-    }
-}

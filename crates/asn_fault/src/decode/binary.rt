@@ -1,0 +1,326 @@
+//! Makes the errors of decoding that neither text notation returns. Binary rules that a caller
+//! hands in make them.
+ghost use Rattle.std.specs.Prelude.{◌≡◌, ◌≢◌, ◌⊎◌, MatchResult};
+ghost use Rattle.asn_fault.specs.Failure.{ExceedsWidth};
+
+use crate::{
+    DecodeError, DecodeErrorKind, InnerSubtypeConstraintError, Needed, PermittedAlphabetError,
+};
+use asn_core::{Bounded, Class, Codec, Tag, Variants, WholeNumber};
+use std::alloc::Global;
+
+/// Makes errors, one constructor for each kind.
+impl DecodeError {
+    /// Returns the error that a string has a character that the permitted alphabet of its type
+    /// lacks.
+    pub fn permitted_alphabet_error(reason: PermittedAlphabetError, codec: Codec) -> DecodeError
+        ensures { result ≡ record {
+          kind = DecodeErrorKind.PermittedAlphabetError reason;
+          codec = codec;
+        } }
+    {
+        DecodeError::from_kind(DecodeErrorKind::PermittedAlphabetError { reason }, codec)
+    }
+
+    /// Returns the error that the size of a value, where it is known, is none of those that
+    /// `expected` states.
+    pub fn size_constraint_not_satisfied(
+        size: Option<usize>,
+        expected: String,
+        codec: Codec,
+    ) -> DecodeError
+        ensures { result ≡ record {
+          kind = DecodeErrorKind.SizeConstraintNotSatisfied size expected;
+          codec = codec;
+        } }
+    {
+        let kind = DecodeErrorKind::SizeConstraintNotSatisfied { size, expected };
+        DecodeError::from_kind(kind, codec)
+    }
+
+    /// Returns the error that a number is outside the bounds of its type.
+    pub fn value_constraint_not_satisfied(
+        value: WholeNumber,
+        expected: Bounded<i128>,
+        codec: Codec,
+    ) -> DecodeError
+        ensures { result ≡ record {
+          kind = DecodeErrorKind.ValueConstraintNotSatisfied value expected;
+          codec = codec;
+        } }
+    {
+        let kind = DecodeErrorKind::ValueConstraintNotSatisfied { value, expected };
+        DecodeError::from_kind(kind, codec)
+    }
+
+    /// Returns the error that the components of a value break an inner subtype constraint.
+    pub fn inner_subtype_constraint_not_satisfied(
+        reason: InnerSubtypeConstraintError,
+        codec: Codec,
+    ) -> DecodeError
+        ensures { result ≡ record {
+          kind = DecodeErrorKind.InnerSubtypeConstraintNotSatisfied reason;
+          codec = codec;
+        } }
+    {
+        let kind = DecodeErrorKind::InnerSubtypeConstraintNotSatisfied { reason };
+        DecodeError::from_kind(kind, codec)
+    }
+
+    /// Returns the error that a number is that of no item of the ENUMERATED type.
+    pub fn discriminant_value_not_found(discriminant: isize, codec: Codec) -> DecodeError
+        ensures { result ≡ record {
+          kind = DecodeErrorKind.DiscriminantValueNotFound discriminant;
+          codec = codec;
+        } }
+    {
+        DecodeError::from_kind(
+            DecodeErrorKind::DiscriminantValueNotFound { discriminant },
+            codec,
+        )
+    }
+
+    /// Returns the error that the range of an INTEGER needs more bits than the platform has.
+    pub fn range_exceeds_platform_width(needed: u32, present: u32, codec: Codec) -> DecodeError
+        ensures { result ≡ record {
+          kind = DecodeErrorKind.RangeExceedsPlatformWidth needed present;
+          codec = codec;
+        } }
+    {
+        let kind = DecodeErrorKind::RangeExceedsPlatformWidth { needed, present };
+        DecodeError::from_kind(kind, codec)
+    }
+
+    /// Returns the error that a string of fixed size has another size. `tag` is the type's
+    /// universal tag.
+    pub fn fixed_string_conversion_failed(
+        tag: Tag,
+        actual: usize,
+        expected: usize,
+        codec: Codec,
+    ) -> DecodeError
+        ensures { result ≡ record {
+          kind = DecodeErrorKind.FixedStringConversionFailed tag expected actual;
+          codec = codec;
+        } }
+    {
+        let kind = DecodeErrorKind::FixedStringConversionFailed {
+            tag,
+            expected,
+            actual,
+        };
+        DecodeError::from_kind(kind, codec)
+    }
+
+    /// Returns the error that a SEQUENCE has another number of components than its type.
+    pub fn incorrect_item_number_in_sequence(
+        expected: usize,
+        actual: usize,
+        codec: Codec,
+    ) -> DecodeError
+        ensures { result ≡ record {
+          kind = DecodeErrorKind.IncorrectItemNumberInSequence expected actual;
+          codec = codec;
+        } }
+    {
+        let kind = DecodeErrorKind::IncorrectItemNumberInSequence { expected, actual };
+        DecodeError::from_kind(kind, codec)
+    }
+
+    /// Returns the error that a number is not one of another integer type, for the reason in
+    /// `msg`.
+    pub fn integer_type_conversion_failed(msg: String, codec: Codec) -> DecodeError
+        ensures { result ≡ record {
+          kind = DecodeErrorKind.IntegerTypeConversionFailed msg;
+          codec = codec;
+        } }
+    {
+        DecodeError::from_kind(DecodeErrorKind::IntegerTypeConversionFailed { msg }, codec)
+    }
+
+    /// Returns the error that the last octet of a bit string has this many unused bits, which is
+    /// more than it has bits.
+    pub fn invalid_bit_string(bits: u8, codec: Codec) -> DecodeError
+        ensures { result ≡ record {
+          kind = DecodeErrorKind.InvalidBitString bits;
+          codec = codec;
+        } }
+    {
+        DecodeError::from_kind(DecodeErrorKind::InvalidBitString { bits }, codec)
+    }
+
+    /// Returns the error that the component of this tag is absent from a SEQUENCE or SET, or has
+    /// no tag.
+    pub fn missing_tag_class_or_value_in_sequence_or_set(
+        class: Class,
+        value: u32,
+        codec: Codec,
+    ) -> DecodeError
+        ensures { result ≡ record {
+          kind = DecodeErrorKind.MissingTagClassOrValueInSequenceOrSet class value;
+          codec = codec;
+        } }
+    {
+        let kind = DecodeErrorKind::MissingTagClassOrValueInSequenceOrSet { class, value };
+        DecodeError::from_kind(kind, codec)
+    }
+
+    /// Returns the error that an extension addition is there, and the type has no extension
+    /// marker.
+    pub fn type_not_extensible(codec: Codec) -> DecodeError
+        ensures { result ≡ record { kind = DecodeErrorKind.TypeNotExtensible; codec = codec } }
+    {
+        DecodeError::from_kind(DecodeErrorKind::TypeNotExtensible, codec)
+    }
+
+    /// Returns the error that the extension addition of this tag has to be there and is absent.
+    pub fn required_extension_not_present(tag: Tag, codec: Codec) -> DecodeError
+        ensures { result ≡ record {
+          kind = DecodeErrorKind.RequiredExtensionNotPresent tag;
+          codec = codec;
+        } }
+    {
+        DecodeError::from_kind(DecodeErrorKind::RequiredExtensionNotPresent { tag }, codec)
+    }
+
+    /// Returns the error that an index is that of no item of the ENUMERATED type. `extended_list`
+    /// states whether it was looked for among the extension additions.
+    pub fn enumeration_index_not_found(
+        index: usize,
+        extended_list: bool,
+        codec: Codec,
+    ) -> DecodeError
+        ensures { result ≡ record {
+          kind = DecodeErrorKind.EnumerationIndexNotFound index extended_list;
+          codec = codec;
+        } }
+    {
+        let kind = DecodeErrorKind::EnumerationIndexNotFound {
+            index,
+            extended_list,
+        };
+        DecodeError::from_kind(kind, codec)
+    }
+
+    /// Returns the error that the index of an alternative, of `needed` octets, is greater than the
+    /// platform can count. `present` states why it is not decoded.
+    ///
+    /// Where there is no memory to box `present`, the error is `OutOfMemory`.
+    pub fn choice_index_exceeds_platform_width(
+        alloc: Global,
+        needed: u32,
+        present: DecodeError,
+        codec: Codec,
+    ) -> DecodeError
+        ensures kind { ExceedsWidth needed present result.kind
+            ⊎ (result.kind ≡ DecodeErrorKind.OutOfMemory) }
+        ensures codec { result.codec ≡ codec }
+    {
+        match Box::new(alloc, present) {
+            Ok(present) => {
+                let kind = DecodeErrorKind::ChoiceIndexExceedsPlatformWidth { needed, present };
+                DecodeError::from_kind(kind, codec)
+            }
+            Err(_) => DecodeError::out_of_memory(codec),
+        }
+    }
+
+    /// Returns the error that a length is greater than the platform can count. `msg` states it.
+    pub fn length_exceeds_platform_width(msg: String, codec: Codec) -> DecodeError
+        ensures { result ≡ record {
+          kind = DecodeErrorKind.LengthExceedsPlatformWidth msg;
+          codec = codec;
+        } }
+    {
+        DecodeError::from_kind(DecodeErrorKind::LengthExceedsPlatformWidth { msg }, codec)
+    }
+
+    /// Returns the error that an index is that of no alternative of the CHOICE type, whose tags
+    /// are `variants`.
+    pub fn choice_index_not_found(index: usize, variants: Variants, codec: Codec) -> DecodeError
+        ensures { result ≡ record {
+          kind = DecodeErrorKind.ChoiceIndexNotFound index variants;
+          codec = codec;
+        } }
+    {
+        DecodeError::from_kind(
+            DecodeErrorKind::ChoiceIndexNotFound { index, variants },
+            codec,
+        )
+    }
+
+    /// Returns the error that this many octets follow the value.
+    pub fn unexpected_extra_data(length: usize, codec: Codec) -> DecodeError
+        ensures { result ≡ record {
+          kind = DecodeErrorKind.UnexpectedExtraData length;
+          codec = codec;
+        } }
+    {
+        DecodeError::from_kind(DecodeErrorKind::UnexpectedExtraData { length }, codec)
+    }
+
+    /// Returns the error that the input is empty where a SEQUENCE or an INTEGER is expected.
+    pub fn unexpected_empty_input(codec: Codec) -> DecodeError
+        ensures { result ≡ record { kind = DecodeErrorKind.UnexpectedEmptyInput; codec = codec } }
+    {
+        DecodeError::from_kind(DecodeErrorKind::UnexpectedEmptyInput, codec)
+    }
+
+    /// Returns the error that the input ends within a value, which needs this much more of it.
+    pub fn incomplete(needed: Needed, codec: Codec) -> DecodeError
+        ensures { result ≡ record { kind = DecodeErrorKind.Incomplete needed; codec = codec } }
+    {
+        DecodeError::from_kind(DecodeErrorKind::Incomplete { needed }, codec)
+    }
+
+    /// Returns the error that a value has more elements than this number, which are read at most.
+    pub fn exceeds_max_length(length: u128, codec: Codec) -> DecodeError
+        ensures { result ≡ record {
+          kind = DecodeErrorKind.ExceedsMaxLength length;
+          codec = codec;
+        } }
+    {
+        DecodeError::from_kind(DecodeErrorKind::ExceedsMaxLength { length }, codec)
+    }
+
+    /// Returns the error that the field of this name is there twice.
+    pub fn duplicate_field(name: &'static str, codec: Codec) -> DecodeError
+        ensures { result ≡ record {
+          kind = DecodeErrorKind.DuplicateField name.entry;
+          codec = codec;
+        } }
+    {
+        DecodeError::from_kind(DecodeErrorKind::DuplicateField { name }, codec)
+    }
+
+    /// Returns the error that the component at this place, of this tag, is one that the type
+    /// lacks.
+    pub fn unknown_field(index: usize, tag: Tag, codec: Codec) -> DecodeError
+        ensures { result ≡ record {
+          kind = DecodeErrorKind.UnknownField index tag;
+          codec = codec;
+        } }
+    {
+        DecodeError::from_kind(DecodeErrorKind::UnknownField { index, tag }, codec)
+    }
+
+    /// Checks that the number of octets is the one that is stated.
+    ///
+    /// # Errors
+    ///
+    /// `MismatchedLength`, exactly where the two differ.
+    pub fn assert_length(expected: usize, actual: usize, codec: Codec) -> Result<(), DecodeError>
+        ensures { MatchResult result (λ _. expected ≡ actual) (λ error. (expected ≢ actual)
+            × (error ≡ record {
+              kind = DecodeErrorKind.MismatchedLength expected actual;
+              codec = codec;
+            })) }
+    {
+        if expected == actual {
+            Ok(())
+        } else {
+            let kind = DecodeErrorKind::MismatchedLength { expected, actual };
+            Err(DecodeError::from_kind(kind, codec))
+        }
+    }
+}

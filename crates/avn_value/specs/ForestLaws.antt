@@ -67,7 +67,7 @@ unfolding item_tops descendants
 later-items no_trees ss = no-later ss
 later-items (tree t ts) ss = ap (λ n. later_trees n (item_tops ts ++ ss)) (front (descendants t) (list_preorder ts)) ∙ later-items ts ss
 
--- The trees of what stands at nodes, before later ones.
+-- The trees of what stands at nodes, before later ones: of a value, of fields and of a list's values.
 module _ (later : List NamedSlot) where
   unfoldable pub trees : List NamedSlot → List NamedSlot
   trees [] = later
@@ -76,7 +76,6 @@ module _ (later : List NamedSlot) where
   mutual
     unfolding trees descendants field_tops item_tops
 
-    -- A value and what follows it.
     pub trees-spots : (name : List ℕ) (t : Tree) (ss : List NamedSlot) → trees (preorder name t ++ ss) ≡ (name, Some t) ∷ trees ss
     trees-spots name (boolean b) ss = ap (λ x. (name, Some (boolean b)) ∷ x) (no-later (trees ss))
     trees-spots name (null) ss = ap (λ x. (name, Some (null)) ∷ x) (no-later (trees ss))

@@ -1,11 +1,11 @@
 -- The nodes of a tree list it.
-use Rattle.std.proofs.Common.{◌≡◌, ℕ, suc, ◌+◌, ◌-◌, List, [], ◌∷◌, ◌++◌, Some, None, length, refl, sym, ap, ◌∙◌, append_assoc, length-append}
+use Rattle.std.proofs.Common.{◌≡◌, ℕ, suc, add-zero, ◌+◌, ◌-◌, List, [], ◌∷◌, ◌++◌, Some, None, length, refl, sym, ap, ◌∙◌, append_assoc, length-append}
 use Rattle.avn_grammar.specs.Tree.{Tree, Trees, Fields, boolean, null, integer, real, octet_string, bit_string, oid, enumerated, char_string, sequence, sequence_of, choice, no_trees, tree, no_fields, field, absent}
 use Rattle.avn_value.specs.Preorder.{NamedSlot, descendants, fields_preorder, list_preorder, preorder, slot_descendants}
 use Rattle.avn_value.specs.NodeViews.{NodeView, node_view, node_views}
 use Rattle.avn_value.specs.Forest.{first_trees, later_trees, fields_of_trees, list_of_trees, planted, forest, tree_of_nodes, first_tree}
 use Rattle.std.proofs.lemmas.List.{append-nil}
-use Rattle.std.proofs.Math.Nat.{suc-sub-suc, add-sub_cancel_left, sub-zero, sub_self}
+use Rattle.std.proofs.Math.Nat.{suc-sub-suc, add-sub_cancel_left, sub-zero, sub_self, suc-add, add-suc}
 
 within : (i n : ℕ) → suc (i + n) - suc i ≡ n
 within i n = suc-sub-suc (i + n) i ∙ add-sub_cancel_left i n
@@ -35,7 +35,7 @@ no-first : (ss : List NamedSlot) → first_trees 0 ss ≡ []
 no-first [] = refl
 no-first (s ∷ ss) = refl
 
-no-later : (ss : List NamedSlot) → later_trees 0 ss ≡ ss
+pub no-later : (ss : List NamedSlot) → later_trees 0 ss ≡ ss
 no-later [] = refl
 no-later (s ∷ ss) = refl
 
@@ -67,17 +67,16 @@ unfolding item_tops descendants
 later-items no_trees ss = no-later ss
 later-items (tree t ts) ss = ap (λ n. later_trees n (item_tops ts ++ ss)) (front (descendants t) (list_preorder ts)) ∙ later-items ts ss
 
--- The trees of what stands at nodes, before later ones.
+-- The trees of what stands at nodes, before later ones: of a value, of fields and of a list's values.
 module _ (later : List NamedSlot) where
-  trees : List NamedSlot → List NamedSlot
+  unfoldable pub trees : List NamedSlot → List NamedSlot
   trees [] = later
   trees (s ∷ ss) = planted (node_view 0 s) (length (slot_descendants s.1)) (trees ss)
 
   mutual
     unfolding trees descendants field_tops item_tops
 
-    -- A value and what follows it.
-    trees-spots : (name : List ℕ) (t : Tree) (ss : List NamedSlot) → trees (preorder name t ++ ss) ≡ (name, Some t) ∷ trees ss
+    pub trees-spots : (name : List ℕ) (t : Tree) (ss : List NamedSlot) → trees (preorder name t ++ ss) ≡ (name, Some t) ∷ trees ss
     trees-spots name (boolean b) ss = ap (λ x. (name, Some (boolean b)) ∷ x) (no-later (trees ss))
     trees-spots name (null) ss = ap (λ x. (name, Some (null)) ∷ x) (no-later (trees ss))
     trees-spots name (integer n) ss = ap (λ x. (name, Some (integer n)) ∷ x) (no-later (trees ss))
@@ -105,20 +104,20 @@ module _ (later : List NamedSlot) where
     trees-items no_trees ss = refl
     trees-items (tree t ts) ss = ap trees (append_assoc (([], Some t) ∷ descendants t) (list_preorder ts) ss) ∙ trees-spots [] t (list_preorder ts ++ ss) ∙ ap (λ x. ([], Some t) ∷ x) (trees-items ts ss)
 
--- The nodes for what stands there list those trees, before the ones that other nodes list.
-forest-trees : (i : ℕ) (ss : List NamedSlot) (after : List NodeView) → (later : List NamedSlot) × (forest i (node_views i ss ++ after) ≡ trees later ss)
+-- The nodes for what stands there list those trees, before the ones that the nodes after them list.
+pub forest-trees : (i : ℕ) (ss : List NamedSlot) (after : List NodeView) → forest i (node_views i ss ++ after) ≡ trees (forest (i + length ss) after) ss
 unfolding forest trees
-forest-trees i [] after = (forest i after, refl)
+forest-trees i [] after = ap (λ k. forest k after) (sym (add-zero i))
 forest-trees i (s ∷ ss) after =
-    let r = forest-trees (suc i) ss after in
-    (r.0, ap (λ n. planted (node_view i s) n (forest (suc i) (node_views (suc i) ss ++ after))) (within i (length (slot_descendants s.1))) ∙ ap (planted (node_view 0 s) (length (slot_descendants s.1))) r.1)
+    ap (λ n. planted (node_view i s) n (forest (suc i) (node_views (suc i) ss ++ after))) (within i (length (slot_descendants s.1)))
+    ∙ ap (planted (node_view 0 s) (length (slot_descendants s.1))) (forest-trees (suc i) ss after ∙ ap (λ k. trees (forest k after) ss) (suc-add i (length ss) ∙ sym (add-suc i (length ss))))
 
 -- The nodes of a tree list it, whatever follows them.
 pub first_tree-node_views : (i : ℕ) (name : List ℕ) (t : Tree) (after : List NodeView) → first_tree (forest i (node_views i (preorder name t) ++ after)) ≡ t
 unfolding trees
 first_tree-node_views i name t after =
-    let r = forest-trees i (preorder name t) after in
-    ap first_tree (r.1 ∙ ap (trees r.0) (sym (append-nil (preorder name t))) ∙ trees-spots r.0 name t [])
+    let later = forest (i + length (preorder name t)) after in
+    ap first_tree (forest-trees i (preorder name t) after ∙ ap (trees later) (sym (append-nil (preorder name t))) ∙ trees-spots later name t [])
 
 -- The nodes of a tree list it.
 pub tree_of_nodes-node_views : (t : Tree) → tree_of_nodes (node_views 0 (preorder [] t)) ≡ t

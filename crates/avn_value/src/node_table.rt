@@ -19,7 +19,6 @@ use crate::cursor::Cursor;
 use crate::node_kind::NodeKind;
 use crate::nodes::Nodes;
 use crate::parse::read_whole;
-use crate::print_nodes::node_text;
 use crate::put::put_value;
 use crate::value::AvnValue;
 use asn_core::{OutOfMemory, Scan};
@@ -271,7 +270,7 @@ impl NodeTable {
         ensures { IfOk result (λ text. (tree : Tree) → tree_at self.now node ≡ Some tree
             → string_bytes text ≡ print 0 tree) }
     {
-        let text = node_text(alloc, &self.nodes, node)?;
+        let text = self.nodes.print(alloc, node)?;
         Ok(text)
     }
 

@@ -12,14 +12,15 @@ use crate::print::{
     Levels, begin_field, begin_row, write_bit_string, write_close, write_octets, write_oid,
     write_text,
 };
-use std::alloc::{AllocError, Global};
+use asn_core::OutOfMemory;
+use std::alloc::Global;
 use std::fmt;
 
 /// Writes the value at a node below open braces. Each node within it is visited once, and no memory
 /// is taken.
 #[cycle(nodes)]
 #[tactic(auto, unfolding(avn_grammar::specs::Print::print))]
-pub(crate) fn print_node<W: fmt::Write>(
+fn print_node<W: fmt::Write>(
     nodes: &Nodes,
     node: usize,
     levels: &Levels<'_>,
@@ -112,19 +113,21 @@ fn print_fields<W: fmt::Write>(
     write_close(row, levels, f)
 }
 
-/// Returns the printed text of the value at a node.
-///
-/// # Errors
-///
-/// `AllocError` where memory is refused.
-pub(crate) fn node_text(alloc: Global, nodes: &Nodes, node: usize) -> Result<String, AllocError>
-    requires { HasTree nodes.now.nodes node }
-    ensures { IfOk result (λ text.
-        string_bytes text ≡ print 0 (tree_from nodes.now.nodes node)) }
-{
-    let mut f = fmt::Formatter::new(String::new(alloc));
-    match print_node(nodes, node, &Levels::Root, &mut f) {
-        Ok(()) => Ok(f.into_inner()),
-        Err(_) => Err(AllocError),
+impl Nodes {
+    /// Returns the printed text of the value at a node.
+    ///
+    /// # Errors
+    ///
+    /// `OutOfMemory` where memory is refused.
+    pub fn print(&self, alloc: Global, node: usize) -> Result<String, OutOfMemory>
+        requires { HasTree self.now.nodes node }
+        ensures { IfOk result (λ text.
+            string_bytes text ≡ print 0 (tree_from self.now.nodes node)) }
+    {
+        let mut f = fmt::Formatter::new(String::new(alloc));
+        match print_node(self, node, &Levels::Root, &mut f) {
+            Ok(()) => Ok(f.into_inner()),
+            Err(_) => Err(OutOfMemory),
+        }
     }
 }

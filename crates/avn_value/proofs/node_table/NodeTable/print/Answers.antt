@@ -6,8 +6,8 @@ use Rattle.avn_value.proofs.Subtrees.{table_tree}
 use Rattle.avn_value.proofs.Walks.{kind_not_absent}
 use Rattle.avn_value.proofs.node_table.NodeTable.print.Goals as goal
 
-pub node_text-requires : goal.node_text-requires
-node_text-requires c =
+pub print-requires : goal.print-requires
+print-requires c =
     let tree = kind_not_absent (tree_at c.args.self.now c.args.node) c.requires.present in
     (table_tree _ _ (table_nodes _ _ c.self.invariant c.self.view_is) c.args.node c.requires.below tree.0 tree.1).0
 

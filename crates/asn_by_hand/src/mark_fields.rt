@@ -104,8 +104,8 @@ pub fn read_mark_set<D: Decoder>(decoder: &mut D) -> Result<MarkSet, DecodeError
         },
         |mut fields: Vec<MarkField>| -> Result<MarkSet, DecodeError>
             requires { map mark_number fields.items ≡ 1 ∷ 0 ∷ [] }
-            ensures { SetAnswer failure_of mark_slot mark_set_fields FieldAdditions.closed_fields
-                mark_set_value fields.items result }
+            ensures { SetAnswer failure_of D.notation mark_slot mark_set_fields
+                FieldAdditions.closed_fields mark_set_value fields.items result }
         {
             // They come in the order in which they were read.
             let Some(MarkField::Mark(mark)) = fields.pop() else {

@@ -1,5 +1,5 @@
 -- What a call by a codec's name answers, from what the notation's own call answers.
-use Rattle.std.proofs.Common.{◌≡◌, ◌≢◌, refl, sym, subst, ℕ, List, Some, Result, Ok, Err, true, ◌⊎◌, inl, inr}
+use Rattle.std.proofs.Common.{◌≡◌, ◌≢◌, refl, sym, ap, ◌∙◌, subst, ℕ, List, [], ◌∷◌, Some, Result, Ok, Err, true, false, ◌⊎◌, inl, inr}
 use Rattle.std.specs.Prelude.{IfOk, IfErr, IsUtf8, codes}
 use Rattle.std.specs.Str.{chars}
 use Rattle.serde_json.specs.Data.{Data}
@@ -8,7 +8,7 @@ use Rattle.avn_grammar.specs.declared.limits.TheConstants.{LEVEL_LIMIT}
 use Rattle.avn_value.specs.Answer.{Explains}
 use Rattle.asn_core.specs.declared.codec.Codec.{Codec}
 use Rattle.asn_core.specs.declared.codec.Codec.TheVariants.{Jer, Avn}
-use Rattle.asn_fault.specs.Failure.{Failure, Cause, at_root, failure_of, is_out_of_memory}
+use Rattle.asn_fault.specs.Failure.{Failure, Level, Cause, at_root, failure_of, is_out_of_memory, is_out_of_memory_at}
 use Rattle.asn_fault.specs.EncodeCause.{EncodeCause, encode_cause, is_encode_out_of_memory}
 use Rattle.asn_fault.specs.declared.decode.DecodeError.{DecodeError}
 use Rattle.asn_fault.specs.declared.encode.EncodeError.{EncodeError}
@@ -38,24 +38,33 @@ avn_codec Avn h = refl
 avn_codec Jer h = let e : ◌≡◌ {A = Notation} Notation.jer Notation.avn = h in cc e
 avn_codec c h = let e : ◌≡◌ {A = Notation} Notation.other Notation.avn = h in cc e
 
+-- lack of memory at no field is this failure of its codec
+memory_failure : (failure : Failure) → is_out_of_memory failure ≡ true → failure ≡ at_root Cause.out_of_memory failure.codec
+memory_failure failure is = by failure.path failure.cause failure.codec is
+  where
+    by : (path : List Level) (cause : Cause) (codec : Codec) → is_out_of_memory_at path cause ≡ true → ◌≡◌ {A = Failure} (record { path = path; cause = cause; codec = codec }) (at_root Cause.out_of_memory codec)
+    by [] Cause.out_of_memory codec h = refl
+    by [] cause codec h = let e : false ≡ true = h in cc e
+    by (level ∷ path) cause codec h = let e : false ≡ true = h in cc e
+
 -- a JSON text that is not read is refused, unless memory ran out
-pub jer_unread : (s : Shape) (text : List ℕ) (failure : Failure) → jer.RefusesText s text failure → (is_out_of_memory failure ≡ true) ⊎ IsDecodeFailure Jer s text failure
+pub jer_unread : (s : Shape) (text : List ℕ) (failure : Failure) → jer.RefusesText s text failure → (failure ≡ at_root Cause.out_of_memory Jer) ⊎ IsDecodeFailure Jer s text failure
 jer_unread s text failure (jer.RefusesText.no_tree (jer.NoTree.no_json e is)) = inr (subst (IsDecodeFailure Jer s text) (sym is) (IsDecodeFailure.no_json refl e))
 jer_unread s text failure (jer.RefusesText.no_tree (jer.NoTree.has_real d e f is)) = inr (subst (IsDecodeFailure Jer s text) (sym is) (IsDecodeFailure.has_real d refl e f))
 jer_unread s text failure (jer.RefusesText.no_tree (jer.NoTree.no_memory m)) = inl m
-jer_unread s text failure (jer.RefusesText.no_value d h (answer.Refuses.no_memory m)) = inl m
+jer_unread s text failure (jer.RefusesText.no_value d h (answer.Refuses.no_memory m)) = inl (memory_failure failure m.0 ∙ ap (at_root Cause.out_of_memory) (jer_codec failure.codec m.1))
 jer_unread s text failure (jer.RefusesText.no_value d h (answer.Refuses.stopped p levels place)) = inr (IsDecodeFailure.no_value (Tree.json d) failure (HasTree.json_tree h) p levels place)
 jer_unread s text failure (jer.RefusesText.no_value d h (answer.Refuses.refuses_free o)) = cc o
 
-avn_no_tree : (s : Shape) (text : List ℕ) (failure : Failure) → Explains LEVEL_LIMIT (chars text) failure → (is_out_of_memory failure ≡ true) ⊎ IsDecodeFailure Avn s text failure
+avn_no_tree : (s : Shape) (text : List ℕ) (failure : Failure) → Explains LEVEL_LIMIT (chars text) failure → (failure ≡ at_root Cause.out_of_memory Avn) ⊎ IsDecodeFailure Avn s text failure
 avn_no_tree s text failure (Explains.unexpected_token found h) = inr (IsDecodeFailure.no_avn found refl h)
 avn_no_tree s text failure (Explains.exceeds_depth h) = inr (IsDecodeFailure.too_deep refl h)
 avn_no_tree s text failure Explains.out_of_memory = inl refl
 
 -- a text of the value notation that is not read is refused, unless memory ran out
-pub avn_unread : (s : Shape) (text : List ℕ) (failure : Failure) → avn.RefusesText s text failure → (is_out_of_memory failure ≡ true) ⊎ IsDecodeFailure Avn s text failure
+pub avn_unread : (s : Shape) (text : List ℕ) (failure : Failure) → avn.RefusesText s text failure → (failure ≡ at_root Cause.out_of_memory Avn) ⊎ IsDecodeFailure Avn s text failure
 avn_unread s text failure (avn.RefusesText.no_tree h) = avn_no_tree s text failure h
-avn_unread s text failure (avn.RefusesText.no_value t h (answer.Refuses.no_memory m)) = inl m
+avn_unread s text failure (avn.RefusesText.no_value t h (answer.Refuses.no_memory m)) = inl (memory_failure failure m.0 ∙ ap (at_root Cause.out_of_memory) (avn_codec failure.codec m.1))
 avn_unread s text failure (avn.RefusesText.no_value t h (answer.Refuses.stopped p levels place)) = inr (IsDecodeFailure.no_value (Tree.avn t) failure (HasTree.avn_tree h) p levels place)
 avn_unread s text failure (avn.RefusesText.no_value t h (answer.Refuses.refuses_free o)) = cc o
 
@@ -91,15 +100,15 @@ no_tree h = none_has h.has
     none_has k = elim k [ ]
 
 -- a value that JER does not write is refused, unless memory ran out
-pub jer_unwritten : (v : Value) (e : EncodeError) → FailsToEncode Notation.jer v e → (is_encode_out_of_memory (encode_cause e.kind) ≡ true) ⊎ (IsUnencodable Jer v (encode_cause e.kind) × (e.codec ≡ Jer))
-jer_unwritten v e (FailsToEncode.no_memory o) = inl (rw o refl)
-jer_unwritten v e (FailsToEncode.blocked b c) = inr (IsUnencodable.blocked _ b, jer_codec e.codec c)
+pub jer_unwritten : (v : Value) (e : EncodeError) → FailsToEncode Notation.jer v e → ((is_encode_out_of_memory (encode_cause e.kind) ≡ true) ⊎ IsUnencodable Jer v (encode_cause e.kind)) × (e.codec ≡ Jer)
+jer_unwritten v e (FailsToEncode.no_memory o) = (inl (rw o.0 refl), jer_codec e.codec o.1)
+jer_unwritten v e (FailsToEncode.blocked b c) = (inr (IsUnencodable.blocked _ b), jer_codec e.codec c)
 jer_unwritten v e (FailsToEncode.write_free o) = cc o
 
 -- a value that AVN does not write is refused, unless memory ran out
-pub avn_unwritten : (v : Value) (e : EncodeError) → FailsToEncode Notation.avn v e → (is_encode_out_of_memory (encode_cause e.kind) ≡ true) ⊎ (IsUnencodable Avn v (encode_cause e.kind) × (e.codec ≡ Avn))
-avn_unwritten v e (FailsToEncode.no_memory o) = inl (rw o refl)
-avn_unwritten v e (FailsToEncode.blocked b c) = inr (IsUnencodable.blocked _ b, avn_codec e.codec c)
+pub avn_unwritten : (v : Value) (e : EncodeError) → FailsToEncode Notation.avn v e → ((is_encode_out_of_memory (encode_cause e.kind) ≡ true) ⊎ IsUnencodable Avn v (encode_cause e.kind)) × (e.codec ≡ Avn)
+avn_unwritten v e (FailsToEncode.no_memory o) = (inl (rw o.0 refl), avn_codec e.codec o.1)
+avn_unwritten v e (FailsToEncode.blocked b c) = (inr (IsUnencodable.blocked _ b), avn_codec e.codec c)
 avn_unwritten v e (FailsToEncode.write_free o) = cc o
 
 -- a codec that is neither of the two is no text notation
@@ -120,44 +129,44 @@ avn_value_of c s text value (Ok x) is (t, h, says) = subst (λ k. TextDecodesTo 
 avn_value_of c s text value (Err e) is h = tt
 
 pub jer_refused : {A : Type 0} (c : Codec) (s : Shape) (text : List ℕ) (r : Result A DecodeError) → c ≡ Jer → IfErr r (λ e. jer.RefusesText s text (failure_of e))
-    → IfErr r (λ e. (is_out_of_memory (failure_of e) ≡ true) ⊎ IsDecodeFailure c s text (failure_of e))
+    → IfErr r (λ e. (failure_of e ≡ at_root Cause.out_of_memory c) ⊎ IsDecodeFailure c s text (failure_of e))
 jer_refused c s text (Ok x) is h = tt
-jer_refused c s text (Err e) is h = subst (λ k. (is_out_of_memory (failure_of e) ≡ true) ⊎ IsDecodeFailure k s text (failure_of e)) (sym is) (jer_unread s text (failure_of e) h)
+jer_refused c s text (Err e) is h = subst (λ k. (failure_of e ≡ at_root Cause.out_of_memory k) ⊎ IsDecodeFailure k s text (failure_of e)) (sym is) (jer_unread s text (failure_of e) h)
 
 pub avn_refused : {A : Type 0} (c : Codec) (s : Shape) (text : List ℕ) (r : Result A DecodeError) → c ≡ Avn → IfErr r (λ e. avn.RefusesText s text (failure_of e))
-    → IfErr r (λ e. (is_out_of_memory (failure_of e) ≡ true) ⊎ IsDecodeFailure c s text (failure_of e))
+    → IfErr r (λ e. (failure_of e ≡ at_root Cause.out_of_memory c) ⊎ IsDecodeFailure c s text (failure_of e))
 avn_refused c s text (Ok x) is h = tt
-avn_refused c s text (Err e) is h = subst (λ k. (is_out_of_memory (failure_of e) ≡ true) ⊎ IsDecodeFailure k s text (failure_of e)) (sym is) (avn_unread s text (failure_of e) h)
+avn_refused c s text (Err e) is h = subst (λ k. (failure_of e ≡ at_root Cause.out_of_memory k) ⊎ IsDecodeFailure k s text (failure_of e)) (sym is) (avn_unread s text (failure_of e) h)
 
 pub jer_not_written : {A : Type 0} (c : Codec) (v : Value) (r : Result A EncodeError) → c ≡ Jer → IfErr r (FailsToEncode Notation.jer v)
-    → IfErr r (λ e. (is_encode_out_of_memory (encode_cause e.kind) ≡ true) ⊎ (IsUnencodable c v (encode_cause e.kind) × (e.codec ≡ c)))
+    → IfErr r (λ e. ((is_encode_out_of_memory (encode_cause e.kind) ≡ true) ⊎ IsUnencodable c v (encode_cause e.kind)) × (e.codec ≡ c))
 jer_not_written c v (Ok x) is h = tt
-jer_not_written c v (Err e) is h = subst (λ k. (is_encode_out_of_memory (encode_cause e.kind) ≡ true) ⊎ (IsUnencodable k v (encode_cause e.kind) × (e.codec ≡ k))) (sym is) (jer_unwritten v e h)
+jer_not_written c v (Err e) is h = subst (λ k. ((is_encode_out_of_memory (encode_cause e.kind) ≡ true) ⊎ IsUnencodable k v (encode_cause e.kind)) × (e.codec ≡ k)) (sym is) (jer_unwritten v e h)
 
 pub avn_not_written : {A : Type 0} (c : Codec) (v : Value) (r : Result A EncodeError) → c ≡ Avn → IfErr r (FailsToEncode Notation.avn v)
-    → IfErr r (λ e. (is_encode_out_of_memory (encode_cause e.kind) ≡ true) ⊎ (IsUnencodable c v (encode_cause e.kind) × (e.codec ≡ c)))
+    → IfErr r (λ e. ((is_encode_out_of_memory (encode_cause e.kind) ≡ true) ⊎ IsUnencodable c v (encode_cause e.kind)) × (e.codec ≡ c))
 avn_not_written c v (Ok x) is h = tt
-avn_not_written c v (Err e) is h = subst (λ k. (is_encode_out_of_memory (encode_cause e.kind) ≡ true) ⊎ (IsUnencodable k v (encode_cause e.kind) × (e.codec ≡ k))) (sym is) (avn_unwritten v e h)
+avn_not_written c v (Err e) is h = subst (λ k. ((is_encode_out_of_memory (encode_cause e.kind) ≡ true) ⊎ IsUnencodable k v (encode_cause e.kind)) × (e.codec ≡ k)) (sym is) (avn_unwritten v e h)
 
 -- what is refused for its codec is so
 pub other_unread : (c : Codec) (s : Shape) (text : List ℕ) (e : DecodeError) → notation_of c ≡ Notation.other → IsCustomDecodeError (no_text c (codes "decode_from_binary")) c e
-    → (is_out_of_memory (failure_of e) ≡ true) ⊎ IsDecodeFailure c s text (failure_of e)
+    → (failure_of e ≡ at_root Cause.out_of_memory c) ⊎ IsDecodeFailure c s text (failure_of e)
 other_unread c s text e h (inl custom) = inr (subst (IsDecodeFailure c s text) (sym custom) (IsDecodeFailure.not_text h))
-other_unread c s text e h (inr memory) = inl (rw memory refl)
+other_unread c s text e h (inr memory) = inl memory
 
 pub other_unwritten : (c : Codec) (v : Value) (e : EncodeError) → notation_of c ≡ Notation.other → IsCustomEncodeError (no_text c (codes "encode_to_binary")) c e
-    → (is_encode_out_of_memory (encode_cause e.kind) ≡ true) ⊎ (IsUnencodable c v (encode_cause e.kind) × (e.codec ≡ c))
-other_unwritten c v e h (inl custom, same) = inr (subst (IsUnencodable c v) (sym custom) (IsUnencodable.not_text h), same)
-other_unwritten c v e h (inr memory, same) = inl (rw memory refl)
+    → ((is_encode_out_of_memory (encode_cause e.kind) ≡ true) ⊎ IsUnencodable c v (encode_cause e.kind)) × (e.codec ≡ c)
+other_unwritten c v e h (inl custom, same) = (inr (subst (IsUnencodable c v) (sym custom) (IsUnencodable.not_text h)), same)
+other_unwritten c v e h (inr memory, same) = (inl (rw memory refl), same)
 
 -- bytes whose text is refused are refused
 pub text_refused : {A : Type 0} (c : Codec) (s : Shape) (input text : List ℕ) (r : Result A DecodeError) → text ≡ input → IsUtf8 input
-    → IfErr r (λ e. (is_out_of_memory (failure_of e) ≡ true) ⊎ IsDecodeFailure c s text (failure_of e)) → IfErr r (λ e. (is_out_of_memory (failure_of e) ≡ true) ⊎ IsBytesFailure c s input (failure_of e))
+    → IfErr r (λ e. (failure_of e ≡ at_root Cause.out_of_memory c) ⊎ IsDecodeFailure c s text (failure_of e)) → IfErr r (λ e. (failure_of e ≡ at_root Cause.out_of_memory c) ⊎ IsBytesFailure c s input (failure_of e))
 text_refused c s input text (Ok x) same utf8 h = tt
 text_refused c s input text (Err e) same utf8 (inl m) = inl m
 text_refused c s input text (Err e) same utf8 (inr h) = inr (IsBytesFailure.not_decoded _ utf8 (subst (λ t. IsDecodeFailure c s t (failure_of e)) same h))
 
 -- bytes that are no text are refused
-pub bytes_refused : (c : Codec) (s : Shape) (input : List ℕ) (e : DecodeError) → ¬ IsUtf8 input → IsCustomDecodeError (no_utf8 c) c e → (is_out_of_memory (failure_of e) ≡ true) ⊎ IsBytesFailure c s input (failure_of e)
+pub bytes_refused : (c : Codec) (s : Shape) (input : List ℕ) (e : DecodeError) → ¬ IsUtf8 input → IsCustomDecodeError (no_utf8 c) c e → (failure_of e ≡ at_root Cause.out_of_memory c) ⊎ IsBytesFailure c s input (failure_of e)
 bytes_refused c s input e other (inl custom) = inr (subst (IsBytesFailure c s input) (sym custom) (IsBytesFailure.not_utf8 other))
-bytes_refused c s input e other (inr memory) = inl (rw memory refl)
+bytes_refused c s input e other (inr memory) = inl memory

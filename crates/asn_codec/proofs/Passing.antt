@@ -1,7 +1,7 @@
 -- What a conversion answers, from what reading and writing answer.
-use Rattle.std.proofs.Common.{◌≡◌, sym, subst, ℕ, List, true, ◌⊎◌, inl, inr}
+use Rattle.std.proofs.Common.{◌≡◌, sym, ap, subst, ℕ, List, true, ◌⊎◌, inl, inr}
 use Rattle.asn_core.specs.declared.codec.Codec.{Codec}
-use Rattle.asn_fault.specs.Failure.{Failure, is_out_of_memory}
+use Rattle.asn_fault.specs.Failure.{Failure, Cause, at_root, is_out_of_memory}
 use Rattle.asn_fault.specs.EncodeCause.{encode_cause, is_encode_out_of_memory}
 use Rattle.asn_fault.specs.declared.encode.EncodeError.{EncodeError}
 use Rattle.asn_traits.specs.Notation.{Notation, notation_of}
@@ -13,17 +13,17 @@ use Rattle.asn_codec.specs.Texts.{TextDecodesTo, IsDecodeFailure, IsUnencodable}
 
 -- a value that is read and not written is a refusal, unless memory ran out
 pub refused_writing : (from to : Codec) (s : Shape) (text : List ℕ) (v : Value) (e : EncodeError) → TextDecodesTo (notation_of from) s text v
-    → (is_encode_out_of_memory (encode_cause e.kind) ≡ true) ⊎ (IsUnencodable to v (encode_cause e.kind) × (e.codec ≡ to))
+    → ((is_encode_out_of_memory (encode_cause e.kind) ≡ true) ⊎ IsUnencodable to v (encode_cause e.kind)) × (e.codec ≡ to)
     → (is_encode_out_of_memory (encode_cause e.kind) ≡ true) ⊎ Refuses from to s text (Refusal.encode (encode_cause e.kind) e.codec)
-refused_writing from to s text v e says (inl m) = inl m
-refused_writing from to s text v e says (inr h) = inr (subst (λ c. Refuses from to s text (Refusal.encode (encode_cause e.kind) c)) (sym h.1) (Refuses.unwritten v _ says h.0))
+refused_writing from to s text v e says (inl m, same) = inl m
+refused_writing from to s text v e says (inr h, same) = inr (subst (λ c. Refuses from to s text (Refusal.encode (encode_cause e.kind) c)) (sym same) (Refuses.unwritten v _ says h))
 
 -- what is equal to a value that can be written can be written
 pub writable_same : (n : Notation) (v w : Value) → v ≡ w → Writable n w → Writable n v
 writable_same n v w e h = rw e h
 
 -- a text that is not read is a refusal, unless memory ran out
-pub refused_reading : (from to : Codec) (s : Shape) (text : List ℕ) (failure : Failure) → (is_out_of_memory failure ≡ true) ⊎ IsDecodeFailure from s text failure
+pub refused_reading : (from to : Codec) (s : Shape) (text : List ℕ) (failure : Failure) → (failure ≡ at_root Cause.out_of_memory from) ⊎ IsDecodeFailure from s text failure
     → (is_out_of_memory failure ≡ true) ⊎ Refuses from to s text (Refusal.decode failure)
-refused_reading from to s text failure (inl m) = inl m
+refused_reading from to s text failure (inl m) = inl (ap is_out_of_memory m)
 refused_reading from to s text failure (inr h) = inr (Refuses.unread failure h)

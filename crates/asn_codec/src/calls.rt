@@ -1,7 +1,7 @@
 //! Encodes and decodes texts and bytes by the name of a codec.
 ghost use Rattle.asn_core.specs.declared.codec.Codec.{Codec as CodecName};
 ghost use Rattle.asn_core.specs.declared.codec.Codec.TheVariants.{Xer};
-ghost use Rattle.asn_fault.specs.Failure.{failure_of, is_out_of_memory};
+ghost use Rattle.asn_fault.specs.Failure.{Cause, at_root, failure_of};
 ghost use Rattle.asn_fault.specs.EncodeCause.{encode_cause, is_encode_out_of_memory};
 ghost use Rattle.asn_traits.specs.Canonical.{canonical_text};
 ghost use Rattle.asn_traits.specs.Notation.{IsText, notation_of};
@@ -52,10 +52,11 @@ pub trait CodecCalls: Copy {
         ensures fits { OnOk result (Fits T.shape_of (T.value_of value.now)) }
         ensures writable { OnOk result
             (Writable (notation_of (codec_of self)) (T.value_of value.now)) }
-        // An error states the first part that cannot be encoded, and names this codec.
-        ensures refused { IfErr result (λ e. (is_encode_out_of_memory (encode_cause e.kind) ≡ true)
-            ⊎ (IsUnencodable (codec_of self) (T.value_of value.now) (encode_cause e.kind)
-            × (e.codec ≡ codec_of self))) }
+        // An error states the first part that cannot be encoded, or that memory ran out; either
+        // way it names this codec.
+        ensures refused { IfErr result (λ e. ((is_encode_out_of_memory (encode_cause e.kind) ≡ true)
+            ⊎ IsUnencodable (codec_of self) (T.value_of value.now) (encode_cause e.kind))
+            × (e.codec ≡ codec_of self)) }
         // What can be encoded is encoded, unless memory runs out.
         ensures complete { IsText (notation_of (codec_of self))
             → Writable (notation_of (codec_of self)) (T.value_of value.now)
@@ -71,8 +72,10 @@ pub trait CodecCalls: Copy {
         // The text decodes to the value that the result stands for.
         ensures value { IfOk result (λ x. TextDecodesTo (notation_of (codec_of self.now))
             T.shape_of input.now (T.value_of x)) }
-        // An error states where and why decoding stops, by the definition of the notation.
-        ensures refused { IfErr result (λ e. (is_out_of_memory (failure_of e) ≡ true)
+        // An error states where and why decoding stops, by the definition of the notation, or that
+        // memory ran out under this codec.
+        ensures refused { IfErr result (λ e.
+            (failure_of e ≡ at_root Cause.out_of_memory (codec_of self.now))
             ⊎ IsDecodeFailure (codec_of self.now) T.shape_of input.now (failure_of e)) }
         // A text that decodes to a value is read as that value, unless memory runs out.
         ensures complete { (v : Value)
@@ -102,12 +105,12 @@ pub trait CodecCalls: Copy {
             → OnOk result (Fits T.shape_of (T.value_of value.now)) }
         ensures writable { IsText (notation_of (codec_of self))
             → OnOk result (Writable (notation_of (codec_of self)) (T.value_of value.now)) }
-        // Their error states the first part that cannot be encoded, and names this codec; and what
-        // can be encoded is encoded, unless memory runs out.
+        // Their error states the first part that cannot be encoded, or that memory ran out, and
+        // names this codec; and what can be encoded is encoded, unless memory runs out.
         ensures refused { IsText (notation_of (codec_of self)) → IfErr result
-            (λ e. (is_encode_out_of_memory (encode_cause e.kind) ≡ true)
-            ⊎ (IsUnencodable (codec_of self) (T.value_of value.now) (encode_cause e.kind)
-            × (e.codec ≡ codec_of self))) }
+            (λ e. ((is_encode_out_of_memory (encode_cause e.kind) ≡ true)
+            ⊎ IsUnencodable (codec_of self) (T.value_of value.now) (encode_cause e.kind))
+            × (e.codec ≡ codec_of self)) }
         ensures complete { IsText (notation_of (codec_of self))
             → Writable (notation_of (codec_of self)) (T.value_of value.now)
             → IfErr result (λ e. is_encode_out_of_memory (encode_cause e.kind) ≡ true) }
@@ -136,10 +139,10 @@ pub trait CodecCalls: Copy {
         ensures value { IsText (notation_of (codec_of self.now)) → IfOk result
             (λ x. IsUtf8 input.now
             × TextDecodesTo (notation_of (codec_of self.now)) T.shape_of input.now (T.value_of x)) }
-        // Their error states that the bytes are no text, or where and why decoding stops; and a
-        // text that decodes to a value is read as that value, unless memory runs out.
+        // Their error states that the bytes are no text, or where and why decoding stops, or that
+        // memory ran out under this codec; and a text that decodes to a value is read as that value, unless memory runs out.
         ensures refused { IsText (notation_of (codec_of self.now)) → IfErr result
-            (λ e. (is_out_of_memory (failure_of e) ≡ true)
+            (λ e. (failure_of e ≡ at_root Cause.out_of_memory (codec_of self.now))
             ⊎ IsBytesFailure (codec_of self.now) T.shape_of input.now (failure_of e)) }
         ensures complete { IsUtf8 input.now → (v : Value)
             → TextDecodesTo (notation_of (codec_of self.now)) T.shape_of input.now v

@@ -8,17 +8,10 @@ use Rattle.asn_fault.specs.declared.text_fault.DigitFault.{DigitFault}
 use Rattle.asn_fault.specs.declared.text_fault.DigitFault.TheVariants.{Empty, InvalidDigit, TooLarge}
 use Rattle.asn_fault.specs.declared.ber.BerDecodeErrorKind.{BerDecodeErrorKind}
 use Rattle.asn_fault.specs.declared.ber.BerDecodeErrorKind.TheVariants as ber
-use Rattle.asn_fault.specs.declared.ber.CerDecodeErrorKind.{CerDecodeErrorKind}
 use Rattle.asn_fault.specs.declared.ber.DerDecodeErrorKind.{DerDecodeErrorKind}
 use Rattle.asn_fault.specs.declared.ber.DerDecodeErrorKind.TheVariants.{ConstructedEncodingNotAllowed}
 use Rattle.asn_fault.specs.declared.ber.BerEncodeErrorKind.{BerEncodeErrorKind}
 use Rattle.asn_fault.specs.declared.ber.BerEncodeErrorKind.TheVariants.{AnyInSet, InvalidObjectIdentifier}
-use Rattle.asn_fault.specs.declared.ber.CerEncodeErrorKind.{CerEncodeErrorKind}
-use Rattle.asn_fault.specs.declared.ber.DerEncodeErrorKind.{DerEncodeErrorKind}
-use Rattle.asn_fault.specs.declared.per.UperDecodeErrorKind.{UperDecodeErrorKind}
-use Rattle.asn_fault.specs.declared.per.AperDecodeErrorKind.{AperDecodeErrorKind}
-use Rattle.asn_fault.specs.declared.per.UperEncodeErrorKind.{UperEncodeErrorKind}
-use Rattle.asn_fault.specs.declared.per.AperEncodeErrorKind.{AperEncodeErrorKind}
 use Rattle.asn_fault.specs.declared.oer.OerDecodeErrorKind.{OerDecodeErrorKind}
 use Rattle.asn_fault.specs.declared.oer.OerDecodeErrorKind.TheVariants as oer
 use Rattle.asn_fault.specs.declared.oer.CoerDecodeErrorKind.{CoerDecodeErrorKind}

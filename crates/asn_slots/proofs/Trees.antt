@@ -54,18 +54,18 @@ last-trees : {A T : Type 0} (f : A → T) (slots : List (Option A)) → last_pre
 last-trees f [] = refl
 last-trees f (s ∷ slots) = ap (λ o. or_some o (option_map f s)) (last-trees f slots) ∙ or_some-trees f (last_present slots) s
 
--- At the root the last values have the same tree.
-pub root_last : {A V T : Type 0} (written : A → T) (kept : V → T) (old mid : Frames V) (slots : List (Option V)) (f : List (Option A)) → Closes old slots mid → SameTrees written kept (f ∷ []) old
+-- In the last frame the last values have the same tree.
+pub last_same : {A V T : Type 0} (written : A → T) (kept : V → T) (old mid : Frames V) (slots : List (Option V)) (f : List (Option A)) (fs : Frames A) → Closes old slots mid → SameTrees written kept (f ∷ fs) old
     → option_map written (last_present f) ≡ option_map kept (last_present slots)
-root_last written kept old mid slots f c h = sym (last-trees written f) ∙ ap last_present (closed_top written kept old mid slots f [] c h).0 ∙ last-trees kept slots
+last_same written kept old mid slots f fs c h = sym (last-trees written f) ∙ ap last_present (closed_top written kept old mid slots f fs c h).0 ∙ last-trees kept slots
 
 no_tree : {A T : Type 0} (f : A → T) (o : Option A) → option_map f o ≡ None → o ≡ None
 no_tree f None e = refl
 no_tree {T = T} f (Some x) e = let d : ◌≡◌ {A = Option T} (Some (f x)) None = e in cc d
 
--- At the root nothing is present where nothing is kept.
-pub root_none : {A V T : Type 0} (written : A → T) (kept : V → T) (old mid : Frames V) (slots : List (Option V)) (f : List (Option A)) → Closes old slots mid → SameTrees written kept (f ∷ []) old → None ≡ last_present slots → last_present f ≡ None
-root_none written kept old mid slots f c h none = no_tree written (last_present f) (root_last written kept old mid slots f c h ∙ ap (option_map kept) (sym none))
+-- In the last frame nothing is present where nothing is kept.
+pub last_none : {A V T : Type 0} (written : A → T) (kept : V → T) (old mid : Frames V) (slots : List (Option V)) (f : List (Option A)) (fs : Frames A) → Closes old slots mid → SameTrees written kept (f ∷ fs) old → None ≡ last_present slots → last_present f ≡ None
+last_none written kept old mid slots f fs c h none = no_tree written (last_present f) (last_same written kept old mid slots f fs c h ∙ ap (option_map kept) (sym none))
 
 first-trees : {A T : Type 0} (f : A → T) (slots : List (Option A)) → first_of (trees_of f slots) ≡ option_map f (first_of slots)
 first-trees f [] = refl

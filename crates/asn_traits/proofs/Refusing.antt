@@ -13,8 +13,8 @@ use Rattle.asn_traits.specs.Answer.{Refuses, OfPlace, AtRoot, RefusesLeaf}
 use Rattle.asn_traits.proofs.Steps.{refuses_by}
 
 -- Lack of memory.
-pub out_of_memory : {n : Notation} {P : Path → Cause → Type 0} (c : Codec) (e : Failure) → e ≡ at_root Cause.out_of_memory c → Refuses n P e
-out_of_memory {n} {P} c e is = subst (Refuses n P) (sym is) (Refuses.no_memory refl)
+pub out_of_memory : {n : Notation} {P : Path → Cause → Type 0} (c : Codec) (e : Failure) → e ≡ at_root Cause.out_of_memory c → notation_of c ≡ n → Refuses n P e
+out_of_memory {n} {P} c e is of = subst (Refuses n P) (sym is) (Refuses.no_memory (refl, of))
 
 -- An error at no field.
 pub at_no_field : {n : Notation} {P : Path → Cause → Type 0} (cause : Cause) (c : Codec) (e : Failure) → e ≡ at_root cause c → OfPlace n cause c → P [] cause → Refuses n P e
@@ -42,9 +42,9 @@ pub refuses_because : {n : Notation} (cause : Cause) (c : Codec) (t : Tree) (e :
 refuses_because {n} cause c t e is of = at_no_field {P = AtRoot (IsFailureOf n t (LeafFailure.because cause))} cause c e is of (refl, IsFailureOf.is_because cause)
 
 -- An error that states why, or lack of memory.
-pub refuses_because_or_memory : {n : Notation} (cause : Cause) (c : Codec) (t : Tree) (e : Failure) → (e ≡ at_root cause c) ⊎ (e ≡ at_root Cause.out_of_memory c) → OfPlace n cause c → RefusesLeaf n t (LeafFailure.because cause) e
-refuses_because_or_memory cause c t e (inl is) of = refuses_because cause c t e is of
-refuses_because_or_memory {n} cause c t e (inr is) of = out_of_memory {P = AtRoot (IsFailureOf n t (LeafFailure.because cause))} c e is
+pub refuses_because_or_memory : {n : Notation} (cause : Cause) (c : Codec) (t : Tree) (e : Failure) → (e ≡ at_root cause c) ⊎ (e ≡ at_root Cause.out_of_memory c) → OfPlace n cause c → notation_of c ≡ n → RefusesLeaf n t (LeafFailure.because cause) e
+refuses_because_or_memory cause c t e (inl is) place of = refuses_because cause c t e is place
+refuses_because_or_memory {n} cause c t e (inr is) place of = out_of_memory {P = AtRoot (IsFailureOf n t (LeafFailure.because cause))} c e is of
 
 -- A tree that has no members.
 pub no_members : {n : Notation} (kind : SeqKind) (fs : Fields) (added : FieldAdditions) (t : Tree) (before after : List Slot) (e : Failure) → before ≡ Some t ∷ after → as_members n t ≡ None → RefusesLeaf n t (members_mismatch n kind) e

@@ -156,7 +156,7 @@ as_many fs added fields same h =
 -- What is made of all answers is the value, or memory ran out.
 pub set_answer : {A E S : Type 0} (failure : E → Failure) (slot : S → Option Value) (n : Notation) (kind : SeqKind) (fs : Fields) (added : FieldAdditions) (value : A → Value) (answers : List S) {table others : List (List ℕ)} {before mid now : List Slot} (r : Result A E)
     → kind ≡ SeqKind.set → table ≡ component_names (reading_order SeqKind.set fs added) → OpensMembers n SeqKind.set table before (Ok tt) mid
-    → TakesFields n (parts (places_read fs added)) (map slot answers) (Ahead.ahead (names (places_read fs added)) mid) (Ahead.ahead others now) → SetAnswer failure slot fs added value answers r → AnswerBy failure n (Shape.seq kind fs added) value before r now
+    → TakesFields n (parts (places_read fs added)) (map slot answers) (Ahead.ahead (names (places_read fs added)) mid) (Ahead.ahead others now) → SetAnswer failure n slot fs added value answers r → AnswerBy failure n (Shape.seq kind fs added) value before r now
 set_answer failure slot n kind fs added value answers {others = others} {before = before} {mid = mid} {now = now} (Ok x) set spelled opened taken (ss, is, value_is) =
     let t = subst (λ cs. TakesFields n cs (map slot answers) (Ahead.ahead (names (places_read fs added)) mid) (Ahead.ahead others now)) (parts-read fs added) taken in
     let d = members_read SeqKind.set fs added ss spelled opened (subst (λ f. TakesFields n (reading_order SeqKind.set fs added) f (Ahead.ahead (names (places_read fs added)) mid) (Ahead.ahead others now)) (sym is) t) in

@@ -72,8 +72,8 @@ memory_at_root c = refl
 
 wrapped_refuses : {n : Notation} {P Q : Path → Cause → Type 0} (name : List ℕ) (c : Codec) → notation_of c ≡ n → ((p : Path) (w : Cause) → P p w → Q (name ∷ p) w)
     → (e : Failure) (b : Bool) → is_out_of_memory e ≡ b → Refuses n P e → Refuses n Q (if b then at_root Cause.out_of_memory c else record { path = record { name = name; codec = c } ∷ e.path; cause = e.cause; codec = e.codec })
-wrapped_refuses name c of f e true is h = Refuses.no_memory refl
-wrapped_refuses name c of f e false is (Refuses.no_memory m) = let d : true ≡ false = sym m ∙ is in cc d
+wrapped_refuses name c of f e true is h = Refuses.no_memory (refl, of)
+wrapped_refuses name c of f e false is (Refuses.no_memory m) = let d : true ≡ false = sym m.0 ∙ is in cc d
 wrapped_refuses name c of f e false is (Refuses.stopped h l k) = Refuses.stopped (f _ _ h) (of, l) k
 wrapped_refuses name c of f e false is (Refuses.refuses_free o) = Refuses.refuses_free o
 
@@ -81,4 +81,4 @@ wrapped_refuses name c of f e false is (Refuses.refuses_free o) = Refuses.refuse
 pub within_refuses : {n : Notation} {P Q : Path → Cause → Type 0} (name : List ℕ) (c : Codec) → notation_of c ≡ n → ((p : Path) (w : Cause) → P p w → Q (name ∷ p) w)
     → (e r : Failure) → (r ≡ wrapped name c e) ⊎ (r ≡ at_root Cause.out_of_memory c) → Refuses n P e → Refuses n Q r
 within_refuses {n} {P} {Q} name c of f e r (inl is) h = subst (Refuses n Q) (sym is) (wrapped_refuses name c of f e (is_out_of_memory e) refl h)
-within_refuses {n} {P} {Q} name c of f e r (inr is) h = subst (Refuses n Q) (sym is) (Refuses.no_memory refl)
+within_refuses {n} {P} {Q} name c of f e r (inr is) h = subst (Refuses n Q) (sym is) (Refuses.no_memory (refl, of))

@@ -8,7 +8,7 @@ use Rattle.avn_grammar.specs.Tree.{Tree as AvnTree}
 use Rattle.asn_core.specs.declared.codec.Codec.{Codec}
 use Rattle.asn_core.specs.declared.codec.Codec.TheVariants.{Ber}
 use Rattle.asn_core.specs.declared.tag.Tag.{Tag}
-use Rattle.asn_fault.specs.Failure.{Failure, Cause, failure_of, is_out_of_memory}
+use Rattle.asn_fault.specs.Failure.{Failure, Cause, at_root, failure_of}
 use Rattle.asn_fault.specs.EncodeCause.{EncodeCause}
 use Rattle.asn_fault.specs.declared.decode.DecodeError.{DecodeError}
 use Rattle.asn_fault.specs.declared.encode.EncodeError.{EncodeError}
@@ -28,11 +28,12 @@ use Rattle.asn_model.specs.Value.{Fits, Value, is_leaf_of}
 use Rattle.asn_model.specs.Writable.{FirstUnencodable, Writable, no_unicode, outside_years}
 use Rattle.asn_model.specs.declared.leaves.LeafKind.{LeafKind}
 use Rattle.asn_model.specs.declared.leaves.OwnedLeaf.{OwnedLeaf}
-use Rattle.asn_traits.specs.Answer.{Answer, OfPlace, Refuses}
+use Rattle.asn_traits.specs.Answer.{Answer, OfPlace}
 use Rattle.asn_traits.specs.Opening.{IsLeaf}
 use Rattle.asn_traits.specs.TextTypes.{IsNoText, IsPutTime, IsStringRefusal, IsTimeOf, MakesOfText, TellsUnwritten}
 use Rattle.asn_traits.specs.Writing.{FailsToEncode, Frame, Puts, Written}
 use Rattle.asn_traits.proofs.LeafValues.{leaf_refused, leaf_said}
+use Rattle.asn_traits.proofs.Refusing.{out_of_memory}
 
 -- What a type makes of the text that was taken is what its reader answers.
 pub text_taken : {A : Type 0} {n : Notation} (s : Shape) (k : LeafKind) (value : A → Value) (codec : Codec) (slot : Slot) (before after : List Slot) (x y : OwnedLeaf) (text : List ℕ) (r : Result A DecodeError)
@@ -41,7 +42,7 @@ text_taken {A} {n} s k value codec slot before after x y text (Ok a) is same was
     (slot, was, leaf_said s k (value a) slot x y is same leaf (λ v o. ap (refine (codec_of n) s) (owned v o) ∙ made (codec_of n)))
 text_taken {A} {n} s k value codec slot before after x y text (Err e) is same was leaf owned of (inl none) =
     leaf_refused s k none.cause none.place slot before after x y (failure_of e) is same was leaf (λ v o. ap (refine (codec_of n) s) (owned v o) ∙ none.refused (codec_of n)) none.is (inl (subst (λ m. OfPlace m none.cause none.place) of none.of))
-text_taken s k value codec slot before after x y text (Err e) is same was leaf owned of (inr memory) = Refuses.no_memory memory
+text_taken s k value codec slot before after x y text (Err e) is same was leaf owned of (inr memory) = out_of_memory codec (failure_of e) memory of
 
 -- A string that was made of a text within the alphabet.
 pub string_made : (a : Alphabet) (p : ℕ → Bool) (text : List ℕ) (c : Codec) → alphabet_of a ≡ p → None ≡ place_outside p (chars text) → refine c (Shape.text a) (Value.text text) ≡ Ok (Value.text text)
@@ -52,11 +53,24 @@ string_made a p text c same none =
 -- A text with a character outside, of any type whose values a text is unless it has one.
 pub outside_refused : (s : Shape) (tag : Tag) (v : Value) (p : ℕ → Bool) (text : List ℕ) (codec : Codec) (fault : StringFault) (e : Failure)
     → ((c : Codec) → refine c s (Value.text text) ≡ within_alphabet tag v (place_outside p (chars text))) → refused_place {T = Value} (Err fault) ≡ place_outside p (chars text) → IsStringRefusal tag fault codec e
-    → IsNoText s text codec e ⊎ (is_out_of_memory e ≡ true)
+    → IsNoText s text codec e ⊎ (e ≡ at_root Cause.out_of_memory codec)
 outside_refused s tag v p text codec (string.Alphabet place) e refines at (inl is) =
     inl (record { cause = outside_alphabet tag place; place = codec; refused = λ c. refines c ∙ ap (within_alphabet tag v) (sym at); is = is; of = refl })
-outside_refused s tag v p text codec (string.Alphabet place) e refines at (inr memory) = inr (ap is_out_of_memory memory)
-outside_refused s tag v p text codec string.OutOfMemory e refines at memory = inr (ap is_out_of_memory memory)
+outside_refused s tag v p text codec (string.Alphabet place) e refines at (inr memory) = inr memory
+outside_refused s tag v p text codec string.OutOfMemory e refines at memory = inr memory
+
+within_set : (a : Alphabet) (p : ℕ → Bool) (tag : Tag) (text : List ℕ) → alphabet_of a ≡ p → tag ≡ universal_tag (alphabet_number a) → (c : Codec) → refine c (Shape.text a) (Value.text text) ≡ within_alphabet tag (Value.text text) (place_outside p (chars text))
+within_set a p tag text same is c =
+    ap (λ q. within_alphabet (universal_tag (alphabet_number a)) (Value.text text) (place_outside q (chars text))) same
+    ∙ ap (λ t. within_alphabet t (Value.text text) (place_outside p (chars text))) (sym is)
+
+-- A text with a character outside the set of a string type.
+pub set_refused : (T : Type 0) (a : Alphabet) (p : ℕ → Bool) (tag : Tag) (text : List ℕ) (codec : Codec) (fault : StringFault) (e : Failure)
+    → alphabet_of a ≡ p → tag ≡ universal_tag (alphabet_number a) → refused_place {T = T} (Err fault) ≡ place_outside p (chars text) → IsStringRefusal tag fault codec e
+    → IsNoText (Shape.text a) text codec e ⊎ (e ≡ at_root Cause.out_of_memory codec)
+set_refused T a p tag text codec (string.Alphabet place) e same is at refused =
+    outside_refused (Shape.text a) tag (Value.text text) p text codec (string.Alphabet place) e (within_set a p tag text same is) at refused
+set_refused T a p tag text codec string.OutOfMemory e same is at memory = inr memory
 
 -- The time of a text, where the readings of the text are those of the shape.
 pub time_made : (s : Shape) (value : ℤ → Value) (text : List ℕ) (codec : Codec) (read : Result ℤ TimeFault) (r : Result ℤ DecodeError) (Reads : ℤ → Type 0) (No : Type 0)

@@ -4,7 +4,6 @@ use Rattle.asn_fault.specs.Failure.{Failure, is_out_of_memory}
 use Rattle.asn_fault.specs.EncodeCause.{EncodeCause}
 use Rattle.asn_fault.specs.declared.decode.DecodeError.{DecodeError}
 use Rattle.asn_fault.specs.declared.encode.EncodeError.{EncodeError}
-use Rattle.asn_fault.specs.declared.encode.EncodeErrorKind.TheVariants.{OutOfMemory}
 use Rattle.asn_model.specs.BitLeaves.{LengthStands, LengthBlocks}
 use Rattle.asn_model.specs.Notation.{Notation, IsText}
 use Rattle.asn_model.specs.Shape.{Shape}
@@ -15,7 +14,7 @@ use Rattle.asn_model.specs.FailsWith.{FailsWith}
 use Rattle.asn_traits.specs.Answer.{Answer, Refuses}
 use Rattle.asn_traits.specs.Root.{RootAnswer, Reads}
 use Rattle.asn_model.specs.Writable.{Writable, WritableEach, WritableSlots, FirstUnencodable, EachFirstUnencodable, SomeUnencodable, SlotsFirstUnencodable}
-use Rattle.asn_traits.specs.Writing.{FailsToEncode}
+use Rattle.asn_traits.specs.Writing.{FailsToEncode, IsOutOfMemory}
 use Rattle.asn_model.proofs.Meanings.{one, apart, not_other}
 use Rattle.asn_traits.proofs.Steps.{same_head}
 
@@ -26,7 +25,7 @@ root_answer n s value t before after rest (Err error) e h = rw e at h
 
 -- What decodes to a value is refused for lack of memory alone.
 pub read_complete : {n : Notation} {s : Shape} {slot : Slot} {e : Failure} → IsText n → Refuses n (FailsWith n s slot) e → (v : Value) → DecodesTo n s slot v → is_out_of_memory e ≡ true
-read_complete text (Refuses.no_memory m) v says = m
+read_complete text (Refuses.no_memory m) v says = m.0
 read_complete text (Refuses.stopped h l c) v says = absurd (apart text says h)
 read_complete {n} text (Refuses.refuses_free o) v says = absurd (not_other n text o)
 
@@ -74,7 +73,7 @@ mutual
   slots_not_blocked n (Slots.present m v ms) cause w (inr b) = slots_not_blocked n ms cause w.1 b.1
 
 -- What can be written is refused for lack of memory alone.
-pub write_complete : {n : Notation} {v : Value} {e : EncodeError} → IsText n → FailsToEncode n v e → Writable n v → e.kind ≡ OutOfMemory
+pub write_complete : {n : Notation} {v : Value} {e : EncodeError} → IsText n → FailsToEncode n v e → Writable n v → IsOutOfMemory n e
 write_complete text (FailsToEncode.no_memory o) w = o
 write_complete {n} {v} text (FailsToEncode.blocked b c) w = absurd (not_blocked n v _ w b)
 write_complete {n} text (FailsToEncode.write_free o) w = absurd (not_other n text o)

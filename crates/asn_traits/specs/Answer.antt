@@ -22,9 +22,13 @@ abbrev pub OfPlace : Notation → Cause → Codec → Type 0
 OfPlace n (Cause.invalid_date text) c = c ≡ Ber
 OfPlace n cause c = notation_of c ≡ n
 
+-- Memory ran out at no field, by the notation's codec.
+abbrev pub IsMemoryFailure : Notation → Failure → Type 0
+IsMemoryFailure n s = (is_out_of_memory s ≡ true) × (notation_of s.codec ≡ n)
+
 -- The error is lack of memory, or P says how it failed, and each of its levels has the notation's codec.
 pub data Refuses (n : Notation) (P : Path → Cause → Type 0) (s : Failure) : Type 0 where
-  no_memory : is_out_of_memory s ≡ true → Refuses n P s
+  no_memory : IsMemoryFailure n s → Refuses n P s
   stopped : P (map (λ l. l.name) s.path) s.cause → OfLevels n s.path → OfPlace n s.cause s.codec → Refuses n P s
   refuses_free : n ≡ Notation.other → Refuses n P s
 

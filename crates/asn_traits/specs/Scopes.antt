@@ -1,11 +1,11 @@
 -- What a scope of reading answers.
-use Rattle.std.specs.Prelude.{◌≡◌, ℕ, List, [], ◌∷◌, ◌++◌, length, Option, Some, None, Result, Ok, Err}
+use Rattle.std.specs.Prelude.{◌≡◌, ℕ, List, [], ◌∷◌, Option, Some, None, Result, Ok, Err}
 use Rattle.asn_fault.specs.Failure.{Failure, Cause, failure_of}
 use Rattle.asn_core.specs.declared.tag.Tag.{Tag}
 use Rattle.asn_fault.specs.declared.decode.DecodeError.{DecodeError}
 use Rattle.asn_model.specs.Notation.{Notation}
 use Rattle.asn_model.specs.Components.{reading_order}
-use Rattle.asn_model.specs.Shape.{Shape, SeqKind, Fields, FieldAdditions, Alternatives, all_fields, field_names, alternative_tagged}
+use Rattle.asn_model.specs.Shape.{Shape, SeqKind, Fields, FieldAdditions, Alternatives, all_fields, alternative_tagged}
 use Rattle.asn_model.specs.Tree.{Slot, head_slot}
 use Rattle.asn_model.specs.Value.{Value, Slots}
 use Rattle.asn_model.specs.DecodesTo.{DecodesTo, FieldsDecodeTo}
@@ -16,11 +16,6 @@ use Rattle.asn_traits.specs.Answer.{Refuses}
 abbrev pub ScopeAnswer : {A E : Type 0} → (E → Failure) → Notation → Fields → FieldAdditions → (A → Value) → List Slot → List Slot → Result A E → List Slot → Type 0
 ScopeAnswer failure n fs added value slots rest (Ok x) after = (after ≡ rest) × (vs : Slots) × FieldsDecodeTo n (all_fields fs added) slots vs × (value x ≡ Value.members vs)
 ScopeAnswer failure n fs added value slots rest (Err e) after = Refuses n (FieldsFailWith n (reading_order SeqKind.sequence fs added) slots) (failure e)
-
--- The same, of the slots that stand first, one for each field.
-abbrev pub ScopeAnswers : {A : Type 0} → Notation → Fields → FieldAdditions → (A → Value) → List Slot → Result A DecodeError → List Slot → Type 0
-ScopeAnswers n fs added value before r after =
-    (slots rest : List Slot) → length slots ≡ length (field_names (all_fields fs added)) → before ≡ slots ++ rest → ScopeAnswer failure_of n fs added value slots rest r after
 
 -- The first pending slot decodes to a payload of the alternative, and is gone, or it is refused for a reason that it has.
 abbrev pub PayloadAnswer : {A : Type 0} → Notation → List ℕ → Shape → (A → Value) → List Slot → Result A DecodeError → List Slot → Type 0

@@ -1,14 +1,14 @@
 -- What the reader of a SET answers, one field at a time, and what is made of the answers.
 use Rattle.std.specs.Prelude.{◌≡◌, ℕ, zero, suc, List, [], ◌∷◌, ◌++◌, map, length, if◌then◌else◌, Option, Some, None, Result, Ok, Err, true}
 use Rattle.std.specs.Ordering.{on}
-use Rattle.asn_fault.specs.Failure.{Failure, is_out_of_memory}
+use Rattle.asn_fault.specs.Failure.{Failure}
 use Rattle.asn_model.specs.Components.{Component, Standing, components, tag_cmp}
 use Rattle.asn_model.specs.Notation.{Notation}
 use Rattle.asn_model.specs.Shape.{SeqKind, Fields, FieldAdditions, Presence, all_fields, field_names}
 use Rattle.asn_model.specs.Sorting.{sort}
 use Rattle.asn_model.specs.Tree.{Slot}
 use Rattle.asn_model.specs.Value.{Value, is_kept}
-use Rattle.asn_traits.specs.Answer.{Refuses}
+use Rattle.asn_traits.specs.Answer.{IsMemoryFailure, Refuses}
 use Rattle.asn_traits.specs.FieldAnswer.{TakesSlot}
 use Rattle.asn_traits.specs.Passing.{ComponentFailsWith, may_take}
 use Rattle.asn_traits.specs.ReadingSlots.{slots_read}
@@ -57,6 +57,6 @@ PlaceAnswer failure number slot n k c before (Ok x) after = TakesPlace number sl
 PlaceAnswer failure number slot n k c before (Err e) after = Refuses n (ComponentFailsWith n c.presence c.standing c.shape c.name before) (failure e)
 
 -- The value has the members whose slots, in the order in which they are read, are those of the answers; the one refusal is want of memory.
-abbrev pub SetAnswer : {S A E : Type 0} → (E → Failure) → (S → Option Value) → Fields → FieldAdditions → (A → Value) → List S → Result A E → Type 0
-SetAnswer failure slot fs added value answers (Ok x) = (ss : Frame) × (slots_read SeqKind.set fs ss ≡ map slot answers) × (value x ≡ members_value (all_fields fs added) ss)
-SetAnswer failure slot fs added value answers (Err e) = is_out_of_memory (failure e) ≡ true
+abbrev pub SetAnswer : {S A E : Type 0} → (E → Failure) → Notation → (S → Option Value) → Fields → FieldAdditions → (A → Value) → List S → Result A E → Type 0
+SetAnswer failure n slot fs added value answers (Ok x) = (ss : Frame) × (slots_read SeqKind.set fs ss ≡ map slot answers) × (value x ≡ members_value (all_fields fs added) ss)
+SetAnswer failure n slot fs added value answers (Err e) = IsMemoryFailure n (failure e)

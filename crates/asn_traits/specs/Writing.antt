@@ -60,9 +60,13 @@ as_choice i [] = None
 as_choice i (None ∷ ss) = None
 as_choice i (Some v ∷ ss) = Some (Value.choice i v)
 
+-- Memory is out, and the error has the notation's codec.
+abbrev pub IsOutOfMemory : Notation → EncodeError → Type 0
+IsOutOfMemory n e = (e.kind ≡ OutOfMemory) × (notation_of e.codec ≡ n)
+
 -- Memory is out, or the value has a part that the notation cannot write, or the codec is neither notation.
 pub data FailsToEncode (n : Notation) (v : Value) (e : EncodeError) : Type 0 where
-  no_memory : e.kind ≡ OutOfMemory → FailsToEncode n v e
+  no_memory : IsOutOfMemory n e → FailsToEncode n v e
   blocked : FirstUnencodable n v (encode_cause e.kind) → notation_of e.codec ≡ n → FailsToEncode n v e
   write_free : n ≡ Notation.other → FailsToEncode n v e
 
@@ -114,7 +118,7 @@ pub record Filled {S : Type 0} (holds : S → List Frame → Type 0) (n : Notati
 
 -- Memory is out, or the first of the slots that cannot be written is refused.
 pub data FailsToFill (n : Notation) : Frame → EncodeError → Type 0 where
-  no_memory_left : {ss : Frame} {e : EncodeError} → e.kind ≡ OutOfMemory → FailsToFill n ss e
+  no_memory_left : {ss : Frame} {e : EncodeError} → IsOutOfMemory n e → FailsToFill n ss e
   slot_refused : {v : Value} {ss : Frame} {e : EncodeError} → FailsToEncode n v e → FailsToFill n (Some v ∷ ss) e
   after_slot : {v : Value} {ss : Frame} {e : EncodeError} → Writable n v → FailsToFill n ss e → FailsToFill n (Some v ∷ ss) e
   after_absent : {ss : Frame} {e : EncodeError} → FailsToFill n ss e → FailsToFill n (None ∷ ss) e

@@ -32,7 +32,7 @@ use crate::{
     SetElement, SetField, TextType,
 };
 use asn_core::{Any, Bits, Codec, Constraints, ObjectIdentifier, Tag};
-use asn_fault::{DecodeError, Refusal};
+use asn_fault::{DecodeError, DecodeErrorKind, Refusal};
 use asn_model::fixed_size;
 use asn_model::words::NO_TELETEX;
 use asn_sets::SetOf;
@@ -405,7 +405,8 @@ pub trait Decoder {
             ≡ at_root Cause.real_not_supported e.codec) }
         ensures codec { IfErr result (λ e. notation_of e.codec ≡ notation) }
     {
-        Err(DecodeError::real_not_supported(self.codec()))
+        let kind = DecodeErrorKind::RealNotSupported;
+        Err(DecodeError::from_kind(kind, self.codec()))
     }
 
     /// Decodes the elements of a SEQUENCE OF or SET OF, in the order in which they stand. All room
@@ -522,7 +523,7 @@ pub trait Decoder {
         requires builds { (answers : _) (r : _)
             → map S.number answers.items ≡ map (λ p. p.0) (places_read C.fields C.added)
             → F.post field_fn answers r
-            → SetAnswer E.failure S.slot C.fields C.added C.value_of answers.items r }
+            → SetAnswer E.failure notation S.slot C.fields C.added C.value_of answers.items r }
         ensures { AnswerBy E.failure notation (Shape.seq C.kind C.fields C.added) C.value_of
             (pending self.old) result (pending self.new) }
     {

@@ -17,7 +17,8 @@ ghost use Rattle.asn_traits.specs.TextTypes.{TellsUnwritten, no_teletex};
 ghost use Rattle.asn_model.specs.Value.{Value, bag_of, values};
 ghost use Rattle.asn_traits.specs.Writing.{Frame, push, close, as_list, as_members, as_choice};
 ghost use Rattle.asn_traits.specs.Writing.{ClosesSet, Written, WrittenUnder, FailsToEncode};
-ghost use Rattle.asn_traits.specs.Writing.{FailsToEncodeUnder, FailsToFill, ScopeRan, Maps, Puts};
+ghost use Rattle.asn_traits.specs.Writing.{FailsToEncodeUnder, FailsToFill, IsOutOfMemory};
+ghost use Rattle.asn_traits.specs.Writing.{Maps, Puts, ScopeRan};
 ghost use Rattle.std.specs.Fn.{FnOnceReturnsAtMut};
 ghost use Rattle.std.specs.Prelude.{◌≡◌, ◌⊎◌, pos, ◌∷◌, ◌++◌, [], ℕ, List, Option, Some, None, Ok};
 ghost use Rattle.std.specs.Prelude.{Err, true, map, option_map, OnOk, IfErr, IfOk, IfSome, IsErr};
@@ -81,7 +82,7 @@ pub trait Encoder {
     /// `OutOfMemory` alone.
     fn encode_absent(&mut self) -> Result<(), EncodeError>
         ensures written { OnOk result (Maps holds (push None) self.old self.new) }
-        ensures refused { IfErr result (λ e. e.kind ≡ EncodeErrorKind.OutOfMemory) };
+        ensures refused { IfErr result (IsOutOfMemory notation) };
 
     /// Opens an empty frame, which takes the slots until it is closed.
     ///
@@ -90,7 +91,7 @@ pub trait Encoder {
     /// `OutOfMemory` alone.
     fn open_frame(&mut self) -> Result<(), EncodeError>
         ensures opened { OnOk result (Maps holds (λ fs. [] ∷ fs) self.old self.new) }
-        ensures refused { IfErr result (λ e. e.kind ≡ EncodeErrorKind.OutOfMemory) };
+        ensures refused { IfErr result (IsOutOfMemory notation) };
 
     /// Closes the last frame, and puts it into the one before it as a list of its present values.
     ///
@@ -99,7 +100,7 @@ pub trait Encoder {
     /// `OutOfMemory` alone.
     fn close_list(&mut self) -> Result<(), EncodeError>
         ensures closed { OnOk result (Maps holds (close as_list) self.old self.new) }
-        ensures refused { IfErr result (λ e. e.kind ≡ EncodeErrorKind.OutOfMemory) };
+        ensures refused { IfErr result (IsOutOfMemory notation) };
 
     /// Closes the last frame, and puts it into the one before it as the set of its present values:
     /// written in byte order of their texts.
@@ -109,7 +110,7 @@ pub trait Encoder {
     /// `OutOfMemory` alone.
     fn close_set(&mut self) -> Result<(), EncodeError>
         ensures closed { OnOk result (ClosesSet holds notation self.old self.new) }
-        ensures refused { IfErr result (λ e. e.kind ≡ EncodeErrorKind.OutOfMemory) };
+        ensures refused { IfErr result (IsOutOfMemory notation) };
 
     /// Closes the last frame, and puts it into the one before it as members, by the names of these
     /// fields: the root fields, and then the extension additions.
@@ -120,7 +121,7 @@ pub trait Encoder {
     fn close_members(&mut self, root: &[Field], additions: &[Field]) -> Result<(), EncodeError>
         ensures closed { OnOk result (Maps holds (close
             (as_members (names_of root.now ++ names_of additions.now))) self.old self.new) }
-        ensures refused { IfErr result (λ e. e.kind ≡ EncodeErrorKind.OutOfMemory) };
+        ensures refused { IfErr result (IsOutOfMemory notation) };
 
     /// Closes the last frame, and puts its first slot into the one before it as the payload of a
     /// choice with this identifier.
@@ -131,7 +132,7 @@ pub trait Encoder {
     fn close_choice(&mut self, identifier: &'static str) -> Result<(), EncodeError>
         ensures closed { OnOk result (Maps holds (close
             (as_choice identifier.now)) self.old self.new) }
-        ensures refused { IfErr result (λ e. e.kind ≡ EncodeErrorKind.OutOfMemory) };
+        ensures refused { IfErr result (IsOutOfMemory notation) };
 
     /// Encodes a BOOLEAN.
     final fn encode_bool(
@@ -496,7 +497,7 @@ pub trait Encoder {
     where
         Self: Sized,
         ensures written { OnOk result (Maps holds (push None) self.old self.new) }
-        ensures refused { IfErr result (λ e. e.kind ≡ EncodeErrorKind.OutOfMemory) }
+        ensures refused { IfErr result (IsOutOfMemory notation) }
     {
         self.encode_absent()
     }
@@ -510,7 +511,7 @@ pub trait Encoder {
     where
         Self: Sized,
         ensures written { OnOk result (Maps holds (push None) self.old self.new) }
-        ensures refused { IfErr result (λ e. e.kind ≡ EncodeErrorKind.OutOfMemory) }
+        ensures refused { IfErr result (IsOutOfMemory notation) }
     {
         self.encode_absent()
     }
@@ -639,7 +640,7 @@ pub trait Encoder {
         ensures written { OnOk result (ScopeRan holds (FnOnceReturnsAtMut F.FnOnce encoder_scope)
             self.old (Ok tt) (λ left. Maps holds (close
             (as_members (field_names (all_fields C.fields C.added)))) left self.new)) }
-        ensures refused { IfErr result (λ e. (e.kind ≡ EncodeErrorKind.OutOfMemory)
+        ensures refused { IfErr result (λ e. IsOutOfMemory notation e
             ⊎ ScopeRan holds (FnOnceReturnsAtMut F.FnOnce encoder_scope) self.old (Err e)
             (λ left. ⊤)) }
     {
@@ -669,7 +670,7 @@ pub trait Encoder {
         ensures written { OnOk result (ScopeRan holds (FnOnceReturnsAtMut F.FnOnce value)
             self.old (Ok tt) (λ left. Maps holds (close
             (as_members (field_names (all_fields C.fields C.added)))) left self.new)) }
-        ensures refused { IfErr result (λ e. (e.kind ≡ EncodeErrorKind.OutOfMemory)
+        ensures refused { IfErr result (λ e. IsOutOfMemory notation e
             ⊎ ScopeRan holds (FnOnceReturnsAtMut F.FnOnce value) self.old (Err e)
             (λ left. ⊤)) }
     {
@@ -704,7 +705,7 @@ pub trait Encoder {
         ensures unlisted { alternative_tagged (all_alternatives C.alternatives C.added) tag ≡ None
             → IsErr result × (self.new ≡ self.old) × IfErr result (λ e.
             (e.kind ≡ EncodeErrorKind.VariantNotInChoice) × (notation_of e.codec ≡ notation)) }
-        ensures refused { IfErr result (λ e. (e.kind ≡ EncodeErrorKind.OutOfMemory)
+        ensures refused { IfErr result (λ e. IsOutOfMemory notation e
             ⊎ (((e.kind ≡ EncodeErrorKind.VariantNotInChoice)
             × (alternative_tagged (all_alternatives C.alternatives C.added) tag ≡ None))
             ⊎ ScopeRan holds (FnOnceReturnsAtMut F.FnOnce encode_fn) self.old (Err e)

@@ -2,7 +2,7 @@
 //! where it has what that type has, and where that type has an extension marker, extension
 //! additions may follow (X.680, section 52).
 ghost use Rattle.asn_codec.specs.Texts.{HasTree, IsShallow, ReadsBack};
-ghost use Rattle.asn_fault.specs.Failure.{failure_of, is_out_of_memory};
+ghost use Rattle.asn_fault.specs.Failure.{Cause, at_root, failure_of};
 ghost use Rattle.asn_growth.specs.Adapted.{lift, project};
 ghost use Rattle.asn_growth.specs.ComesUpon.{IsMissing, IsUnknown, Known};
 ghost use Rattle.asn_growth.specs.Grows.{Grows};
@@ -46,7 +46,7 @@ pub fn decode_as_older<Old: Decode, New: AsnType>(
     // It is refused for an alternative or item that the older version lacks, with the path to it.
     ensures unknown { (t : Tree) (v : Value) → HasTree (notation_of codec) input.now t
         → DecodesTo (notation_of codec) New.shape_of (Some t) v
-        → IfErr result (λ e. (is_out_of_memory (failure_of e) ≡ true)
+        → IfErr result (λ e. (failure_of e ≡ at_root Cause.out_of_memory codec)
         ⊎ IsApart (notation_of codec) Old.shape_of t IsUnknown (failure_of e)) }
 {
     codec.decode_from_str(alloc, input)
@@ -75,7 +75,7 @@ pub fn decode_as_newer<Old: AsnType, New: Decode>(
     ensures missing { (v : Value) → IsText (notation_of codec) → Fits Old.shape_of v
         → Writable (notation_of codec) v → ReadsBack (notation_of codec) v text.now
         → IsShallow Notation.avn (notation_of codec) v
-        → IfErr result (λ e. (is_out_of_memory (failure_of e) ≡ true)
+        → IfErr result (λ e. (failure_of e ≡ at_root Cause.out_of_memory codec)
         ⊎ ((t : Tree) × HasTree (notation_of codec) text.now t
         × IsApart (notation_of codec) New.shape_of t IsMissing (failure_of e))) }
 {

@@ -76,13 +76,13 @@ elements_read o e = let n : ⊥ = cc in absurd n
 -- Refusals.
 
 pub memory_refused : (k : LeafKind) (t : Tree) (failure : Failure) → failure ≡ at_root Cause.out_of_memory Avn → RefusesKind k t failure
-memory_refused k t failure e = λ s is. out_of_memory Avn failure e
+memory_refused k t failure e = λ s is. out_of_memory Avn failure e refl
 
 pub kind_refused : (k : LeafKind) (t : Tree) (blame : LeafFailure) (failure : Failure) → as_leaf Notation.avn k t ≡ Err blame → RefusesLeaf Notation.avn t blame failure → RefusesKind k t failure
 kind_refused k t blame failure says tells = λ s is. no_leaf k t blame (Some t ∷ []) [] failure refl says tells s is
 
 pub cause_refused : (k : LeafKind) (t : Tree) (cause : Cause) (failure : Failure) → as_leaf Notation.avn k t ≡ Err (LeafFailure.because cause) → OfPlace Notation.avn cause Avn → IsCause cause failure → RefusesKind k t failure
-cause_refused k t cause failure says of tells = kind_refused k t (LeafFailure.because cause) failure says (refuses_because_or_memory cause Avn t failure tells of)
+cause_refused k t cause failure says of tells = kind_refused k t (LeafFailure.because cause) failure says (refuses_because_or_memory cause Avn t failure tells of refl)
 
 pub wrong_refused : (k : LeafKind) (t : Tree) (r : Result Value Cause) (failure : Failure) → as_leaf Notation.avn k t ≡ or_blame r → IsWrong r failure → RefusesKind k t failure
 wrong_refused k t r failure says (inl w) = cause_refused k t w.0 failure (says ∙ ap or_blame w.1) w.2 (inl w.3)

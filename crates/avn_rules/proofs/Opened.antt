@@ -109,7 +109,7 @@ pub members_put : (kind : SeqKind) (before taken after : DecoderView) (node : �
     → ((look : List ℕ → Slot) → as_members Notation.avn (value_at taken.root node) ≡ Some look → trees_of (value_at taken.root) slots ≡ map look names) → MatchResult r (λ _. after ≡ record taken { nodes = slots ++ taken.nodes }) (λ e. failure_of e ≡ at_root Cause.out_of_memory Avn)
     → OpensMembers Notation.avn kind names (pending_of before) r (pending_of after)
 members_put kind before taken after node names slots (Ok u) k some found put = members_opened kind before taken after node names slots k some found put
-members_put kind before taken after node names slots (Err e) k some found put = λ fs added. out_of_memory Avn (failure_of e) put
+members_put kind before taken after node names slots (Err e) k some found put = λ fs added. out_of_memory Avn (failure_of e) put refl
 
 pub members_refused : (kind : SeqKind) (before taken : DecoderView) (node : ℕ) (failure : Failure) → TakesNode before taken node → is_some (as_members Notation.avn (value_at taken.root node)) ≡ false → RefusesLeaf Notation.avn (value_at taken.root node) (members_mismatch Notation.avn kind) failure
     → (fs : Fields) (added : FieldAdditions) → Refuses Notation.avn (FailsWith Notation.avn (Shape.seq kind fs added) (head_slot (pending_of before))) failure

@@ -2,7 +2,6 @@
 //! `de` have the two halves of the codec: each is a few primitive calls, over which the traits of
 //! `asn_traits` encode and decode every type.
 ghost use Rattle.asn_fault.specs.Failure.{failure_of};
-ghost use Rattle.asn_fault.specs.declared.encode.EncodeErrorKind.TheVariants.{OutOfMemory};
 ghost use Rattle.asn_traits.specs.Canonical.{canonical_text};
 ghost use Rattle.asn_traits.specs.Notation.{Notation};
 ghost use Rattle.asn_traits.specs.Root.{Reads};
@@ -10,7 +9,7 @@ ghost use Rattle.asn_traits.specs.DecodesTo.{DecodesTo};
 ghost use Rattle.asn_traits.specs.Tree.{Tree};
 ghost use Rattle.asn_traits.specs.Value.{Value, Fits};
 ghost use Rattle.asn_traits.specs.Writable.{Writable};
-ghost use Rattle.asn_traits.specs.Writing.{FailsToEncode};
+ghost use Rattle.asn_traits.specs.Writing.{FailsToEncode, IsOutOfMemory};
 ghost use Rattle.avn_grammar.specs.Tree.{Tree as AvnTree};
 ghost use Rattle.avn_rules.specs.Text.{IsAvn, ReadsBack, RefusesText};
 ghost use Rattle.std.specs.Prelude.{◌≡◌, Some, IfOk, IfErr, OnOk, string_bytes};
@@ -47,7 +46,7 @@ pub fn encode<T: Encode>(alloc: Global, value: &T) -> Result<String, EncodeError
     ensures refused { IfErr result (FailsToEncode Notation.avn (T.value_of value.now)) }
     // What can be encoded is encoded, unless memory runs out.
     ensures complete { Writable Notation.avn (T.value_of value.now)
-        → IfErr result (λ e. e.kind ≡ OutOfMemory) }
+        → IfErr result (IsOutOfMemory Notation.avn) }
 {
     let mut encoder = enc::Encoder::new(alloc);
     value.encode(&mut encoder)?;

@@ -4,7 +4,7 @@ use Rattle.serde_json.specs.Data.{Data, depth}
 use Rattle.serde_json.specs.Read.{read, max_depth}
 use Rattle.serde_json.specs.Written.{has_float}
 use Rattle.asn_core.specs.declared.codec.Codec.TheVariants.{Jer}
-use Rattle.asn_fault.specs.Failure.{Failure, Cause, at_root, is_out_of_memory}
+use Rattle.asn_fault.specs.Failure.{Failure, Cause, at_root}
 use Rattle.asn_traits.specs.Canonical.{jer_data}
 use Rattle.asn_traits.specs.Notation.{Notation}
 use Rattle.asn_traits.specs.Shape.{Shape}
@@ -26,7 +26,7 @@ ReadsBack v text = depth (jer_data v) ≤ max_depth → IsJer text (jer_data v)
 pub data NoTree (text : List ℕ) (failure : Failure) : Type 0 where
   no_json : read text ≡ None → failure ≡ at_root (Cause.parser JER_NO_JSON.now) Jer → NoTree text failure
   has_real : (d : Data) → read text ≡ Some d → has_float d ≡ true → failure ≡ at_root Cause.real_not_supported Jer → NoTree text failure
-  no_memory : is_out_of_memory failure ≡ true → NoTree text failure
+  no_memory : failure ≡ at_root Cause.out_of_memory Jer → NoTree text failure
 
 -- The text is no JSON value, or it is one that decodes to no value of the shape, and the error says why.
 pub data RefusesText (s : Shape) (text : List ℕ) (failure : Failure) : Type 0 where

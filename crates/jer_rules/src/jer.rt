@@ -2,7 +2,6 @@
 //! halves of the codec: each is a few primitive calls on JSON values, over which the traits of
 //! `asn_traits` encode and decode every type.
 ghost use Rattle.asn_fault.specs.Failure.{failure_of};
-ghost use Rattle.asn_fault.specs.declared.encode.EncodeErrorKind.TheVariants.{OutOfMemory};
 ghost use Rattle.asn_traits.specs.Canonical.{canonical_text};
 ghost use Rattle.asn_traits.specs.Notation.{Notation};
 ghost use Rattle.asn_traits.specs.Root.{Reads};
@@ -10,7 +9,7 @@ ghost use Rattle.asn_traits.specs.DecodesTo.{DecodesTo};
 ghost use Rattle.asn_traits.specs.Tree.{Tree};
 ghost use Rattle.asn_traits.specs.Value.{Value, Fits};
 ghost use Rattle.asn_traits.specs.Writable.{Writable};
-ghost use Rattle.asn_traits.specs.Writing.{FailsToEncode};
+ghost use Rattle.asn_traits.specs.Writing.{FailsToEncode, IsOutOfMemory};
 ghost use Rattle.jer_rules.specs.Text.{IsJer, ReadsBack, RefusesText};
 ghost use Rattle.serde_json.specs.Data.{Data};
 ghost use Rattle.std.specs.Prelude.{◌≡◌, Some, IfOk, IfErr, OnOk, string_bytes};
@@ -46,7 +45,7 @@ pub fn encode<T: Encode>(alloc: Global, value: &T) -> Result<String, EncodeError
     ensures refused { IfErr result (FailsToEncode Notation.jer (T.value_of value.now)) }
     // What can be encoded is encoded, unless memory runs out.
     ensures complete { Writable Notation.jer (T.value_of value.now) → IfErr result
-        (λ e. e.kind ≡ OutOfMemory) }
+        (IsOutOfMemory Notation.jer) }
 {
     let mut encoder = enc::Encoder::new(alloc);
     value.encode(&mut encoder)?;

@@ -6,7 +6,7 @@ ghost use Rattle.asn_slots.specs.Frames.{push};
 ghost use Rattle.asn_slots.specs.Slots.{last_present};
 ghost use Rattle.asn_traits.specs.Canonical.{avn_tree, canonical_text};
 ghost use Rattle.asn_traits.specs.Notation.{Notation};
-ghost use Rattle.asn_traits.specs.Writing.{Frame};
+ghost use Rattle.asn_traits.specs.Writing.{Frame, IsOutOfMemory};
 ghost use Rattle.avn_value.specs.View.{tree_of};
 ghost use Rattle.std.specs.Prelude.{◌≡◌, ◌⊎◌, ◌∷◌, [], Option, Some, None, OnOk, IfOk, IfErr};
 ghost use Rattle.std.specs.Prelude.{option_map, string_bytes};
@@ -74,7 +74,7 @@ impl Encoder {
     pub fn to_string(self) -> Result<String, EncodeError>
         ensures text { IfOk result (λ s. (f : Frame) → Holds self (f ∷ [])
             → option_map (canonical_text Notation.avn) (last_present f) ≡ Some (string_bytes s)) }
-        ensures refused { IfErr result (λ e. (e.kind ≡ EncodeErrorKind.OutOfMemory)
+        ensures refused { IfErr result (λ e. IsOutOfMemory Notation.avn e
             ⊎ ((encode_cause e.kind ≡ EncodeCause.no_root_value Avn)
             × ((f : Frame) → Holds self (f ∷ []) → last_present f ≡ None))) }
         ensures codec { IfErr result (λ e. e.codec ≡ Avn) }
@@ -94,7 +94,7 @@ impl Encoder {
     /// `OutOfMemory` alone.
     fn put(&mut self, slot: Option<AvnValue>) -> Result<(), EncodeError>
         ensures added { OnOk result (self.new.frames ≡ push slot self.old.frames) }
-        ensures refused { IfErr result (λ e. e.kind ≡ EncodeErrorKind.OutOfMemory) }
+        ensures refused { IfErr result (IsOutOfMemory Notation.avn) }
     {
         match self.frames.add(slot) {
             Ok(()) => Ok(()),

@@ -1,9 +1,9 @@
 // Values without parts as AVN values.
-ghost use Rattle.asn_fault.specs.declared.encode.EncodeErrorKind.TheVariants.{OutOfMemory};
 ghost use Rattle.asn_traits.specs.Canonical.{avn_tree};
 ghost use Rattle.asn_traits.specs.Leaf.{leaf_value};
 ghost use Rattle.asn_traits.specs.Notation.{Notation};
 ghost use Rattle.asn_traits.specs.Writable.{Writable};
+ghost use Rattle.asn_traits.specs.Writing.{IsOutOfMemory};
 ghost use Rattle.avn_value.specs.View.{tree_of as avn_tree_of};
 ghost use Rattle.std.specs.Prelude.{◌≡◌, true, IfOk, IfErr, OnOk, string_bytes};
 ghost use Rattle.std.specs.Str.{is_utf8};
@@ -20,7 +20,7 @@ use std::alloc::Global;
 pub fn avn_of_leaf(alloc: Global, leaf: Leaf<'_>) -> Result<AvnValue, EncodeError>
     ensures avn { IfOk result (λ v. avn_tree_of v ≡ avn_tree (leaf_value leaf.entry)) }
     ensures writable { OnOk result (Writable Notation.avn (leaf_value leaf.entry)) }
-    ensures refused { IfErr result (λ e. e.kind ≡ OutOfMemory) }
+    ensures refused { IfErr result (IsOutOfMemory Notation.avn) }
 {
     match leaf {
         Leaf::Null => Ok(AvnValue::Null),
@@ -54,7 +54,7 @@ pub fn avn_of_leaf(alloc: Global, leaf: Leaf<'_>) -> Result<AvnValue, EncodeErro
 fn copy_of(alloc: Global, text: &str) -> Result<String, EncodeError>
     ensures copy { IfOk result (λ s. string_bytes s ≡ text.now) }
     ensures text { is_utf8 text.now ≡ true }
-    ensures refused { IfErr result (λ e. e.kind ≡ OutOfMemory) }
+    ensures refused { IfErr result (IsOutOfMemory Notation.avn) }
 {
     match String::from_str(alloc, text) {
         Ok(copy) => Ok(copy),

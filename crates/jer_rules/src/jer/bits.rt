@@ -7,7 +7,7 @@ ghost use Rattle.asn_traits.specs.Canonical.{bits_data};
 ghost use Rattle.asn_traits.specs.Notation.{Notation};
 ghost use Rattle.asn_traits.specs.Opening.{IsTaken};
 ghost use Rattle.asn_traits.specs.Value.{Value as AbstractValue};
-ghost use Rattle.asn_traits.specs.Writing.{FailsToEncode};
+ghost use Rattle.asn_traits.specs.Writing.{FailsToEncode, IsOutOfMemory};
 ghost use Rattle.hex.specs.Hex.{decode_of, encode_upper};
 ghost use Rattle.jer_rules.specs.BitTexts.{IsDeclared, ReadsBits, bit_members};
 ghost use Rattle.jer_rules.specs.NoLeaves.{IsNoLeaf};
@@ -20,7 +20,7 @@ ghost use Rattle.std.specs.Prelude.{length};
 use super::build::insert;
 use super::leaves::NoLeaf;
 use asn_core::{Bits, Bounded, Codec, OutOfMemory, Size};
-use asn_fault::{EncodeError, EncodeErrorKind};
+use asn_fault::EncodeError;
 use asn_traits::OwnedLeaf;
 use serde_json::{Map, Value};
 use std::alloc::Global;
@@ -69,7 +69,7 @@ fn text_of_bits(alloc: Global, bits: &Bits, size: usize) -> Result<Value, Encode
 fn object_of_bits(alloc: Global, bits: &Bits) -> Result<Value, EncodeError>
     ensures json { IfOk result (λ v. view v ≡ bits_data None bits.now) }
     ensures writable { length bits.now < 2 ^ 64 }
-    ensures refused { IfErr result (λ e. e.kind ≡ EncodeErrorKind.OutOfMemory) }
+    ensures refused { IfErr result (IsOutOfMemory Notation.jer) }
 {
     let size = bits.len();
     match members_of_bits(alloc, bits.octets(), size) {

@@ -6,17 +6,17 @@ ghost use Rattle.asn_traits.specs.Canonical.{jer_data, canonical_text};
 ghost use Rattle.asn_traits.specs.Notation.{Notation};
 ghost use Rattle.asn_slots.specs.Frames.{push};
 ghost use Rattle.asn_slots.specs.Slots.{last_present};
-ghost use Rattle.asn_traits.specs.Writing.{Frame};
+ghost use Rattle.asn_traits.specs.Writing.{Frame, IsOutOfMemory};
 ghost use Rattle.jer_rules.specs.Text.{ReadsBack};
 ghost use Rattle.serde_json.specs.View.{view};
-ghost use Rattle.std.specs.Prelude.{◌≡◌, ◌⊎◌, ◌∷◌, [], Option, Some, None, OnOk, IfOk, IfErr};
-ghost use Rattle.std.specs.Prelude.{IfSome, option_map, string_bytes};
+ghost use Rattle.std.specs.Prelude.{◌≡◌, ◌⊎◌, ◌∷◌, [], List, Option, Some, None, OnOk, IfOk};
+ghost use Rattle.std.specs.Prelude.{IfErr, IfSome, option_map, string_bytes};
 
 use super::build::{choice_of, in_text_order, members_of};
 use super::faults::encode_error;
 use super::leaves::json_of_leaf;
 use asn_core::Codec;
-use asn_fault::{EncodeError, EncodeErrorKind, JerEncodeErrorKind, Utf8Fault};
+use asn_fault::{EncodeError, JerEncodeErrorKind, Utf8Fault};
 use asn_slots::Frames;
 use asn_traits::{Field, Leaf};
 use serde_json::Value;
@@ -46,19 +46,21 @@ impl Encoder {
         }
     }
 
-    /// Returns the JSON value of the last value that was encoded at the root.
+    /// Returns the JSON value of the last value that was encoded at the root; where frames are
+    /// still open, of the last one in the last of them. It takes no memory.
     ///
     /// # Errors
     ///
     /// `NoRootValueFound` where none was.
     pub fn to_json(self) -> Result<Value, EncodeError>
-        // Whatever slots the root has, the JSON value is that of the last one that is present.
-        ensures tree { IfOk result (λ t. (f : Frame) → Holds self (f ∷ []) → option_map jer_data
-            (last_present f) ≡ Some (view t)) }
-        ensures refused { IfErr result (λ e. (e.kind ≡ EncodeErrorKind.OutOfMemory)
-            ⊎ ((encode_cause e.kind ≡ EncodeCause.no_root_value Jer)
-            × ((f : Frame) → Holds self (f ∷ []) → last_present f ≡ None))) }
+        // Whatever slots the last frame has, the JSON value is that of the last one that is
+        // present. The root's frame is the last one where no other is open.
+        ensures tree { IfOk result (λ t. (f : Frame) (fs : List Frame) → Holds self (f ∷ fs)
+            → option_map jer_data (last_present f) ≡ Some (view t)) }
+        ensures kind { IfErr result (λ e. encode_cause e.kind ≡ EncodeCause.no_root_value Jer) }
         ensures codec { IfErr result (λ e. e.codec ≡ Jer) }
+        ensures none { IfErr result (λ e. (f : Frame) (fs : List Frame) → Holds self (f ∷ fs)
+            → last_present f ≡ None) }
     {
         let mut frames = self.frames;
         match frames.close_last() {
@@ -73,14 +75,14 @@ impl Encoder {
     ///
     /// `NoRootValueFound` where there is none; `OutOfMemory`.
     pub fn to_string(self) -> Result<String, EncodeError>
-        // The text is the canonical one of the root's value, and decodes to it again.
-        ensures text { IfOk result (λ s. (f : Frame) → Holds self (f ∷ []) → option_map
-            (canonical_text Notation.jer) (last_present f) ≡ Some (string_bytes s)) }
-        ensures reads_back { IfOk result (λ s. (f : Frame) → Holds self (f ∷ [])
+        // The text is the canonical one of that value, and decodes to it again.
+        ensures text { IfOk result (λ s. (f : Frame) (fs : List Frame) → Holds self (f ∷ fs)
+            → option_map (canonical_text Notation.jer) (last_present f) ≡ Some (string_bytes s)) }
+        ensures reads_back { IfOk result (λ s. (f : Frame) (fs : List Frame) → Holds self (f ∷ fs)
             → IfSome (last_present f) (λ v. ReadsBack v (string_bytes s))) }
-        ensures refused { IfErr result (λ e. (e.kind ≡ EncodeErrorKind.OutOfMemory)
+        ensures refused { IfErr result (λ e. IsOutOfMemory Notation.jer e
             ⊎ ((encode_cause e.kind ≡ EncodeCause.no_root_value Jer)
-            × ((f : Frame) → Holds self (f ∷ []) → last_present f ≡ None))) }
+            × ((f : Frame) (fs : List Frame) → Holds self (f ∷ fs) → last_present f ≡ None))) }
         ensures codec { IfErr result (λ e. e.codec ≡ Jer) }
     {
         let alloc = self.alloc;
@@ -98,7 +100,7 @@ impl Encoder {
     /// `OutOfMemory` alone.
     fn put(&mut self, slot: Option<Value>) -> Result<(), EncodeError>
         ensures added { OnOk result (self.new.frames ≡ push slot self.old.frames) }
-        ensures refused { IfErr result (λ e. e.kind ≡ EncodeErrorKind.OutOfMemory) }
+        ensures refused { IfErr result (IsOutOfMemory Notation.jer) }
     {
         match self.frames.add(slot) {
             Ok(()) => Ok(()),

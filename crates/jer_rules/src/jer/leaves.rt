@@ -1,11 +1,10 @@
 // Values without parts as JSON values.
-ghost use Rattle.asn_fault.specs.declared.encode.EncodeErrorKind.TheVariants.{OutOfMemory};
 ghost use Rattle.asn_traits.specs.Canonical.{jer_data};
 ghost use Rattle.asn_traits.specs.Leaf.{leaf_value};
 ghost use Rattle.asn_traits.specs.Notation.{Notation};
 ghost use Rattle.asn_traits.specs.Opening.{IsTaken};
 ghost use Rattle.asn_traits.specs.Writable.{Writable};
-ghost use Rattle.asn_traits.specs.Writing.{FailsToEncode};
+ghost use Rattle.asn_traits.specs.Writing.{FailsToEncode, IsOutOfMemory};
 ghost use Rattle.jer_rules.specs.NoLeaves.{IsNoLeaf};
 ghost use Rattle.jer_rules.specs.Pending.{tree_of};
 ghost use Rattle.serde_json.specs.Data.{Data};
@@ -61,7 +60,7 @@ pub fn json_of_leaf(alloc: Global, leaf: Leaf<'_>) -> Result<Value, EncodeError>
 fn json_of_text(alloc: Global, text: &str) -> Result<Value, EncodeError>
     ensures json { IfOk result (λ v. view v ≡ Data.string text.now) }
     ensures text { is_utf8 text.now ≡ true }
-    ensures refused { IfErr result (λ e. e.kind ≡ OutOfMemory) }
+    ensures refused { IfErr result (IsOutOfMemory Notation.jer) }
 {
     match String::from_str(alloc, text) {
         Ok(text) => Ok(Value::String(text)),

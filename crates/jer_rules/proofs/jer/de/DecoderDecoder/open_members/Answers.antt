@@ -37,4 +37,4 @@ returns c =
 pub returns-in-Err : goal.returns-in-Err
 returns-in-Err c =
     let h = c.in-Err.ensures in
-    λ fs added. no_members (kind_view c.args.kind) fs added _ _ _ _ c.in_ok-take.ensures (members-none _ h.1) (refuses_because_or_memory _ Jer _ _ c.no_object.ensures refl)
+    λ fs added. no_members (kind_view c.args.kind) fs added _ _ _ _ c.in_ok-take.ensures (members-none _ h.1) (refuses_because_or_memory _ Jer _ _ c.no_object.ensures refl refl)

@@ -20,19 +20,19 @@ returns-in-Err-Octets c =
 pub returns-in-Err-Object : goal.returns-in-Err-Object
 returns-in-Err-Object c =
     let h = rw c.in-Err-Object.field-0-is at c.in-Err-Object.ensures in
-    no_leaf c.args.kind _ _ _ _ _ c.in_ok-take.ensures h (refuses_because_or_memory _ Jer _ _ c.no_object.ensures refl)
+    no_leaf c.args.kind _ _ _ _ _ c.in_ok-take.ensures h (refuses_because_or_memory _ Jer _ _ c.no_object.ensures refl refl)
 
 pub returns-in-Err-Digits : goal.returns-in-Err-Digits
 returns-in-Err-Digits c =
     let h = rw c.in-Err-Digits.field-0-is at c.in-Err-Digits.ensures in
-    no_leaf c.args.kind _ _ _ _ _ c.in_ok-take.ensures h (refuses_because_or_memory _ Jer _ _ c.no_digits.ensures refl)
+    no_leaf c.args.kind _ _ _ _ _ c.in_ok-take.ensures h (refuses_because_or_memory _ Jer _ _ c.no_digits.ensures refl refl)
 
 pub returns-in-Err-Count : goal.returns-in-Err-Count
 returns-in-Err-Count c =
     let h = rw c.in-Err-Count.field-0-is at c.in-Err-Count.ensures in
-    no_leaf c.args.kind _ _ _ _ _ c.in_ok-take.ensures h (refuses_because_or_memory _ Jer _ _ c.other_length.ensures refl)
+    no_leaf c.args.kind _ _ _ _ _ c.in_ok-take.ensures h (refuses_because_or_memory _ Jer _ _ c.other_length.ensures refl refl)
 
 pub returns-in-Err-Arcs : goal.returns-in-Err-Arcs
 returns-in-Err-Arcs c =
     let h = rw c.in-Err-Arcs.field-0-is at c.in-Err-Arcs.ensures in
-    no_leaf c.args.kind _ _ _ _ _ c.in_ok-take.ensures h (refuses_because_or_memory _ Jer _ _ c.no_oid.ensures refl)
+    no_leaf c.args.kind _ _ _ _ _ c.in_ok-take.ensures h (refuses_because_or_memory _ Jer _ _ c.no_oid.ensures refl refl)

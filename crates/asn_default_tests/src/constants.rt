@@ -1,0 +1,103 @@
+//! Compares constants with the numbers that X.680 gives, and with what each type states.
+use asn_core::{Any, Bits, Class, Identifier, ObjectIdentifier, OctetString, Tag, TagTree};
+use asn_strings::{
+    BmpString, GeneralString, GraphicString, Ia5String, NumericString, PrintableString,
+    UniversalString, VisibleString,
+};
+use asn_times::{Date, GeneralizedTime, UtcTime};
+use asn_traits::{AsnType, Decimal};
+
+/// Lists the universal tags with their numbers (X.680, table 1).
+const UNIVERSAL: [(Tag, u32); 24] = [
+    (Tag::EOC, 0),
+    (Tag::BOOL, 1),
+    (Tag::INTEGER, 2),
+    (Tag::BIT_STRING, 3),
+    (Tag::OCTET_STRING, 4),
+    (Tag::NULL, 5),
+    (Tag::OBJECT_IDENTIFIER, 6),
+    (Tag::REAL, 9),
+    (Tag::ENUMERATED, 10),
+    (Tag::UTF8_STRING, 12),
+    (Tag::SEQUENCE, 16),
+    (Tag::SET, 17),
+    (Tag::NUMERIC_STRING, 18),
+    (Tag::PRINTABLE_STRING, 19),
+    (Tag::TELETEX_STRING, 20),
+    (Tag::IA5_STRING, 22),
+    (Tag::UTC_TIME, 23),
+    (Tag::GENERALIZED_TIME, 24),
+    (Tag::GRAPHIC_STRING, 25),
+    (Tag::VISIBLE_STRING, 26),
+    (Tag::GENERAL_STRING, 27),
+    (Tag::UNIVERSAL_STRING, 28),
+    (Tag::BMP_STRING, 30),
+    (Tag::DATE, 31),
+];
+
+/// Each constant of `Tag` is the universal tag of its number.
+#[test]
+fn universal_tags(rt: HostRuntime) {
+    for &(tag, value) in &UNIVERSAL {
+        // No other class is among them.
+        assert_eq!(rt;
+            tag,
+            Tag {
+                class: Class::Universal,
+                value
+            }
+        );
+    }
+}
+
+/// Returns whether the constants of a type are those that its calls state of its shape, and it has
+/// one tag, no identifier of its own and no type below it at the same tree.
+fn agree<T: AsnType>() -> bool {
+    let (tag, tree, choice) = T::tag_table();
+    let one_tag = match (T::TAG_TREE, tree) {
+        (TagTree::Leaf(constant), TagTree::Leaf(stated)) => constant == stated,
+        _ => false,
+    };
+    one_tag
+        && T::TAG == tag
+        && T::IS_CHOICE == choice
+        && T::CONSTRAINTS.items.len() == T::constraint_table().items.len()
+        && T::IDENTIFIER == Identifier::EMPTY
+        && T::RANK == 0
+}
+
+/// No contract names the constants of a type. Its calls state them, and tie them to its shape; here
+/// both are the same.
+#[test]
+fn constants_are_what_calls_state(rt: HostRuntime) {
+    let strings = [
+        agree::<String>(),
+        agree::<NumericString>(),
+        agree::<PrintableString>(),
+        agree::<VisibleString>(),
+        agree::<Ia5String>(),
+        agree::<GeneralString>(),
+        agree::<GraphicString>(),
+        agree::<BmpString>(),
+        agree::<UniversalString>(),
+    ];
+    let others = [
+        agree::<bool>(),
+        agree::<()>(),
+        agree::<u8>(),
+        agree::<i128>(),
+        agree::<Bits>(),
+        agree::<OctetString>(),
+        agree::<Any>(),
+        agree::<ObjectIdentifier>(),
+        agree::<UtcTime>(),
+        agree::<GeneralizedTime>(),
+        agree::<Date>(),
+        agree::<Decimal>(),
+        agree::<Vec<bool>>(),
+    ];
+    for &same in strings.iter().chain(others.iter()) {
+        // A row stands for a type.
+        assert!(rt; same);
+    }
+}

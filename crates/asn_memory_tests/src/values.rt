@@ -117,14 +117,13 @@ fn an_object_after_a_refusal(rt: HostRuntime) -> Result<(), Fail> {
 fn a_set_after_a_refusal(rt: HostRuntime) -> Result<(), Fail> {
     take_pieces_before(rt.alloc(), Share::First)?;
     let mut set = SetOf::new(rt.alloc());
-    let mut expected = 0;
     for number in [2u8, 10, 1, 2] {
-        assert!(rt; set.len() < 4);
+        let before = set.len();
+        assert!(rt; before < 4);
         if set.insert(number).is_err() {
-            assert_eq!(rt; set.len(), expected);
+            assert_eq!(rt; set.len(), before);
             return Err(Fail::from(REFUSED));
         }
-        expected += 1;
     }
     assert_eq!(rt; set.len(), 4);
     Ok(())

@@ -32,17 +32,17 @@ pub enum Share {
 ///
 /// `OutOfMemory` alone.
 pub fn take_pieces_before(alloc: Global, share: Share) -> Result<(), OutOfMemory> {
-    let shares_after: usize = match share {
-        Share::First => 7,
-        Share::Second => 6,
-        Share::Third => 5,
-        Share::Fourth => 4,
-        Share::Fifth => 3,
-        Share::Sixth => 2,
-        Share::Seventh => 1,
+    let before: usize = match share {
+        Share::First => 7 * SHARE,
+        Share::Second => 6 * SHARE,
+        Share::Third => 5 * SHARE,
+        Share::Fourth => 4 * SHARE,
+        Share::Fifth => 3 * SHARE,
+        Share::Sixth => 2 * SHARE,
+        Share::Seventh => SHARE,
         Share::Eighth => 0,
     };
-    for _ in 0..shares_after * SHARE {
+    for _ in 0..before {
         let _piece = Vec::<u8>::with_capacity(alloc, 1)?;
     }
     Ok(())

@@ -1,6 +1,6 @@
 -- The sample types, their names and their shapes.
 use denote.Enum.Bare.{sameb}
-use Rattle.std.specs.Prelude.{ℕ, List, [], ◌∷◌, codes, bytes_eq, if◌then◌else◌, Option, Some, None, option_map}
+use Rattle.std.specs.Prelude.{ℕ, List, [], ◌∷◌, ◌++◌, codes, bytes_eq, if◌then◌else◌, Option, Some, None, option_map}
 use Rattle.asn_traits.specs.Shape.{Alphabet, Shape}
 use Rattle.asn_traits.specs.Terms.{signed, unsigned, utf8_string}
 use Rattle.asn_document.specs.Meaning.{document_shape}
@@ -33,9 +33,9 @@ use Rattle.asn_samples.specs.contracts.sample.Sample.{the_type}
 use Rattle.asn_samples.specs.declared.sample.Sample.{Sample}
 use Rattle.asn_samples.specs.declared.sample.Sample.TheVariants as sample_type
 
--- All sample types, each with its name and its shape.
-abbrev pub samples : List (List ℕ × Sample × Shape)
-samples =
+-- The sample types that need no description, each with its name and its shape.
+abbrev pub plain_samples : List (List ℕ × Sample × Shape)
+plain_samples =
     (codes "bool", sample_type.Bool, Shape.boolean)
     ∷ (codes "Null", sample_type.Null, Shape.null)
     ∷ (codes "u8", sample_type.U8, unsigned 8)
@@ -65,7 +65,12 @@ samples =
     ∷ (codes "Any", sample_type.Any, Shape.any)
     ∷ (codes "ObjectIdentifier", sample_type.ObjectIdentifier, Shape.oid)
     ∷ (codes "Document", sample_type.Document, document_shape)
-    ∷ (codes "Renamed", sample_type.Renamed, renamed_shape)
+    ∷ []
+
+-- Those that are described, each with its name and its shape.
+abbrev pub described_samples : List (List ℕ × Sample × Shape)
+described_samples =
+    (codes "Renamed", sample_type.Renamed, renamed_shape)
     ∷ (codes "Inner", sample_type.Inner, inner_shape)
     ∷ (codes "SimpleEnum", sample_type.SimpleEnum, simple_enum_shape)
     ∷ (codes "ExtEnum", sample_type.ExtEnum, ext_enum_shape)
@@ -91,6 +96,10 @@ samples =
     ∷ (codes "ExtensibleBitStringField", sample_type.ExtensibleBitStringField, extensible_bit_string_field_shape)
     ∷ (codes "Nest", sample_type.Nest, nest_shape)
     ∷ []
+
+-- All sample types, each with its name and its shape.
+abbrev pub samples : List (List ℕ × Sample × Shape)
+samples = plain_samples ++ described_samples
 
 -- The sample type of the first row of that name.
 abbrev pub sample_beside : List (List ℕ × Sample × Shape) → List ℕ → Option Sample

@@ -1,7 +1,8 @@
 //! Lists the sample types by their names. `Sample::accept` is the one place that joins a name, a
 //! Rust type and a shape, so a new sample is a row in each of the three lists here and one in
 //! `specs/Samples.antt`.
-ghost use Rattle.asn_samples.specs.Samples.{sample_named, sample_shape};
+ghost use Rattle.asn_samples.specs.Samples.{described_samples, plain_samples};
+ghost use Rattle.asn_samples.specs.Samples.{sample_beside, sample_named, sample_shape};
 ghost use Rattle.asn_traits.specs.ShapeView.{shape_view};
 ghost use Rattle.std.specs.Prelude.{◌≡◌, IfOk, is_some};
 
@@ -136,62 +137,9 @@ impl Sample {
     pub fn named(name: &str) -> Option<Sample>
         ensures { result ≡ sample_named name.now }
     {
-        match name {
-            "bool" => Some(Sample::Bool),
-            "Null" => Some(Sample::Null),
-            "u8" => Some(Sample::U8),
-            "i64" => Some(Sample::I64),
-            "u64" => Some(Sample::U64),
-            "u128" => Some(Sample::U128),
-            "Integer" => Some(Sample::Integer),
-            "Utf8String" => Some(Sample::Utf8String),
-            "NumericString" => Some(Sample::NumericString),
-            "PrintableString" => Some(Sample::PrintableString),
-            "VisibleString" => Some(Sample::VisibleString),
-            "Ia5String" => Some(Sample::Ia5String),
-            "GeneralString" => Some(Sample::GeneralString),
-            "GraphicString" => Some(Sample::GraphicString),
-            "BmpString" => Some(Sample::BmpString),
-            "UniversalString" => Some(Sample::UniversalString),
-            "UtcTime" => Some(Sample::UtcTime),
-            "GeneralizedTime" => Some(Sample::GeneralizedTime),
-            "Date" => Some(Sample::Date),
-            "SequenceOf<u8>" => Some(Sample::SequenceOfU8),
-            "SequenceOf<i64>" => Some(Sample::SequenceOfI64),
-            "SequenceOf<bool>" => Some(Sample::SequenceOfBool),
-            "SequenceOf<SimpleChoice>" => Some(Sample::SequenceOfSimpleChoice),
-            "SetOf<u8>" => Some(Sample::SetOfU8),
-            "OctetString" => Some(Sample::OctetString),
-            "BitString" => Some(Sample::BitString),
-            "Any" => Some(Sample::Any),
-            "ObjectIdentifier" => Some(Sample::ObjectIdentifier),
-            "Document" => Some(Sample::Document),
-            "Renamed" => Some(Sample::Renamed),
-            "Inner" => Some(Sample::Inner),
-            "SimpleEnum" => Some(Sample::SimpleEnum),
-            "ExtEnum" => Some(Sample::ExtEnum),
-            "SimpleChoice" => Some(Sample::SimpleChoice),
-            "ExtChoice" => Some(Sample::ExtChoice),
-            "OldPart" => Some(Sample::OldPart),
-            "NewPart" => Some(Sample::NewPart),
-            "Nested" => Some(Sample::Nested),
-            "Struct" => Some(Sample::Struct),
-            "TestTypeA" => Some(Sample::TestTypeA),
-            "Very" => Some(Sample::Very),
-            "Defaulted" => Some(Sample::Defaulted),
-            "MarkSet" => Some(Sample::MarkSet),
-            "OldReport" => Some(Sample::OldReport),
-            "NewReport" => Some(Sample::NewReport),
-            "OldMode" => Some(Sample::OldMode),
-            "NewMode" => Some(Sample::NewMode),
-            "OldTree" => Some(Sample::OldTree),
-            "NewTree" => Some(Sample::NewTree),
-            "WithNullOpt" => Some(Sample::WithNullOpt),
-            "ConstrainedBitString" => Some(Sample::ConstrainedBitString),
-            "ExtensibleBitString" => Some(Sample::ExtensibleBitString),
-            "ExtensibleBitStringField" => Some(Sample::ExtensibleBitStringField),
-            "Nest" => Some(Sample::Nest),
-            _ => None,
+        match plain_named(name) {
+            Some(sample) => Some(sample),
+            None => described_named(name),
         }
     }
 
@@ -269,6 +217,78 @@ impl Sample {
         ensures { IfOk result (λ s. shape_view s ≡ sample_shape self) }
     {
         self.accept(ShapeOf { alloc }, &mut ())
+    }
+}
+
+/// Returns the sample type of that name among those that need no description.
+fn plain_named(name: &str) -> Option<Sample>
+    ensures { result ≡ sample_beside plain_samples name.now }
+{
+    match name {
+        "bool" => Some(Sample::Bool),
+        "Null" => Some(Sample::Null),
+        "u8" => Some(Sample::U8),
+        "i64" => Some(Sample::I64),
+        "u64" => Some(Sample::U64),
+        "u128" => Some(Sample::U128),
+        "Integer" => Some(Sample::Integer),
+        "Utf8String" => Some(Sample::Utf8String),
+        "NumericString" => Some(Sample::NumericString),
+        "PrintableString" => Some(Sample::PrintableString),
+        "VisibleString" => Some(Sample::VisibleString),
+        "Ia5String" => Some(Sample::Ia5String),
+        "GeneralString" => Some(Sample::GeneralString),
+        "GraphicString" => Some(Sample::GraphicString),
+        "BmpString" => Some(Sample::BmpString),
+        "UniversalString" => Some(Sample::UniversalString),
+        "UtcTime" => Some(Sample::UtcTime),
+        "GeneralizedTime" => Some(Sample::GeneralizedTime),
+        "Date" => Some(Sample::Date),
+        "SequenceOf<u8>" => Some(Sample::SequenceOfU8),
+        "SequenceOf<i64>" => Some(Sample::SequenceOfI64),
+        "SequenceOf<bool>" => Some(Sample::SequenceOfBool),
+        "SequenceOf<SimpleChoice>" => Some(Sample::SequenceOfSimpleChoice),
+        "SetOf<u8>" => Some(Sample::SetOfU8),
+        "OctetString" => Some(Sample::OctetString),
+        "BitString" => Some(Sample::BitString),
+        "Any" => Some(Sample::Any),
+        "ObjectIdentifier" => Some(Sample::ObjectIdentifier),
+        "Document" => Some(Sample::Document),
+        _ => None,
+    }
+}
+
+/// Returns the sample type of that name among those that are described.
+fn described_named(name: &str) -> Option<Sample>
+    ensures { result ≡ sample_beside described_samples name.now }
+{
+    match name {
+        "Renamed" => Some(Sample::Renamed),
+        "Inner" => Some(Sample::Inner),
+        "SimpleEnum" => Some(Sample::SimpleEnum),
+        "ExtEnum" => Some(Sample::ExtEnum),
+        "SimpleChoice" => Some(Sample::SimpleChoice),
+        "ExtChoice" => Some(Sample::ExtChoice),
+        "OldPart" => Some(Sample::OldPart),
+        "NewPart" => Some(Sample::NewPart),
+        "Nested" => Some(Sample::Nested),
+        "Struct" => Some(Sample::Struct),
+        "TestTypeA" => Some(Sample::TestTypeA),
+        "Very" => Some(Sample::Very),
+        "Defaulted" => Some(Sample::Defaulted),
+        "MarkSet" => Some(Sample::MarkSet),
+        "OldReport" => Some(Sample::OldReport),
+        "NewReport" => Some(Sample::NewReport),
+        "OldMode" => Some(Sample::OldMode),
+        "NewMode" => Some(Sample::NewMode),
+        "OldTree" => Some(Sample::OldTree),
+        "NewTree" => Some(Sample::NewTree),
+        "WithNullOpt" => Some(Sample::WithNullOpt),
+        "ConstrainedBitString" => Some(Sample::ConstrainedBitString),
+        "ExtensibleBitString" => Some(Sample::ExtensibleBitString),
+        "ExtensibleBitStringField" => Some(Sample::ExtensibleBitStringField),
+        "Nest" => Some(Sample::Nest),
+        _ => None,
     }
 }
 

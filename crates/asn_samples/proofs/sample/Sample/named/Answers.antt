@@ -1,8 +1,10 @@
-use Rattle.asn_samples.specs.Samples.{samples}
-use Rattle.asn_samples.proofs.Rows.{none_named}
+use Rattle.std.proofs.Common.{sym, ◌∙◌}
+use Rattle.asn_samples.specs.Samples.{described_samples, plain_samples}
+use Rattle.asn_samples.proofs.Rows.{named_in_first, named_in_second}
 use Rattle.asn_samples.proofs.sample.Sample.named.Goals as goal
 
-pub returns-in_default : goal.returns-in_default
-returns-in_default c =
-    let n = c.in_default in
-    none_named samples c.args.name.now (n.not-bool, (n.not-Null, (n.not-u8, (n.not-i64, (n.not-u64, (n.not-u128, (n.not-Integer, (n.not-Utf8String, (n.not-NumericString, (n.not-PrintableString, (n.not-VisibleString, (n.not-Ia5String, (n.not-GeneralString, (n.not-GraphicString, (n.not-BmpString, (n.not-UniversalString, (n.not-UtcTime, (n.not-GeneralizedTime, (n.not-Date, (n.not-text, (n.not-text-2, (n.not-text-3, (n.not-text-4, (n.not-text-5, (n.not-OctetString, (n.not-BitString, (n.not-Any, (n.not-ObjectIdentifier, (n.not-Document, (n.not-Renamed, (n.not-Inner, (n.not-SimpleEnum, (n.not-ExtEnum, (n.not-SimpleChoice, (n.not-ExtChoice, (n.not-OldPart, (n.not-NewPart, (n.not-Nested, (n.not-Struct, (n.not-TestTypeA, (n.not-Very, (n.not-Defaulted, (n.not-MarkSet, (n.not-OldReport, (n.not-NewReport, (n.not-OldMode, (n.not-NewMode, (n.not-OldTree, (n.not-NewTree, (n.not-WithNullOpt, (n.not-ConstrainedBitString, (n.not-ExtensibleBitString, (n.not-ExtensibleBitStringField, (n.not-Nest, tt))))))))))))))))))))))))))))))))))))))))))))))))))))))
+pub returns-in-Some : goal.returns-in-Some
+returns-in-Some c = named_in_first plain_samples described_samples c.args.name.now c.in-Some.sample (sym c.in-Some.is ∙ c.plain_named.ensures)
+
+pub returns-in-None : goal.returns-in-None
+returns-in-None c = c.described_named.ensures ∙ named_in_second plain_samples described_samples c.args.name.now (sym c.in-None.is ∙ c.plain_named.ensures)

@@ -30,6 +30,7 @@ const NOTHING: Handed = Handed {
 
 /// A BOOLEAN with a tag, constraints and an identifier of its own, which keeps what its last call
 /// was handed.
+#[derive(Drop)]
 struct Flag {
     value: bool,
     handed: Cell<Handed>,

@@ -2,7 +2,7 @@
 use Rattle.std.specs.Prelude.{pos, string_bytes, codes}
 use Rattle.asn_traits.specs.Shape.{Shape, Alternatives, AlternativeAdditions}
 use Rattle.asn_traits.specs.Value.{Value}
-use Rattle.asn_traits.specs.Chosen.{Chosen, chosen, chosen_value}
+use Rattle.asn_traits.specs.Chosen.{Chosen, chosen}
 use Rattle.asn_traits.specs.Terms.{context, unsigned, utf8_string}
 use Rattle.asn_sample_choices.specs.declared.ext_choice.ExtChoice.{ExtChoice}
 use Rattle.asn_sample_choices.specs.declared.ext_choice.ExtChoice.TheVariants.{Test1, Test2, Test3}
@@ -27,7 +27,3 @@ abbrev pub ext_choice_chosen : ExtChoice → Chosen
 ext_choice_chosen (Test1 number) = chosen (codes "Test1") (context 0) (unsigned 8) (Value.int (pos number))
 ext_choice_chosen (Test2 text) = chosen (codes "Test2") (context 1) utf8_string (Value.text (string_bytes text))
 ext_choice_chosen (Test3 flag) = chosen (codes "Test3") (context 2) Shape.boolean (Value.boolean flag)
-
--- The value that it stands for.
-abbrev pub ext_choice_value : ExtChoice → Value
-ext_choice_value x = chosen_value (ext_choice_chosen x)

@@ -2,7 +2,7 @@
 use Rattle.std.specs.Prelude.{pos, string_bytes, codes}
 use Rattle.asn_traits.specs.Shape.{Shape, Alternatives, closed_choice}
 use Rattle.asn_traits.specs.Value.{Value}
-use Rattle.asn_traits.specs.Chosen.{Chosen, chosen, chosen_value}
+use Rattle.asn_traits.specs.Chosen.{Chosen, chosen}
 use Rattle.asn_traits.specs.Terms.{context, unsigned, utf8_string}
 use Rattle.asn_sample_choices.specs.declared.simple_choice.SimpleChoice.{SimpleChoice}
 use Rattle.asn_sample_choices.specs.declared.simple_choice.SimpleChoice.TheVariants.{Test1, Test2}
@@ -22,7 +22,3 @@ simple_choice_shape = closed_choice simple_choice_alternatives
 abbrev pub simple_choice_chosen : SimpleChoice → Chosen
 simple_choice_chosen (Test1 number) = chosen (codes "Test1") (context 0) (unsigned 8) (Value.int (pos number))
 simple_choice_chosen (Test2 text) = chosen (codes "Test2") (context 1) utf8_string (Value.text (string_bytes text))
-
--- The value that it stands for.
-abbrev pub simple_choice_value : SimpleChoice → Value
-simple_choice_value x = chosen_value (simple_choice_chosen x)

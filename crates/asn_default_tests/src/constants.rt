@@ -50,15 +50,20 @@ fn universal_tags(rt: HostRuntime) {
     }
 }
 
+/// Returns the tag of a tree that is one tag alone.
+fn only_tag(tree: &TagTree) -> Option<Tag> {
+    match tree {
+        TagTree::Leaf(tag) => Some(*tag),
+        TagTree::Choice(..) => None,
+    }
+}
+
 /// Returns whether the constants of a type are those that its calls state of its shape, and it has
 /// one tag, no identifier of its own and no type below it at the same tree.
 fn agree<T: AsnType>() -> bool {
     let (tag, tree, choice) = T::tag_table();
-    let one_tag = match (T::TAG_TREE, tree) {
-        (TagTree::Leaf(constant), TagTree::Leaf(stated)) => constant == stated,
-        _ => false,
-    };
-    one_tag
+    only_tag(&tree) == Some(tag)
+        && only_tag(&T::TAG_TREE) == Some(tag)
         && T::TAG == tag
         && T::IS_CHOICE == choice
         && T::CONSTRAINTS.items.len() == T::constraint_table().items.len()

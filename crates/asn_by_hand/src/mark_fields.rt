@@ -6,6 +6,7 @@ ghost use Rattle.asn_model.specs.Components.{Component};
 ghost use Rattle.asn_model.specs.Shape.{FieldAdditions};
 ghost use Rattle.asn_sample_fields.specs.MarkSet.{mark_set_fields, mark_set_shape};
 ghost use Rattle.asn_traits.specs.Answer.{Answer};
+ghost use Rattle.asn_traits.specs.Notation.{Notation};
 ghost use Rattle.asn_traits.specs.SetFields.{PlaceAnswer, SetAnswer, component_at};
 ghost use Rattle.asn_traits.specs.SetFields.{listed_components};
 ghost use Rattle.std.specs.Prelude.{◌≡◌, ◌∷◌, [], Some, map};
@@ -104,7 +105,7 @@ pub fn read_mark_set<D: Decoder>(decoder: &mut D) -> Result<MarkSet, DecodeError
         },
         |mut fields: Vec<MarkField>| -> Result<MarkSet, DecodeError>
             requires { map mark_number fields.items ≡ 1 ∷ 0 ∷ [] }
-            ensures { SetAnswer failure_of D.notation mark_slot mark_set_fields
+            ensures { (n : Notation) → SetAnswer failure_of n mark_slot mark_set_fields
                 FieldAdditions.closed_fields mark_set_value fields.items result }
         {
             // They come in the order in which they were read.

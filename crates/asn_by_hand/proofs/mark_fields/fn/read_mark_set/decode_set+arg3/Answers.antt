@@ -7,7 +7,7 @@ use Rattle.asn_by_hand.proofs.Slots.{both_taken}
 use Rattle.asn_by_hand.proofs.mark_fields.fn.read_mark_set.decode_set+arg3.Goals as goal
 
 pub returns : goal.returns
-returns c =
+returns c n =
     let mark = c.in-Some-Mark in
     let note = c.in-Some-Note in
     let items = both_taken mark_number _ _ _ _ _ 1 0 c.requires mark.ensures.items note.ensures.items in (

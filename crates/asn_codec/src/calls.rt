@@ -140,7 +140,8 @@ pub trait CodecCalls: Copy {
             (λ x. IsUtf8 input.now
             × TextDecodesTo (notation_of (codec_of self.now)) T.shape_of input.now (T.value_of x)) }
         // Their error states that the bytes are no text, or where and why decoding stops, or that
-        // memory ran out under this codec; and a text that decodes to a value is read as that value, unless memory runs out.
+        // memory ran out under this codec; and a text that decodes to a value is read as that
+        // value, unless memory runs out.
         ensures refused { IsText (notation_of (codec_of self.now)) → IfErr result
             (λ e. (failure_of e ≡ at_root Cause.out_of_memory (codec_of self.now))
             ⊎ IsBytesFailure (codec_of self.now) T.shape_of input.now (failure_of e)) }

@@ -2,7 +2,7 @@
 use Rattle.std.proofs.Common.{◌≡◌, sym, ap, ◌∙◌, ℕ, List, [], ◌∷◌, ◌++◌, Option, Some, None, arith, length, map, refl}
 use Rattle.asn_model.specs.Shape.{Presence}
 use Rattle.asn_model.specs.Value.{Value}
-use Rattle.asn_traits.specs.SetFields.{kept_slot}
+use Rattle.asn_coding.specs.SetFields.{kept_slot}
 
 -- Whatever was read stays.
 pub kept_optional : (o : Option Value) → o ≡ kept_slot Presence.optional o

@@ -5,8 +5,8 @@ use Rattle.asn_model.specs.Shape.{FieldAdditions, Presence, all_fields}
 use Rattle.asn_model.specs.Value.{Value}
 use Rattle.asn_sample_fields.specs.MarkSet.{mark_set_fields, mark_set_slots}
 use Rattle.asn_sample_fields.specs.declared.mark_set.MarkSet.{MarkSet}
-use Rattle.asn_traits.specs.Terms.{context, signed, utf8_string}
-use Rattle.asn_traits.specs.Writing.{members_value}
+use Rattle.asn_coding.specs.Terms.{context, signed, utf8_string}
+use Rattle.asn_coding.specs.Writing.{members_value}
 use Rattle.asn_by_hand.specs.declared.mark_fields.MarkField.{MarkField}
 use Rattle.asn_by_hand.specs.declared.mark_fields.MarkField.TheVariants.{Mark, Note}
 

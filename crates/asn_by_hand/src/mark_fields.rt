@@ -5,10 +5,10 @@ ghost use Rattle.asn_fault.specs.Failure.{failure_of};
 ghost use Rattle.asn_model.specs.Components.{Component};
 ghost use Rattle.asn_model.specs.Shape.{FieldAdditions};
 ghost use Rattle.asn_sample_fields.specs.MarkSet.{mark_set_fields, mark_set_shape};
-ghost use Rattle.asn_traits.specs.Answer.{Answer};
+ghost use Rattle.asn_coding.specs.Answer.{Answer};
 ghost use Rattle.asn_traits.specs.Notation.{Notation};
-ghost use Rattle.asn_traits.specs.SetFields.{PlaceAnswer, SetAnswer, component_at};
-ghost use Rattle.asn_traits.specs.SetFields.{listed_components};
+ghost use Rattle.asn_coding.specs.SetFields.{PlaceAnswer, SetAnswer, component_at};
+ghost use Rattle.asn_coding.specs.SetFields.{listed_components};
 ghost use Rattle.std.specs.Prelude.{◌≡◌, ◌∷◌, [], Some, map};
 
 use asn_core::Tag;

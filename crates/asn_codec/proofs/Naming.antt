@@ -12,14 +12,14 @@ use Rattle.asn_fault.specs.Failure.{Failure, Level, Cause, at_root, failure_of, 
 use Rattle.asn_fault.specs.EncodeCause.{EncodeCause, encode_cause, is_encode_out_of_memory}
 use Rattle.asn_fault.specs.declared.decode.DecodeError.{DecodeError}
 use Rattle.asn_fault.specs.declared.encode.EncodeError.{EncodeError}
-use Rattle.asn_traits.specs.Answer as answer
+use Rattle.asn_coding.specs.Answer as answer
 use Rattle.asn_traits.specs.Notation.{Notation, notation_of}
-use Rattle.asn_traits.specs.Root.{Reads}
+use Rattle.asn_coding.specs.Root.{Reads}
 use Rattle.asn_traits.specs.DecodesTo.{DecodesTo}
 use Rattle.asn_traits.specs.Shape.{Shape}
 use Rattle.asn_traits.specs.Tree.{Tree}
 use Rattle.asn_traits.specs.Value.{Value}
-use Rattle.asn_traits.specs.Writing.{FailsToEncode}
+use Rattle.asn_coding.specs.Writing.{FailsToEncode}
 use Rattle.jer_rules.specs.Text as jer
 use Rattle.avn_rules.specs.Text as avn
 use Rattle.asn_codec.specs.Texts.{HasTree, TextDecodesTo, IsDecodeFailure, IsUnencodable}

@@ -12,7 +12,7 @@ use Rattle.asn_core.specs.declared.codec.Codec.{Codec}
 use Rattle.asn_core.specs.declared.codec.Codec.TheVariants.{Jer, Avn}
 use Rattle.asn_fault.specs.Failure.{Failure, Cause, at_root}
 use Rattle.asn_fault.specs.EncodeCause.{EncodeCause}
-use Rattle.asn_traits.specs.Answer.{OfLevels, OfPlace}
+use Rattle.asn_coding.specs.Answer.{OfLevels, OfPlace}
 use Rattle.asn_traits.specs.Canonical as canonical
 use Rattle.asn_traits.specs.Notation.{Notation, notation_of}
 use Rattle.asn_traits.specs.DecodesTo.{DecodesTo}

@@ -5,7 +5,7 @@ ghost use Rattle.asn_fault.specs.Failure.{Cause, at_root, failure_of};
 ghost use Rattle.asn_fault.specs.EncodeCause.{encode_cause, is_encode_out_of_memory};
 ghost use Rattle.asn_traits.specs.Canonical.{canonical_text};
 ghost use Rattle.asn_traits.specs.Notation.{IsText, notation_of};
-ghost use Rattle.asn_traits.specs.Root.{Reads};
+ghost use Rattle.asn_coding.specs.Root.{Reads};
 ghost use Rattle.asn_traits.specs.Value.{Value, Fits};
 ghost use Rattle.asn_traits.specs.Writable.{Writable};
 ghost use Rattle.asn_codec.specs.Binary.{IsBinary, IsBytesFailure, map_ok};

@@ -2,7 +2,8 @@
 //! an extension addition. The forms are those of X.697 and X.680, section 23.
 use asn_base::{OctetString, Tag};
 use asn_fault::DecodeError;
-use asn_traits::{FieldShapes, Shape, is_readable};
+use asn_fields::{FieldShapes};
+use asn_traits::{Shape, is_readable};
 use avn_rules::avn;
 use jer_rules::jer;
 use std::alloc::Global;

@@ -8,18 +8,18 @@ use Rattle.asn_model.specs.Notation.{Notation, notation_of}
 use Rattle.asn_model.specs.Shape.{Shape, SeqKind, FieldAdditions}
 use Rattle.asn_model.specs.Tree.{Slot, slot_nodes, head_nodes, head_slot}
 use Rattle.asn_model.specs.Value.{Value}
-use Rattle.asn_traits.proofs.FieldSteps.{field_refused}
-use Rattle.asn_traits.proofs.Members.{members_read, members_refused}
-use Rattle.asn_traits.proofs.Scopes.{table_names}
-use Rattle.asn_traits.proofs.Steps.{same_tail}
-use Rattle.asn_traits.specs.Answer.{Answer, Refuses}
-use Rattle.asn_traits.specs.FieldAnswer.{Ahead, TakesField, TakesSlot, WithinField}
-use Rattle.asn_traits.specs.Opening.{AllBelow, OpensMembers}
-use Rattle.asn_traits.specs.Passing.{TakesFields, RefusesFields}
-use Rattle.asn_traits.specs.Tables.{names_of, rows_of, field_rows}
-use Rattle.asn_traits.specs.Terms.{utf8_string}
-use Rattle.asn_traits.specs.Writing.{head_name, tail_names}
-use Rattle.asn_traits.specs.declared.asn_type.Field.{Field}
+use Rattle.asn_coding.proofs.FieldSteps.{field_refused}
+use Rattle.asn_coding.proofs.Members.{members_read, members_refused}
+use Rattle.asn_coding.proofs.Scopes.{table_names}
+use Rattle.asn_coding.proofs.Steps.{same_tail}
+use Rattle.asn_coding.specs.Answer.{Answer, Refuses}
+use Rattle.asn_coding.specs.FieldAnswer.{Ahead, TakesField, TakesSlot, WithinField}
+use Rattle.asn_coding.specs.Opening.{AllBelow, OpensMembers}
+use Rattle.asn_coding.specs.Passing.{TakesFields, RefusesFields}
+use Rattle.asn_coding.specs.Tables.{names_of, rows_of, field_rows}
+use Rattle.asn_coding.specs.Terms.{utf8_string}
+use Rattle.asn_coding.specs.Writing.{head_name, tail_names}
+use Rattle.asn_coding.specs.declared.field.Field.{Field}
 use Rattle.serde_json.specs.declared.value.Value.{Value as JsonValue}
 
 abbrev key_and_value : List (List ℕ)

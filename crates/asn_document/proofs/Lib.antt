@@ -1,3 +1,4 @@
+pub mod DecimalTexts
 pub mod Elements
 pub mod Entries
 pub mod Puts

@@ -9,7 +9,7 @@ use Rattle.asn_model.proofs.Readables.{and-both}
 use Rattle.asn_model.specs.Notation.{Notation}
 use Rattle.asn_model.specs.Shape.{Shape, Alphabet}
 use Rattle.asn_model.specs.Value.{Value, values, Fits, FitsFields, FitsAlternative, are_above, keys_rise}
-use Rattle.asn_traits.specs.Writing.{Frame, push, close, as_members, as_choice, Maps, Written, Offered}
+use Rattle.asn_coding.specs.Writing.{Frame, push, close, as_members, as_choice, Maps, Written, Offered}
 use Rattle.serde_json.proofs.Views.{Entry}
 use Rattle.serde_json.specs.Data.{Data}
 use Rattle.serde_json.specs.View.{view}

@@ -4,7 +4,7 @@ use Rattle.std.specs.declared.alloc.Global.{Global}
 use Rattle.asn_model.specs.CharacterStrings.{universal_tag}
 use Rattle.asn_model.specs.Shape.{Shape, Fields, Presence, Alternatives, closed_seq, closed_choice}
 use Rattle.asn_model.specs.Value.{Value, Values, Slots}
-use Rattle.asn_traits.specs.Terms.{context, signed, utf8_string}
+use Rattle.asn_coding.specs.Terms.{context, signed, utf8_string}
 use Rattle.serde_json.specs.Data.{Data, null, boolean, number, string, array, object, Items, no_items, item, Members, no_members, member}
 use Rattle.serde_json.specs.Find.{as_i64}
 use Rattle.serde_json.specs.View.{view}

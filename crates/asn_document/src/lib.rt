@@ -3,6 +3,7 @@
 //! other type.
 #![tactic(auto)]
 
+mod decimal;
 mod document;
 mod document_map;
 mod equality;

@@ -2,8 +2,8 @@
 //! holds values. What is read is moved into the value.
 ghost use Rattle.asn_document.specs.Meaning.{document_shape, document_alternatives, entry_shape};
 ghost use Rattle.asn_document.specs.Meaning.{json_value, json_entry};
-ghost use Rattle.asn_traits.specs.Answer.{Answer};
-ghost use Rattle.asn_traits.specs.Scopes.{TagAnswer};
+ghost use Rattle.asn_coding.specs.Answer.{Answer};
+ghost use Rattle.asn_coding.specs.Scopes.{TagAnswer};
 ghost use Rattle.asn_traits.specs.Shape.{Shape};
 ghost use Rattle.asn_traits.specs.Value.{Value as AbstractValue, values};
 ghost use Rattle.serde_json.specs.View.{view, items_view, members_view};
@@ -11,11 +11,13 @@ ghost use Rattle.serde_json.specs.Written.{has_float, items_have_float, members_
 ghost use Rattle.std.specs.Prelude.{◌≡◌, ◌^◌, ◌≤◌, IfOk, codes, decimal, false};
 
 use crate::Document;
+use crate::decimal::Decimal;
 use crate::document_map::put_member;
 use crate::writing::{ARRAY, DECIMAL, OBJECT, entry_table};
 use asn_core::{Constraints, Tag};
 use asn_fault::DecodeError;
-use asn_traits::{Decimal, Decoder, FieldNames, SeqKind, read_field, within_field};
+use asn_fields::{read_field, within_field};
+use asn_traits::{Decoder, FieldNames, SeqKind};
 use serde_json::{Map, Number, Value};
 
 /// Returns the JSON value of an `i64`.

@@ -5,18 +5,19 @@ ghost use Rattle.asn_document.specs.Meaning.{document_shape, document_value, ent
 ghost use Rattle.asn_document.specs.Meaning.{entry_shape, json_entry, json_value, number_name};
 ghost use Rattle.asn_document.specs.Meaning.{number_payload};
 ghost use Rattle.asn_traits.specs.Shape.{Shape};
-ghost use Rattle.asn_traits.specs.Tables.{field_rows, rows_of};
+ghost use Rattle.asn_coding.specs.Tables.{field_rows, rows_of};
 ghost use Rattle.asn_traits.specs.Value.{Value as AbstractValue, values};
-ghost use Rattle.asn_traits.specs.Writing.{FailsToEncode, Offered, Written};
+ghost use Rattle.asn_coding.specs.Writing.{FailsToEncode, Offered, Written};
 ghost use Rattle.serde_json.specs.Find.{as_i64, is_float};
 ghost use Rattle.serde_json.specs.View.{view, number_view, items_view, members_view};
 ghost use Rattle.serde_json.specs.Written.{has_float, items_have_float, members_have_float};
 ghost use Rattle.serde_json.specs.Written.{number_text};
 ghost use Rattle.std.specs.Prelude.{◌≡◌, ◌^◌, ◌≤◌, IfErr, OnOk, codes, decimal, false};
 
+use crate::decimal::Decimal;
 use asn_core::{Class, Constraints, Identifier, Tag, TagTree};
 use asn_fault::EncodeError;
-use asn_traits::{Decimal, Encoder, Field, Presence, TextType, required};
+use asn_traits::{Encoder, Field, Presence, TextType, required};
 use serde_json::{Map, Number, Value};
 
 /// Is the tag of the alternative `decimal`.

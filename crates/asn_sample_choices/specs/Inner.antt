@@ -2,8 +2,8 @@
 use Rattle.std.specs.Prelude.{pos, codes}
 use Rattle.asn_traits.specs.Shape.{Shape, Alternatives, closed_choice}
 use Rattle.asn_traits.specs.Value.{Value}
-use Rattle.asn_traits.specs.Chosen.{Chosen, chosen, chosen_value}
-use Rattle.asn_traits.specs.Terms.{context, unsigned}
+use Rattle.asn_coding.specs.Chosen.{Chosen, chosen, chosen_value}
+use Rattle.asn_coding.specs.Terms.{context, unsigned}
 use Rattle.asn_sample_choices.specs.declared.inner.Inner.{Inner}
 use Rattle.asn_sample_choices.specs.declared.inner.Inner.TheVariants.{Wine}
 

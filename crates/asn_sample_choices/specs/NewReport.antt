@@ -2,8 +2,8 @@
 use Rattle.std.specs.Prelude.{[], ◌∷◌, Some, option_map, string_bytes, codes}
 use Rattle.asn_traits.specs.Shape.{Shape, SeqKind, Fields, FieldAdditions, Presence}
 use Rattle.asn_traits.specs.Value.{Value, bag_of, values}
-use Rattle.asn_traits.specs.Writing.{Frame}
-use Rattle.asn_traits.specs.Terms.{context, signed, utf8_string}
+use Rattle.asn_coding.specs.Writing.{Frame}
+use Rattle.asn_coding.specs.Terms.{context, signed, utf8_string}
 use Rattle.asn_sample_choices.specs.NewPart.{new_part_shape, new_part_value}
 use Rattle.asn_sample_choices.specs.declared.new_report.NewReport.{NewReport}
 

@@ -2,8 +2,8 @@
 use Rattle.std.specs.Prelude.{pos, string_bytes, codes}
 use Rattle.asn_traits.specs.Shape.{Shape, Alternatives, AlternativeAdditions}
 use Rattle.asn_traits.specs.Value.{Value}
-use Rattle.asn_traits.specs.Chosen.{Chosen, chosen, chosen_value}
-use Rattle.asn_traits.specs.Terms.{context, unsigned, utf8_string}
+use Rattle.asn_coding.specs.Chosen.{Chosen, chosen, chosen_value}
+use Rattle.asn_coding.specs.Terms.{context, unsigned, utf8_string}
 use Rattle.asn_sample_choices.specs.declared.old_part.OldPart.{OldPart}
 use Rattle.asn_sample_choices.specs.declared.old_part.OldPart.TheVariants.{Code, Text}
 

@@ -2,8 +2,8 @@
 use Rattle.std.specs.Prelude.{[], ◌∷◌, Some, codes}
 use Rattle.asn_traits.specs.Shape.{Shape, SeqKind, Fields, FieldAdditions, Presence}
 use Rattle.asn_traits.specs.Value.{Value, bag_of, values}
-use Rattle.asn_traits.specs.Writing.{Frame}
-use Rattle.asn_traits.specs.Terms.{context, signed}
+use Rattle.asn_coding.specs.Writing.{Frame}
+use Rattle.asn_coding.specs.Terms.{context, signed}
 use Rattle.asn_sample_choices.specs.OldPart.{old_part_shape, old_part_value}
 use Rattle.asn_sample_choices.specs.declared.old_report.OldReport.{OldReport}
 

@@ -9,9 +9,8 @@ ghost use Rattle.std.specs.Prelude.{refl};
 
 use asn_base::{OutOfMemory, Tag, TagTree};
 use asn_fault::{DecodeError, EncodeError};
-use asn_traits::{
-    AlternativeShapes, ChoiceKind, ChoicePayload, Decode, Decoder, Encode, Encoder, OfKind, Shape,
-};
+use asn_fields::AlternativeShapes;
+use asn_traits::{ChoiceKind, ChoicePayload, Decode, Decoder, Encode, Encoder, OfKind, Shape};
 use std::alloc::Global;
 
 /// Is `ExtChoice ::= CHOICE { Test1 INTEGER (0..255), Test2 UTF8String, ..., Test3 BOOLEAN }`.

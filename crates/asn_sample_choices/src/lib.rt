@@ -2,7 +2,7 @@
 //! with the laws of the traits: choices, and the sequences that hold them. What contracts cite of a
 //! type stands in its file of `specs/`: its alternatives or fields, and the value of each Rust
 //! value. `asn_samples` gives the names by which the program knows the types.
-#![tactic(auto, using(asn_traits::proofs::Passing::field_steps))]
+#![tactic(auto, using(asn_coding::proofs::Passing::field_steps))]
 
 mod ext_choice;
 mod inner;

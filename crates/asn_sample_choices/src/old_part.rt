@@ -7,9 +7,9 @@ ghost use Rattle.std.specs.Prelude.{refl};
 
 use asn_base::{OutOfMemory, Tag, TagTree};
 use asn_fault::{DecodeError, EncodeError};
+use asn_fields::AlternativeShapes;
 use asn_traits::{
-    AlternativeShapes, ChoiceElement, ChoiceKind, ChoicePayload, Decode, Decoder, Encode, Encoder,
-    OfKind, Shape,
+    ChoiceElement, ChoiceKind, ChoicePayload, Decode, Decoder, Encode, Encoder, OfKind, Shape,
 };
 use std::alloc::Global;
 

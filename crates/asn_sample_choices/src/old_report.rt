@@ -6,9 +6,9 @@ ghost use Rattle.std.specs.Prelude.{refl};
 use crate::OldPart;
 use asn_base::{Integer, OutOfMemory, SetOf, Tag};
 use asn_fault::{DecodeError, EncodeError};
+use asn_fields::{FieldShapes, read_field, write_field};
 use asn_traits::{
-    Decoder, Encoder, Field, FieldNames, FieldShapes, OfKind, SequenceFields, SequenceKind, Shape,
-    read_field, required, write_field,
+    Decoder, Encoder, Field, FieldNames, OfKind, SequenceFields, SequenceKind, Shape, required,
 };
 use std::alloc::Global;
 

@@ -7,9 +7,9 @@ ghost use Rattle.std.specs.Prelude.{refl};
 use crate::Inner;
 use asn_base::{Bits, Integer, OutOfMemory, Tag};
 use asn_fault::{DecodeError, EncodeError};
+use asn_fields::{FieldShapes, read_addition, read_field, write_field};
 use asn_traits::{
-    Decoder, Encoder, Field, FieldNames, FieldShapes, OfKind, SequenceFields, SequenceKind, Shape,
-    read_addition, read_field, required, write_field,
+    Decoder, Encoder, Field, FieldNames, OfKind, SequenceFields, SequenceKind, Shape, required,
 };
 use std::alloc::Global;
 

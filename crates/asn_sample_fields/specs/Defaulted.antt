@@ -2,9 +2,9 @@
 use Rattle.std.specs.Prelude.{pos, [], ◌∷◌, codes}
 use Rattle.asn_traits.specs.Shape.{Shape, Fields, Plain, Presence, closed_seq}
 use Rattle.asn_traits.specs.Value.{Value}
-use Rattle.asn_traits.specs.Passing.{default_slot}
-use Rattle.asn_traits.specs.Writing.{Frame}
-use Rattle.asn_traits.specs.Terms.{context, signed}
+use Rattle.asn_coding.specs.Passing.{default_slot}
+use Rattle.asn_coding.specs.Writing.{Frame}
+use Rattle.asn_coding.specs.Terms.{context, signed}
 use Rattle.asn_sample_fields.specs.declared.defaulted.Defaulted.{Defaulted}
 
 -- The default of `level`.

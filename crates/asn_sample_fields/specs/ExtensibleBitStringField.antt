@@ -1,8 +1,8 @@
 -- SEQUENCE { bits BIT STRING (SIZE(3), ...) }
 use Rattle.std.specs.Prelude.{[], ◌∷◌, Some, codes}
 use Rattle.asn_traits.specs.Shape.{Shape, Fields, Presence, closed_seq}
-use Rattle.asn_traits.specs.Writing.{Frame}
-use Rattle.asn_traits.specs.Terms.{context}
+use Rattle.asn_coding.specs.Writing.{Frame}
+use Rattle.asn_coding.specs.Terms.{context}
 use Rattle.asn_sample_fields.specs.MarkedBitString.{marked_bit_string_shape, marked_bit_string_value}
 use Rattle.asn_sample_fields.specs.declared.extensible_bit_string_field.ExtensibleBitStringField.{ExtensibleBitStringField}
 

@@ -2,8 +2,8 @@
 use Rattle.std.specs.Prelude.{[], ◌∷◌, Some, option_map, string_bytes, codes}
 use Rattle.asn_traits.specs.Shape.{Shape, SeqKind, Fields, FieldAdditions, Presence}
 use Rattle.asn_traits.specs.Value.{Value}
-use Rattle.asn_traits.specs.Writing.{Frame}
-use Rattle.asn_traits.specs.Terms.{context, signed, utf8_string}
+use Rattle.asn_coding.specs.Writing.{Frame}
+use Rattle.asn_coding.specs.Terms.{context, signed, utf8_string}
 use Rattle.asn_sample_fields.specs.declared.mark_set.MarkSet.{MarkSet}
 
 -- The fields of MarkSet, as it lists them.

@@ -2,8 +2,8 @@
 use Rattle.std.specs.Prelude.{[], ◌∷◌, option_map, codes}
 use Rattle.asn_traits.specs.Shape.{Shape, Fields, Presence, closed_seq}
 use Rattle.asn_traits.specs.Value.{Value}
-use Rattle.asn_traits.specs.Writing.{Frame, members_value}
-use Rattle.asn_traits.specs.Terms.{context}
+use Rattle.asn_coding.specs.Writing.{Frame, members_value}
+use Rattle.asn_coding.specs.Terms.{context}
 use Rattle.asn_sample_fields.specs.Struct.{struct_shape, struct_value}
 use Rattle.asn_sample_fields.specs.declared.nested.Nested.{Nested}
 

@@ -2,8 +2,8 @@
 use Rattle.std.specs.Prelude.{pos, [], ◌∷◌, option_map, codes}
 use Rattle.asn_traits.specs.Shape.{Shape, Fields, Presence, closed_seq}
 use Rattle.asn_traits.specs.Value.{Value}
-use Rattle.asn_traits.specs.Writing.{Frame, members_value}
-use Rattle.asn_traits.specs.Terms.{context, unsigned}
+use Rattle.asn_coding.specs.Writing.{Frame, members_value}
+use Rattle.asn_coding.specs.Terms.{context, unsigned}
 use Rattle.asn_sample_fields.specs.declared.struct_.Struct.{Struct}
 
 -- The fields of Struct.

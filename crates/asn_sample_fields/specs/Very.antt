@@ -1,8 +1,8 @@
 -- SEQUENCE { ..., a Nested OPTIONAL }
 use Rattle.std.specs.Prelude.{[], ◌∷◌, option_map, codes}
 use Rattle.asn_traits.specs.Shape.{Shape, SeqKind, Fields, FieldAdditions, Presence}
-use Rattle.asn_traits.specs.Writing.{Frame}
-use Rattle.asn_traits.specs.Terms.{context}
+use Rattle.asn_coding.specs.Writing.{Frame}
+use Rattle.asn_coding.specs.Terms.{context}
 use Rattle.asn_sample_fields.specs.Nested.{nested_shape, nested_value}
 use Rattle.asn_sample_fields.specs.declared.very.Very.{Very}
 

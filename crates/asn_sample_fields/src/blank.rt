@@ -5,8 +5,9 @@ ghost use Rattle.std.specs.Prelude.{refl};
 
 use asn_base::OutOfMemory;
 use asn_fault::{DecodeError, EncodeError};
+use asn_fields::FieldShapes;
 use asn_traits::{
-    Decoder, Encoder, Field, FieldNames, FieldShapes, OfKind, SequenceFields, SequenceKind, Shape,
+    Decoder, Encoder, Field, FieldNames, OfKind, SequenceFields, SequenceKind, Shape,
 };
 use std::alloc::Global;
 

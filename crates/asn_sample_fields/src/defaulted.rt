@@ -4,9 +4,10 @@ ghost use Rattle.std.specs.Prelude.{refl};
 
 use asn_base::{Integer, OutOfMemory, Tag};
 use asn_fault::{DecodeError, EncodeError};
+use asn_fields::{FieldShapes, read_default_field, write_default_field};
 use asn_traits::{
-    Decoder, Encoder, Field, FieldNames, FieldShapes, OfKind, Plain, SequenceFields, SequenceKind,
-    Shape, read_default_field, with_default, write_default_field,
+    Decoder, Encoder, Field, FieldNames, OfKind, Plain, SequenceFields, SequenceKind, Shape,
+    with_default,
 };
 use std::alloc::Global;
 

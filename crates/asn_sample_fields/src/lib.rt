@@ -3,7 +3,7 @@
 //! bit strings under constraints. What contracts cite of a type stands in its file of `specs/`: its
 //! fields or items, and the value of each Rust value. `asn_samples` gives the names by which the
 //! program knows the types.
-#![tactic(auto, using(asn_traits::proofs::Passing::field_steps))]
+#![tactic(auto, using(asn_coding::proofs::Passing::field_steps))]
 
 mod blank;
 mod constrained_bit_string;

@@ -6,9 +6,9 @@ ghost use Rattle.std.specs.Prelude.{refl};
 use crate::Nested;
 use asn_base::{OutOfMemory, Tag};
 use asn_fault::{DecodeError, EncodeError};
+use asn_fields::{FieldShapes, read_optional_field, write_optional_field};
 use asn_traits::{
-    Decoder, Encoder, Field, FieldNames, FieldShapes, OfKind, SequenceFields, SequenceKind, Shape,
-    optional, read_optional_field, write_optional_field,
+    Decoder, Encoder, Field, FieldNames, OfKind, SequenceFields, SequenceKind, Shape, optional,
 };
 use std::alloc::Global;
 

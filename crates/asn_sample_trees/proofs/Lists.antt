@@ -6,14 +6,14 @@ use Rattle.asn_traits.specs.Shape.{Shape}
 use Rattle.asn_traits.specs.Tree.{Slot}
 use Rattle.asn_traits.specs.Value.{Value, values, Fits}
 use Rattle.asn_traits.specs.DecodesTo.{DecodesTo}
-use Rattle.asn_traits.proofs.Steps.{loop_decodes}
-use Rattle.asn_traits.specs.Writing.{Frame, Written, FailsToEncode}
+use Rattle.asn_coding.proofs.Steps.{loop_decodes}
+use Rattle.asn_coding.specs.Writing.{Frame, Written, FailsToEncode}
 use Rattle.asn_sample_trees.specs.Nest.{nest_shape, nest_step, nest_value}
 use Rattle.asn_sample_trees.specs.declared.nest.Nest.{Nest}
 use Rattle.asn_sample_trees.specs.declared.nest.Nest.TheOpen.{Nest-F}
 use Rattle.asn_sample_trees.specs.declared.nest.Nest.TheViews.{out-Nest, roll-Nest}
 use Rattle.asn_sample_trees.specs.declared.nest.Nest.TheFolds.{fold_out-Nest, fold-roll-Nest}
-use Rattle.asn_traits.proofs.Collecting.{values-map}
+use Rattle.asn_coding.proofs.Collecting.{values-map}
 
 value_out : (n : Nest) → nest_value n ≡ Value.list (values nest_value (out-Nest n).0.items)
 value_out n = fold_out-Nest Value nest_step n ∙ ap Value.list (values-map (λ v. v) nest_value (out-Nest n).0.items)

@@ -12,21 +12,21 @@ use Rattle.asn_model.specs.Shape.{Shape, SeqKind, Fields, FieldAdditions, all_fi
 use Rattle.asn_model.specs.Tree.{Slot, slot_nodes, head_nodes, head_slot}
 use Rattle.asn_model.specs.Value.{Value, Values, values, Fits}
 use Rattle.asn_model.specs.DecodesTo.{DecodesTo}
-use Rattle.asn_traits.proofs.Collecting.{values-map}
-use Rattle.asn_traits.proofs.FieldSteps.{field_refused}
-use Rattle.asn_traits.proofs.Filling.{refuse_members}
-use Rattle.asn_traits.proofs.Members.{members_read, members_refused}
-use Rattle.asn_traits.proofs.Passing.{adds_fields, refuses_adding}
-use Rattle.asn_traits.proofs.ReadingOrder.{names-read}
-use Rattle.asn_traits.proofs.Scopes.{table_names}
-use Rattle.asn_traits.proofs.Steps.{loop_decodes, loop_refuses}
-use Rattle.asn_traits.specs.Answer.{Refuses}
-use Rattle.asn_traits.specs.FieldAnswer.{AddsSlot, Ahead, TakesField, TakesSlot}
-use Rattle.asn_traits.specs.Opening.{AllBelow, OpensMembers}
-use Rattle.asn_traits.specs.Passing.{AddsFields, RefusesAdding, RefusesFields, TakesFields}
-use Rattle.asn_traits.specs.Tables.{names_of, rows_of, field_rows}
-use Rattle.asn_traits.specs.Writing.{Frame, push, push_all, close, as_members, Maps, Written, Filled, FailsToEncode, FailsToFill}
-use Rattle.asn_traits.specs.declared.asn_type.Field.{Field}
+use Rattle.asn_coding.proofs.Collecting.{values-map}
+use Rattle.asn_coding.proofs.FieldSteps.{field_refused}
+use Rattle.asn_coding.proofs.Filling.{refuse_members}
+use Rattle.asn_coding.proofs.Members.{members_read, members_refused}
+use Rattle.asn_coding.proofs.Passing.{adds_fields, refuses_adding}
+use Rattle.asn_coding.proofs.ReadingOrder.{names-read}
+use Rattle.asn_coding.proofs.Scopes.{table_names}
+use Rattle.asn_coding.proofs.Steps.{loop_decodes, loop_refuses}
+use Rattle.asn_coding.specs.Answer.{Refuses}
+use Rattle.asn_coding.specs.FieldAnswer.{AddsSlot, Ahead, TakesField, TakesSlot}
+use Rattle.asn_coding.specs.Opening.{AllBelow, OpensMembers}
+use Rattle.asn_coding.specs.Passing.{AddsFields, RefusesAdding, RefusesFields, TakesFields}
+use Rattle.asn_coding.specs.Tables.{names_of, rows_of, field_rows}
+use Rattle.asn_coding.specs.Writing.{Frame, push, push_all, close, as_members, Maps, Written, Filled, FailsToEncode, FailsToFill}
+use Rattle.asn_coding.specs.declared.field.Field.{Field}
 use Rattle.asn_sample_trees.specs.Tree.{tree_of, tree_step, tree_value}
 use Rattle.asn_sample_trees.specs.TreeShape.{tree_body, tree_fields, tree_shape}
 use Rattle.asn_sample_trees.specs.declared.tree.Tree.{Tree}

@@ -2,8 +2,8 @@
 use Rattle.std.specs.Prelude.{[], ◌∷◌, option_map, string_bytes, codes}
 use Rattle.asn_traits.specs.Shape.{Shape, Fields, Presence}
 use Rattle.asn_traits.specs.Value.{Value}
-use Rattle.asn_traits.specs.Writing.{Frame}
-use Rattle.asn_traits.specs.Terms.{context, utf8_string}
+use Rattle.asn_coding.specs.Writing.{Frame}
+use Rattle.asn_coding.specs.Terms.{context, utf8_string}
 use Rattle.asn_sample_trees.specs.TreeShape.{tree_shape}
 use Rattle.asn_sample_trees.specs.declared.new_tree.NewTreeAdditions.{NewTreeAdditions}
 

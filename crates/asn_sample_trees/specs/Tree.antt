@@ -2,7 +2,7 @@
 use Rattle.std.specs.Prelude.{◌∷◌, Some}
 use Rattle.asn_traits.specs.Shape.{Fields, FieldAdditions, all_fields}
 use Rattle.asn_traits.specs.Value.{Value, Values, values}
-use Rattle.asn_traits.specs.Writing.{Frame, members_value}
+use Rattle.asn_coding.specs.Writing.{Frame, members_value}
 use Rattle.asn_sample_trees.specs.TreeShape.{tree_fields, tree_shape}
 use Rattle.asn_sample_trees.specs.declared.tree.Tree.{Tree}
 use Rattle.asn_sample_trees.specs.declared.tree.Tree.TheOpen.{Tree-F}

@@ -1,7 +1,7 @@
 -- The shape of SEQUENCE { kids SEQUENCE OF itself, ... } with any extension additions
 use Rattle.std.specs.Prelude.{codes}
 use Rattle.asn_traits.specs.Shape.{Shape, SeqKind, Fields, FieldAdditions, Presence}
-use Rattle.asn_traits.specs.Terms.{context}
+use Rattle.asn_coding.specs.Terms.{context}
 
 -- The field of the root, by the shape of the tree.
 abbrev pub tree_fields : Shape → Fields

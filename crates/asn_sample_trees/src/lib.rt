@@ -2,7 +2,7 @@
 //! don't serve: types that hold themselves, and types that hand on to another. What contracts cite
 //! of a type stands in its file of `specs/`: its shape, and the value of each Rust value.
 //! `asn_samples` gives the names by which the program knows the types.
-#![tactic(auto, using(asn_traits::proofs::Passing::field_steps))]
+#![tactic(auto, using(asn_coding::proofs::Passing::field_steps))]
 
 mod nest;
 mod new_tree;

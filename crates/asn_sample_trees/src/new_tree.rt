@@ -5,10 +5,8 @@ ghost use Rattle.std.specs.Prelude.{refl};
 use crate::{Tree, TreeAdditions};
 use asn_base::{OutOfMemory, Tag};
 use asn_fault::{DecodeError, EncodeError};
-use asn_traits::{
-    Decoder, Encoder, Field, FieldNames, FieldShapes, optional, read_optional_field,
-    write_optional_field,
-};
+use asn_fields::{FieldShapes, read_optional_field, write_optional_field};
+use asn_traits::{Decoder, Encoder, Field, FieldNames, optional};
 use std::alloc::Global;
 
 /// Is `NewTree ::= SEQUENCE { kids SEQUENCE OF NewTree, ..., label UTF8String OPTIONAL }`.

@@ -6,7 +6,8 @@ ghost use Rattle.std.specs.Prelude.{[], refl};
 use crate::{Tree, TreeAdditions};
 use asn_base::OutOfMemory;
 use asn_fault::{DecodeError, EncodeError};
-use asn_traits::{Decoder, Encoder, Field, FieldNames, FieldShapes};
+use asn_fields::FieldShapes;
+use asn_traits::{Decoder, Encoder, Field, FieldNames};
 use std::alloc::Global;
 
 /// Is `OldTree ::= SEQUENCE { kids SEQUENCE OF OldTree, ... }`.

@@ -3,19 +3,19 @@
 //! calls of the coders. What a version has after the extension marker is a parameter.
 ghost use Rattle.asn_sample_trees.specs.TreeShape.{tree_body, tree_fields, tree_shape};
 ghost use Rattle.asn_sample_trees.specs.Tree.{tree_value};
-ghost use Rattle.asn_traits.specs.Answer.{Answer};
+ghost use Rattle.asn_coding.specs.Answer.{Answer};
 ghost use Rattle.asn_traits.specs.Shape.{Shape as AbstractShape};
-ghost use Rattle.asn_traits.specs.Tables.{field_rows, rows_of};
+ghost use Rattle.asn_coding.specs.Tables.{field_rows, rows_of};
 ghost use Rattle.asn_traits.specs.Value.{Value, values};
-ghost use Rattle.asn_traits.specs.Writing.{FailsToEncode, Written};
+ghost use Rattle.asn_coding.specs.Writing.{FailsToEncode, Written};
 ghost use Rattle.std.specs.Prelude.{◌≡◌, IfErr, OnOk};
 
 use crate::TreeAdditions;
 use asn_base::{Constraints, Identifier, OutOfMemory, Tag, TagTree};
 use asn_fault::{DecodeError, EncodeError};
+use asn_fields::{FieldShapes, within_field};
 use asn_traits::{
-    AsnType, Decode, Decoder, Encode, Encoder, Field, FieldNames, FieldShapes, SeqKind, Shape,
-    required, within_field,
+    AsnType, Decode, Decoder, Encode, Encoder, Field, FieldNames, SeqKind, Shape, required,
 };
 use std::alloc::Global;
 

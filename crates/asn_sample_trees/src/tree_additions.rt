@@ -3,17 +3,18 @@ ghost use Rattle.asn_fault.specs.Failure.{failure_of};
 ghost use Rattle.asn_model.specs.Components.{Standing, components};
 ghost use Rattle.asn_model.specs.Readable.{is_readable};
 ghost use Rattle.asn_sample_trees.specs.TreeShape.{tree_shape};
-ghost use Rattle.asn_traits.specs.FieldAnswer.Ahead.{ahead};
-ghost use Rattle.asn_traits.specs.Passing.{AddsFields, RefusesAdding, RefusesFields, TakesFields};
+ghost use Rattle.asn_coding.specs.FieldAnswer.Ahead.{ahead};
+ghost use Rattle.asn_coding.specs.Passing.{AddsFields, RefusesAdding, RefusesFields, TakesFields};
 ghost use Rattle.asn_traits.specs.Shape.{Shape, Fields, fill_fields};
 ghost use Rattle.asn_traits.specs.ShapeView.{field_views};
-ghost use Rattle.asn_traits.specs.Tables.{field_rows, rows_of};
-ghost use Rattle.asn_traits.specs.Writing.{Frame};
+ghost use Rattle.asn_coding.specs.Tables.{field_rows, rows_of};
+ghost use Rattle.asn_coding.specs.Writing.{Frame};
 ghost use Rattle.std.specs.Prelude.{◌≡◌, IfErr, IfOk, OnOk, true};
 
 use asn_base::OutOfMemory;
 use asn_fault::{DecodeError, EncodeError};
-use asn_traits::{Decoder, Encoder, Field, FieldNames, FieldShapes};
+use asn_fields::FieldShapes;
+use asn_traits::{Decoder, Encoder, Field, FieldNames};
 use std::alloc::Global;
 
 /// Describes the extension additions of a version of `Tree`, which hold no tree, as

@@ -1,7 +1,7 @@
 //! Describes types that hand on to another: what is written and read is the other's, under the
 //! tag and the constraints of the call. The rank of each is above that of the type within.
 ghost use Rattle.asn_sample_trees.specs.Wrap.{wrap_1_value, wrap_2_value};
-ghost use Rattle.asn_traits.specs.Terms.{unsigned};
+ghost use Rattle.asn_coding.specs.Terms.{unsigned};
 ghost use Rattle.std.specs.Prelude.{refl};
 
 use asn_base::{Constraints, Identifier, OutOfMemory, Tag, TagTree};

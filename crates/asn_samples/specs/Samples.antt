@@ -2,7 +2,7 @@
 use denote.Enum.Bare.{sameb}
 use Rattle.std.specs.Prelude.{ℕ, List, [], ◌∷◌, ◌++◌, codes, bytes_eq, if◌then◌else◌, Option, Some, None, option_map}
 use Rattle.asn_traits.specs.Shape.{Alphabet, Shape}
-use Rattle.asn_traits.specs.Terms.{signed, unsigned, utf8_string}
+use Rattle.asn_coding.specs.Terms.{signed, unsigned, utf8_string}
 use Rattle.asn_document.specs.Meaning.{document_shape}
 use Rattle.asn_sample_choices.specs.ExtChoice.{ext_choice_shape}
 use Rattle.asn_sample_choices.specs.Inner.{inner_shape}

@@ -4,10 +4,7 @@
 use asn_base::{Class, Constraints, Identifier, Tag};
 use asn_fault::{DecodeError, EncodeError};
 use asn_samples::{Sample, SampleVisitor, is_sample_name};
-use asn_traits::{
-    AlternativeShape, Decode, Decoder, Encode, Encoder, FieldShape, Plain, PresenceShape, SeqKind,
-    Shape, is_readable,
-};
+use asn_traits::{AlternativeShape, Decode, Decoder, Encode, Encoder, FieldShape, Plain, PresenceShape, SeqKind, Shape, is_readable};
 use avn_rules::avn;
 use avn_value::AvnValue;
 use jer_rules::jer;

@@ -28,12 +28,12 @@ use Rattle.asn_model.specs.Value.{Fits, Value, is_leaf_of}
 use Rattle.asn_model.specs.Writable.{FirstUnencodable, Writable, no_unicode, outside_years}
 use Rattle.asn_model.specs.declared.leaves.LeafKind.{LeafKind}
 use Rattle.asn_model.specs.declared.leaves.OwnedLeaf.{OwnedLeaf}
-use Rattle.asn_traits.specs.Answer.{Answer, OfPlace}
-use Rattle.asn_traits.specs.Opening.{IsLeaf}
+use Rattle.asn_coding.specs.Answer.{Answer, OfPlace}
+use Rattle.asn_coding.specs.Opening.{IsLeaf}
 use Rattle.asn_traits.specs.TextTypes.{IsNoText, IsPutTime, IsStringRefusal, IsTimeOf, MakesOfText, TellsUnwritten}
-use Rattle.asn_traits.specs.Writing.{FailsToEncode, Frame, Puts, Written}
-use Rattle.asn_traits.proofs.LeafValues.{leaf_refused, leaf_said}
-use Rattle.asn_traits.proofs.Refusing.{out_of_memory}
+use Rattle.asn_coding.specs.Writing.{FailsToEncode, Frame, Puts, Written}
+use Rattle.asn_coding.proofs.LeafValues.{leaf_refused, leaf_said}
+use Rattle.asn_coding.proofs.Refusing.{out_of_memory}
 
 -- What a type makes of the text that was taken is what its reader answers.
 pub text_taken : {A : Type 0} {n : Notation} (s : Shape) (k : LeafKind) (value : A → Value) (codec : Codec) (slot : Slot) (before after : List Slot) (x y : OwnedLeaf) (text : List ℕ) (r : Result A DecodeError)

@@ -19,8 +19,8 @@ use Rattle.asn_model.specs.Notation.{Notation, notation_of}
 use Rattle.asn_model.specs.Shape.{Shape}
 use Rattle.asn_model.specs.Value.{Value}
 use Rattle.asn_model.specs.Writable.{outside_years}
-use Rattle.asn_traits.specs.Answer.{OfPlace}
-use Rattle.asn_traits.specs.Writing.{FailsToEncode, Frame, IsOutOfMemory, Puts}
+use Rattle.asn_coding.specs.Answer.{OfPlace}
+use Rattle.asn_coding.specs.Writing.{FailsToEncode, Frame, IsOutOfMemory, Puts}
 use Rattle.asn_model.specs.declared.words.TheConstants.{NO_TELETEX}
 
 -- The text is no value of the shape, and the error says so.

@@ -1,14 +1,14 @@
 //! Describes a CHOICE by its alternatives (X.680, section 29). A type implements `ChoicePayload`,
 //! which encodes and decodes the payload of each alternative by the payload's own type; what every
 //! CHOICE has (`Choice`, `DecodeChoice`, and by `kinds` the traits of a type) is given here once.
-ghost use Rattle.asn_traits.specs.Chosen.{Chosen, IsChosen, chosen_value};
+ghost use Rattle.asn_coding.specs.Chosen.{Chosen, IsChosen, chosen_value};
 ghost use Rattle.asn_model.specs.Readable.{is_readable};
-ghost use Rattle.asn_traits.specs.Scopes.{TagAnswer};
+ghost use Rattle.asn_coding.specs.Scopes.{TagAnswer};
 ghost use Rattle.asn_model.specs.Shape.{Shape as AbstractShape, Alternatives, AlternativeAdditions};
 ghost use Rattle.asn_model.specs.Shape.{all_alternatives, identifiers};
 ghost use Rattle.asn_model.specs.ShapeView.{shape_view};
-ghost use Rattle.asn_traits.specs.Tables.{added_tags, root_tags, smallest_tags};
-ghost use Rattle.asn_traits.specs.Writing.{FailsToEncode, Written};
+ghost use Rattle.asn_coding.specs.Tables.{added_tags, root_tags, smallest_tags};
+ghost use Rattle.asn_coding.specs.Writing.{FailsToEncode, Written};
 ghost use Rattle.std.specs.Prelude.{◌≡◌, IfErr, IfOk, OnOk, map, option_map, refl, true};
 
 use crate::{Choice, ChoiceKind, DecodeChoice, Decoder, Encoder, OfKind, Shape};

@@ -2,7 +2,7 @@
 //! constants. `AsnType` is the trait of all types; `Constructed`, `Choice` and `Enumerated` add the
 //! tables of their kinds, each tied to the shape row by row by a call that returns it.
 ghost use Rattle.asn_model.specs.Fixed.{fixed_size};
-ghost use Rattle.asn_traits.specs.OwnTag.{HasTags};
+ghost use Rattle.asn_coding.specs.OwnTag.{HasTags};
 ghost use Rattle.asn_model.specs.Readable.{is_readable};
 ghost use Rattle.asn_model.specs.Shape.{Shape as AbstractShape, Fields as FieldShapes, SeqKind};
 ghost use Rattle.asn_model.specs.Shape.{FieldAdditions, Alternatives, AlternativeAdditions};
@@ -10,100 +10,15 @@ ghost use Rattle.asn_model.specs.Shape.{all_alternatives, all_items, identifiers
 ghost use Rattle.asn_model.specs.Shape.{shape_under};
 ghost use Rattle.asn_model.specs.ShapeView.{shape_view};
 ghost use Rattle.asn_model.specs.Value.{Value, value_under};
-ghost use Rattle.asn_traits.specs.Tables.{rows_of, field_rows, added_rows, smallest_tags};
-ghost use Rattle.asn_traits.specs.Tables.{root_tags, added_tags};
+ghost use Rattle.asn_coding.specs.Tables.{rows_of, field_rows, added_rows, smallest_tags};
+ghost use Rattle.asn_coding.specs.Tables.{root_tags, added_tags};
 ghost use Rattle.std.specs.Prelude.{◌≡◌, ℕ, List, Option, map, option_map, true, false, IfOk};
 ghost use Rattle.std.specs.Prelude.{MatchOption};
 
 use crate::{EnumeratedKind, OfKind, Shape};
+use asn_coding::Fields;
 use asn_core::{Constraints, Identifier, OutOfMemory, Tag, TagTree};
 use std::alloc::Global;
-
-/// States whether a field may be absent, and whether it then has a default.
-#[derive(Clone, Copy)]
-pub enum Presence {
-    /// The field has to be present.
-    Required,
-    /// The field may be absent (OPTIONAL).
-    Optional,
-    /// The field may be absent and then has a value all the same (DEFAULT).
-    Default,
-}
-
-/// Describes a field of a SEQUENCE or SET (X.680, sections 25 and 27): a row of a table.
-#[derive(Clone, Copy)]
-pub struct Field {
-    /// Holds its place among all fields: those of the root, and then the extension additions.
-    pub index: usize,
-    /// Holds its tag, with automatic tags the context tag of its place.
-    pub tag: Tag,
-    /// Holds the tags that its value may begin with.
-    pub tag_tree: TagTree,
-    /// States whether it may be absent.
-    pub presence: Presence,
-    /// Holds its name, an identifier.
-    pub name: &'static str,
-}
-
-/// Makes rows, one call for each presence.
-impl Field {
-    /// Returns a field that has to be present.
-    pub fn new_required(index: usize, tag: Tag, tag_tree: TagTree, name: &'static str) -> Field
-        ensures { result ≡ record {
-          index = index;
-          tag = tag;
-          tag_tree = tag_tree;
-          presence = Presence.Required;
-          name = name.entry;
-        } }
-    {
-        Field {
-            index,
-            tag,
-            tag_tree,
-            presence: Presence::Required,
-            name,
-        }
-    }
-
-    /// Returns a field that may be absent.
-    pub fn new_optional(index: usize, tag: Tag, tag_tree: TagTree, name: &'static str) -> Field
-        ensures { result ≡ record {
-          index = index;
-          tag = tag;
-          tag_tree = tag_tree;
-          presence = Presence.Optional;
-          name = name.entry;
-        } }
-    {
-        Field {
-            index,
-            tag,
-            tag_tree,
-            presence: Presence::Optional,
-            name,
-        }
-    }
-
-    /// Returns a field that is absent where it has its default.
-    pub fn new_default(index: usize, tag: Tag, tag_tree: TagTree, name: &'static str) -> Field
-        ensures { result ≡ record {
-          index = index;
-          tag = tag;
-          tag_tree = tag_tree;
-          presence = Presence.Default;
-          name = name.entry;
-        } }
-    {
-        Field {
-            index,
-            tag,
-            tag_tree,
-            presence: Presence::Default,
-            name,
-        }
-    }
-}
 
 /// Makes a field that has to be present, for a constant table: `required!(0, TAG, "name")`.
 #[macro_export]
@@ -146,23 +61,6 @@ macro_rules! with_default {
             name: $name,
         }
     };
-}
-
-/// Holds a table: the fields of a type, in order.
-#[derive(Clone, Copy)]
-pub struct Fields {
-    /// Holds the rows.
-    pub items: &'static [Field],
-}
-
-/// Makes a table of rows.
-impl Fields {
-    /// Returns the table of these fields.
-    pub fn from_static(items: &'static [Field]) -> Fields
-        ensures { result.items.now ≡ items.now }
-    {
-        Fields { items }
-    }
 }
 
 /// Describes an ASN.1 type: its tags, its shape and the value that each Rust value stands for.

@@ -13,24 +13,24 @@ ghost use Rattle.asn_model.specs.Shape.{SeqKind as AbstractSeqKind, all_fields, 
 ghost use Rattle.asn_model.specs.ShapeView.{kind_view};
 ghost use Rattle.asn_model.specs.Tree.{Slot, head_nodes, slot_nodes};
 ghost use Rattle.asn_model.specs.Value.{Value, bag_of, values};
-ghost use Rattle.asn_traits.specs.Answer.{Answer, AnswerBy, AnswerUnder, AtRoot, Refuses};
-ghost use Rattle.asn_traits.specs.Answer.{TakesAbsent, OptionalAnswer};
-ghost use Rattle.asn_traits.specs.Opening.{TakesLeaf, OpensList, OpensMembers, OpensChoice};
-ghost use Rattle.asn_traits.specs.Opening.{OpensAlternative, AllBelow, list_shape, list_value};
-ghost use Rattle.asn_traits.specs.Scopes.{ScopeAnswer, TagAnswer};
-ghost use Rattle.asn_traits.specs.SetFields.{PlaceAnswer, SetAnswer, component_at};
-ghost use Rattle.asn_traits.specs.SetFields.{listed_components, places_read};
-ghost use Rattle.asn_traits.specs.Tables.{names_of};
+ghost use Rattle.asn_coding.specs.Answer.{Answer, AnswerBy, AnswerUnder, AtRoot, Refuses};
+ghost use Rattle.asn_coding.specs.Answer.{TakesAbsent, OptionalAnswer};
+ghost use Rattle.asn_coding.specs.Opening.{TakesLeaf, OpensList, OpensMembers, OpensChoice};
+ghost use Rattle.asn_coding.specs.Opening.{OpensAlternative, AllBelow, list_shape, list_value};
+ghost use Rattle.asn_coding.specs.Scopes.{ScopeAnswer, TagAnswer};
+ghost use Rattle.asn_coding.specs.SetFields.{PlaceAnswer, SetAnswer, component_at};
+ghost use Rattle.asn_coding.specs.SetFields.{listed_components, places_read};
+ghost use Rattle.asn_coding.specs.Tables.{names_of};
 ghost use Rattle.asn_traits.specs.TextTypes.{no_teletex};
 ghost use Rattle.std.specs.Prelude.{None, Some, true, ◌≡◌, ℕ, pos, List, ◌∷◌, ◌++◌, ◌<◌, map, length};
 ghost use Rattle.std.specs.Prelude.{string_bytes, IfErr, IsErr};
 
 use crate::integer_type::beyond_128_bits;
-use crate::tables::{fields_as_read, listed, listed_fields, place_and_tag, tag_at};
 use crate::{
-    AsnType, Choice, Constructed, Enumerated, Field, IntegerType, LeafKind, OwnedLeaf, SeqKind,
+    AsnType, Choice, Constructed, Enumerated, IntegerType, LeafKind, OwnedLeaf, SeqKind,
     SetElement, SetField, TextType,
 };
+use asn_coding::{Field, fields_as_read, listed, listed_fields, place_and_tag, tag_at};
 use asn_core::{Any, Bits, Codec, Constraints, ObjectIdentifier, Tag};
 use asn_fault::{DecodeError, DecodeErrorKind, Refusal};
 use asn_model::fixed_size;

@@ -11,24 +11,22 @@ ghost use Rattle.asn_model.specs.Shape.{Shape, Alphabet, all_alternatives, all_f
 ghost use Rattle.asn_model.specs.Shape.{alternative_tagged};
 ghost use Rattle.asn_fault.specs.EncodeCause.{EncodeCause};
 ghost use Rattle.asn_model.specs.Writable.{no_unicode};
-ghost use Rattle.asn_traits.specs.FieldAnswer.{AddsSlot};
-ghost use Rattle.asn_traits.specs.Tables.{names_of};
+ghost use Rattle.asn_coding.specs.FieldAnswer.{AddsSlot};
+ghost use Rattle.asn_coding.specs.Tables.{names_of};
 ghost use Rattle.asn_traits.specs.TextTypes.{TellsUnwritten, no_teletex};
 ghost use Rattle.asn_model.specs.Value.{Value, bag_of, values};
-ghost use Rattle.asn_traits.specs.Writing.{Frame, push, close, as_list, as_members, as_choice};
-ghost use Rattle.asn_traits.specs.Writing.{ClosesSet, Written, WrittenUnder, FailsToEncode};
-ghost use Rattle.asn_traits.specs.Writing.{FailsToEncodeUnder, FailsToFill, IsOutOfMemory};
-ghost use Rattle.asn_traits.specs.Writing.{Maps, Puts, ScopeRan};
+ghost use Rattle.asn_coding.specs.Writing.{Frame, push, close, as_list, as_members, as_choice};
+ghost use Rattle.asn_coding.specs.Writing.{ClosesSet, Written, WrittenUnder, FailsToEncode};
+ghost use Rattle.asn_coding.specs.Writing.{FailsToEncodeUnder, FailsToFill, IsOutOfMemory};
+ghost use Rattle.asn_coding.specs.Writing.{Maps, Puts, ScopeRan};
 ghost use Rattle.std.specs.Fn.{FnOnceReturnsAtMut};
 ghost use Rattle.std.specs.Prelude.{◌≡◌, ◌⊎◌, pos, ◌∷◌, ◌++◌, [], ℕ, List, Option, Some, None, Ok};
 ghost use Rattle.std.specs.Prelude.{Err, true, map, option_map, OnOk, IfErr, IfOk, IfSome, IsErr};
 ghost use Rattle.std.specs.Prelude.{IsOk};
 ghost use Rattle.std.specs.Prelude.{IsSome, ⊤};
 
-use crate::tables::{identifier_of, listed, listed_fields};
-use crate::{
-    AsnType, Choice, Constructed, Enumerated, Field, IntegerType, Leaf, SetElement, TextType,
-};
+use crate::{AsnType, Choice, Constructed, Enumerated, IntegerType, Leaf, SetElement, TextType};
+use asn_coding::{Field, identifier_of, listed, listed_fields};
 use asn_core::{Any, Bits, Codec, Constraints, Identifier, Tag, WholeNumber};
 use asn_fault::{EncodeError, EncodeErrorKind};
 use asn_model::words::NO_TELETEX;

@@ -2,22 +2,23 @@
 //! once (`OfKind`) and implements the trait of that kind (`SequenceFields`, `ChoicePayload`,
 //! `Enumerated` or `IntegerType`); the impls here go over the kind, since blanket impls for the
 //! types of each of these traits would overlap.
-ghost use Rattle.asn_traits.specs.Answer.{AnswerUnder};
-ghost use Rattle.asn_traits.specs.Chosen.{chosen_value};
+ghost use Rattle.asn_coding.specs.Answer.{AnswerUnder};
+ghost use Rattle.asn_coding.specs.Chosen.{chosen_value};
 ghost use Rattle.asn_model.specs.Fixed.{fixed_size};
-ghost use Rattle.asn_traits.specs.OwnTag.{HasTags};
+ghost use Rattle.asn_coding.specs.OwnTag.{HasTags};
 ghost use Rattle.asn_model.specs.Readable.{is_readable};
 ghost use Rattle.asn_model.specs.Shape.{Shape as AbstractShape, SeqKind as AbstractSeqKind};
 ghost use Rattle.asn_model.specs.Shape.{all_fields, shape_under};
 ghost use Rattle.asn_model.specs.ShapeView.{kind_view, shape_view};
 ghost use Rattle.asn_model.specs.Value.{Value, value_under};
-ghost use Rattle.asn_traits.specs.Writing.{FailsToEncodeUnder, WrittenUnder, members_value};
+ghost use Rattle.asn_coding.specs.Writing.{FailsToEncodeUnder, WrittenUnder, members_value};
 ghost use Rattle.std.specs.Prelude.{◌≡◌, ℕ, Option, pos, true, refl, IfErr, IfOk, OnOk};
 
 use crate::{
     AsnType, ChoicePayload, Decode, Decoder, Encode, Encoder, Enumerated, IntegerType, SeqKind,
-    SequenceFields, Shape, enumerated_shape, read_sequence, write_choice, write_sequence,
+    SequenceFields, Shape, read_sequence, write_choice, write_sequence,
 };
+use asn_coding::enumerated_shape;
 use asn_core::{Constraints, Identifier, OutOfMemory, Tag, TagTree};
 use asn_fault::{DecodeError, EncodeError};
 use std::alloc::Global;

@@ -2,24 +2,22 @@
 //! `SequenceFields`, with one call a field to encode it and one to decode it; what every SEQUENCE
 //! and SET has is given here once.
 ghost use Rattle.asn_fault.specs.Failure.{failure_of};
-ghost use Rattle.asn_traits.specs.Answer.{Answer};
-ghost use Rattle.asn_traits.specs.FieldAnswer.Ahead.{ahead};
-ghost use Rattle.asn_traits.specs.Passing.{AddsFields, RefusesAdding, RefusesFields, TakesFields};
+ghost use Rattle.asn_coding.specs.Answer.{Answer};
+ghost use Rattle.asn_coding.specs.FieldAnswer.Ahead.{ahead};
+ghost use Rattle.asn_coding.specs.Passing.{AddsFields, RefusesAdding, RefusesFields, TakesFields};
 ghost use Rattle.asn_model.specs.Components.{component_names, reading_order};
 ghost use Rattle.asn_model.specs.Readable.{is_readable};
-ghost use Rattle.asn_traits.specs.ReadingSlots.{slots_read};
+ghost use Rattle.asn_coding.specs.ReadingSlots.{slots_read};
 ghost use Rattle.asn_model.specs.Shape.{Shape as AbstractShape, Fields as AbstractFields};
 ghost use Rattle.asn_model.specs.Shape.{FieldAdditions, all_fields, field_names};
 ghost use Rattle.asn_model.specs.ShapeView.{shape_view};
-ghost use Rattle.asn_traits.specs.Tables.{added_rows, field_rows, names_of, rows_of};
-ghost use Rattle.asn_traits.specs.Writing.{FailsToFill, FailsToEncode, Filled, Frame, Written};
-ghost use Rattle.asn_traits.specs.Writing.{members_value};
+ghost use Rattle.asn_coding.specs.Tables.{added_rows, field_rows, names_of, rows_of};
+ghost use Rattle.asn_coding.specs.Writing.{FailsToFill, FailsToEncode, Filled, Frame, Written};
+ghost use Rattle.asn_coding.specs.Writing.{members_value};
 ghost use Rattle.std.specs.Prelude.{◌≡◌, ◌++◌, IfErr, IfOk, OnOk, option_map, refl, true};
 
-use crate::tables::{fields_by_tag, listed};
-use crate::{
-    Constructed, Decoder, Encoder, Field, FieldNames, Fields, FieldsKind, OfKind, SeqKind, Shape,
-};
+use crate::{Constructed, Decoder, Encoder, FieldsKind, OfKind, SeqKind, Shape};
+use asn_coding::{Field, FieldNames, Fields, fields_by_tag, listed};
 use asn_core::{Identifier, OutOfMemory, Tag};
 use asn_fault::{DecodeError, EncodeError};
 use std::alloc::Global;

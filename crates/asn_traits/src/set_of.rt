@@ -2,7 +2,7 @@
 //! exactly where their values are.
 ghost use Rattle.asn_model.specs.Shape.{Shape as AbstractShape};
 ghost use Rattle.asn_model.specs.Value.{Value, bag_of, values};
-ghost use Rattle.asn_traits.specs.Chosen.{chosen_value};
+ghost use Rattle.asn_coding.specs.Chosen.{chosen_value};
 ghost use Rattle.asn_traits.specs.SetElements.{flags_alike, numbers_alike, texts_alike};
 ghost use Rattle.std.specs.Prelude.{◌≡◌, ◌↔◌, true};
 

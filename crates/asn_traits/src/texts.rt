@@ -4,9 +4,9 @@ ghost use Rattle.asn_model.specs.Readable.{is_readable};
 ghost use Rattle.asn_model.specs.Shape.{Shape as AbstractShape, shape_under};
 ghost use Rattle.asn_model.specs.ShapeView.{shape_view};
 ghost use Rattle.asn_model.specs.Value.{Value, value_under};
-ghost use Rattle.asn_traits.specs.OwnTag.{HasTags};
+ghost use Rattle.asn_coding.specs.OwnTag.{HasTags};
 ghost use Rattle.asn_traits.specs.TextTypes.{MakesOfText};
-ghost use Rattle.asn_traits.specs.Writing.{FailsToEncode, Written};
+ghost use Rattle.asn_coding.specs.Writing.{FailsToEncode, Written};
 ghost use Rattle.std.specs.Prelude.{◌≡◌, ℕ, IfErr, OnOk, Option, Some, string_bytes, true};
 
 use crate::{DecodeKind, Decoder, DescribeKind, EncodeKind, Encoder, LeafKind, OfKind, Shape};

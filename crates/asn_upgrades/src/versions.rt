@@ -11,7 +11,7 @@ ghost use Rattle.asn_model.specs.Notation.{IsText, Notation, notation_of};
 ghost use Rattle.asn_model.specs.Tree.{Tree};
 ghost use Rattle.asn_model.specs.Value.{Fits, Value};
 ghost use Rattle.asn_model.specs.Writable.{Writable};
-ghost use Rattle.asn_traits.specs.Root.{Reads};
+ghost use Rattle.asn_coding.specs.Root.{Reads};
 ghost use Rattle.asn_upgrades.specs.Apart.{IsApart};
 ghost use Rattle.std.specs.Prelude.{◌≡◌, ◌⊎◌, Some, true, IfErr, IfOk};
 

@@ -22,7 +22,7 @@ ghost use Rattle.asn_sample_choices.specs.OldReport.{old_report_shape};
 ghost use Rattle.asn_sample_trees.specs.OldTree.{old_tree_shape};
 ghost use Rattle.asn_sample_fields.specs.SimpleEnum.{simple_enum_shape};
 ghost use Rattle.asn_codec.specs.Texts.{HasTree};
-ghost use Rattle.asn_traits.specs.Root.{Reads};
+ghost use Rattle.asn_coding.specs.Root.{Reads};
 ghost use Rattle.std.specs.Prelude.{◌≡◌, Some};
 
 use asn_core::Codec;

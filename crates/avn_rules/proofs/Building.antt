@@ -11,7 +11,7 @@ use Rattle.asn_slots.specs.Trees.{trees_of}
 use Rattle.asn_slots.proofs.Trees.{first_same, present_same}
 use Rattle.asn_traits.specs.Canonical.{avn_tree, avn_trees, avn_fields}
 use Rattle.asn_traits.specs.Tree.{Tree}
-use Rattle.asn_traits.specs.Writing.{Frame, present_values, named, tail_names, head_name, as_list, as_members, as_choice}
+use Rattle.asn_coding.specs.Writing.{Frame, present_values, named, tail_names, head_name, as_list, as_members, as_choice}
 use Rattle.avn_rules.specs.Holding.{named_fields}
 
 -- One AVN value stands in a tree.

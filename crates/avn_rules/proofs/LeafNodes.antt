@@ -7,14 +7,14 @@ use Rattle.asn_fault.specs.Failure.{Cause, Failure, at_root}
 use Rattle.asn_model.specs.declared.leaves.LeafKind.{LeafKind}
 use Rattle.asn_model.specs.declared.leaves.LeafKind.TheVariants.{Number, Text, Time, Date, Oid}
 use Rattle.asn_model.specs.declared.leaves.OwnedLeaf.TheVariants as got
-use Rattle.asn_traits.specs.Answer.{OfPlace, RefusesLeaf}
+use Rattle.asn_coding.specs.Answer.{OfPlace, RefusesLeaf}
 use Rattle.asn_traits.specs.Arcs.{braced_arcs, checked_identifier}
 use Rattle.asn_traits.specs.Leaf.{LeafFailure, answer_kind, as_leaf, number_or, or_blame}
 use Rattle.asn_traits.specs.Notation.{Notation}
-use Rattle.asn_traits.specs.Opening.{IsTaken}
+use Rattle.asn_coding.specs.Opening.{IsTaken}
 use Rattle.asn_traits.specs.Tree.{Tree}
 use Rattle.asn_traits.specs.Value.{Value}
-use Rattle.asn_traits.proofs.Refusing.{no_leaf, out_of_memory, refuses_because_or_memory}
+use Rattle.asn_coding.proofs.Refusing.{no_leaf, out_of_memory, refuses_because_or_memory}
 use Rattle.avn_grammar.specs.Tree.{Tree as AvnTree, integer, char_string, octet_string, sequence_of}
 use Rattle.avn_value.specs.NodeViews.{kind_of, text_of, octets_of}
 use Rattle.avn_value.specs.declared.node_kind.NodeKind.TheVariants as kind

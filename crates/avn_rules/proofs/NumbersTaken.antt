@@ -5,7 +5,7 @@ use Rattle.asn_core.specs.declared.whole_number.WholeNumber.{WholeNumber}
 use Rattle.asn_fault.specs.Failure.{Cause}
 use Rattle.asn_traits.specs.Leaf.{LeafFailure, number_or, as_leaf}
 use Rattle.asn_traits.specs.Notation.{Notation}
-use Rattle.asn_traits.specs.Opening.{IsTaken}
+use Rattle.asn_coding.specs.Opening.{IsTaken}
 use Rattle.asn_traits.specs.Tree.{Tree}
 use Rattle.asn_traits.specs.Value.{Value}
 use Rattle.asn_model.specs.declared.leaves.LeafKind.TheVariants.{Number}

@@ -11,16 +11,16 @@ use Rattle.asn_model.specs.declared.leaves.LeafKind.{LeafKind}
 use Rattle.asn_model.specs.declared.leaves.OwnedLeaf.{OwnedLeaf}
 use Rattle.asn_slots.specs.Pending.{TakesAbsent as TakesAbsentSlot}
 use Rattle.asn_slots.specs.Trees.{trees_of}
-use Rattle.asn_traits.specs.Answer.{AtRoot, Refuses, RefusesLeaf}
+use Rattle.asn_coding.specs.Answer.{AtRoot, Refuses, RefusesLeaf}
 use Rattle.asn_traits.specs.FailsWith.{FailsWith}
 use Rattle.asn_traits.specs.Leaf.{IsFailureOf, LeafFailure, members_mismatch}
 use Rattle.asn_traits.specs.Notation.{Notation}
-use Rattle.asn_traits.specs.Opening.{HasMembers, IsChoice, IsList, OpensChoice, OpensList, OpensMembers, TakesLeaf, list_shape}
+use Rattle.asn_coding.specs.Opening.{HasMembers, IsChoice, IsList, OpensChoice, OpensList, OpensMembers, TakesLeaf, list_shape}
 use Rattle.asn_traits.specs.Shape.{Shape, SeqKind, Fields, FieldAdditions, Alternatives, AlternativeAdditions, place_named}
 use Rattle.asn_traits.specs.Tree.{Slot, Tree, head_slot, as_choice, as_list, as_members, field_slot, same_identifier}
-use Rattle.asn_traits.proofs.LeafValues.{taken as is_taken}
-use Rattle.asn_traits.proofs.Refusing.{no_choice, no_list, no_members, out_of_memory}
-use Rattle.asn_traits.proofs.Steps.{refuses_by}
+use Rattle.asn_coding.proofs.LeafValues.{taken as is_taken}
+use Rattle.asn_coding.proofs.Refusing.{no_choice, no_list, no_members, out_of_memory}
+use Rattle.asn_coding.proofs.Steps.{refuses_by}
 use Rattle.avn_grammar.specs.Tree.{Tree as AvnTree}
 use Rattle.avn_value.specs.Preorder.{tree_at}
 use Rattle.avn_rules.specs.LeafAnswer.{LeafAnswer}

@@ -5,12 +5,12 @@ use Rattle.asn_fault.specs.Failure.{Failure, failure_of, is_out_of_memory}
 use Rattle.asn_fault.specs.declared.decode.DecodeError.{DecodeError}
 use Rattle.asn_traits.specs.Canonical.{avn_tree, canonical_text}
 use Rattle.asn_traits.specs.Notation.{Notation}
-use Rattle.asn_traits.specs.Root.{RootAnswer, Reads}
+use Rattle.asn_coding.specs.Root.{RootAnswer, Reads}
 use Rattle.asn_traits.specs.DecodesTo.{DecodesTo}
 use Rattle.asn_traits.specs.Shape.{Shape}
 use Rattle.asn_traits.specs.Tree.{Tree}
 use Rattle.asn_traits.specs.Value.{Value}
-use Rattle.asn_traits.proofs.Whole.{root_complete}
+use Rattle.asn_coding.proofs.Whole.{root_complete}
 use Rattle.avn_grammar.specs.Print.{print}
 use Rattle.avn_grammar.specs.Tree.{Tree as AvnTree}
 use Rattle.avn_grammar.proofs.OneAnswer.{reads-unread, reads-deep}

@@ -17,7 +17,7 @@ use Rattle.asn_traits.specs.Canonical.{avn_tree, avn_trees, listed_trees, sorted
 use Rattle.asn_traits.specs.Notation.{Notation}
 use Rattle.asn_traits.specs.Sorting.{sort, by_text}
 use Rattle.asn_traits.specs.Value.{Value, Values}
-use Rattle.asn_traits.specs.Writing.{Frame, IsWrittenAsSet, present_values}
+use Rattle.asn_coding.specs.Writing.{Frame, IsWrittenAsSet, present_values}
 use Rattle.avn_rules.proofs.Building.{avn_same, present-trees}
 
 abbrev pub Entry : Type 0

@@ -8,7 +8,7 @@ use Rattle.asn_slots.proofs.Lasts.{or_some-assoc, or_some-none}
 use Rattle.asn_slots.proofs.Names.{same_bytes, other_bytes, other_parts, distinct_parts}
 use Rattle.asn_slots.specs.Trees.{trees_of}
 use Rattle.asn_traits.specs.Notation.{Notation}
-use Rattle.asn_traits.specs.Opening.{AllBelow}
+use Rattle.asn_coding.specs.Opening.{AllBelow}
 use Rattle.asn_traits.specs.Shape.{are_distinct, is_item, place_named}
 use Rattle.asn_traits.specs.Tree.{Tree, Slot, as_list, as_members, as_choice, slot_nodes, nodes, trees_nodes, fields_nodes, tree_slots, field_slot, or_else}
 

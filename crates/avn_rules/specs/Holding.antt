@@ -4,7 +4,7 @@ use Rattle.avn_grammar.specs.Tree.{Tree as AvnTree, Fields as AvnFields, no_fiel
 use Rattle.avn_value.specs.View.{tree_of}
 use Rattle.asn_slots.specs.Trees.{SameTrees}
 use Rattle.asn_traits.specs.Canonical.{avn_tree}
-use Rattle.asn_traits.specs.Writing.{Frame, head_name, tail_names}
+use Rattle.asn_coding.specs.Writing.{Frame, head_name, tail_names}
 use Rattle.avn_rules.specs.declared.avn.enc.Encoder.{Encoder}
 
 -- The encoder has the AVN values of these frames.

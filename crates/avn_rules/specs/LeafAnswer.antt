@@ -5,11 +5,11 @@ use Rattle.asn_fault.specs.Failure.{Cause, Failure, at_root, failure_of}
 use Rattle.asn_fault.specs.declared.decode.DecodeError.{DecodeError}
 use Rattle.asn_model.specs.declared.leaves.LeafKind.{LeafKind}
 use Rattle.asn_model.specs.declared.leaves.OwnedLeaf.{OwnedLeaf}
-use Rattle.asn_traits.specs.Answer.{OfPlace, Refuses}
+use Rattle.asn_coding.specs.Answer.{OfPlace, Refuses}
 use Rattle.asn_traits.specs.FailsWith.{FailsWith}
 use Rattle.asn_traits.specs.Leaf.{kind_of}
 use Rattle.asn_traits.specs.Notation.{Notation}
-use Rattle.asn_traits.specs.Opening.{IsTaken}
+use Rattle.asn_coding.specs.Opening.{IsTaken}
 use Rattle.asn_traits.specs.Shape.{Shape}
 use Rattle.asn_traits.specs.Tree.{Tree}
 

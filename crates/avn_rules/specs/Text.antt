@@ -8,7 +8,7 @@ use Rattle.avn_grammar.specs.Normal.{normal}
 use Rattle.avn_grammar.specs.Tree.{Tree as AvnTree}
 use Rattle.avn_grammar.specs.declared.limits.TheConstants.{LEVEL_LIMIT}
 use Rattle.avn_value.specs.Answer.{Explains}
-use Rattle.asn_traits.specs.Answer.{Refuses}
+use Rattle.asn_coding.specs.Answer.{Refuses}
 use Rattle.asn_traits.specs.Canonical.{avn_tree}
 use Rattle.asn_traits.specs.Notation.{Notation}
 use Rattle.asn_traits.specs.Shape.{Shape}

@@ -4,12 +4,12 @@
 ghost use Rattle.asn_fault.specs.Failure.{failure_of};
 ghost use Rattle.asn_traits.specs.Canonical.{canonical_text};
 ghost use Rattle.asn_traits.specs.Notation.{Notation};
-ghost use Rattle.asn_traits.specs.Root.{Reads};
+ghost use Rattle.asn_coding.specs.Root.{Reads};
 ghost use Rattle.asn_traits.specs.DecodesTo.{DecodesTo};
 ghost use Rattle.asn_traits.specs.Tree.{Tree};
 ghost use Rattle.asn_traits.specs.Value.{Value, Fits};
 ghost use Rattle.asn_traits.specs.Writable.{Writable};
-ghost use Rattle.asn_traits.specs.Writing.{FailsToEncode, IsOutOfMemory};
+ghost use Rattle.asn_coding.specs.Writing.{FailsToEncode, IsOutOfMemory};
 ghost use Rattle.avn_grammar.specs.Tree.{Tree as AvnTree};
 ghost use Rattle.avn_rules.specs.Text.{IsAvn, ReadsBack, RefusesText};
 ghost use Rattle.std.specs.Prelude.{◌≡◌, Some, IfOk, IfErr, OnOk, string_bytes};

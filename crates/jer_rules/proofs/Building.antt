@@ -11,7 +11,7 @@ use Rattle.asn_slots.specs.Trees.{trees_of}
 use Rattle.asn_slots.proofs.Trees.{first_same, present_same}
 use Rattle.asn_traits.specs.Canonical.{jer_data, jer_items, jer_members}
 use Rattle.asn_traits.specs.Tree.{Tree}
-use Rattle.asn_traits.specs.Writing.{Frame, present_values, named, tail_names, head_name, as_list, as_members, as_choice}
+use Rattle.asn_coding.specs.Writing.{Frame, present_values, named, tail_names, head_name, as_list, as_members, as_choice}
 use Rattle.jer_rules.specs.Holding.{members_onto, one_member}
 
 -- One JSON value stands in a tree.

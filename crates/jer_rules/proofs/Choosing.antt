@@ -4,7 +4,7 @@ use Rattle.serde_json.specs.Data.{Data, Members}
 use Rattle.serde_json.specs.View.{view, members_view}
 use Rattle.serde_json.specs.declared.value.Value.{Value}
 use Rattle.asn_traits.specs.Notation.{Notation}
-use Rattle.asn_traits.specs.Opening.{IsChoice}
+use Rattle.asn_coding.specs.Opening.{IsChoice}
 use Rattle.asn_traits.specs.Shape.{place_named}
 use Rattle.asn_traits.specs.Tree.{Tree, Slot, slot_nodes, same_identifier}
 use Rattle.jer_rules.specs.Payload.{First, NoPayload}

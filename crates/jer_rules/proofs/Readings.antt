@@ -4,15 +4,15 @@ use Rattle.std.specs.Prelude.{option_map}
 use Rattle.serde_json.specs.Data.{Data, Members}
 use Rattle.serde_json.specs.Find.{as_array as items_in, as_object as members_in}
 use Rattle.asn_fault.specs.Failure.{Failure}
-use Rattle.asn_traits.specs.Answer.{AtRoot, Refuses, RefusesLeaf}
+use Rattle.asn_coding.specs.Answer.{AtRoot, Refuses, RefusesLeaf}
 use Rattle.asn_traits.specs.FailsWith.{FailsWith}
 use Rattle.asn_traits.specs.Leaf.{IsFailureOf, list_mismatch, set_mismatch}
 use Rattle.asn_traits.specs.Notation.{Notation}
-use Rattle.asn_traits.specs.Opening.{list_shape}
+use Rattle.asn_coding.specs.Opening.{list_shape}
 use Rattle.asn_traits.specs.Shape.{SeqKind, Shape}
 use Rattle.asn_traits.specs.Tree.{Slot, Tree, as_list, as_members, as_choice, head_slot, item_slots, member_slot}
-use Rattle.asn_traits.proofs.Refusing.{no_list}
-use Rattle.asn_traits.proofs.Steps.{refuses_by}
+use Rattle.asn_coding.proofs.Refusing.{no_list}
+use Rattle.asn_coding.proofs.Steps.{refuses_by}
 
 list-read : (d : Data) → as_list Notation.jer (Tree.json d) ≡ option_map item_slots (items_in d)
 list-read Data.null = refl

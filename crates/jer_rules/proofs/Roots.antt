@@ -7,13 +7,13 @@ use Rattle.asn_slots.proofs.Trees.{value_kept}
 use Rattle.asn_fault.specs.Failure.{failure_of}
 use Rattle.asn_fault.specs.declared.decode.DecodeError.{DecodeError}
 use Rattle.asn_traits.specs.Notation.{Notation}
-use Rattle.asn_traits.specs.Root.{RootAnswer, Reads}
+use Rattle.asn_coding.specs.Root.{RootAnswer, Reads}
 use Rattle.asn_traits.specs.DecodesTo.{DecodesTo}
 use Rattle.asn_traits.specs.Shape.{Shape}
 use Rattle.asn_traits.specs.Tree.{Tree}
 use Rattle.asn_traits.specs.Value.{Value}
-use Rattle.asn_traits.specs.Writing.{Frame}
-use Rattle.asn_traits.proofs.Whole.{root_complete}
+use Rattle.asn_coding.specs.Writing.{Frame}
+use Rattle.asn_coding.proofs.Whole.{root_complete}
 use Rattle.jer_rules.specs.Text.{IsJer, RefusesText}
 
 -- A refusal of the tree is one of its text.

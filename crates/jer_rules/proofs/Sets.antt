@@ -19,7 +19,7 @@ use Rattle.asn_traits.specs.Canonical.{jer_data, jer_items, json_items, json_lis
 use Rattle.asn_traits.specs.Notation.{Notation}
 use Rattle.asn_traits.specs.Sorting.{sort, by_text}
 use Rattle.asn_traits.specs.Value.{Value, Values}
-use Rattle.asn_traits.specs.Writing.{Frame, IsWrittenAsSet, present_values}
+use Rattle.asn_coding.specs.Writing.{Frame, IsWrittenAsSet, present_values}
 use Rattle.jer_rules.proofs.Building.{json_same, present-items}
 use Rattle.jer_rules.proofs.Floats.{items-without_float}
 

@@ -14,9 +14,9 @@ use Rattle.serde_json.specs.View.{view, items_view, members_view}
 use Rattle.serde_json.specs.declared.value.Value.{Value}
 use Rattle.asn_slots.proofs.Names.{other_bytes, other_parts, distinct_parts}
 use Rattle.asn_slots.specs.Trees.{trees_of}
-use Rattle.asn_traits.specs.Opening.{AllBelow}
-use Rattle.asn_traits.specs.Tables.{names_of}
-use Rattle.asn_traits.specs.declared.asn_type.Field.{Field}
+use Rattle.asn_coding.specs.Opening.{AllBelow}
+use Rattle.asn_coding.specs.Tables.{names_of}
+use Rattle.asn_coding.specs.declared.field.Field.{Field}
 use Rattle.asn_traits.specs.Shape.{is_item, are_distinct}
 use Rattle.asn_traits.specs.Tree.{Tree, Slot, slot_nodes, data_nodes, items_nodes, members_nodes, item_slots, member_slot}
 use Rattle.jer_rules.specs.Pending.{tree_of, TakesFields}

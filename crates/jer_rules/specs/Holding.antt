@@ -4,7 +4,7 @@ use Rattle.serde_json.specs.Data.{Data, Members, put}
 use Rattle.serde_json.specs.View.{view}
 use Rattle.asn_slots.specs.Trees.{SameTrees}
 use Rattle.asn_traits.specs.Canonical.{jer_data}
-use Rattle.asn_traits.specs.Writing.{Frame, head_name, tail_names}
+use Rattle.asn_coding.specs.Writing.{Frame, head_name, tail_names}
 use Rattle.jer_rules.specs.declared.jer.enc.Encoder.{Encoder}
 
 -- The encoder has the JSON values of these frames.

@@ -11,7 +11,7 @@ use Rattle.asn_traits.specs.Shape.{Shape}
 use Rattle.asn_traits.specs.FailsWith.{FailsWith}
 use Rattle.asn_traits.specs.Tree.{Tree}
 use Rattle.asn_traits.specs.Value.{Value}
-use Rattle.asn_traits.specs.Answer.{Refuses}
+use Rattle.asn_coding.specs.Answer.{Refuses}
 use Rattle.asn_model.specs.declared.words.TheConstants.{JER_NO_JSON}
 
 -- The text is this JSON value, in which each number is an `i64` or a `u64`.

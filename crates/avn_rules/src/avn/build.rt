@@ -1,7 +1,7 @@
 //! Makes AVN values of the slots that an encoder has collected. Values are moved in; names are
 //! copied, since an AVN value owns its names.
 ghost use Rattle.asn_traits.specs.Canonical.{sorted_trees};
-ghost use Rattle.asn_traits.specs.Tables.{names_of};
+ghost use Rattle.asn_coding.specs.Tables.{names_of};
 ghost use Rattle.avn_grammar.specs.Tree.{integer, choice};
 ghost use Rattle.asn_slots.specs.Trees.{trees_of};
 ghost use Rattle.avn_rules.specs.Holding.{named_fields};

@@ -2,7 +2,7 @@
 //! nodes, and the pending slots as indices into it; each call takes the first of them.
 ghost use Rattle.asn_core.specs.declared.codec.Codec.TheVariants.{Avn};
 ghost use Rattle.asn_fault.specs.Failure.{Cause, failure_of, at_root};
-ghost use Rattle.asn_traits.specs.Answer.{Refuses};
+ghost use Rattle.asn_coding.specs.Answer.{Refuses};
 ghost use Rattle.asn_traits.specs.Notation.{Notation};
 ghost use Rattle.asn_traits.specs.Shape.{Shape};
 ghost use Rattle.asn_traits.specs.FailsWith.{FailsWith};

@@ -6,7 +6,7 @@ ghost use Rattle.asn_slots.specs.Frames.{push};
 ghost use Rattle.asn_slots.specs.Slots.{last_present};
 ghost use Rattle.asn_traits.specs.Canonical.{avn_tree, canonical_text};
 ghost use Rattle.asn_traits.specs.Notation.{Notation};
-ghost use Rattle.asn_traits.specs.Writing.{Frame, IsOutOfMemory};
+ghost use Rattle.asn_coding.specs.Writing.{Frame, IsOutOfMemory};
 ghost use Rattle.avn_value.specs.View.{tree_of};
 ghost use Rattle.std.specs.Prelude.{◌≡◌, ◌⊎◌, ◌∷◌, [], Option, Some, None, OnOk, IfOk, IfErr};
 ghost use Rattle.std.specs.Prelude.{option_map, string_bytes};

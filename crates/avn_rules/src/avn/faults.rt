@@ -2,7 +2,7 @@
 ghost use Rattle.asn_core.specs.declared.codec.Codec.TheVariants.{Avn};
 ghost use Rattle.asn_fault.specs.Failure.{Cause, failure_of, at_root, codec_cause};
 ghost use Rattle.asn_fault.specs.EncodeCause.{EncodeCause};
-ghost use Rattle.asn_traits.specs.Answer.{RefusesLeaf};
+ghost use Rattle.asn_coding.specs.Answer.{RefusesLeaf};
 ghost use Rattle.asn_traits.specs.Leaf.{LeafFailure, members_mismatch};
 ghost use Rattle.asn_traits.specs.Notation.{Notation};
 ghost use Rattle.asn_traits.specs.ShapeView.{kind_view};

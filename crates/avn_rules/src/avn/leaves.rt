@@ -3,7 +3,7 @@ ghost use Rattle.asn_traits.specs.Canonical.{avn_tree};
 ghost use Rattle.asn_traits.specs.Leaf.{leaf_value};
 ghost use Rattle.asn_traits.specs.Notation.{Notation};
 ghost use Rattle.asn_traits.specs.Writable.{Writable};
-ghost use Rattle.asn_traits.specs.Writing.{IsOutOfMemory};
+ghost use Rattle.asn_coding.specs.Writing.{IsOutOfMemory};
 ghost use Rattle.avn_value.specs.View.{tree_of as avn_tree_of};
 ghost use Rattle.std.specs.Prelude.{◌≡◌, true, IfOk, IfErr, OnOk, string_bytes};
 ghost use Rattle.std.specs.Str.{is_utf8};

@@ -2,7 +2,7 @@
 ghost use Rattle.asn_slots.specs.Trees.{trees_of};
 ghost use Rattle.asn_traits.specs.Notation.{Notation};
 ghost use Rattle.asn_traits.specs.Shape.{are_distinct};
-ghost use Rattle.asn_traits.specs.Tables.{names_of};
+ghost use Rattle.asn_coding.specs.Tables.{names_of};
 ghost use Rattle.asn_traits.specs.Tree.{Slot, as_list, as_members};
 ghost use Rattle.avn_rules.specs.Parts.{place_of_slot};
 ghost use Rattle.avn_rules.specs.Pending.{IsPresent, IsSlot, value_at};

@@ -5,9 +5,9 @@ ghost use Rattle.asn_model.specs.declared.leaves.LeafKind.TheVariants.{Bits as B
 ghost use Rattle.asn_traits.specs.BitLeaves.{LengthStands, another_length, sized_bits};
 ghost use Rattle.asn_traits.specs.Canonical.{bits_data};
 ghost use Rattle.asn_traits.specs.Notation.{Notation};
-ghost use Rattle.asn_traits.specs.Opening.{IsTaken};
+ghost use Rattle.asn_coding.specs.Opening.{IsTaken};
 ghost use Rattle.asn_traits.specs.Value.{Value as AbstractValue};
-ghost use Rattle.asn_traits.specs.Writing.{FailsToEncode, IsOutOfMemory};
+ghost use Rattle.asn_coding.specs.Writing.{FailsToEncode, IsOutOfMemory};
 ghost use Rattle.hex.specs.Hex.{decode_of, encode_upper};
 ghost use Rattle.jer_rules.specs.BitTexts.{IsDeclared, ReadsBits, bit_members};
 ghost use Rattle.jer_rules.specs.NoLeaves.{IsNoLeaf};

@@ -4,7 +4,7 @@ ghost use Rattle.asn_core.specs.Numbers.{signed};
 ghost use Rattle.asn_slots.specs.Trees.{trees_of};
 ghost use Rattle.asn_traits.specs.Canonical.{sorted_items};
 ghost use Rattle.asn_traits.specs.Notation.{Notation};
-ghost use Rattle.asn_traits.specs.Tables.{names_of};
+ghost use Rattle.asn_coding.specs.Tables.{names_of};
 ghost use Rattle.asn_traits.specs.Writable.{IsEncodableInt};
 ghost use Rattle.jer_rules.specs.Holding.{members_onto, one_member};
 ghost use Rattle.serde_json.specs.Data.{Members, put};

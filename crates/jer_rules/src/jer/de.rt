@@ -2,11 +2,11 @@
 //! call takes the first, and takes the JSON value apart by moves as it goes.
 ghost use Rattle.asn_core.specs.declared.codec.Codec.TheVariants.{Jer};
 ghost use Rattle.asn_fault.specs.Failure.{Cause, failure_of, at_root};
-ghost use Rattle.asn_traits.specs.Answer.{Refuses};
+ghost use Rattle.asn_coding.specs.Answer.{Refuses};
 ghost use Rattle.asn_traits.specs.Notation.{Notation};
 ghost use Rattle.asn_traits.specs.Shape.{Shape, are_distinct};
 ghost use Rattle.asn_traits.specs.FailsWith.{FailsWith};
-ghost use Rattle.asn_traits.specs.Tables.{names_of};
+ghost use Rattle.asn_coding.specs.Tables.{names_of};
 ghost use Rattle.asn_traits.specs.Tree.{Tree, head_slot};
 ghost use Rattle.serde_json.specs.Data.{Data};
 ghost use Rattle.serde_json.specs.View.{members_view};

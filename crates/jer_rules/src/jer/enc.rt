@@ -6,7 +6,7 @@ ghost use Rattle.asn_traits.specs.Canonical.{jer_data, canonical_text};
 ghost use Rattle.asn_traits.specs.Notation.{Notation};
 ghost use Rattle.asn_slots.specs.Frames.{push};
 ghost use Rattle.asn_slots.specs.Slots.{last_present};
-ghost use Rattle.asn_traits.specs.Writing.{Frame, IsOutOfMemory};
+ghost use Rattle.asn_coding.specs.Writing.{Frame, IsOutOfMemory};
 ghost use Rattle.jer_rules.specs.Text.{ReadsBack};
 ghost use Rattle.serde_json.specs.View.{view};
 ghost use Rattle.std.specs.Prelude.{◌≡◌, ◌⊎◌, ◌∷◌, [], List, Option, Some, None, OnOk, IfOk};

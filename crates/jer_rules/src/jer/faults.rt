@@ -1,7 +1,7 @@
 // What a reader of JSON refuses by.
 ghost use Rattle.asn_core.specs.declared.codec.Codec.TheVariants.{Jer};
 ghost use Rattle.asn_fault.specs.Failure.{Cause, failure_of, at_root, codec_cause};
-ghost use Rattle.asn_traits.specs.Answer.{RefusesLeaf};
+ghost use Rattle.asn_coding.specs.Answer.{RefusesLeaf};
 ghost use Rattle.asn_traits.specs.BitLeaves.{another_length, held_bits, no_bits};
 ghost use Rattle.asn_traits.specs.Leaf.{LeafFailure};
 ghost use Rattle.asn_traits.specs.Notation.{Notation};

@@ -2,7 +2,7 @@
 ghost use Rattle.asn_model.specs.declared.leaves.LeafKind.TheVariants.{Oid};
 ghost use Rattle.asn_traits.specs.Arcs.{arc_numbers};
 ghost use Rattle.asn_traits.specs.Notation.{Notation};
-ghost use Rattle.asn_traits.specs.Opening.{IsTaken};
+ghost use Rattle.asn_coding.specs.Opening.{IsTaken};
 ghost use Rattle.jer_rules.specs.Identifiers.{IsDotted};
 ghost use Rattle.jer_rules.specs.NoLeaves.{IsNoLeaf};
 ghost use Rattle.jer_rules.specs.Pending.{tree_of};

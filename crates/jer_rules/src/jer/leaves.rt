@@ -2,9 +2,9 @@
 ghost use Rattle.asn_traits.specs.Canonical.{jer_data};
 ghost use Rattle.asn_traits.specs.Leaf.{leaf_value};
 ghost use Rattle.asn_traits.specs.Notation.{Notation};
-ghost use Rattle.asn_traits.specs.Opening.{IsTaken};
+ghost use Rattle.asn_coding.specs.Opening.{IsTaken};
 ghost use Rattle.asn_traits.specs.Writable.{Writable};
-ghost use Rattle.asn_traits.specs.Writing.{FailsToEncode, IsOutOfMemory};
+ghost use Rattle.asn_coding.specs.Writing.{FailsToEncode, IsOutOfMemory};
 ghost use Rattle.jer_rules.specs.NoLeaves.{IsNoLeaf};
 ghost use Rattle.jer_rules.specs.Pending.{tree_of};
 ghost use Rattle.serde_json.specs.Data.{Data};

@@ -1,8 +1,8 @@
 use Rattle.std.proofs.Common.{Some, ap, arith, refl, rules, w64}
 use Rattle.std.proofs.lemmas.Int.{to_z-of_z}
 use Rattle.asn_model.specs.Value.{Value}
-use Rattle.asn_traits.specs.FieldAnswer.{TakesSlot}
-use Rattle.asn_traits.proofs.FieldSteps.{field_refused}
+use Rattle.asn_coding.specs.FieldAnswer.{TakesSlot}
+use Rattle.asn_coding.proofs.FieldSteps.{field_refused}
 use Rattle.asn_by_hand.proofs.mark_fields.read_mark.Goals as goal
 
 pub returns-in-Ok : goal.returns-in-Ok

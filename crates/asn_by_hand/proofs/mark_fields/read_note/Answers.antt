@@ -1,7 +1,7 @@
 use Rattle.std.proofs.Common.{refl}
 use Rattle.asn_by_hand.proofs.Slots.{kept_optional}
 use Rattle.asn_model.specs.Value.{Value}
-use Rattle.asn_traits.proofs.FieldSteps.{field_refused, optional_taken}
+use Rattle.asn_coding.proofs.FieldSteps.{field_refused, optional_taken}
 use Rattle.asn_by_hand.proofs.mark_fields.read_note.Goals as goal
 use Rattle.std.specs.Prelude.{string_bytes}
 

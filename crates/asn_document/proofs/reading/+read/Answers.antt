@@ -4,9 +4,9 @@ use Rattle.asn_document.proofs.Entries.{entry_names, value_below, entry_read, ke
 use Rattle.asn_document.proofs.Puts.{put_next, table_fails, table_read}
 use Rattle.asn_document.proofs.Whole.{items_more, put_whole}
 use Rattle.asn_document.specs.Meaning.{alternatives_with, document_alternatives, entry_shape, json_value}
-use Rattle.asn_traits.proofs.Choices.{choice_by_tag}
-use Rattle.asn_traits.proofs.Reading as list
-use Rattle.asn_traits.proofs.Steps.{loop_answer, loop_refuses, refuses_by}
+use Rattle.asn_coding.proofs.Choices.{choice_by_tag}
+use Rattle.asn_coding.proofs.Reading as list
+use Rattle.asn_coding.proofs.Steps.{loop_answer, loop_refuses, refuses_by}
 use Rattle.asn_fault.specs.Failure.{failure_of}
 use Rattle.asn_model.specs.Shape.{Shape, SeqKind, are_distinct, AlternativeAdditions, closed_choice}
 use Rattle.asn_model.specs.Tree.{head_nodes}

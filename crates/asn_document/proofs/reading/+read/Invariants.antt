@@ -1,7 +1,7 @@
 use Rattle.std.proofs.Common.{◌≡◌, false, List, ◌+◌, ◌*◌}
 use Rattle.asn_document.proofs.Puts.{put_from}
 use Rattle.asn_document.specs.Meaning.{document_shape, entry_shape, json_value, json_entry}
-use Rattle.asn_traits.proofs.Reading.{Reading}
+use Rattle.asn_coding.proofs.Reading.{Reading}
 use Rattle.asn_model.specs.Tree.{head_nodes}
 use Rattle.serde_json.proofs.Views.{Entry}
 use Rattle.serde_json.specs.Data.{no_members}

@@ -8,10 +8,10 @@ use Rattle.asn_document.proofs.Elements.{item_within, member_within, items_value
 use Rattle.asn_document.proofs.Entries.{entry_names}
 use Rattle.asn_document.proofs.Whole.{item_whole, member_whole}
 use Rattle.asn_document.proofs.Writes.{offer, closed, entry_closed, keys_of_map}
-use Rattle.asn_traits.proofs.Collecting.{collected-none, collected-more, collected-all, collected-blocks, collected-push, collected-table, collected-refused}
+use Rattle.asn_coding.proofs.Collecting.{collected-none, collected-more, collected-all, collected-blocks, collected-push, collected-table, collected-refused}
 use Rattle.asn_model.specs.Tree.{data_nodes, items_nodes, members_nodes}
 use Rattle.asn_model.specs.Value.{Value, FitsAlternative}
-use Rattle.asn_traits.specs.Writing.{Written, FailsToEncode, Offered}
+use Rattle.asn_coding.specs.Writing.{Written, FailsToEncode, Offered}
 use Rattle.serde_json.proofs.Views.{Entry, view-Array, view-Object}
 use Rattle.serde_json.specs.View.{view, items_view, members_view}
 use Rattle.serde_json.specs.Written.{has_float, items_have_float, members_have_float}

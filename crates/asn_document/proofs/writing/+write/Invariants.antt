@@ -1,6 +1,6 @@
 use Rattle.std.proofs.Common.{◌≡◌, List, ◌++◌, take, ◌+◌, ◌*◌}
 use Rattle.asn_document.specs.Meaning.{document_shape, entry_shape, json_value, json_entry}
-use Rattle.asn_traits.proofs.Collecting.{Collected}
+use Rattle.asn_coding.proofs.Collecting.{Collected}
 use Rattle.asn_model.specs.Tree.{data_nodes, items_nodes, members_nodes}
 use Rattle.serde_json.specs.View.{view, items_view, members_view}
 use Rattle.serde_json.proofs.Views.{Entry}

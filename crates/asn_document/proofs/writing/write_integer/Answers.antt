@@ -3,8 +3,8 @@ use Rattle.std.proofs.lemmas.Int.{to_z-of_z}
 use Rattle.std.proofs.lemmas.Result.{on_ok_weaker}
 use Rattle.asn_document.specs.Meaning.{document_alternatives}
 use Rattle.asn_model.specs.Value.{Value, FitsAlternative}
-use Rattle.asn_traits.proofs.Filling.{offered}
-use Rattle.asn_traits.specs.Writing.{Offered}
+use Rattle.asn_coding.proofs.Filling.{offered}
+use Rattle.asn_coding.specs.Writing.{Offered}
 use Rattle.asn_document.proofs.writing.write_integer.Goals as goal
 
 pub returns-clause-offered : goal.returns-clause-offered

@@ -1,8 +1,8 @@
 use Rattle.std.proofs.Common.{◌<◌, ap, ◌∙◌, subst}
 use Rattle.std.proofs.lemmas.Result.{err_from_is_err_and}
 use Rattle.asn_fault.specs.Failure.{failure_of}
-use Rattle.asn_traits.proofs.Reading as list
-use Rattle.asn_traits.proofs.Scopes.{table_names}
+use Rattle.asn_coding.proofs.Reading as list
+use Rattle.asn_coding.proofs.Scopes.{table_names}
 use Rattle.asn_model.specs.Shape.{SeqKind, FieldAdditions, are_distinct}
 use Rattle.asn_model.specs.Tree.{head_nodes}
 use Rattle.asn_model.specs.Value.{values}

@@ -1,5 +1,5 @@
 use Rattle.asn_traits.specs.Tree.{head_nodes}
-use Rattle.asn_traits.proofs.Reading.{Reading}
+use Rattle.asn_coding.proofs.Reading.{Reading}
 use Rattle.asn_sample_trees.specs.Tree.{tree_value}
 use Rattle.asn_sample_trees.specs.TreeShape.{tree_shape}
 use Rattle.asn_sample_trees.proofs.tree.+read.Given as goal

@@ -1,6 +1,6 @@
 use Rattle.std.proofs.Common.{arith}
 use Rattle.std.proofs.lemmas.Result.{err_from_is_err_and, on_ok_weaker}
-use Rattle.asn_traits.proofs.Collecting.{collected-none, collected-more, collected-all, collected-blocks}
+use Rattle.asn_coding.proofs.Collecting.{collected-none, collected-more, collected-all, collected-blocks}
 use Rattle.asn_sample_trees.proofs.Trees.{names_told, tree_written, kids_unwritten, additions_unwritten}
 use Rattle.asn_sample_trees.proofs.tree.+write.Goals as goal
 

@@ -1,6 +1,6 @@
 -- The last frame holds the kids so far, each of which fits and can be written.
 use Rattle.std.proofs.Common.{take}
-use Rattle.asn_traits.proofs.Collecting.{Collected}
+use Rattle.asn_coding.proofs.Collecting.{Collected}
 use Rattle.asn_sample_trees.specs.Tree.{tree_value}
 use Rattle.asn_sample_trees.specs.TreeShape.{tree_shape}
 use Rattle.asn_sample_trees.proofs.tree.+write.Given as goal

@@ -1,7 +1,7 @@
 use Rattle.std.proofs.Common.{ap, ◌∙◌}
 use Rattle.std.proofs.lemmas.Result.{on_ok_weaker}
 use Rattle.asn_model.specs.Shape.{all_alternatives, alternative_tagged}
-use Rattle.asn_traits.proofs.Filling.{scope_choice, offered, fits_tagged}
+use Rattle.asn_coding.proofs.Filling.{scope_choice, offered, fits_tagged}
 use Rattle.asn_traits.proofs.alternative.write_choice.Goals as goal
 
 pub returns-clause-written : goal.returns-clause-written

@@ -1,8 +1,8 @@
 use Rattle.std.proofs.Common.{◌∙◌, ap, refl}
 use Rattle.asn_model.specs.Shape.{Shape, are_distinct}
 use Rattle.asn_model.proofs.Readables.{names_distinct}
-use Rattle.asn_traits.proofs.Members.{members_read, members_refused}
-use Rattle.asn_traits.proofs.TagOrder.{read-distinct}
+use Rattle.asn_coding.proofs.Members.{members_read, members_refused}
+use Rattle.asn_coding.proofs.TagOrder.{read-distinct}
 use Rattle.asn_traits.proofs.sequence.read_members.Goals as goal
 
 pub open_members-requires : goal.open_members-requires

@@ -1,10 +1,10 @@
 use Rattle.std.proofs.Common.{◌≡◌, ◌++◌, ◌∙◌, ap, subst, sym}
 use Rattle.asn_model.specs.Components.{component_names, reading_order}
 use Rattle.asn_model.specs.ShapeView.{kind_view}
-use Rattle.asn_traits.specs.Tables.{names_of}
-use Rattle.asn_traits.proofs.ReadingOrder.{names-read}
-use Rattle.asn_traits.proofs.Scopes.{all_table_names}
-use Rattle.asn_traits.proofs.TagOrder.{set_table_names}
+use Rattle.asn_coding.specs.Tables.{names_of}
+use Rattle.asn_coding.proofs.ReadingOrder.{names-read}
+use Rattle.asn_coding.proofs.Scopes.{all_table_names}
+use Rattle.asn_coding.proofs.TagOrder.{set_table_names}
 use Rattle.asn_traits.proofs.sequence.read_sequence.Goals as goal
 
 pub read_members-requires : goal.read_members-requires

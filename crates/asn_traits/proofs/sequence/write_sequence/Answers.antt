@@ -1,8 +1,8 @@
 use Rattle.std.proofs.Common.{inl, inr}
 use Rattle.std.proofs.lemmas.Result.{on_ok_weaker, IfErr-weaker}
 use Rattle.asn_model.specs.Shape.{all_fields, field_names}
-use Rattle.asn_traits.specs.Writing.{FailsToEncode}
-use Rattle.asn_traits.proofs.Filling.{scope_fields, refuse_members}
+use Rattle.asn_coding.specs.Writing.{FailsToEncode}
+use Rattle.asn_coding.proofs.Filling.{scope_fields, refuse_members}
 use Rattle.asn_traits.proofs.sequence.write_sequence.Goals as goal
 
 pub returns-clause-written : goal.returns-clause-written

@@ -1,7 +1,7 @@
 use Rattle.std.proofs.lemmas.Result.{err_from_is_err_and}
 use Rattle.asn_traits.specs.Notation.{Notation}
 use Rattle.asn_traits.specs.Tree.{Tree}
-use Rattle.asn_traits.proofs.Whole.{root_answer}
+use Rattle.asn_coding.proofs.Whole.{root_answer}
 use Rattle.avn_rules.specs.Text.{RefusesText}
 use Rattle.avn_rules.proofs.Roots.{text_refused, text_complete, explained_memory}
 use Rattle.avn_rules.proofs.avn.decode.Goals as goal

@@ -3,8 +3,8 @@ use Rattle.std.proofs.lemmas.Result.{err_from_is_err_and, IfOk-weaker, IfErr-wea
 use Rattle.asn_slots.proofs.Trees.{value_kept}
 use Rattle.asn_traits.specs.Canonical.{canonical_text}
 use Rattle.asn_traits.specs.Notation.{Notation}
-use Rattle.asn_traits.specs.Writing.{FailsToEncode}
-use Rattle.asn_traits.proofs.Whole.{write_complete}
+use Rattle.asn_coding.specs.Writing.{FailsToEncode}
+use Rattle.asn_coding.proofs.Whole.{write_complete}
 use Rattle.avn_rules.specs.Holding.{Holds}
 use Rattle.avn_rules.proofs.ReadBack.{read_back}
 use Rattle.avn_rules.proofs.avn.encode.Goals as goal

@@ -2,8 +2,8 @@ use Rattle.std.proofs.Common.{◌≡◌, Some, [], ◌∷◌, sym, string_bytes}
 use Rattle.std.proofs.lemmas.Result.{err_from_is_err_and, IfOk-weaker, IfErr-weaker}
 use Rattle.asn_traits.specs.Canonical.{canonical_text}
 use Rattle.asn_traits.specs.Notation.{Notation}
-use Rattle.asn_traits.specs.Writing.{FailsToEncode}
-use Rattle.asn_traits.proofs.Whole.{write_complete}
+use Rattle.asn_coding.specs.Writing.{FailsToEncode}
+use Rattle.asn_coding.proofs.Whole.{write_complete}
 use Rattle.jer_rules.specs.Holding.{Holds}
 use Rattle.jer_rules.proofs.Roots.{root_kept}
 use Rattle.jer_rules.proofs.jer.encode.Goals as goal

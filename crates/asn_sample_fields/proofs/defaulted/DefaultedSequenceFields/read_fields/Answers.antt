@@ -1,7 +1,7 @@
 use Rattle.std.proofs.Common.{rules, arith, refl}
 use Rattle.std.proofs.lemmas.Int.{to_z-of_z}
 use Rattle.std.specs.Int.{w128}
-use Rattle.asn_traits.specs.Passing.{TakesFields}
+use Rattle.asn_coding.specs.Passing.{TakesFields}
 use Rattle.asn_traits.specs.Value.{Value}
 use Rattle.asn_sample_fields.specs.Defaulted.{default_level}
 use Rattle.asn_sample_fields.proofs.defaulted.DefaultedSequenceFields.read_fields.Goals as goal

@@ -2,8 +2,8 @@ use Rattle.std.proofs.Common.{subst, ◌<◌}
 use Rattle.asn_traits.specs.Tree.{head_nodes}
 use Rattle.std.proofs.lemmas.Result.{err_from_is_err_and}
 use Rattle.asn_traits.specs.Shape.{Shape, SeqKind}
-use Rattle.asn_traits.proofs.Steps.{loop_refuses}
-use Rattle.asn_traits.proofs.Reading as list
+use Rattle.asn_coding.proofs.Steps.{loop_refuses}
+use Rattle.asn_coding.proofs.Reading as list
 use Rattle.asn_sample_trees.specs.Nest.{nest_shape}
 use Rattle.asn_sample_trees.proofs.Lists.{nest_answer}
 use Rattle.asn_sample_trees.proofs.nest.NestDecode.+nest_decode.Goals as goal

@@ -1,5 +1,5 @@
 use Rattle.asn_traits.specs.Tree.{head_nodes}
-use Rattle.asn_traits.proofs.Reading.{Reading}
+use Rattle.asn_coding.proofs.Reading.{Reading}
 use Rattle.asn_sample_trees.specs.Nest.{nest_shape, nest_value}
 use Rattle.asn_sample_trees.proofs.nest.NestDecode.+nest_decode.Given as goal
 

@@ -1,6 +1,6 @@
 use Rattle.std.proofs.Common.{arith}
 use Rattle.std.proofs.lemmas.Result.{err_from_is_err_and, on_ok_weaker}
-use Rattle.asn_traits.proofs.Collecting.{collected-none, collected-more, collected-all, collected-blocks}
+use Rattle.asn_coding.proofs.Collecting.{collected-none, collected-more, collected-all, collected-blocks}
 use Rattle.asn_sample_trees.proofs.Lists.{nest_written, nest_refused}
 use Rattle.asn_sample_trees.proofs.nest.NestEncode.+nest_encode.Goals as goal
 

@@ -1,6 +1,6 @@
 -- The last frame holds the nests so far, each of which fits and can be written.
 use Rattle.std.proofs.Common.{take}
-use Rattle.asn_traits.proofs.Collecting.{Collected}
+use Rattle.asn_coding.proofs.Collecting.{Collected}
 use Rattle.asn_sample_trees.specs.Nest.{nest_shape, nest_value}
 use Rattle.asn_sample_trees.proofs.nest.NestEncode.+nest_encode.Given as goal
 

@@ -4,7 +4,7 @@ use Rattle.asn_model.specs.DecodesTo.{DecodesTo}
 use Rattle.asn_model.specs.Shape.{Shape}
 use Rattle.asn_model.specs.Value.{Value}
 use Rattle.asn_model.specs.declared.leaves.LeafKind.TheVariants.{Bits}
-use Rattle.asn_traits.proofs.LeafValues.{leaf_said}
+use Rattle.asn_coding.proofs.LeafValues.{leaf_said}
 use Rattle.asn_traits.proofs.decoder.Decoder.decode_bit_string.Goals as goal
 
 same_size : {m n : Option ℕ} → Bits m ≡ Bits n → m ≡ n

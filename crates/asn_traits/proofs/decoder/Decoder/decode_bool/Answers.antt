@@ -2,7 +2,7 @@ use Rattle.std.proofs.Common.{ap, refl, Ok}
 use Rattle.asn_model.specs.Shape.{Shape}
 use Rattle.asn_model.specs.Value.{Value}
 use Rattle.asn_model.specs.declared.leaves.LeafKind.TheVariants.{Boolean}
-use Rattle.asn_traits.proofs.LeafValues.{leaf_said}
+use Rattle.asn_coding.proofs.LeafValues.{leaf_said}
 use Rattle.asn_traits.proofs.decoder.Decoder.decode_bool.Goals as goal
 
 pub returns : goal.returns

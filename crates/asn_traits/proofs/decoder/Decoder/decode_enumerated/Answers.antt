@@ -4,7 +4,7 @@ use Rattle.asn_model.specs.Leaf.{codec_of}
 use Rattle.asn_model.specs.Shape.{Shape}
 use Rattle.asn_model.specs.Value.{Value}
 use Rattle.asn_model.specs.declared.leaves.LeafKind.TheVariants.{Item}
-use Rattle.asn_traits.proofs.LeafValues.{leaf_said, leaf_refused, own_codec, item_said, item_refused}
+use Rattle.asn_coding.proofs.LeafValues.{leaf_said, leaf_refused, own_codec, item_said, item_refused}
 use Rattle.asn_traits.proofs.decoder.Decoder.decode_enumerated.Goals as goal
 
 pub returns-in-Some : goal.returns-in-Some

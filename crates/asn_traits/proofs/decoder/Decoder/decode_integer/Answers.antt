@@ -5,7 +5,7 @@ use Rattle.asn_model.specs.Shape.{Shape}
 use Rattle.asn_model.specs.Value.{Value}
 use Rattle.asn_model.specs.declared.leaves.LeafKind.TheVariants.{Number}
 use Rattle.asn_model.specs.declared.leaves.OwnedLeaf.TheVariants as got
-use Rattle.asn_traits.proofs.LeafValues.{leaf_said, leaf_refused, number_said, number_refused}
+use Rattle.asn_coding.proofs.LeafValues.{leaf_said, leaf_refused, number_said, number_refused}
 use Rattle.asn_traits.proofs.decoder.Decoder.decode_integer.Goals as goal
 
 pub returns-in-Some : goal.returns-in-Some

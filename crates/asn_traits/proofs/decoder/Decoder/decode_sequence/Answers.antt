@@ -1,7 +1,7 @@
 use Rattle.std.proofs.Common.{◌≡◌, ◌∙◌, ap, length, subst, sym, true}
 use Rattle.asn_model.specs.Shape.{are_distinct}
 use Rattle.asn_model.proofs.Readables.{names_distinct}
-use Rattle.asn_traits.proofs.Scopes.{sequence_answer, all_table_names}
+use Rattle.asn_coding.proofs.Scopes.{sequence_answer, all_table_names}
 use Rattle.asn_traits.proofs.decoder.Decoder.decode_sequence.Goals as goal
 
 pub open_members-requires : goal.open_members-requires

@@ -3,10 +3,10 @@ use Rattle.std.proofs.lemmas.List.{map-append}
 use Rattle.asn_core.specs.declared.tag.Tag.{Tag}
 use Rattle.asn_model.specs.Shape.{SeqKind, are_distinct}
 use Rattle.asn_model.proofs.Readables.{names_distinct}
-use Rattle.asn_traits.specs.Tables.{names_of}
-use Rattle.asn_traits.specs.declared.asn_type.Field.{Field}
-use Rattle.asn_traits.proofs.SetReading.{all_numbers, as_many, next_place, set_answer, set_ends, set_refused, set_starts, set_steps, set_stops}
-use Rattle.asn_traits.proofs.TagOrder.{read-distinct, set_indices, set_table_names}
+use Rattle.asn_coding.specs.Tables.{names_of}
+use Rattle.asn_coding.specs.declared.field.Field.{Field}
+use Rattle.asn_coding.proofs.SetReading.{all_numbers, as_many, next_place, set_answer, set_ends, set_refused, set_starts, set_steps, set_stops}
+use Rattle.asn_coding.proofs.TagOrder.{read-distinct, set_indices, set_table_names}
 use Rattle.asn_traits.proofs.decoder.Decoder.decode_set.Goals as goal
 
 pub open_members-requires : goal.open_members-requires

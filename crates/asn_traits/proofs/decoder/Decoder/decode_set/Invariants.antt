@@ -1,6 +1,6 @@
 -- The fields so far are read, in order.
-use Rattle.asn_traits.specs.SetFields.{places_read}
-use Rattle.asn_traits.proofs.SetReading.{SetRead}
+use Rattle.asn_coding.specs.SetFields.{places_read}
+use Rattle.asn_coding.proofs.SetReading.{SetRead}
 use Rattle.asn_traits.proofs.decoder.Decoder.decode_set.Given as goal
 
 abbrev pub invariant-loop-field : goal.invariant-loop-field

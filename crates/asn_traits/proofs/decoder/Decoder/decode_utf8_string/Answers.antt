@@ -4,7 +4,7 @@ use Rattle.asn_model.specs.Shape.{Shape, Alphabet}
 use Rattle.asn_model.specs.Value.{Value}
 use Rattle.asn_model.specs.declared.leaves.LeafKind.TheVariants.{Text}
 use Rattle.asn_model.proofs.StringFacts.{utf8_kept}
-use Rattle.asn_traits.proofs.LeafValues.{leaf_said}
+use Rattle.asn_coding.proofs.LeafValues.{leaf_said}
 use Rattle.asn_traits.proofs.decoder.Decoder.decode_utf8_string.Goals as goal
 
 pub returns : goal.returns

@@ -4,7 +4,7 @@ use Rattle.avn_grammar.specs.Chars.{all}
 use Rattle.avn_grammar.specs.WellFormed.{is_octet}
 use Rattle.asn_model.specs.Shape.{Shape}
 use Rattle.asn_model.specs.Value.{Value}
-use Rattle.asn_traits.proofs.LeafValues.{leaf_written}
+use Rattle.asn_coding.proofs.LeafValues.{leaf_written}
 use Rattle.asn_traits.proofs.encoder.Encoder.encode_any.Goals as goal
 
 pub returns-clause-written : goal.returns-clause-written

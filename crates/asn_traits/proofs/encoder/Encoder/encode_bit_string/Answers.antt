@@ -4,7 +4,7 @@ use Rattle.asn_model.specs.Fixed.{fixed_size}
 use Rattle.asn_model.specs.Shape.{Shape}
 use Rattle.asn_model.specs.Value.{Value}
 use Rattle.asn_model.proofs.BitsRead.{same-itself}
-use Rattle.asn_traits.proofs.LeafValues.{leaf_written}
+use Rattle.asn_coding.proofs.LeafValues.{leaf_written}
 use Rattle.asn_traits.proofs.encoder.Encoder.encode_bit_string.Goals as goal
 
 pub returns-clause-written : goal.returns-clause-written

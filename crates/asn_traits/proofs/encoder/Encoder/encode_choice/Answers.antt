@@ -1,8 +1,8 @@
 use Rattle.std.proofs.Common.{inr, inl, refl, subst, ap}
 use Rattle.std.proofs.lemmas.Result.{err_from_is_err_and, on_ok_weaker}
-use Rattle.asn_traits.specs.Writing.{close, as_choice, Maps}
+use Rattle.asn_coding.specs.Writing.{close, as_choice, Maps}
 use Rattle.asn_model.specs.Shape.{all_alternatives}
-use Rattle.asn_traits.proofs.Choices.{all_tags, name_found, known, known_apart, known_some, unknown_none}
+use Rattle.asn_coding.proofs.Choices.{all_tags, name_found, known, known_apart, known_some, unknown_none}
 use Rattle.asn_traits.proofs.encoder.Encoder.encode_choice.Goals as goal
 
 pub returns-in_default-clause-refused : goal.returns-in_default-clause-refused

@@ -2,7 +2,7 @@ use Rattle.std.proofs.Common.{◌≡◌, ap, subst, true}
 use Rattle.std.proofs.lemmas.Result.{on_ok_weaker}
 use Rattle.asn_model.specs.Shape.{Shape, all_items, is_item}
 use Rattle.asn_model.specs.Value.{Value}
-use Rattle.asn_traits.proofs.LeafValues.{leaf_written}
+use Rattle.asn_coding.proofs.LeafValues.{leaf_written}
 use Rattle.asn_traits.proofs.encoder.Encoder.encode_enumerated.Goals as goal
 
 pub returns-clause-written : goal.returns-clause-written

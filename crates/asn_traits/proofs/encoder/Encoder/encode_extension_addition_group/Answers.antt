@@ -1,6 +1,6 @@
 use Rattle.std.proofs.lemmas.Result.{on_ok_weaker, IfErr-weaker}
-use Rattle.asn_traits.specs.FieldAnswer.{AddsSlot}
-use Rattle.asn_traits.specs.Writing.{FailsToFill}
+use Rattle.asn_coding.specs.FieldAnswer.{AddsSlot}
+use Rattle.asn_coding.specs.Writing.{FailsToFill}
 use Rattle.asn_traits.proofs.encoder.Encoder.encode_extension_addition_group.Goals as goal
 
 pub returns-in-Some-clause-written : goal.returns-in-Some-clause-written

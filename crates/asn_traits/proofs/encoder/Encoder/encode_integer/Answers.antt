@@ -4,7 +4,7 @@ use Rattle.asn_core.specs.Numbers.{signed}
 use Rattle.asn_model.specs.Shape.{Shape}
 use Rattle.asn_model.specs.Value.{Value}
 use Rattle.asn_model.proofs.Ranges.{between}
-use Rattle.asn_traits.proofs.LeafValues.{leaf_written, signed-parts}
+use Rattle.asn_coding.proofs.LeafValues.{leaf_written, signed-parts}
 use Rattle.asn_traits.proofs.encoder.Encoder.encode_integer.Goals as goal
 
 pub returns-clause-written : goal.returns-clause-written

@@ -1,7 +1,7 @@
 use Rattle.std.proofs.Common.{refl}
 use Rattle.std.proofs.lemmas.Result.{on_ok_weaker}
 use Rattle.asn_model.specs.Shape.{Shape}
-use Rattle.asn_traits.proofs.LeafValues.{leaf_written}
+use Rattle.asn_coding.proofs.LeafValues.{leaf_written}
 use Rattle.asn_traits.proofs.encoder.Encoder.encode_null.Goals as goal
 
 pub returns-clause-written : goal.returns-clause-written

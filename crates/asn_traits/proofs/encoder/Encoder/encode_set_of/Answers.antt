@@ -2,8 +2,8 @@ use Rattle.std.proofs.Common.{◌∙◌, ap, arith, map}
 use Rattle.std.proofs.lemmas.Result.{err_from_is_err_and, on_ok_weaker}
 use Rattle.std.specs.Map.Iter.{deref}
 use Rattle.asn_model.specs.Value.{values}
-use Rattle.asn_traits.proofs.Collecting.{collected-none, collected-more, collected-blocks}
-use Rattle.asn_traits.proofs.SetWriting.{collected-set, fails_bag, values-behind}
+use Rattle.asn_coding.proofs.Collecting.{collected-none, collected-more, collected-blocks}
+use Rattle.asn_coding.proofs.SetWriting.{collected-set, fails_bag, values-behind}
 use Rattle.asn_traits.proofs.encoder.Encoder.encode_set_of.Goals as goal
 
 pub loop-element-init : goal.loop-element-init

@@ -1,7 +1,7 @@
 -- The last frame holds the elements so far, each of which fits and can be written.
 use Rattle.std.proofs.Common.{take}
 use Rattle.std.specs.Map.Iter.{deref}
-use Rattle.asn_traits.proofs.Collecting.{Collected}
+use Rattle.asn_coding.proofs.Collecting.{Collected}
 use Rattle.asn_traits.proofs.encoder.Encoder.encode_set_of.Given as goal
 
 abbrev pub invariant-loop-element : goal.invariant-loop-element

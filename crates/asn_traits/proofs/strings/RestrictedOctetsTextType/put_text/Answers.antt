@@ -6,7 +6,7 @@ use Rattle.avn_grammar.specs.Chars.{all}
 use Rattle.avn_grammar.specs.WellFormed.{is_octet}
 use Rattle.asn_model.specs.Shape.{Shape}
 use Rattle.asn_model.specs.Value.{Value}
-use Rattle.asn_traits.proofs.LeafValues.{leaf_written}
+use Rattle.asn_coding.proofs.LeafValues.{leaf_written}
 use Rattle.asn_traits.proofs.TextLeaves.{octets_block, told_unwritten}
 use Rattle.asn_traits.proofs.strings.RestrictedOctetsTextType.put_text.Goals as goal
 

@@ -3,7 +3,7 @@ use Rattle.std.proofs.lemmas.Result.{on_ok_weaker}
 use Rattle.std.proofs.lemmas.Str.{is_utf8-from_IsUtf8}
 use Rattle.asn_model.specs.Shape.{Shape}
 use Rattle.asn_model.specs.Value.{Value}
-use Rattle.asn_traits.proofs.LeafValues.{leaf_written}
+use Rattle.asn_coding.proofs.LeafValues.{leaf_written}
 use Rattle.asn_traits.proofs.strings.RestrictedStringTextType.put_text.Goals as goal
 
 pub returns-clause-written : goal.returns-clause-written

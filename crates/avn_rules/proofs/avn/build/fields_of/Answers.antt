@@ -1,7 +1,7 @@
 use Rattle.std.proofs.Common.{◌≡◌, ◌++◌, ap, ◌∙◌, sym, drop, length, suc, arith}
 use Rattle.std.proofs.lemmas.List.{nil_from_length}
-use Rattle.asn_traits.specs.Tables.{names_of}
-use Rattle.asn_traits.specs.Writing.{head_name}
+use Rattle.asn_coding.specs.Tables.{names_of}
+use Rattle.asn_coding.specs.Writing.{head_name}
 use Rattle.avn_value.specs.View.{tree_of, fields_trees}
 use Rattle.avn_value.proofs.Joins.{join}
 use Rattle.asn_slots.specs.Trees.{trees_of}

@@ -1,5 +1,5 @@
 use Rattle.std.proofs.Common.{◌≡◌, ◌++◌, drop, length}
-use Rattle.asn_traits.specs.Tables.{names_of}
+use Rattle.asn_coding.specs.Tables.{names_of}
 use Rattle.avn_value.specs.View.{tree_of, fields_trees}
 use Rattle.avn_value.proofs.Joins.{join}
 use Rattle.asn_slots.specs.Trees.{trees_of}

@@ -1,7 +1,7 @@
 use Rattle.std.proofs.Common.{refl}
 use Rattle.asn_core.specs.declared.codec.Codec.TheVariants.{Avn}
 use Rattle.asn_traits.specs.Leaf.{IsFailureOf}
-use Rattle.asn_traits.proofs.Refusing.{at_no_field}
+use Rattle.asn_coding.proofs.Refusing.{at_no_field}
 use Rattle.avn_rules.proofs.LeafNodes.{present_is}
 use Rattle.avn_rules.proofs.avn.faults.mismatch.Goals as goal
 

@@ -1,7 +1,7 @@
 use Rattle.std.proofs.Common.{◌≡◌, ◌+◌, ◌++◌, List, ap, sym, ◌∙◌, length, length-append, arith, None, replicate}
 use Rattle.std.proofs.lemmas.List.{length-map}
-use Rattle.asn_traits.specs.Tables.{names_of}
-use Rattle.asn_traits.specs.declared.asn_type.Field.{Field}
+use Rattle.asn_coding.specs.Tables.{names_of}
+use Rattle.asn_coding.specs.declared.field.Field.{Field}
 use Rattle.avn_rules.proofs.Walks.{fields_begun, fields_more, fields_done, with_slot}
 use Rattle.avn_rules.proofs.avn.take_apart.slots_of.Goals.{in-Some, in_default}
 use Rattle.avn_rules.proofs.avn.take_apart.slots_of.Goals as goal

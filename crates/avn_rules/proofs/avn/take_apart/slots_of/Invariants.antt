@@ -1,5 +1,5 @@
 use Rattle.std.proofs.Common.{◌-◌, ◌++◌}
-use Rattle.asn_traits.specs.Tables.{names_of}
+use Rattle.asn_coding.specs.Tables.{names_of}
 use Rattle.avn_rules.proofs.Walks.{FieldsLeft}
 use Rattle.avn_rules.proofs.avn.take_apart.slots_of.Given as goal
 

@@ -1,7 +1,7 @@
 use Rattle.std.proofs.Common.{◌≡◌, ◌++◌, length}
 use Rattle.serde_json.specs.Data.{Members}
 use Rattle.serde_json.specs.View.{view, members_view}
-use Rattle.asn_traits.specs.Tables.{names_of}
+use Rattle.asn_coding.specs.Tables.{names_of}
 use Rattle.asn_slots.specs.Trees.{trees_of}
 use Rattle.jer_rules.specs.Holding.{members_onto}
 use Rattle.jer_rules.proofs.jer.build.members_of.Given as goal

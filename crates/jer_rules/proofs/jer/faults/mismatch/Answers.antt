@@ -1,7 +1,7 @@
 use Rattle.std.proofs.Common.{refl}
 use Rattle.asn_core.specs.declared.codec.Codec.TheVariants.{Jer}
 use Rattle.asn_traits.specs.Leaf.{IsFailureOf}
-use Rattle.asn_traits.proofs.Refusing.{at_no_field}
+use Rattle.asn_coding.proofs.Refusing.{at_no_field}
 use Rattle.jer_rules.proofs.jer.faults.mismatch.Goals as goal
 
 pub returns-in-Ok : goal.returns-in-Ok

@@ -1,4 +1,4 @@
-use Rattle.asn_traits.proofs.Passing.{adds_fields, refuses_adding}
+use Rattle.asn_coding.proofs.Passing.{adds_fields, refuses_adding}
 use Rattle.asn_traits.proofs.sequence.fn.write_sequence.encode_sequence.Goals as goal
 
 pub returns-in-Ok : goal.returns-in-Ok

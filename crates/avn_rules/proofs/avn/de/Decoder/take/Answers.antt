@@ -1,6 +1,6 @@
 use Rattle.std.proofs.Common.{refl, ap, ◌∙◌, ◌∷◌}
 use Rattle.asn_core.specs.declared.codec.Codec.TheVariants.{Avn}
-use Rattle.asn_traits.proofs.Refusing.{absent}
+use Rattle.asn_coding.proofs.Refusing.{absent}
 use Rattle.avn_rules.proofs.Opened.{taken_held, takes_node, head_absent, no_head}
 use Rattle.avn_rules.proofs.avn.de.Decoder.take.Goals.{in-Some-Some, in-Some-None, in-None}
 use Rattle.avn_rules.proofs.avn.de.Decoder.take.Goals as goal

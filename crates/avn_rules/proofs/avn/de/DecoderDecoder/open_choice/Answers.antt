@@ -1,7 +1,7 @@
 use Rattle.std.proofs.Common.{◌≡◌, ap, sym, subst, ◌∙◌, Some, None}
 use Rattle.std.proofs.lemmas.Result.{err_from_is_err_and}
 use Rattle.asn_fault.specs.Failure.{failure_of}
-use Rattle.asn_traits.specs.Answer.{RefusesLeaf}
+use Rattle.asn_coding.specs.Answer.{RefusesLeaf}
 use Rattle.asn_traits.specs.Leaf.{LeafFailure}
 use Rattle.asn_traits.specs.Notation.{Notation}
 use Rattle.asn_traits.specs.Shape.{Shape}

@@ -1,9 +1,9 @@
 use Rattle.std.proofs.Common.{◌≡◌, ap, sym, subst, ◌∙◌, length, map, Some, false, is_some, arith}
 use Rattle.std.proofs.lemmas.Result.{err_from_is_err_and}
 use Rattle.asn_fault.specs.Failure.{failure_of}
-use Rattle.asn_traits.specs.Answer.{RefusesLeaf}
+use Rattle.asn_coding.specs.Answer.{RefusesLeaf}
 use Rattle.asn_traits.specs.Notation.{Notation}
-use Rattle.asn_traits.specs.Opening.{list_shape}
+use Rattle.asn_coding.specs.Opening.{list_shape}
 use Rattle.asn_traits.specs.ShapeView.{kind_view}
 use Rattle.asn_slots.specs.Trees.{trees_of}
 use Rattle.asn_traits.specs.Tree.{as_list}

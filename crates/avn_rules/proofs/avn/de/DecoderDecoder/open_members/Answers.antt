@@ -1,13 +1,13 @@
 use Rattle.std.proofs.Common.{◌≡◌, ap, sym, subst, ◌∙◌, ◌++◌, ℕ, List, map, Some, true, false, is_some}
 use Rattle.std.proofs.lemmas.Result.{err_from_is_err_and}
 use Rattle.asn_fault.specs.Failure.{failure_of}
-use Rattle.asn_traits.specs.Answer.{RefusesLeaf}
+use Rattle.asn_coding.specs.Answer.{RefusesLeaf}
 use Rattle.asn_traits.specs.Leaf.{members_mismatch}
 use Rattle.asn_traits.specs.Notation.{Notation}
 use Rattle.asn_traits.specs.Shape.{Shape}
 use Rattle.asn_slots.specs.Trees.{trees_of}
 use Rattle.asn_traits.specs.ShapeView.{kind_view}
-use Rattle.asn_traits.specs.Tables.{names_of}
+use Rattle.asn_coding.specs.Tables.{names_of}
 use Rattle.asn_traits.specs.Tree.{Slot, as_members}
 use Rattle.avn_rules.specs.Pending.{DecoderView, value_at}
 use Rattle.avn_rules.proofs.Opened.{members_put, members_refused}

@@ -5,7 +5,7 @@ use Rattle.avn_grammar.specs.Tree.{choice}
 use Rattle.avn_value.specs.View.{tree_of}
 use Rattle.asn_slots.proofs.Trees.{frame_closed}
 use Rattle.asn_traits.specs.Canonical.{avn_tree}
-use Rattle.asn_traits.specs.Writing.{as_choice}
+use Rattle.asn_coding.specs.Writing.{as_choice}
 use Rattle.avn_rules.proofs.Building.{choice_built}
 use Rattle.avn_rules.proofs.avn.enc.EncoderEncoder.close_choice.Goals as goal
 

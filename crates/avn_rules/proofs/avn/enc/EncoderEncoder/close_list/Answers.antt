@@ -1,5 +1,5 @@
 use Rattle.std.proofs.lemmas.Result.{on_ok_weaker}
-use Rattle.asn_traits.specs.Writing.{as_list}
+use Rattle.asn_coding.specs.Writing.{as_list}
 use Rattle.avn_rules.proofs.Building.{list_built}
 use Rattle.avn_value.specs.View.{tree_of}
 use Rattle.asn_slots.proofs.Trees.{frame_closed}

@@ -1,7 +1,7 @@
 use Rattle.std.proofs.Common.{◌++◌}
 use Rattle.std.proofs.lemmas.Result.{on_ok_weaker}
-use Rattle.asn_traits.specs.Tables.{names_of}
-use Rattle.asn_traits.specs.Writing.{as_members}
+use Rattle.asn_coding.specs.Tables.{names_of}
+use Rattle.asn_coding.specs.Writing.{as_members}
 use Rattle.avn_rules.proofs.Building.{members_built}
 use Rattle.avn_value.specs.View.{tree_of}
 use Rattle.asn_slots.proofs.Trees.{frame_closed}

@@ -3,7 +3,7 @@ use Rattle.std.specs.Prelude.{option_map}
 use Rattle.asn_core.specs.declared.codec.Codec.TheVariants.{Jer}
 use Rattle.asn_slots.specs.Trees.{trees_of}
 use Rattle.asn_traits.specs.Tree.{head_slot}
-use Rattle.asn_traits.proofs.Refusing.{absent}
+use Rattle.asn_coding.proofs.Refusing.{absent}
 use Rattle.jer_rules.specs.Pending.{tree_of}
 use Rattle.jer_rules.proofs.jer.de.Decoder.take.Goals as goal
 

@@ -1,7 +1,7 @@
 use Rattle.std.proofs.Common.{◌≡◌, ◌++◌, ◌∷◌, [], ap, ◌∙◌, sym, append_assoc, append-nil}
 use Rattle.std.proofs.lemmas.List.{nil_from_length}
 use Rattle.asn_traits.specs.Shape.{are_distinct}
-use Rattle.asn_traits.specs.Tables.{names_of}
+use Rattle.asn_coding.specs.Tables.{names_of}
 use Rattle.jer_rules.proofs.Taken.{takes_none, takes_more, none_later}
 use Rattle.jer_rules.proofs.jer.de.Decoder.take_fields.Goals as goal
 

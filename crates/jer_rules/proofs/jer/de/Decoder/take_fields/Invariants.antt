@@ -1,7 +1,7 @@
 use Rattle.std.proofs.Common.{◌≡◌, ◌++◌, List}
 use Rattle.serde_json.specs.View.{members_view}
-use Rattle.asn_traits.specs.Tables.{names_of}
-use Rattle.asn_traits.specs.declared.asn_type.Field.{Field}
+use Rattle.asn_coding.specs.Tables.{names_of}
+use Rattle.asn_coding.specs.declared.field.Field.{Field}
 use Rattle.jer_rules.specs.Pending.{pending_of, TakesFields}
 use Rattle.jer_rules.proofs.jer.de.Decoder.take_fields.Given as goal
 

@@ -1,4 +1,4 @@
-use Rattle.asn_traits.proofs.Refusing.{no_choice}
+use Rattle.asn_coding.proofs.Refusing.{no_choice}
 use Rattle.jer_rules.proofs.Choosing.{opens, opens_none}
 use Rattle.jer_rules.proofs.Readings.{choice-none}
 use Rattle.jer_rules.proofs.jer.de.DecoderDecoder.open_choice.Goals as goal

@@ -3,7 +3,7 @@ use Rattle.std.specs.Prelude.{option_map}
 use Rattle.std.proofs.lemmas.List.{map-append}
 use Rattle.serde_json.specs.View.{items_view}
 use Rattle.asn_slots.specs.Trees.{trees_of}
-use Rattle.asn_traits.specs.Opening.{IsList}
+use Rattle.asn_coding.specs.Opening.{IsList}
 use Rattle.asn_traits.specs.Tree.{item_slots}
 use Rattle.asn_traits.specs.ShapeView.{kind_view}
 use Rattle.jer_rules.specs.Pending.{tree_of, pending_of}

@@ -2,11 +2,11 @@ use Rattle.std.proofs.Common.{◌++◌, refl, arith, map}
 use Rattle.std.proofs.lemmas.List.{length-map}
 use Rattle.serde_json.specs.View.{members_view}
 use Rattle.asn_core.specs.declared.codec.Codec.TheVariants.{Jer}
-use Rattle.asn_traits.specs.Opening.{HasMembers}
+use Rattle.asn_coding.specs.Opening.{HasMembers}
 use Rattle.asn_traits.specs.ShapeView.{kind_view}
-use Rattle.asn_traits.specs.Tables.{names_of}
+use Rattle.asn_coding.specs.Tables.{names_of}
 use Rattle.asn_traits.specs.Tree.{member_slot}
-use Rattle.asn_traits.proofs.Refusing.{no_members, refuses_because_or_memory}
+use Rattle.asn_coding.proofs.Refusing.{no_members, refuses_because_or_memory}
 use Rattle.jer_rules.specs.Pending.{pending_of}
 use Rattle.jer_rules.proofs.Readings.{members-none}
 use Rattle.jer_rules.proofs.Taken.{both_distinct, both_taken, members_below}

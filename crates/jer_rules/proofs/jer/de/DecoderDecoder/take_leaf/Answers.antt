@@ -1,7 +1,7 @@
 use Rattle.std.proofs.Common.{refl}
 use Rattle.asn_core.specs.declared.codec.Codec.TheVariants.{Jer}
-use Rattle.asn_traits.proofs.LeafValues.{taken}
-use Rattle.asn_traits.proofs.Refusing.{no_leaf, refuses_because, refuses_because_or_memory}
+use Rattle.asn_coding.proofs.LeafValues.{taken}
+use Rattle.asn_coding.proofs.Refusing.{no_leaf, refuses_because, refuses_because_or_memory}
 use Rattle.jer_rules.proofs.jer.de.DecoderDecoder.take_leaf.Goals as goal
 
 pub returns-in-Ok : goal.returns-in-Ok

@@ -3,8 +3,8 @@ use Rattle.std.proofs.lemmas.Result.{on_ok_weaker}
 use Rattle.serde_json.specs.View.{view}
 use Rattle.asn_slots.proofs.Trees.{frame_closed}
 use Rattle.asn_traits.specs.Canonical.{jer_data}
-use Rattle.asn_traits.specs.Tables.{names_of}
-use Rattle.asn_traits.specs.Writing.{as_members}
+use Rattle.asn_coding.specs.Tables.{names_of}
+use Rattle.asn_coding.specs.Writing.{as_members}
 use Rattle.jer_rules.proofs.Building.{members_built}
 use Rattle.jer_rules.proofs.jer.enc.EncoderEncoder.close_members.Goals as goal
 

@@ -1,0 +1,13 @@
+pub mod Answer
+pub mod Opening
+pub mod Scopes
+pub mod Writing
+pub mod FieldAnswer
+pub mod Tables
+pub mod OwnTag
+pub mod Root
+pub mod Chosen
+pub mod Passing
+pub mod ReadingSlots
+pub mod SetFields
+pub mod Terms

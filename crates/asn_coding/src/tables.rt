@@ -1,0 +1,240 @@
+//! Looks things up in tables of constants, by which codecs find fields and alternatives. A table
+//! has a part for the root and one for the extension additions, which are looked through as one
+//! list, in order; the cost of a look-up is the length of that list.
+ghost use Rattle.asn_core.specs.Tags.{smallest};
+ghost use Rattle.asn_model.specs.Shape.{tag_eq, is_tag, name_tagged, place_named, class_number};
+ghost use Rattle.asn_model.specs.Shape.{end_tag};
+ghost use Rattle.asn_model.specs.Components.{tag_cmp};
+ghost use Rattle.asn_model.specs.Sorting.{insert_in_order, sort};
+ghost use Rattle.asn_coding.specs.Tables.{field_tag, names_of, smallest_tags, or_end};
+ghost use Rattle.asn_model.specs.Tree.{same_identifier};
+ghost use Rattle.asn_coding.specs.Writing.{head_name};
+ghost use Rattle.std.specs.Prelude.{◌≡◌, ◌+◌, ◌<◌, ◌++◌, [], map, length, drop, option_map, get_or};
+ghost use Rattle.std.specs.List.{insert};
+ghost use Rattle.std.specs.Ordering.{is_gt, on};
+ghost use Rattle.std.specs.Prelude.{◌≤◌, IfOk, Option, Some, None, IfSome, unwrap_or};
+ghost use Rattle.std.specs.Str.{bytes_eq};
+
+use crate::field::{Field, Fields};
+use asn_core::{OutOfMemory, Tag, TagTree};
+use asn_model::same_tag;
+use std::alloc::Global;
+
+/// Returns the items of a table, and none where there is no table.
+pub fn listed<T: Copy>(table: Option<&'static [T]>) -> &'static [T]
+    ensures { result.now ≡ unwrap_or (option_map (λ t. t.now) table.entry) [] }
+{
+    match table {
+        Some(items) => items,
+        None => &[],
+    }
+}
+
+/// Returns the fields of a table, and none where there is no table.
+pub fn listed_fields(table: Option<Fields>) -> &'static [Field]
+    ensures { result.now ≡ unwrap_or (option_map (λ t. t.items.now) table) [] }
+{
+    listed(table.map(|fields| fields.items))
+}
+
+/// Returns the fields in the order of their smallest tags (X.680, section 8.6). Those of equal tags
+/// stay in order.
+///
+/// # Errors
+///
+/// `OutOfMemory` alone.
+pub fn fields_by_tag(alloc: Global, fields: &[Field]) -> Result<Vec<Field>, OutOfMemory>
+    ensures { IfOk result (λ v. v.items ≡ sort (on field_tag tag_cmp) fields.now) }
+{
+    let Some((first, others)) = fields.split_first() else {
+        return Ok(Vec::new(alloc));
+    };
+    let mut sorted = fields_by_tag(alloc, others)?;
+    let place = place_by_tag(sorted.as_slice(), first);
+    match sorted.insert(place, *first) {
+        Ok(()) => Ok(sorted),
+        Err(_) => Err(OutOfMemory),
+    }
+}
+
+/// Returns the fields of a SET in the order in which they are read: those of the root by their
+/// tags, and then the extension additions.
+///
+/// # Errors
+///
+/// `OutOfMemory` alone.
+pub fn fields_as_read(
+    alloc: Global,
+    root: &[Field],
+    additions: &[Field],
+) -> Result<Vec<Field>, OutOfMemory>
+    ensures { IfOk result (λ v. v.items
+        ≡ sort (on field_tag tag_cmp) root.now ++ additions.now) }
+{
+    let mut fields = fields_by_tag(alloc, root)?;
+    fields.extend_from_slice(additions)?;
+    Ok(fields)
+}
+
+/// Returns the place of a field among all fields, and its tag.
+pub fn place_and_tag(field: &Field) -> (usize, Tag)
+    ensures { result ≡ (field.now.index, field.now.tag) }
+{
+    (field.index, field.tag)
+}
+
+/// Returns the place of the first field whose tag is not below that of this one.
+fn place_by_tag(fields: &[Field], field: &Field) -> usize
+    ensures below { result ≤ length fields.now }
+    ensures is { insert_in_order (on field_tag tag_cmp) field.now fields.now
+        ≡ insert fields.now result field.now }
+{
+    let Some((first, others)) = fields.split_first() else {
+        return 0;
+    };
+    if is_above(field, first) {
+        // No overflow: a place is below the number of rows.
+        place_by_tag(others, field) + 1
+    } else {
+        0
+    }
+}
+
+/// Returns whether the tag of the first field is above that of the second.
+fn is_above(first: &Field, second: &Field) -> bool
+    ensures { result ≡ is_gt (tag_cmp (field_tag first.now) (field_tag second.now)) }
+{
+    or_end(first.tag_tree.least_leaf()) > or_end(second.tag_tree.least_leaf())
+}
+
+/// Returns the tag, or `EOC` where there is none.
+fn or_end(tag: Option<Tag>) -> Tag
+    ensures { result ≡ or_end tag }
+{
+    match tag {
+        Some(tag) => tag,
+        None => Tag::EOC,
+    }
+}
+
+/// Returns the name of the field at the place, where extension additions come last. It is empty
+/// past the fields.
+pub fn field_name(root: &[Field], additions: &[Field], place: usize) -> &'static str
+    ensures { result.now ≡ head_name (drop place (names_of root.now ++ names_of additions.now)) }
+{
+    if place < root.len() {
+        name_at(root, place)
+    } else {
+        // No underflow: the place is past the root's fields here.
+        name_at(additions, place - root.len())
+    }
+}
+
+/// Returns the name of the field at the place, or an empty one past the fields.
+fn name_at(fields: &[Field], place: usize) -> &'static str
+    ensures { result.now ≡ head_name (drop place (names_of fields.now)) }
+{
+    match fields.get(place) {
+        Some(field) => field.name,
+        None => "",
+    }
+}
+
+/// Returns the first place of the field of this name, where extension additions come last, or
+/// `None` where no field has the name.
+pub fn place_of_field(root: &[Field], additions: &[Field], name: &str) -> Option<usize>
+    ensures is { result ≡ place_named bytes_eq (names_of root.now ++ names_of additions.now)
+        name.now }
+    ensures below { IfSome result (λ k. k < length root.now + length additions.now) }
+{
+    let Some((first, others)) = root.split_first() else {
+        // The additions take the place of the root, and no list that of the additions.
+        return if additions.is_empty() {
+            None
+        } else {
+            place_of_field(additions, &[], name)
+        };
+    };
+    if first.name == name {
+        return Some(0);
+    }
+    // No overflow: a place is below the number of rows.
+    Some(place_of_field(others, additions, name)? + 1)
+}
+
+/// Returns the first place of the identifier, or `None` where it is none of them. The case of
+/// ASCII letters makes no difference: alternatives are distinguished without it.
+pub fn place_of(identifiers: &[&'static str], name: &str) -> Option<usize>
+    ensures is { result ≡ place_named same_identifier (map (λ s. s.now) identifiers.now)
+        name.now }
+    ensures below { IfSome result (λ k. k < length identifiers.now) }
+{
+    let (first, others) = identifiers.split_first()?;
+    if name.eq_ignore_ascii_case(*first) {
+        return Some(0);
+    }
+    Some(place_of(others, name)? + 1)
+}
+
+/// Returns the identifier beside the alternative of this smallest tag, where extension additions
+/// come last, or `None` where no alternative has the tag.
+pub fn identifier_of(
+    variants: &[TagTree],
+    added: &[TagTree],
+    identifiers: &[&'static str],
+    tag: Tag,
+) -> Option<&'static str>
+    ensures { option_map (λ s. s.now) result
+        ≡ name_tagged (smallest_tags variants.now ++ smallest_tags added.now)
+        (map (λ s. s.now) identifiers.now) tag }
+{
+    let Some((first, other_variants)) = variants.split_first() else {
+        return if added.is_empty() {
+            None
+        } else {
+            identifier_of(added, &[], identifiers, tag)
+        };
+    };
+    // Tags and identifiers go along together: each tree of tags takes one identifier.
+    let Some((name, other_names)) = identifiers.split_first() else {
+        return None;
+    };
+    if has_tag(first, tag) {
+        Some(*name)
+    } else {
+        identifier_of(other_variants, added, other_names, tag)
+    }
+}
+
+/// Returns the smallest tag of the alternative at the place, where extension additions come last,
+/// or `EOC` where there is none.
+pub fn tag_at(variants: &[TagTree], added: &[TagTree], place: usize) -> Tag
+    ensures { result ≡ get_or (map or_end (smallest_tags variants.now ++ smallest_tags added.now))
+        place end_tag }
+{
+    if place < variants.len() {
+        least_at(variants, place)
+    } else {
+        least_at(added, place - variants.len())
+    }
+}
+
+/// Returns the smallest tag of the alternative at the place, or `EOC` where there is none.
+fn least_at(variants: &[TagTree], place: usize) -> Tag
+    ensures { result ≡ get_or (map or_end (smallest_tags variants.now)) place end_tag }
+{
+    match variants.get(place) {
+        Some(tree) => or_end(tree.least_leaf()),
+        None => Tag::EOC,
+    }
+}
+
+/// Returns whether the smallest tag of an alternative is this one.
+fn has_tag(tree: &TagTree, tag: Tag) -> bool
+    ensures { result ≡ is_tag (smallest tree.now) tag }
+{
+    match tree.least_leaf() {
+        Some(least) => same_tag(tag, least),
+        None => false,
+    }
+}

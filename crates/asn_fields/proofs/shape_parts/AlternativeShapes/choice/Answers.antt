@@ -1,0 +1,6 @@
+use Rattle.std.proofs.Common.{None}
+use Rattle.asn_model.proofs.Viewing.{choice_viewed}
+use Rattle.asn_fields.proofs.shape_parts.AlternativeShapes.choice.Goals as goal
+
+pub returns : goal.returns
+returns c = choice_viewed c.args.self.items None

@@ -1,5 +1,0 @@
-use Rattle.asn_model.proofs.Viewing.{sequence_viewed}
-use Rattle.asn_traits.proofs.shape_parts.FieldShapes.of_kind.Goals as goal
-
-pub returns : goal.returns
-returns c = sequence_viewed c.args.kind c.args.self.items c.args.added

@@ -1,6 +1,0 @@
-use Rattle.std.proofs.Common.{◌≡◌, map, take, string_bytes}
-use Rattle.asn_traits.proofs.shape_parts.texts.Given as goal
-
--- The texts so far are copied.
-abbrev pub invariant-loop-item : goal.invariant-loop-item
-invariant-loop-item l = map string_bytes l.copies.items ≡ map (λ s. s.now) (take l.item-index l.items)

@@ -1,5 +1,0 @@
-use Rattle.std.proofs.Common.{length}
-use Rattle.asn_traits.proofs.tables.+place_by_tag.Given as goal
-
-abbrev pub decreases-place_by_tag : goal.decreases-place_by_tag
-decreases-place_by_tag l = length l.fields.now

@@ -1,3 +1,3 @@
 mod Naming
-mod Passing
+pub mod Passing
 pub mod Again

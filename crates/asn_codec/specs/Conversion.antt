@@ -1,7 +1,7 @@
 -- What converting a text from one codec to another answers.
-use Rattle.std.specs.Prelude.{◌≡◌, ℕ, List, Bool}
+use Rattle.std.specs.Prelude.{◌≡◌, ℕ, List, Bool, true}
 use Rattle.asn_core.specs.declared.codec.Codec.{Codec}
-use Rattle.asn_fault.specs.Failure.{Failure, is_out_of_memory, failure_of}
+use Rattle.asn_fault.specs.Failure.{Failure, Cause, at_root, is_out_of_memory, failure_of}
 use Rattle.asn_fault.specs.EncodeCause.{EncodeCause, encode_cause, is_encode_out_of_memory}
 use Rattle.asn_fault.specs.Texts.{decode_error_text, encode_error_text}
 use Rattle.asn_traits.specs.Canonical.{canonical_text}
@@ -48,6 +48,11 @@ error_text (Encode e) = encode_error_text e
 abbrev pub is_refusal_out_of_memory : Refusal → Bool
 is_refusal_out_of_memory (Refusal.decode failure) = is_out_of_memory failure
 is_refusal_out_of_memory (Refusal.encode cause codec) = is_encode_out_of_memory cause
+
+-- memory ran out, in the call of the codec that the refusal names
+pub data IsMemoryRefusal (from to : Codec) : Refusal → Type 0 where
+  in_reading : IsMemoryRefusal from to (Refusal.decode (at_root Cause.out_of_memory from))
+  in_writing : (cause : EncodeCause) → is_encode_out_of_memory cause ≡ true → IsMemoryRefusal from to (Refusal.encode cause to)
 
 -- the input is refused so: it is not read, or the value that it decodes to is not written
 pub data Refuses (from to : Codec) (s : Shape) (input : List ℕ) : Refusal → Type 0 where

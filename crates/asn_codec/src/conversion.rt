@@ -1,7 +1,7 @@
 //! Converts a text from one notation to another by way of a value of a Rust type. This is the
 //! call that the library is for, and its contract joins those of all crates below.
-ghost use Rattle.asn_codec.specs.Conversion.{Converts, IsConvertible, Refuses, refusal_of};
-ghost use Rattle.asn_codec.specs.Conversion.{is_refusal_out_of_memory, error_text};
+ghost use Rattle.asn_codec.specs.Conversion.{Converts, IsConvertible, IsMemoryRefusal, Refuses};
+ghost use Rattle.asn_codec.specs.Conversion.{is_refusal_out_of_memory, error_text, refusal_of};
 ghost use Rattle.asn_codec.specs.Texts.{TextDecodesTo, DecodesOnlyTo, IsShallow};
 ghost use Rattle.asn_core.specs.declared.codec.Codec.TheVariants.{Avn};
 ghost use Rattle.asn_traits.specs.Canonical.{avn_tree, canonical_text};
@@ -86,8 +86,9 @@ pub fn transcode<T: Encode + Decode>(
         → TextDecodesTo (notation_of from) T.shape_of input.now v
         → Fits T.shape_of w → Writable (notation_of to) w
         → (canonical_text (notation_of to) w ≡ string_bytes s) ↔ (w ≡ v)) }
-    // Each error is one that the definition of refusing gives for this input.
-    ensures refused { IfErr result (λ e. (is_refusal_out_of_memory (refusal_of e) ≡ true)
+    // Each error is one that the definition of refusing gives for this input, or says that memory
+    // ran out, under the codec of the step.
+    ensures refused { IfErr result (λ e. IsMemoryRefusal from to (refusal_of e)
         ⊎ Refuses from to T.shape_of input.now (refusal_of e)) }
     // An input that decodes to a value which can be encoded gives a result, unless memory runs out.
     ensures complete { IsConvertible from to T.shape_of input.now

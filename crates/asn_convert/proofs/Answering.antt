@@ -2,7 +2,8 @@
 use Rattle.std.proofs.Common.{◌≡◌, ◌≢◌, refl, ◌++◌, ◌∷◌, [], ℕ, List, true, ◌⊎◌, inl, inr}
 use Rattle.asn_core.specs.declared.codec.Codec.{Codec}
 use Rattle.asn_traits.specs.Shape.{Shape}
-use Rattle.asn_codec.specs.Conversion.{Converts, Refuses, refusal_of, is_refusal_out_of_memory}
+use Rattle.asn_codec.specs.Conversion.{Converts, IsMemoryRefusal, Refuses, refusal_of, is_refusal_out_of_memory}
+use Rattle.asn_codec.proofs.Passing.{memory_refused}
 use Rattle.asn_convert.specs.ExpectedOutput.{Answers, AnswersTo, Outcome, refusal_line}
 use Rattle.asn_convert.specs.Faults.{Increased}
 use Rattle.asn_convert.specs.Made.{report}
@@ -24,12 +25,12 @@ text_answers from to s text output t r h (Outcome.unwritten keeps) = keeps
 
 -- the line of a fault returns the text that is refused so
 pub line_answers : (from to : Codec) (s : Shape) (text : List ℕ) (fault : TranscodeError) (t : Transfer) (r : Status)
-    → (is_refusal_out_of_memory (refusal_of fault) ≡ true) ⊎ Refuses from to s text (refusal_of fault)
+    → IsMemoryRefusal from to (refusal_of fault) ⊎ Refuses from to s text (refusal_of fault)
     → (is_refusal_out_of_memory (refusal_of fault) ≡ true → r ≡ WantOfMemory)
     → Outcome (refusal_line fault) Refused t r → Answers from to s text t r
-line_answers from to s text fault t r (inl m) k (Outcome.whole a) = let e = k m in absurd (cc e)
+line_answers from to s text fault t r (inl m) k (Outcome.whole a) = let e = k (memory_refused from to _ m) in absurd (cc e)
 line_answers from to s text fault t r (inr h) k (Outcome.whole a) = record { bytes = refusal_line fault; has = record { fault = fault; refuses = h; is = refl }; appended = a }
-line_answers from to s text fault t r (inl m) k (Outcome.cut rose front) = let e = k m in absurd (cc e)
+line_answers from to s text fault t r (inl m) k (Outcome.cut rose front) = let e = k (memory_refused from to _ m) in absurd (cc e)
 line_answers from to s text fault t r (inr h) k (Outcome.cut rose front) = (rose, record { bytes = refusal_line fault; has = inr record { fault = fault; refuses = h; is = refl }; appended = front })
 line_answers from to s text fault t r h k (Outcome.unwritten keeps) = keeps
 

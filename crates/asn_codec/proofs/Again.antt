@@ -30,7 +30,7 @@ same_data : (text : List ℕ) (d e : Data) → jer.IsJer text d → jer.IsJer te
 same_data text d e h k = let x : ◌≡◌ {A = Option Data} (Some d) (Some e) = sym h.0 ∙ k.0 in cc x
 
 -- A text has at most one tree.
-one_tree : (n : Notation) (text : List ℕ) (t u : Tree) → HasTree n text t → HasTree n text u → t ≡ u
+pub one_tree : (n : Notation) (text : List ℕ) (t u : Tree) → HasTree n text t → HasTree n text u → t ≡ u
 one_tree n text t u (HasTree.json_tree {d = d} h) (HasTree.json_tree {d = e} k) = ap Tree.json (same_data text d e h k)
 one_tree n text t u (HasTree.avn_tree h) (HasTree.avn_tree k) = ap Tree.avn (same_parses h.1 k.1).0
 

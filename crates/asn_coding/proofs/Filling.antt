@@ -9,7 +9,7 @@ use Rattle.asn_model.specs.Value.{Value, Fits, FitsFields, FitsAlternative, is_k
 use Rattle.asn_coding.specs.Writing.{Frame, push, push_all, close, as_members, as_choice, named, Maps, Written, Filled, FailsToEncode, ScopeRan, FailsToFill, tail_names, Offered}
 
 -- On a new frame the slots are the frame.
-push_all-new : (ss f : Frame) (fs : List Frame) → push_all ss (f ∷ fs) ≡ (f ++ ss) ∷ fs
+pub push_all-new : (ss f : Frame) (fs : List Frame) → push_all ss (f ∷ fs) ≡ (f ++ ss) ∷ fs
 push_all-new [] f fs = ap (λ g. g ∷ fs) (sym (append-nil f))
 push_all-new (s ∷ ss) f fs = push_all-new ss (f ++ (s ∷ [])) fs ∙ ap (λ g. g ∷ fs) (append_assoc f (s ∷ []) ss)
 

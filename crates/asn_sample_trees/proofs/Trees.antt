@@ -1,5 +1,5 @@
 -- A tree is what its kids and its additions are.
-use Rattle.std.proofs.Common.{◌≡◌, ℕ, suc, ◌<◌, List, [], ◌∷◌, ◌++◌, ◌&&◌, length, Some, Ok, ◌⊎◌, true, codes, sym, ◌∙◌, ap, refl, subst, arith, append-nil, append_assoc}
+use Rattle.std.proofs.Common.{◌≡◌, ℕ, suc, ◌<◌, List, [], ◌∷◌, ◌++◌, ◌&&◌, length, Some, Ok, ◌⊎◌, true, codes, sym, ◌∙◌, ap, refl, subst, arith}
 use Rattle.std.proofs.lemmas.Bool.{and_parts}
 use Rattle.asn_core.specs.declared.codec.Codec.{Codec}
 use Rattle.asn_fault.specs.Failure.{Cause, Failure, at_root, wrapped}
@@ -14,7 +14,7 @@ use Rattle.asn_model.specs.Value.{Value, Values, values, Fits}
 use Rattle.asn_model.specs.DecodesTo.{DecodesTo}
 use Rattle.asn_coding.proofs.Collecting.{values-map}
 use Rattle.asn_coding.proofs.FieldSteps.{field_refused}
-use Rattle.asn_coding.proofs.Filling.{refuse_members}
+use Rattle.asn_coding.proofs.Filling.{push_all-new, refuse_members}
 use Rattle.asn_coding.proofs.Members.{members_read, members_refused}
 use Rattle.asn_coding.proofs.Passing.{adds_fields, refuses_adding}
 use Rattle.asn_coding.proofs.ReadingOrder.{names-read}
@@ -54,10 +54,6 @@ names_distinct added h =
     let names = and_parts (are_identifiers (tree_names added) && are_distinct (tree_names added)) (are_fields_readable 1 (tree_fields (Shape.back 0)) && are_fields_readable 1 added) h in
     let parts = and_parts (are_identifiers (tree_names added)) (are_distinct (tree_names added)) names.0 in
     parts.1
-
-push_all-new : (ss f : Frame) (fs : List Frame) → push_all ss (f ∷ fs) ≡ (f ++ ss) ∷ fs
-push_all-new [] f fs = ap (λ g. g ∷ fs) (sym (append-nil f))
-push_all-new (s ∷ ss) f fs = push_all-new ss (f ++ (s ∷ [])) fs ∙ ap (λ g. g ∷ fs) (append_assoc f (s ∷ []) ss)
 
 below_at : (slots rest mid : List Slot) (slot : Slot) (k : ℕ) → length slots ≡ suc k → AllBelow (slot_nodes slot) slots → mid ≡ slots ++ rest → head_nodes mid < slot_nodes slot
 below_at [] rest mid slot k e below is = absurd (omega (arith, e))

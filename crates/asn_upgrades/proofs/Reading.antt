@@ -21,7 +21,8 @@ use Rattle.asn_growth.proofs.Backward.{taken}
 use Rattle.asn_growth.proofs.Forward.{forward, read-or-upon}
 use Rattle.asn_growth.proofs.Unknowns.{fails-upon, stopped_at}
 use Rattle.asn_upgrades.specs.Apart.{IsApart}
-use Rattle.asn_upgrades.proofs.Refusing.{is_text, one_tree, refused_tree}
+use Rattle.asn_codec.proofs.Again.{one_tree}
+use Rattle.asn_upgrades.proofs.Refusing.{is_text, refused_tree}
 
 -- The value by the shape in the place of another one, or a reason to refuse it.
 abbrev pub Reached : Notation → Shape → Tree → Value → (Cause → Type 0) → Type 0

@@ -4,7 +4,6 @@ use Rattle.serde_json.specs.Data.{Data}
 use Rattle.serde_json.specs.Written.{has_float}
 use Rattle.avn_grammar.specs.Tree.{Tree as AvnTree}
 use Rattle.avn_grammar.proofs.OneAnswer.{reads-deep, reads-unread}
-use Rattle.avn_grammar.proofs.OneTree.{same_parses}
 use Rattle.asn_core.specs.declared.codec.Codec.{Codec}
 use Rattle.asn_fault.specs.Failure.{Failure}
 use Rattle.asn_model.specs.FailsWith.{FailsWith}
@@ -12,6 +11,7 @@ use Rattle.asn_model.specs.Notation.{Notation, IsText, notation_of}
 use Rattle.asn_model.specs.Shape.{Shape}
 use Rattle.asn_model.specs.Tree.{Tree}
 use Rattle.asn_codec.specs.Texts.{HasTree, IsDecodeFailure}
+use Rattle.asn_codec.proofs.Again.{one_tree}
 use Rattle.jer_rules.specs.Text.{IsJer}
 use Rattle.avn_rules.specs.Text.{IsAvn}
 
@@ -19,14 +19,6 @@ use Rattle.avn_rules.specs.Text.{IsAvn}
 pub is_text : {n : Notation} {text : List ℕ} {t : Tree} → HasTree n text t → IsText n
 is_text (HasTree.json_tree h) = tt
 is_text (HasTree.avn_tree h) = tt
-
-same_data : (text : List ℕ) (d e : Data) → IsJer text d → IsJer text e → d ≡ e
-same_data text d e h k = let x : ◌≡◌ {A = Option Data} (Some d) (Some e) = sym h.0 ∙ k.0 in cc x
-
--- A text has at most one tree.
-pub one_tree : (n : Notation) (text : List ℕ) (t u : Tree) → HasTree n text t → HasTree n text u → t ≡ u
-one_tree n text t u (HasTree.json_tree {d = d} h) (HasTree.json_tree {d = e} k) = ap Tree.json (same_data text d e h k)
-one_tree n text t u (HasTree.avn_tree h) (HasTree.avn_tree k) = ap Tree.avn (same_parses h.1 k.1).0
 
 json_of : {text : List ℕ} {t : Tree} → HasTree Notation.jer text t → (d : Data) × IsJer text d
 json_of (HasTree.json_tree {d = d} h) = (d, h)

@@ -5,7 +5,7 @@ use asn_strings::{
     UniversalString, VisibleString,
 };
 use asn_times::{Date, GeneralizedTime, UtcTime};
-use asn_traits::{AsnType, Decimal};
+use asn_traits::AsnType;
 
 /// Lists the universal tags with their numbers (X.680, table 1).
 const UNIVERSAL: [(Tag, u32); 24] = [
@@ -98,7 +98,6 @@ fn constants_are_what_calls_state(rt: HostRuntime) {
         agree::<UtcTime>(),
         agree::<GeneralizedTime>(),
         agree::<Date>(),
-        agree::<Decimal>(),
         agree::<Vec<bool>>(),
     ];
     for &same in strings.iter().chain(others.iter()) {

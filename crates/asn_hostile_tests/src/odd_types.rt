@@ -2,8 +2,8 @@
 use asn_codec::transcode;
 use asn_core::Codec;
 use asn_sample_fields::Blank;
-use asn_sample_trees::Wrap2;
-use asn_traits::{Decode, Encode};
+use asn_sample_trees::{Wrap1, Wrap2};
+use asn_traits::{AsnType, Decode, Encode};
 use std::alloc::{AllocError, Global};
 use std::test::Fail;
 
@@ -41,5 +41,9 @@ fn a_type_that_hands_on(rt: HostRuntime) -> Result<(), Fail> {
         outside.as_str(),
         "Actual integer larger than expected 8 bits (Codec: JER)"
     );
+    // Each ranks above the type that it hands on to.
+    assert_eq!(rt; u8::RANK, 0);
+    assert_eq!(rt; Wrap1::RANK, 1);
+    assert_eq!(rt; Wrap2::RANK, 2);
     Ok(())
 }

@@ -252,21 +252,25 @@ fn shapes_that_cannot_be_read(rt: HostRuntime) -> Result<(), Fail> {
     Ok(())
 }
 
-/// Gives the tag of the type that it is run at, and returns whether that is a CHOICE.
+/// Gives the tag of the type that it is run at, and returns whether that is a CHOICE, and whether it
+/// has neither an identifier of its own nor a rank above another type.
 #[derive(Drop)]
 struct TagOf {}
 
-/// Reads two constants of each type. It promises nothing, so a test compares what it finds.
+/// Reads the constants of each type. It promises nothing, so a test compares what it finds.
 impl SampleVisitor<Tag> for TagOf {
     ghost use Rattle.std.specs.Prelude.{⊤};
 
-    type Output = bool;
+    type Output = (bool, bool);
 
     ghost visits = { λ visitor shape old new output. ⊤ };
 
-    fn visit<T: Encode + Decode>(self, tag: &mut Tag) -> bool {
+    fn visit<T: Encode + Decode>(self, tag: &mut Tag) -> (bool, bool) {
         *tag = T::TAG;
-        T::IS_CHOICE
+        (
+            T::IS_CHOICE,
+            T::IDENTIFIER == Identifier::EMPTY && T::RANK == 0,
+        )
     }
 }
 
@@ -340,7 +344,7 @@ fn a_visitor_is_run_at_the_type_of_the_name(rt: HostRuntime) -> Result<(), Fail>
         };
         // A tag that none of the types has.
         let mut visited = Tag::NULL;
-        assert_eq!(rt; sample.accept(TagOf {}, &mut visited), *tag == Tag::EOC);
+        assert_eq!(rt; sample.accept(TagOf {}, &mut visited), (*tag == Tag::EOC, true));
         assert!(rt; visited == *tag);
         assert!(rt; is_readable(&sample.shape(rt.alloc())?));
     }

@@ -58,7 +58,7 @@ pub trait FieldGroup: Sized + Drop {
 /// # Errors
 ///
 /// Those of the groups.
-#[tactic(auto, using(crate::proofs::Grouping::group_steps))]
+#[tactic(auto, using(asn_coding::proofs::Grouping::group_steps))]
 pub fn write_groups<A: FieldGroup, B: FieldGroup, E: Encoder>(
     encoder: &mut E,
     first: &A,
@@ -80,7 +80,7 @@ pub fn write_groups<A: FieldGroup, B: FieldGroup, E: Encoder>(
 /// # Errors
 ///
 /// Those of the groups.
-#[tactic(auto, using(crate::proofs::Grouping::group_steps))]
+#[tactic(auto, using(asn_coding::proofs::Grouping::group_steps))]
 pub fn read_groups<A: FieldGroup, B: FieldGroup, D: Decoder>(
     decoder: &mut D,
     names: &mut FieldNames,

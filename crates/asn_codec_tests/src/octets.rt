@@ -1,8 +1,9 @@
 //! Encodes and decodes OCTET STRING in both notations, and makes the shape of a SEQUENCE that has
 //! an extension addition. The forms are those of X.697 and X.680, section 23.
+use crate::checks::{assert_refused, assert_text, avn_text, jer_text};
 use asn_base::{OctetString, Tag};
 use asn_fault::DecodeError;
-use asn_fields::{FieldShapes};
+use asn_fields::FieldShapes;
 use asn_traits::{Shape, is_readable};
 use avn_rules::avn;
 use jer_rules::jer;
@@ -28,11 +29,11 @@ fn octets_are_written_in_capitals_and_read_in_either_case(rt: HostRuntime) -> Re
     // 01 shows that leading zeros stay, and FF the case of letters.
     let octets = Vec::from_slice(alloc, [0x01, 0xFF].as_slice())?;
     let value = OctetString::from_vec(octets);
-    assert_eq!(rt; jer::encode(alloc, &value)?.as_str(), "\"01FF\"");
-    assert_eq!(rt; avn::encode(alloc, &value)?.as_str(), "'01FF'H");
-    assert_read(&rt, jer::decode(alloc, "\"01fF\""));
+    assert_text(&rt, jer_text(alloc, &value)?.as_str(), "\"01FF\"");
+    assert_text(&rt, avn_text(alloc, &value)?.as_str(), "'01FF'H");
+    assert_read(&rt, read_octets(alloc, true, "\"01fF\""));
     // X.680, section 12, admits white space between the digits.
-    assert_read(&rt, avn::decode(alloc, "' 01 fF 'H"));
+    assert_read(&rt, read_octets(alloc, false, "' 01 fF 'H"));
     Ok(())
 }
 
@@ -73,10 +74,8 @@ fn read_octets(alloc: Global, is_json: bool, text: &str) -> Result<OctetString, 
 #[test]
 fn what_is_no_octets_is_refused(rt: HostRuntime) -> Result<(), Fail> {
     for row in REFUSED.iter() {
-        match read_octets(rt.alloc(), row.0, row.1) {
-            Ok(_) => return Err(Fail::from("read")),
-            Err(error) => assert_eq!(rt; error.to_string(rt.alloc())?.as_str(), row.2),
-        }
+        let read = read_octets(rt.alloc(), row.0, row.1);
+        assert_refused(&rt, rt.alloc(), read, row.2)?;
     }
     Ok(())
 }

@@ -57,9 +57,13 @@ encode_codec_of (Coer kind) = codec.Coer
 encode_codec_of (Xer kind) = codec.Xer
 encode_codec_of (Avn kind) = codec.Avn
 
+-- The error of this kind by this codec.
+abbrev pub encode_error : EncodeErrorKind → Codec → EncodeError
+encode_error kind codec = record { kind = kind; codec = codec }
+
 -- The refusal by the set of encoding rules that has the kind.
 abbrev pub codec_refusal : CodecEncodeError → EncodeError
-codec_refusal inner = record { kind = CodecSpecific inner; codec = encode_codec_of inner }
+codec_refusal inner = encode_error (CodecSpecific inner) (encode_codec_of inner)
 
 -- Whether memory ran out.
 abbrev pub is_encode_out_of_memory : EncodeCause → Bool

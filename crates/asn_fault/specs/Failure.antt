@@ -67,6 +67,10 @@ within name codec failure = record { path = record { name = name; codec = codec 
 abbrev pub wrapped : List ℕ → Codec → Failure → Failure
 wrapped name codec failure = if is_out_of_memory failure then at_root Cause.out_of_memory codec else within name codec failure
 
+-- The error of this kind by this codec.
+abbrev pub decode_error : DecodeErrorKind → Codec → DecodeError
+decode_error kind codec = record { kind = kind; codec = codec }
+
 -- What is wrong, of a kind that one set of encoding rules has.
 abbrev pub codec_cause : CodecDecodeError → Cause
 codec_cause (Ber (InvalidDate msg)) = Cause.invalid_date (string_bytes msg)

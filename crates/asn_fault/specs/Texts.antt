@@ -1,5 +1,5 @@
 -- The texts that the errors print.
-use Rattle.std.specs.Prelude.{ℕ, List, ◌++◌, Option, Some, None, Bool, if◌then◌else◌, codes, decimal, string_bytes}
+use Rattle.std.specs.Prelude.{ℕ, List, [], ◌++◌, Option, Some, None, Bool, if◌then◌else◌, codes, decimal, string_bytes}
 use Rattle.std.specs.Fmt.{signed_decimal}
 use Rattle.asn_core.specs.Texts.{codec_name, class_name, tag_text, whole_number_text, bounded_text}
 use Rattle.asn_core.specs.declared.codec.Codec.{Codec}
@@ -181,59 +181,89 @@ codec_decode_text (decoding.Coer kind) = codes "COER decoding error: " ++ coer_d
 codec_decode_text (decoding.Xer kind) = codes "XER decoding error: " ++ xer_decode_text kind
 codec_decode_text (decoding.Avn kind) = codes "AVN decoding error: " ++ avn_decode_text kind
 
+-- The text of a kind that speaks of the input as a whole. A kind of another group has none here.
+abbrev pub input_text : DecodeErrorKind → List ℕ
+input_text (unread.Custom msg) = codes "Custom error: " ++ string_bytes msg
+input_text (unread.Incomplete needed) = codes "Need more data to continue: " ++ needed_text needed
+input_text unread.Eof = codes "Unexpected EOF when decoding"
+input_text (unread.Parser msg) = codes "Error in Parser: " ++ string_bytes msg
+input_text (unread.UnexpectedExtraData length) = codes "Unexpected extra data found: length `" ++ (decimal length ++ codes "` bytes")
+input_text unread.UnexpectedEmptyInput = codes "No input was provided where expected in the given SEQUENCE or INTEGER type"
+input_text unread.ExceedsMaxParseDepth = codes "Exceeded maximum parse depth"
+input_text unread.OutOfMemory = codes "Out of memory"
+input_text _ = []
+
+-- The text of a kind that speaks of a length, or of a group above.
+abbrev pub length_text : DecodeErrorKind → List ℕ
+length_text (unread.ExceedsMaxLength length) = codes "Expected maximum of " ++ (decimal length ++ codes " items")
+length_text (unread.LengthExceedsPlatformWidth msg) = codes "Length of the data exceeds platform address width: " ++ string_bytes msg
+length_text unread.ZeroLengthOfLength = codes "Length of Length cannot be zero"
+length_text (unread.MismatchedLength expected actual) = codes "Expected " ++ (decimal expected ++ (codes " bytes, actual length was " ++ (decimal actual ++ codes " bytes")))
+length_text kind = input_text kind
+
+-- The text of a kind that speaks of a string, or of a group above.
+abbrev pub string_text : DecodeErrorKind → List ℕ
+string_text (unread.PermittedAlphabetError reason) = codes "Alphabet constraint not satisfied " ++ permitted_alphabet_text reason
+string_text (unread.SizeConstraintNotSatisfied size expected) = codes "Size constraint not satisfied: expected: " ++ (string_bytes expected ++ (codes "; actual: " ++ size_text size))
+string_text (unread.StringConversionFailed tag msg) = codes "Failed to convert byte array into valid ASN.1 string. String type as tag: " ++ (tag_text tag ++ (codes " Error: " ++ string_bytes msg))
+string_text (unread.FixedStringConversionFailed tag expected actual) = codes "Failed to convert byte array into valid fixed-sized ASN.1 string. String type as tag: " ++ (tag_text tag ++ (codes ", actual: " ++ (decimal actual ++ (codes ", expected: " ++ decimal expected))))
+string_text (unread.InvalidBitString bits) = codes "BitString contains an invalid amount of unused bits: " ++ decimal bits
+string_text kind = length_text kind
+
+-- The text of a kind that speaks of a number or a truth value, or of a group above.
+abbrev pub number_text : DecodeErrorKind → List ℕ
+number_text (unread.ValueConstraintNotSatisfied value expected) = codes "Value constraint not satisfied: expected: " ++ (bounded_text signed_decimal expected ++ (codes "; actual: " ++ whole_number_text value))
+number_text (unread.IntegerOverflow width) = codes "Actual integer larger than expected " ++ (decimal width ++ codes " bits")
+number_text (unread.IntegerTypeConversionFailed msg) = codes "Failed to cast integer to another integer type: " ++ (string_bytes msg ++ codes " ")
+number_text (unread.RangeExceedsPlatformWidth needed present) = codes "Integer range larger than possible to address on this platform. needed: " ++ (decimal needed ++ (codes " present: " ++ decimal present))
+number_text unread.InvalidRealEncoding = codes "Invalid real encoding"
+number_text unread.RealNotSupported = codes "Decoder doesn't support `REAL` type"
+number_text (unread.InvalidBool value) = codes "Bool value is not `0` or `0xFF` as canonical requires. Actual: " ++ decimal value
+number_text kind = string_text kind
+
+-- The text of a kind that speaks of the alternatives of a CHOICE or the items of an ENUMERATED, or of a group above.
+abbrev pub variant_text : DecodeErrorKind → List ℕ
+variant_text (unread.EnumerationIndexNotFound index extended) = codes "Enumeration index " ++ (decimal index ++ (codes " did not match any variant. Extended list checked: " ++ bool_text extended))
+variant_text (unread.ChoiceIndexNotFound index variants) = codes "Choice index " ++ (decimal index ++ codes " did not match any variant")
+variant_text (unread.DiscriminantValueNotFound discriminant) = codes "Discriminant value " ++ (signed_decimal discriminant ++ codes " did not match any variant")
+variant_text (unread.NoValidChoice name) = codes "No valid choice for `" ++ (name.now ++ codes "`")
+variant_text kind = number_text kind
+
+-- The text of a kind that speaks of the components of a SEQUENCE or SET, or of a group above.
+abbrev pub component_text : DecodeErrorKind → List ℕ
+component_text (unread.DuplicateField name) = codes "Duplicate field for `" ++ (name.now ++ codes "`")
+component_text (unread.MissingField name) = codes "Missing field `" ++ (name.now ++ codes "`")
+component_text (unread.UnknownField index tag) = codes "Unknown field with index " ++ (decimal index ++ (codes " and tag " ++ tag_text tag))
+component_text (unread.IncorrectItemNumberInSequence expected actual) = codes "Invalid item number in Sequence: expected: " ++ (decimal expected ++ (codes "; actual: " ++ decimal actual))
+component_text (unread.MissingTagClassOrValueInSequenceOrSet class value) = codes "Expected class: " ++ (class_name class ++ (codes ", value: " ++ (decimal value ++ codes " in sequence or set Missing tag class or value in sequence or set")))
+component_text (unread.RequiredExtensionNotPresent tag) = codes "Extension with class `" ++ (class_name tag.class ++ (codes "` and tag `" ++ (decimal tag.value ++ codes "` required, but not present")))
+component_text unread.TypeNotExtensible = codes "Attempted to decode extension on non-extensible type"
+component_text kind = variant_text kind
+
+-- What is wrong with a component, where the error has details of its own.
+abbrev pub component_fault_text : InnerSubtypeConstraintError → List ℕ
+component_fault_text (inner.InvalidComponentValue path name details) = codes "Invalid value for component " ++ (path.now ++ (codes " in " ++ (name.now ++ (codes ": " ++ string_bytes details))))
+component_fault_text (inner.InvalidComponentVariant path type_name details) = codes "Invalid variant for component " ++ (type_name.now ++ (codes " in " ++ (path.now ++ (codes ": " ++ string_bytes details))))
+component_fault_text (inner.InvalidComponentSize path name details) = codes "Invalid size constraint for component " ++ (name.now ++ (codes " in " ++ (path.now ++ (codes ": " ++ string_bytes details))))
+component_fault_text _ = []
+
 abbrev mutual
   -- Why a value is not read.
   pub decode_kind_text : DecodeErrorKind → List ℕ
-  decode_kind_text (unread.PermittedAlphabetError reason) = codes "Alphabet constraint not satisfied " ++ permitted_alphabet_text reason
-  decode_kind_text (unread.SizeConstraintNotSatisfied size expected) = codes "Size constraint not satisfied: expected: " ++ (string_bytes expected ++ (codes "; actual: " ++ size_text size))
-  decode_kind_text (unread.ValueConstraintNotSatisfied value expected) = codes "Value constraint not satisfied: expected: " ++ (bounded_text signed_decimal expected ++ (codes "; actual: " ++ whole_number_text value))
   decode_kind_text (unread.InnerSubtypeConstraintNotSatisfied reason) = codes "Inner subtype constraint not satisfied: " ++ inner_subtype_text reason
   decode_kind_text (unread.CodecSpecific kind) = codec_decode_text kind
-  decode_kind_text (unread.EnumerationIndexNotFound index extended) = codes "Enumeration index " ++ (decimal index ++ (codes " did not match any variant. Extended list checked: " ++ bool_text extended))
-  decode_kind_text (unread.ChoiceIndexNotFound index variants) = codes "Choice index " ++ (decimal index ++ codes " did not match any variant")
   decode_kind_text (unread.ChoiceIndexExceedsPlatformWidth' needed p kind codec) = codes "Choice index exceeds platform index width. Needed " ++ (decimal needed ++ (codes " bytes, present: " ++ with_codec (decode_kind_text kind) codec))
-  decode_kind_text (unread.Custom msg) = codes "Custom error: " ++ string_bytes msg
-  decode_kind_text (unread.DiscriminantValueNotFound discriminant) = codes "Discriminant value " ++ (signed_decimal discriminant ++ codes " did not match any variant")
-  decode_kind_text (unread.DuplicateField name) = codes "Duplicate field for `" ++ (name.now ++ codes "`")
-  decode_kind_text (unread.ExceedsMaxLength length) = codes "Expected maximum of " ++ (decimal length ++ codes " items")
-  decode_kind_text (unread.LengthExceedsPlatformWidth msg) = codes "Length of the data exceeds platform address width: " ++ string_bytes msg
   decode_kind_text (unread.FieldError' name p kind codec) = codes "Error when decoding field `" ++ (name.now ++ (codes "`: " ++ with_codec (decode_kind_text kind) codec))
-  decode_kind_text (unread.Incomplete needed) = codes "Need more data to continue: " ++ needed_text needed
-  decode_kind_text unread.Eof = codes "Unexpected EOF when decoding"
-  decode_kind_text (unread.IncorrectItemNumberInSequence expected actual) = codes "Invalid item number in Sequence: expected: " ++ (decimal expected ++ (codes "; actual: " ++ decimal actual))
-  decode_kind_text (unread.IntegerOverflow width) = codes "Actual integer larger than expected " ++ (decimal width ++ codes " bits")
-  decode_kind_text (unread.IntegerTypeConversionFailed msg) = codes "Failed to cast integer to another integer type: " ++ (string_bytes msg ++ codes " ")
-  decode_kind_text unread.InvalidRealEncoding = codes "Invalid real encoding"
-  decode_kind_text unread.RealNotSupported = codes "Decoder doesn't support `REAL` type"
-  decode_kind_text (unread.InvalidBitString bits) = codes "BitString contains an invalid amount of unused bits: " ++ decimal bits
-  decode_kind_text (unread.InvalidBool value) = codes "Bool value is not `0` or `0xFF` as canonical requires. Actual: " ++ decimal value
-  decode_kind_text unread.ZeroLengthOfLength = codes "Length of Length cannot be zero"
-  decode_kind_text (unread.MismatchedLength expected actual) = codes "Expected " ++ (decimal expected ++ (codes " bytes, actual length was " ++ (decimal actual ++ codes " bytes")))
-  decode_kind_text (unread.MissingField name) = codes "Missing field `" ++ (name.now ++ codes "`")
-  decode_kind_text (unread.MissingTagClassOrValueInSequenceOrSet class value) = codes "Expected class: " ++ (class_name class ++ (codes ", value: " ++ (decimal value ++ codes " in sequence or set Missing tag class or value in sequence or set")))
-  decode_kind_text (unread.RangeExceedsPlatformWidth needed present) = codes "Integer range larger than possible to address on this platform. needed: " ++ (decimal needed ++ (codes " present: " ++ decimal present))
-  decode_kind_text (unread.RequiredExtensionNotPresent tag) = codes "Extension with class `" ++ (class_name tag.class ++ (codes "` and tag `" ++ (decimal tag.value ++ codes "` required, but not present")))
-  decode_kind_text (unread.Parser msg) = codes "Error in Parser: " ++ string_bytes msg
-  decode_kind_text (unread.StringConversionFailed tag msg) = codes "Failed to convert byte array into valid ASN.1 string. String type as tag: " ++ (tag_text tag ++ (codes " Error: " ++ string_bytes msg))
-  decode_kind_text (unread.FixedStringConversionFailed tag expected actual) = codes "Failed to convert byte array into valid fixed-sized ASN.1 string. String type as tag: " ++ (tag_text tag ++ (codes ", actual: " ++ (decimal actual ++ (codes ", expected: " ++ decimal expected))))
-  decode_kind_text (unread.NoValidChoice name) = codes "No valid choice for `" ++ (name.now ++ codes "`")
-  decode_kind_text unread.TypeNotExtensible = codes "Attempted to decode extension on non-extensible type"
-  decode_kind_text (unread.UnexpectedExtraData length) = codes "Unexpected extra data found: length `" ++ (decimal length ++ codes "` bytes")
-  decode_kind_text (unread.UnknownField index tag) = codes "Unknown field with index " ++ (decimal index ++ (codes " and tag " ++ tag_text tag))
-  decode_kind_text unread.UnexpectedEmptyInput = codes "No input was provided where expected in the given SEQUENCE or INTEGER type"
-  decode_kind_text unread.ExceedsMaxParseDepth = codes "Exceeded maximum parse depth"
-  decode_kind_text unread.OutOfMemory = codes "Out of memory"
+  decode_kind_text kind = component_text kind
 
   -- Why components break an inner subtype constraint.
   pub inner_subtype_text : InnerSubtypeConstraintError → List ℕ
   inner_subtype_text (inner.SubtypeConstraintViolation path details) = codes "Invalid component combination in " ++ (path.now ++ (codes ": " ++ details.now))
   inner_subtype_text (inner.MissingRequiredComponent path components) = codes "Missing required components in " ++ (path.now ++ codes ": the following must be present:")
   inner_subtype_text (inner.MutuallyExclusiveViolation path components) = codes "Mutually exclusive components present in " ++ (path.now ++ (codes ": " ++ joined (λ name. name.now) components.now))
-  inner_subtype_text (inner.InvalidComponentValue path name details) = codes "Invalid value for component " ++ (path.now ++ (codes " in " ++ (name.now ++ (codes ": " ++ string_bytes details))))
-  inner_subtype_text (inner.InvalidComponentVariant path type_name details) = codes "Invalid variant for component " ++ (type_name.now ++ (codes " in " ++ (path.now ++ (codes ": " ++ string_bytes details))))
-  inner_subtype_text (inner.InvalidComponentSize path name details) = codes "Invalid size constraint for component " ++ (name.now ++ (codes " in " ++ (path.now ++ (codes ": " ++ string_bytes details))))
   inner_subtype_text (inner.UnexpectedComponentPresent path name) = codes "Component that should be absent is present in " ++ (path.now ++ (codes ": " ++ name.now))
   inner_subtype_text (inner.InvalidInnerContaining' expected p kind codec) = codes "CONTAINING does not contain the expected component " ++ (expected.now ++ (codes ": " ++ with_codec (decode_kind_text kind) codec))
+  inner_subtype_text error = component_fault_text error
 
 -- A refusal to read: why, and by which codec.
 abbrev pub decode_error_text : DecodeError → List ℕ

@@ -1,7 +1,9 @@
 //! Defines why a value breaks a constraint of its type (X.680, section 51), as kinds of errors
 //! hold it. This library does not check constraints: binary rules that a caller hands in do.
 ghost use Rattle.std.specs.Prelude.{Some};
-ghost use Rattle.asn_fault.specs.Texts.{inner_subtype_text, permitted_alphabet_text};
+ghost use Rattle.std.specs.Fmt.{WritesOnOk};
+ghost use Rattle.asn_fault.specs.Texts.{component_fault_text, inner_subtype_text};
+ghost use Rattle.asn_fault.specs.Texts.{permitted_alphabet_text};
 
 use crate::DecodeError;
 use crate::joined::write_joined;
@@ -129,6 +131,32 @@ impl fmt::Display for InnerSubtypeConstraintError {
                 )?;
                 write_joined(components, f)
             }
+            InnerSubtypeConstraintError::UnexpectedComponentPresent {
+                component_path,
+                component_name,
+            } => write!(
+                f,
+                "Component that should be absent is present in {component_path}: {component_name}"
+            ),
+            InnerSubtypeConstraintError::InvalidInnerContaining { expected, err } => {
+                let err = &**err;
+                write!(
+                    f,
+                    "CONTAINING does not contain the expected component {expected}: {err}"
+                )
+            }
+            error => error.write_component(f),
+        }
+    }
+}
+
+/// Writes the errors of one component.
+impl InnerSubtypeConstraintError {
+    /// Writes an error whose details are a text of their own. Writes nothing of another.
+    fn write_component<W: fmt::Write>(&self, f: &mut fmt::Formatter<W>) -> fmt::Result
+        ensures { WritesOnOk W.write_str_gives f.old result (component_fault_text self.now) f.new }
+    {
+        match self {
             InnerSubtypeConstraintError::InvalidComponentValue {
                 component_path,
                 component_name,
@@ -154,20 +182,7 @@ impl fmt::Display for InnerSubtypeConstraintError {
                 "Invalid size constraint for component {component_name} in {component_path}: \
                  {details}"
             ),
-            InnerSubtypeConstraintError::UnexpectedComponentPresent {
-                component_path,
-                component_name,
-            } => write!(
-                f,
-                "Component that should be absent is present in {component_path}: {component_name}"
-            ),
-            InnerSubtypeConstraintError::InvalidInnerContaining { expected, err } => {
-                let err = &**err;
-                write!(
-                    f,
-                    "CONTAINING does not contain the expected component {expected}: {err}"
-                )
-            }
+            _ => Ok(()),
         }
     }
 }

@@ -3,10 +3,12 @@
 //! compare what `failure_of` gives of them, the path of fields, the cause and the codec.
 ghost use Rattle.std.specs.Prelude.{◌≡◌, ◌⊎◌, Some, string_bytes};
 ghost use Rattle.std.specs.Fn.{FnReturnsAt};
-ghost use Rattle.asn_fault.specs.Failure.{Cause, at_root, failure_of, is_out_of_memory, root_kind, wrapped};
+ghost use Rattle.asn_fault.specs.Failure.{Cause, at_root, decode_error, failure_of};
+ghost use Rattle.asn_fault.specs.Failure.{is_out_of_memory, root_kind, wrapped};
 ghost use Rattle.asn_fault.specs.Texts.{decode_kind_text, decode_error_text, needed_text};
 
 mod binary;
+mod kind_text;
 
 use crate::{CodecDecodeError, InnerSubtypeConstraintError, PermittedAlphabetError, RootCause};
 use asn_core::{Bounded, Class, Codec, Tag, Variants, WholeNumber};
@@ -233,7 +235,7 @@ pub struct DecodeError {
 impl DecodeError {
     /// Returns the error of this kind. All other constructors go through it.
     pub fn from_kind(kind: DecodeErrorKind, codec: Codec) -> DecodeError
-        ensures { result ≡ record { kind = kind; codec = codec } }
+        ensures { result ≡ decode_error kind codec }
     {
         DecodeError { kind, codec }
     }
@@ -358,32 +360,10 @@ impl fmt::Display for DecodeErrorKind {
     #[cycle(printing)]
     fn fmt<W: fmt::Write>(&self, f: &mut fmt::Formatter<W>) -> fmt::Result {
         match self {
-            DecodeErrorKind::PermittedAlphabetError { reason } => {
-                write!(f, "Alphabet constraint not satisfied {reason}")
-            }
-            DecodeErrorKind::SizeConstraintNotSatisfied { size, expected } => write!(
-                f,
-                "Size constraint not satisfied: expected: {expected}; actual: {size:?}"
-            ),
-            DecodeErrorKind::ValueConstraintNotSatisfied { value, expected } => write!(
-                f,
-                "Value constraint not satisfied: expected: {expected}; actual: {value}"
-            ),
             DecodeErrorKind::InnerSubtypeConstraintNotSatisfied { reason } => {
                 write!(f, "Inner subtype constraint not satisfied: {reason}")
             }
             DecodeErrorKind::CodecSpecific { inner } => inner.fmt(f),
-            DecodeErrorKind::EnumerationIndexNotFound {
-                index,
-                extended_list,
-            } => write!(
-                f,
-                "Enumeration index {index} did not match any variant. \
-                 Extended list checked: {extended_list}"
-            ),
-            DecodeErrorKind::ChoiceIndexNotFound { index, .. } => {
-                write!(f, "Choice index {index} did not match any variant")
-            }
             DecodeErrorKind::ChoiceIndexExceedsPlatformWidth { needed, present } => {
                 let present = &**present;
                 write!(
@@ -392,105 +372,11 @@ impl fmt::Display for DecodeErrorKind {
                      present: {present}"
                 )
             }
-            DecodeErrorKind::Custom { msg } => write!(f, "Custom error: {msg}"),
-            DecodeErrorKind::DiscriminantValueNotFound { discriminant } => write!(
-                f,
-                "Discriminant value {discriminant} did not match any variant"
-            ),
-            DecodeErrorKind::DuplicateField { name } => write!(f, "Duplicate field for `{name}`"),
-            DecodeErrorKind::ExceedsMaxLength { length } => {
-                write!(f, "Expected maximum of {length} items")
-            }
-            DecodeErrorKind::LengthExceedsPlatformWidth { msg } => {
-                write!(
-                    f,
-                    "Length of the data exceeds platform address width: {msg}"
-                )
-            }
             DecodeErrorKind::FieldError { name, nested } => {
                 let nested = &**nested;
                 write!(f, "Error when decoding field `{name}`: {nested}")
             }
-            DecodeErrorKind::Incomplete { needed } => {
-                write!(f, "Need more data to continue: {needed}")
-            }
-            DecodeErrorKind::Eof => write!(f, "Unexpected EOF when decoding"),
-            DecodeErrorKind::IncorrectItemNumberInSequence { expected, actual } => write!(
-                f,
-                "Invalid item number in Sequence: expected: {expected}; actual: {actual}"
-            ),
-            DecodeErrorKind::IntegerOverflow { max_width } => write!(
-                f,
-                "Actual integer larger than expected {max_width} bits"
-            ),
-            DecodeErrorKind::IntegerTypeConversionFailed { msg } => {
-                write!(f, "Failed to cast integer to another integer type: {msg} ")
-            }
-            DecodeErrorKind::InvalidRealEncoding => write!(f, "Invalid real encoding"),
-            DecodeErrorKind::RealNotSupported => {
-                write!(f, "Decoder doesn't support `REAL` type")
-            }
-            DecodeErrorKind::InvalidBitString { bits } => write!(
-                f,
-                "BitString contains an invalid amount of unused bits: {bits}"
-            ),
-            DecodeErrorKind::InvalidBool { value } => write!(
-                f,
-                "Bool value is not `0` or `0xFF` as canonical requires. Actual: {value}"
-            ),
-            DecodeErrorKind::ZeroLengthOfLength => write!(f, "Length of Length cannot be zero"),
-            DecodeErrorKind::MismatchedLength { expected, actual } => write!(
-                f,
-                "Expected {expected} bytes, actual length was {actual} bytes"
-            ),
-            DecodeErrorKind::MissingField { name } => write!(f, "Missing field `{name}`"),
-            DecodeErrorKind::MissingTagClassOrValueInSequenceOrSet { class, value } => write!(
-                f,
-                "Expected class: {class}, value: {value} in sequence or set \
-                 Missing tag class or value in sequence or set"
-            ),
-            DecodeErrorKind::RangeExceedsPlatformWidth { needed, present } => write!(
-                f,
-                "Integer range larger than possible to address on this platform. \
-                 needed: {needed} present: {present}"
-            ),
-            DecodeErrorKind::RequiredExtensionNotPresent {
-                tag: Tag { class, value },
-            } => write!(
-                f,
-                "Extension with class `{class}` and tag `{value}` required, but not present"
-            ),
-            DecodeErrorKind::Parser { msg } => write!(f, "Error in Parser: {msg}"),
-            DecodeErrorKind::StringConversionFailed { tag, msg } => write!(
-                f,
-                "Failed to convert byte array into valid ASN.1 string. \
-                 String type as tag: {tag} Error: {msg}"
-            ),
-            DecodeErrorKind::FixedStringConversionFailed {
-                tag,
-                expected,
-                actual,
-            } => write!(
-                f,
-                "Failed to convert byte array into valid fixed-sized ASN.1 string. \
-                 String type as tag: {tag}, actual: {actual}, expected: {expected}"
-            ),
-            DecodeErrorKind::NoValidChoice { name } => write!(f, "No valid choice for `{name}`"),
-            DecodeErrorKind::TypeNotExtensible => {
-                write!(f, "Attempted to decode extension on non-extensible type")
-            }
-            DecodeErrorKind::UnexpectedExtraData { length } => {
-                write!(f, "Unexpected extra data found: length `{length}` bytes")
-            }
-            DecodeErrorKind::UnknownField { index, tag } => {
-                write!(f, "Unknown field with index {index} and tag {tag}")
-            }
-            DecodeErrorKind::UnexpectedEmptyInput => write!(
-                f,
-                "No input was provided where expected in the given SEQUENCE or INTEGER type"
-            ),
-            DecodeErrorKind::ExceedsMaxParseDepth => write!(f, "Exceeded maximum parse depth"),
-            DecodeErrorKind::OutOfMemory => write!(f, "Out of memory"),
+            kind => kind.write_component(f),
         }
     }
 }

@@ -3,7 +3,7 @@
 ghost use Rattle.std.specs.Prelude.{◌≡◌, MatchResult, Some, false, pos, true};
 ghost use Rattle.asn_core.specs.Bounds.{is_admitted};
 ghost use Rattle.asn_fault.specs.Texts.{encode_kind_text, encode_error_text};
-ghost use Rattle.asn_fault.specs.EncodeCause.{encode_cause, is_encode_out_of_memory};
+ghost use Rattle.asn_fault.specs.EncodeCause.{encode_cause, encode_error, is_encode_out_of_memory};
 
 use crate::{CodecEncodeError, PermittedAlphabetError};
 use asn_core::{Bounded, Codec, Size, WholeNumber};
@@ -94,7 +94,7 @@ pub struct EncodeError {
 impl EncodeError {
     /// Returns the error of this kind. All other constructors go through it.
     pub fn from_kind(kind: EncodeErrorKind, codec: Codec) -> EncodeError
-        ensures { result ≡ record { kind = kind; codec = codec } }
+        ensures { result ≡ encode_error kind codec }
     {
         EncodeError { kind, codec }
     }
@@ -105,10 +105,8 @@ impl EncodeError {
         reason: PermittedAlphabetError,
         codec: Codec,
     ) -> EncodeError
-        ensures { result ≡ record {
-          kind = EncodeErrorKind.AlphabetConstraintNotSatisfied reason;
-          codec = codec;
-        } }
+        ensures { result ≡ encode_error
+            (EncodeErrorKind.AlphabetConstraintNotSatisfied reason) codec }
     {
         let kind = EncodeErrorKind::AlphabetConstraintNotSatisfied { reason };
         EncodeError::from_kind(kind, codec)
@@ -117,10 +115,8 @@ impl EncodeError {
     /// Returns the error that the size of a value is none of `expected`, of which the bounds are
     /// kept.
     pub fn size_constraint_not_satisfied(size: usize, expected: &Size, codec: Codec) -> EncodeError
-        ensures { result ≡ record {
-          kind = EncodeErrorKind.SizeConstraintNotSatisfied size expected.now.bounds;
-          codec = codec;
-        } }
+        ensures { result ≡ encode_error
+            (EncodeErrorKind.SizeConstraintNotSatisfied size expected.now.bounds) codec }
     {
         EncodeError::from_kind(
             EncodeErrorKind::SizeConstraintNotSatisfied {
@@ -137,10 +133,8 @@ impl EncodeError {
         expected: &Bounded<i128>,
         codec: Codec,
     ) -> EncodeError
-        ensures { result ≡ record {
-          kind = EncodeErrorKind.ValueConstraintNotSatisfied value expected.now;
-          codec = codec;
-        } }
+        ensures { result ≡ encode_error
+            (EncodeErrorKind.ValueConstraintNotSatisfied value expected.now) codec }
     {
         EncodeError::from_kind(
             EncodeErrorKind::ValueConstraintNotSatisfied {
@@ -160,10 +154,8 @@ impl EncodeError {
         ensures { MatchResult result
             (λ _. is_admitted pos expected.now.bounds (pos length) ≡ true)
             (λ error. (is_admitted pos expected.now.bounds (pos length) ≡ false)
-            × (error ≡ record {
-              kind = EncodeErrorKind.InvalidLength length expected.now.bounds;
-              codec = codec;
-            })) }
+            × (error ≡ encode_error
+            (EncodeErrorKind.InvalidLength length expected.now.bounds) codec)) }
     {
         if expected.contains(&length) {
             return Ok(());
@@ -177,10 +169,7 @@ impl EncodeError {
 
     /// Returns the error that the length of a value is greater than the platform can count.
     pub fn length_exceeds_platform_size(codec: Codec) -> EncodeError
-        ensures { result ≡ record {
-          kind = EncodeErrorKind.LengthExceedsPlatformSize;
-          codec = codec;
-        } }
+        ensures { result ≡ encode_error EncodeErrorKind.LengthExceedsPlatformSize codec }
     {
         EncodeError::from_kind(EncodeErrorKind::LengthExceedsPlatformSize, codec)
     }
@@ -188,48 +177,42 @@ impl EncodeError {
     /// Returns the error that a number is not one of another integer type, for the reason in
     /// `msg`.
     pub fn integer_type_conversion_failed(msg: String, codec: Codec) -> EncodeError
-        ensures { result ≡ record {
-          kind = EncodeErrorKind.IntegerTypeConversionFailed msg;
-          codec = codec;
-        } }
+        ensures { result ≡ encode_error (EncodeErrorKind.IntegerTypeConversionFailed msg) codec }
     {
         EncodeError::from_kind(EncodeErrorKind::IntegerTypeConversionFailed { msg }, codec)
     }
 
     /// Returns the error that the value of an open type is not encoded, for the reason in `msg`.
     pub fn opaque_conversion_failed(msg: String, codec: Codec) -> EncodeError
-        ensures { result ≡ record {
-          kind = EncodeErrorKind.OpaqueConversionFailed msg;
-          codec = codec;
-        } }
+        ensures { result ≡ encode_error (EncodeErrorKind.OpaqueConversionFailed msg) codec }
     {
         EncodeError::from_kind(EncodeErrorKind::OpaqueConversionFailed { msg }, codec)
     }
 
     /// Returns the error that the tag of a value is that of no alternative of its CHOICE type.
     pub fn variant_not_in_choice(codec: Codec) -> EncodeError
-        ensures { result ≡ record { kind = EncodeErrorKind.VariantNotInChoice; codec = codec } }
+        ensures { result ≡ encode_error EncodeErrorKind.VariantNotInChoice codec }
     {
         EncodeError::from_kind(EncodeErrorKind::VariantNotInChoice, codec)
     }
 
     /// Returns the error that a REAL is to be encoded.
     pub fn real_not_supported(codec: Codec) -> EncodeError
-        ensures { result ≡ record { kind = EncodeErrorKind.RealNotSuppored; codec = codec } }
+        ensures { result ≡ encode_error EncodeErrorKind.RealNotSuppored codec }
     {
         EncodeError::from_kind(EncodeErrorKind::RealNotSuppored, codec)
     }
 
     /// Returns an error in words of its own.
     pub fn custom(msg: String, codec: Codec) -> EncodeError
-        ensures { result ≡ record { kind = EncodeErrorKind.Custom msg; codec = codec } }
+        ensures { result ≡ encode_error (EncodeErrorKind.Custom msg) codec }
     {
         EncodeError::from_kind(EncodeErrorKind::Custom { msg }, codec)
     }
 
     /// Returns the error that memory ran out.
     pub fn out_of_memory(codec: Codec) -> EncodeError
-        ensures { result ≡ record { kind = EncodeErrorKind.OutOfMemory; codec = codec } }
+        ensures { result ≡ encode_error EncodeErrorKind.OutOfMemory codec }
     {
         EncodeError::from_kind(EncodeErrorKind::OutOfMemory, codec)
     }

@@ -67,14 +67,16 @@ impl OerDecodeErrorKind {
 
     /// Returns the error that the header of extension additions is none, for the reason in `msg`.
     pub fn invalid_extension_header(msg: String) -> DecodeError
-        ensures { failure_of result ≡ codec_failure (Oer (OerDecodeErrorKind.InvalidExtensionHeader msg)) }
+        ensures { failure_of result ≡ codec_failure
+            (Oer (OerDecodeErrorKind.InvalidExtensionHeader msg)) }
     {
         OerDecodeErrorKind::InvalidExtensionHeader { msg }.into()
     }
 
     /// Returns the error that octets are no bit string, for the reason in `msg`.
     pub fn invalid_bit_string(msg: String) -> DecodeError
-        ensures { failure_of result ≡ codec_failure (Oer (OerDecodeErrorKind.InvalidOerBitString msg)) }
+        ensures { failure_of result ≡ codec_failure
+            (Oer (OerDecodeErrorKind.InvalidOerBitString msg)) }
     {
         OerDecodeErrorKind::InvalidOerBitString { msg }.into()
     }

@@ -21,7 +21,7 @@ use Rattle.asn_model.specs.Writes.{Finds, slot_names, value_slots}
 use Rattle.asn_model.proofs.Bags.{each-ordered}
 use Rattle.asn_model.proofs.Entries.{table-rising}
 use Rattle.asn_model.proofs.Readables.{and-left, and-right, fields_read, unfolded-readable}
-use Rattle.asn_model.proofs.Written.{decodes_written, first_apart, none_named, others_named, rest_apart}
+use Rattle.asn_model.proofs.Written.{decodes_written, differs, none_named, others_named}
 use Rattle.asn_growth.specs.Adapted.{adapted, adapted_each, adapted_slots, all_absent}
 use Rattle.asn_growth.specs.ComesUpon.{ComesUpon, EachComesUpon, IsMissing}
 use Rattle.asn_growth.specs.Grows.{Grows, GrowsFields, BeginsFields, BeginsAlternatives}
@@ -311,11 +311,6 @@ same-taken n s r v x old new a fit can = record {
 
 same_identifier-itself : (i : List ℕ) → same_identifier i i ≡ true
 same_identifier-itself i = (bytes_eq-Decides (map to_ascii_lowercase i) (map to_ascii_lowercase i)).1 refl
-
--- An alternative that is there differs from an identifier that is none of theirs.
-differs : {alts : Alternatives} {i : List ℕ} {v : Value} (j : List ℕ) → FitsAlternative alts i v → has_identifier (identifiers alts) j ≡ false → same_identifier i j ≡ false
-differs j (FitsAlternative.fits_here {i} {t} {s} {alts} fit) h = first_apart (same_identifier i j) (has_identifier (identifiers alts) j) h
-differs j (FitsAlternative.fits_later {i} {j = k} {t} {s} {alts} rest) h = differs j rest (rest_apart (same_identifier k j) (has_identifier (identifiers alts) j) h)
 
 -- The identifiers of a choice that can be read differ in more than case.
 differing : (alts : Alternatives) (added : AlternativeAdditions) → is_readable (Shape.choice alts added) ≡ true → differ_ignoring_case (identifiers (all_alternatives alts added)) ≡ true

@@ -70,7 +70,7 @@ others_named true rest e = let d : false ≡ true = e in cc d
 others_named false rest e = e
 
 -- An alternative that is there differs from an identifier that is none of theirs.
-differs : {alts : Alternatives} {i : List ℕ} {v : Value} (j : List ℕ) → FitsAlternative alts i v → has_identifier (identifiers alts) j ≡ false → same_identifier i j ≡ false
+pub differs : {alts : Alternatives} {i : List ℕ} {v : Value} (j : List ℕ) → FitsAlternative alts i v → has_identifier (identifiers alts) j ≡ false → same_identifier i j ≡ false
 differs j (FitsAlternative.fits_here {i} {t} {s} {alts} fit) h = first_apart (same_identifier i j) (has_identifier (identifiers alts) j) h
 differs j (FitsAlternative.fits_later {i} {j = k} {t} {s} {alts} rest) h = differs j rest (rest_apart (same_identifier k j) (has_identifier (identifiers alts) j) h)
 

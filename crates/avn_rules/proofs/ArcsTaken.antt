@@ -3,9 +3,9 @@ use Rattle.std.proofs.Common.{◌≡◌, ap, sym, refl, ◌∙◌, ℕ, ◌+◌,
 use Rattle.asn_fault.specs.Failure.{Cause, Failure}
 use Rattle.asn_traits.specs.Arcs.{arc_before, braced_arc, braced_arcs}
 use Rattle.avn_grammar.specs.Tree.{Tree as AvnTree, sequence_of}
-use Rattle.avn_value.specs.NodeViews.{kind_of}
-use Rattle.avn_value.specs.Preorder.{descendants, list_preorder, slot_descendants, tree_at}
-use Rattle.avn_value.specs.declared.node_kind.NodeKind.TheVariants as kind
+use Rattle.avn_nodes.specs.NodeViews.{kind_of}
+use Rattle.avn_nodes.specs.Preorder.{descendants, list_preorder, slot_descendants, tree_at}
+use Rattle.avn_nodes.specs.declared.node_kind.NodeKind.TheVariants as kind
 use Rattle.avn_rules.specs.LeafAnswer.{IsWrong}
 use Rattle.avn_rules.specs.Parts.{elements_of}
 use Rattle.avn_rules.specs.Pending.{IsPresent, avn_or_null}

@@ -2,9 +2,10 @@
 use Rattle.std.proofs.Common.{◌≡◌, ℕ, zero, suc, List, [], ◌∷◌, ◌++◌, map, drop, length, Option, Some, None, ap, refl, sym, ◌∙◌, String, Vec, Global, string_bytes}
 use Rattle.std.specs.Prelude.{option_map}
 use Rattle.avn_grammar.specs.Tree.{Tree as AvnTree, Fields as AvnFields, sequence, sequence_of, choice, tree, no_fields, field, absent}
-use Rattle.avn_value.specs.View.{tree_of, trees_in, fields_trees}
+use Rattle.avn_value.specs.View.{tree_of, fields_trees}
+use Rattle.avn_nodes.specs.TreeLists.{trees_in}
 use Rattle.avn_value.specs.declared.value.AvnValue.{AvnValue, Sequence, SequenceOf}
-use Rattle.avn_value.proofs.Joins.{join, fields-push}
+use Rattle.avn_nodes.proofs.JoinedFields.{join, fields-push}
 use Rattle.avn_value.proofs.Views.{view-Sequence, view-SequenceOf}
 use Rattle.asn_slots.specs.Slots.{present_of, first_of}
 use Rattle.asn_slots.specs.Trees.{trees_of}

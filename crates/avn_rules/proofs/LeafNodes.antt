@@ -16,8 +16,8 @@ use Rattle.asn_traits.specs.Tree.{Tree}
 use Rattle.asn_traits.specs.Value.{Value}
 use Rattle.asn_coding.proofs.Refusing.{no_leaf, out_of_memory, refuses_because_or_memory}
 use Rattle.avn_grammar.specs.Tree.{Tree as AvnTree, integer, char_string, octet_string, sequence_of}
-use Rattle.avn_value.specs.NodeViews.{kind_of, text_of, octets_of}
-use Rattle.avn_value.specs.declared.node_kind.NodeKind.TheVariants as kind
+use Rattle.avn_nodes.specs.NodeViews.{kind_of, text_of, octets_of}
+use Rattle.avn_nodes.specs.declared.node_kind.NodeKind.TheVariants as kind
 use Rattle.avn_rules.specs.LeafAnswer.{IsCause, IsWrong, RefusesKind}
 use Rattle.avn_rules.specs.Numbers.{ReadsNumber}
 use Rattle.avn_rules.specs.Parts.{elements_of}

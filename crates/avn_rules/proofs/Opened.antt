@@ -22,7 +22,7 @@ use Rattle.asn_coding.proofs.LeafValues.{taken as is_taken}
 use Rattle.asn_coding.proofs.Refusing.{no_choice, no_list, no_members, out_of_memory}
 use Rattle.asn_coding.proofs.Steps.{refuses_by}
 use Rattle.avn_grammar.specs.Tree.{Tree as AvnTree}
-use Rattle.avn_value.specs.Preorder.{tree_at}
+use Rattle.avn_nodes.specs.Preorder.{tree_at}
 use Rattle.avn_rules.specs.LeafAnswer.{LeafAnswer}
 use Rattle.avn_rules.specs.Parts.{list_failure}
 use Rattle.avn_rules.specs.Pending.{DecoderView, IsPresent, IsSlot, TakesNode, avn_or_null, pending_of, value_at}

@@ -4,7 +4,8 @@ use Rattle.std.proofs.lemmas.List.Elements.{recursion_from_All}
 use Rattle.std.specs.Prelude.{option_map}
 use Rattle.avn_grammar.specs.Print.{print}
 use Rattle.avn_grammar.specs.Tree.{Tree as AvnTree, sequence_of, tree}
-use Rattle.avn_value.specs.View.{tree_of, trees_in, list_trees}
+use Rattle.avn_value.specs.View.{tree_of, list_trees}
+use Rattle.avn_nodes.specs.TreeLists.{trees_in}
 use Rattle.avn_value.specs.declared.value.AvnValue.{AvnValue, SequenceOf}
 use Rattle.avn_value.proofs.Views.{view-SequenceOf}
 use Rattle.asn_slots.specs.Frames.{push, Closes}

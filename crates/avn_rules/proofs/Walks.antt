@@ -6,10 +6,10 @@ use Rattle.std.proofs.lemmas.Bool.{eqb-true}
 use Rattle.std.proofs.lemmas.List.{append-nil, map-append, map-set, length-map, length-set, length-replicate}
 use Rattle.std.proofs.lemmas.List.Elements.{All-push, All-set, All-replicate}
 use Rattle.avn_grammar.specs.Tree.{Tree as AvnTree, Trees as AvnTrees, Fields as AvnFields, sequence, sequence_of, choice, tree, no_trees, no_fields, field, absent}
-use Rattle.avn_value.proofs.Walks.{From, from_inside, FirstField, first_field, FirstItem, first_item, entry, kind_present}
-use Rattle.avn_value.specs.NodeViews.{kind_of}
-use Rattle.avn_value.specs.Preorder.{NamedSlot, choice_with, descendants, fields_preorder, list_preorder, slot_descendants, node_at, tree_at, node_count}
-use Rattle.avn_value.specs.declared.node_kind.NodeKind.TheVariants as kind
+use Rattle.avn_nodes.proofs.Walks.{From, from_inside, FirstField, first_field, FirstItem, first_item, entry, kind_present}
+use Rattle.avn_nodes.specs.NodeViews.{kind_of}
+use Rattle.avn_nodes.specs.Preorder.{NamedSlot, choice_with, descendants, fields_preorder, list_preorder, slot_descendants, node_at, tree_at, node_count}
+use Rattle.avn_nodes.specs.declared.node_kind.NodeKind.TheVariants as kind
 use Rattle.asn_slots.specs.Trees.{trees_of}
 use Rattle.asn_traits.specs.Notation.{Notation}
 use Rattle.asn_traits.specs.Shape.{are_distinct}

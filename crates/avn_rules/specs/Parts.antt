@@ -2,7 +2,7 @@
 use Rattle.std.specs.Prelude.{ℕ, List, Option, Some, None}
 use Rattle.std.specs.Str.{bytes_eq}
 use Rattle.avn_grammar.specs.Tree.{Tree as AvnTree, Trees as AvnTrees, sequence_of, no_trees}
-use Rattle.avn_value.specs.Preorder.{NamedSlot}
+use Rattle.avn_nodes.specs.Preorder.{NamedSlot}
 use Rattle.asn_traits.specs.Leaf.{LeafFailure, list_mismatch, set_mismatch}
 use Rattle.asn_traits.specs.Notation.{Notation}
 use Rattle.asn_traits.specs.Shape.{SeqKind, place_named}

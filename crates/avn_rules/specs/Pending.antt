@@ -2,11 +2,11 @@
 use Rattle.std.specs.Prelude.{◌≡◌, ◌≢◌, ◌<◌, ℕ, List, ◌∷◌, Option, Some, None, refl}
 use Rattle.std.specs.Coded.{Coded, code_by, coded×, coded_ℕ, coded_list, coded_option}
 use Rattle.avn_grammar.specs.Tree.{Tree as AvnTree, null}
-use Rattle.avn_value.specs.NodeViews.{kind_of}
-use Rattle.avn_value.specs.Preorder.{tree_at, node_count}
-use Rattle.avn_value.specs.TreeCode.{tree_code}
+use Rattle.avn_nodes.specs.NodeViews.{kind_of}
+use Rattle.avn_nodes.specs.Preorder.{tree_at, node_count}
+use Rattle.avn_nodes.specs.TreeCode.{tree_code}
 use Rattle.avn_value.specs.View.{tree_of as avn_tree_of}
-use Rattle.avn_value.specs.declared.node_kind.NodeKind.TheVariants as kind
+use Rattle.avn_nodes.specs.declared.node_kind.NodeKind.TheVariants as kind
 use Rattle.avn_value.specs.declared.value.AvnValue.{AvnValue}
 use Rattle.asn_slots.specs.Trees.{trees_of}
 use Rattle.asn_traits.specs.Tree.{Tree, Slot}

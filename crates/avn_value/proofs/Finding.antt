@@ -4,7 +4,7 @@ use Rattle.std.specs.Str.{encode_utf8_all}
 use Rattle.avn_grammar.specs.Chars.{utf8_of, class_of_next, tail, skip_while, skip, is_name}
 use Rattle.avn_grammar.specs.declared.limits.TheConstants.{EXCERPT_LENGTH}
 use Rattle.avn_grammar.specs.ParseFailure.{Found, found_here, found_past}
-use Rattle.avn_value.specs.Ahead.{BeginsChoice}
+use Rattle.avn_cursor.specs.Ahead.{BeginsChoice}
 
 pub found_on : (u w n e : List ℕ) → w ≡ skip u → BeginsChoice w → n ≡ tail (skip (skip_while is_name w)) → Found n e → Found u e
 found_on u w n e p k q f =

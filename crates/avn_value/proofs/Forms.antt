@@ -6,7 +6,7 @@ use Rattle.std.proofs.lemmas.List.{take_more}
 use Rattle.avn_grammar.specs.Chars.{all}
 use Rattle.avn_grammar.specs.Tree.{Tree, no_trees, no_fields}
 use Rattle.avn_grammar.specs.WellFormed.{is_identifier, is_well_formed, are_well_formed, are_fields_well_formed}
-use Rattle.avn_value.specs.View.{trees_in, fields_in}
+use Rattle.avn_nodes.specs.TreeLists.{trees_in, fields_in}
 
 and_true : (a b : Bool) → a ≡ true → b ≡ true → (a && b) ≡ true
 and_true a b h k = ap (λ x. x && b) h ∙ k

@@ -3,8 +3,8 @@ use Rattle.std.proofs.Common.{◌≡◌, ℕ, List, [], ◌++◌, ◌≤◌, len
 use Rattle.avn_grammar.specs.Depth.{ItemsExceedDepth}
 use Rattle.avn_grammar.specs.Grammar.{Item, ItemsParse}
 use Rattle.avn_value.specs.Gathering.{Holds}
-use Rattle.avn_value.specs.Preorder.{items_preorder}
-use Rattle.avn_value.specs.NodeLists.{NodeList, extended}
+use Rattle.avn_nodes.specs.Preorder.{items_preorder}
+use Rattle.avn_nodes.specs.NodeLists.{NodeList, extended}
 use Rattle.avn_value.specs.declared.brace_items.BraceItems.{BraceItems}
 
 pub record Going (limit m : ℕ) (start now : List ℕ) (g : BraceItems) (opened nodes : NodeList) : Type 0 where

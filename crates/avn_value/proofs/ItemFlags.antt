@@ -7,7 +7,7 @@ use Rattle.avn_value.specs.Gathering.{Holds, MakesKind}
 use Rattle.avn_value.specs.ReadNodes.{kind_of_item}
 use Rattle.avn_value.specs.declared.brace_items.ItemKind.TheVariants as entry
 use Rattle.avn_value.specs.declared.brace_items.BraceItems.{BraceItems}
-use Rattle.avn_value.specs.declared.node_kind.NodeKind.TheVariants as kind
+use Rattle.avn_nodes.specs.declared.node_kind.NodeKind.TheVariants as kind
 
 not_integers : (xs : List Item) (id : List ℕ) (t : Tree) → AllIntegers (xs ++ (named id t ∷ [])) → ⊥
 not_integers [] id t h = h

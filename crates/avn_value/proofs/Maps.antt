@@ -9,15 +9,15 @@ use Rattle.avn_grammar.specs.Grammar.{BeginsNumber, Item, AreBraceItems, BracesP
 use Rattle.avn_grammar.specs.Tree.{Tree, choice}
 use Rattle.avn_value.proofs.NotDeep.{deep_comma_only, deep_number_only}
 use Rattle.avn_value.proofs.Going.{Going}
-use Rattle.avn_value.proofs.Extending.{Closes, extended-push, closing, over-gathered, gathered-integer, over-choice}
-use Rattle.avn_value.proofs.NodeForms.{worded}
+use Rattle.avn_nodes.proofs.Extending.{Closes, extended-push, closing, over-gathered, gathered-integer, over-choice}
+use Rattle.avn_nodes.proofs.NodeForms.{worded}
 use Rattle.avn_value.specs.Gathering.{Holds, MakesKind}
 use Rattle.avn_value.specs.ReadNodes.{IsRead}
-use Rattle.avn_value.specs.Preorder.{preorder, item_preorder, items_preorder}
-use Rattle.avn_value.specs.NodeLists.{NodeList, extended, with_open}
+use Rattle.avn_nodes.specs.Preorder.{preorder, item_preorder, items_preorder}
+use Rattle.avn_nodes.specs.NodeLists.{NodeList, extended, with_open}
 use Rattle.avn_value.specs.declared.brace_items.BraceItems.{BraceItems}
-use Rattle.avn_value.specs.declared.node_kind.NodeKind.{NodeKind}
-use Rattle.avn_value.specs.declared.node_kind.NodeKind.TheVariants as kind
+use Rattle.avn_nodes.specs.declared.node_kind.NodeKind.{NodeKind}
+use Rattle.avn_nodes.specs.declared.node_kind.NodeKind.TheVariants as kind
 
 -- A turn of the loop over items, backwards.
 only_on : {limit m : ℕ} {start now r next : List ℕ} {before : List Item} {x : Item}

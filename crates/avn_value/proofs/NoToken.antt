@@ -6,7 +6,7 @@ use Rattle.avn_grammar.specs.Octets.{are_pairs, is_bit}
 use Rattle.avn_grammar.specs.Tree.{Tree}
 use Rattle.avn_grammar.specs.Grammar.{Token, number_token, negative_token, octets_token, bits_token, text_token}
 use Rattle.avn_grammar.proofs.OneTree.{quote_first, doubled_rest}
-use Rattle.avn_value.specs.HexDigits.{inside}
+use Rattle.avn_cursor.specs.HexDigits.{inside}
 
 pub minus_none : (w v : List ℕ) → class_of_next w ≡ is.Minus → v ≡ tail w → class_of_next v ≢ is.Digit → (t : Tree) (n : List ℕ) → Token w t n → ⊥
 minus_none w v m e h t n (number_token a) = cc

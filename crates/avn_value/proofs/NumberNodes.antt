@@ -4,13 +4,13 @@ use Rattle.avn_grammar.specs.declared.chars.CharClass.TheVariants as is
 use Rattle.avn_grammar.specs.Tree.{integer, real}
 use Rattle.avn_grammar.specs.Chars.{class_of_next, tail, take_while, skip_while, is_digit, has_fraction, utf8_of}
 use Rattle.avn_grammar.specs.Grammar.{Token, number_token, negative_token, number_tree, past_number, is_integer}
-use Rattle.avn_value.proofs.Steps.{token-shorter}
-use Rattle.avn_value.proofs.NodeForms.{worded}
-use Rattle.avn_value.proofs.Extending.{extended-integer, extended-real}
+use Rattle.avn_cursor.proofs.Steps.{token-shorter}
+use Rattle.avn_nodes.proofs.NodeForms.{worded}
+use Rattle.avn_nodes.proofs.Extending.{extended-integer, extended-real}
 use Rattle.avn_value.specs.ReadNodes.{IsRead}
-use Rattle.avn_value.specs.Preorder.{preorder}
-use Rattle.avn_value.specs.NodeLists.{NodeList, extended, with_leaf}
-use Rattle.avn_value.specs.declared.node_kind.NodeKind.TheVariants as kind
+use Rattle.avn_nodes.specs.Preorder.{preorder}
+use Rattle.avn_nodes.specs.NodeLists.{NodeList, extended, with_leaf}
+use Rattle.avn_nodes.specs.declared.node_kind.NodeKind.TheVariants as kind
 
 pub integer_grown : (s s1 s2 : NodeList) (w : List ℕ) → s1 ≡ worded s (s.word ++ utf8_of (take_while is_digit w)) → s2 ≡ with_leaf kind.Integer s1 → has_fraction (skip_while is_digit w) ≡ false → s2 ≡ extended s (preorder s.name (number_tree s.word w))
 integer_grown s s1 s2 w e f h =

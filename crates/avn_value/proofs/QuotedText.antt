@@ -11,7 +11,7 @@ use Rattle.avn_grammar.specs.declared.chars.CharClass.TheVariants as is
 use Rattle.avn_grammar.specs.Chars.{class_of_next, tail, starts_with, quote_is_doubled, utf8_of}
 use Rattle.avn_grammar.specs.Grammar.{Token, text_token}
 use Rattle.avn_grammar.specs.Tree.{char_string}
-use Rattle.avn_value.proofs.Leads.{lead_quote}
+use Rattle.avn_cursor.proofs.Leads.{lead_quote}
 
 pub open_quote : (u : List ℕ) → class_of_next u ≡ is.Quote → u ≡ 34 ∷ tail u
 open_quote [] h = let n : ⊥ = cc in absurd n

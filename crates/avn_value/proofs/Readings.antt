@@ -4,8 +4,8 @@ use Rattle.avn_grammar.specs.Chars.{skip}
 use Rattle.avn_grammar.specs.Grammar.{Item, bare, is_integer, Token, Parses, token}
 use Rattle.avn_grammar.specs.Tree.{Tree}
 use Rattle.avn_value.specs.ReadNodes.{IsRead, IsItemRead}
-use Rattle.avn_value.specs.Preorder.{preorder}
-use Rattle.avn_value.specs.NodeLists.{NodeList, extended}
+use Rattle.avn_nodes.specs.Preorder.{preorder}
+use Rattle.avn_nodes.specs.NodeLists.{NodeList, extended}
 use Rattle.avn_value.specs.declared.brace_items.ItemKind.{ItemKind}
 use Rattle.avn_value.specs.declared.brace_items.ItemKind.TheVariants as kind
 

@@ -7,11 +7,11 @@ use Rattle.avn_grammar.specs.Tree.{char_string}
 use Rattle.avn_grammar.specs.Grammar.{Token}
 use Rattle.avn_value.proofs.QuotedText.{spelled_run, spelled_more, text_done}
 use Rattle.std.proofs.Common.{◌==◌}
-use Rattle.avn_value.proofs.Extending.{extended-text}
+use Rattle.avn_nodes.proofs.Extending.{extended-text}
 use Rattle.avn_value.specs.ReadNodes.{IsRead}
-use Rattle.avn_value.specs.NodeLists.{NodeList, with_leaf}
-use Rattle.avn_value.specs.declared.node_kind.NodeKind.TheVariants as kind
-use Rattle.avn_value.proofs.NodeForms.{worded}
+use Rattle.avn_nodes.specs.NodeLists.{NodeList, with_leaf}
+use Rattle.avn_nodes.specs.declared.node_kind.NodeKind.TheVariants as kind
+use Rattle.avn_nodes.proofs.NodeForms.{worded}
 
 pub run_worded : (s s1 s2 : NodeList) (text cs : List ℕ) → s1 ≡ worded s (utf8_of cs) → s2 ≡ worded s1 (s1.word ++ text) → IsUtf8 text → s2 ≡ worded s (utf8_of (cs ++ chars text))
 run_worded s s1 s2 text cs e f u = f ∙ ap (λ (x : NodeList). worded x (x.word ++ text)) e ∙ ap (worded s) (spelled_run text cs u)

@@ -2,8 +2,8 @@
 use Rattle.avn_value.specs.declared.quoted.Radix.{Radix}
 use Rattle.avn_value.specs.Radix.{letter_of}
 use Rattle.std.specs.Prelude.{Result, Ok}
-use Rattle.avn_value.specs.HexDigits.{inside, binary_digits, is_bit_value}
-use Rattle.avn_value.proofs.DigitValues.{values_bits, values_digits}
+use Rattle.avn_cursor.specs.HexDigits.{inside, binary_digits, is_bit_value}
+use Rattle.avn_cursor.proofs.DigitValues.{values_bits, values_digits}
 use Rattle.avn_grammar.specs.Octets.{is_hex, hex_value, are_pairs, octets_of, is_bit, packed}
 use Rattle.std.proofs.Common.{◌≡◌, ℕ, List, [], ◌∷◌, ◌++◌, Bool, refl, sym, ap, subst, ◌∙◌, true, false, map, length}
 use Rattle.std.proofs.lemmas.List.{length-map}
@@ -11,10 +11,10 @@ use Rattle.avn_grammar.specs.declared.chars.CharClass.TheVariants as is
 use Rattle.avn_grammar.specs.Chars.{class_of_next, tail, take_while, skip_while, is_not_apostrophe, without_whitespace, all}
 use Rattle.avn_grammar.specs.Grammar.{Token, octets_token, bits_token}
 use Rattle.avn_grammar.specs.Tree.{octet_string, bit_string}
-use Rattle.avn_value.proofs.Extending.{extended-octets, extended-bits}
-use Rattle.avn_value.specs.NodeLists.{NodeList, with_octets}
+use Rattle.avn_nodes.proofs.Extending.{extended-octets, extended-bits}
+use Rattle.avn_nodes.specs.NodeLists.{NodeList, with_octets}
 use Rattle.avn_value.specs.ReadNodes.{IsRead}
-use Rattle.avn_value.specs.declared.node_kind.NodeKind.TheVariants as kind
+use Rattle.avn_nodes.specs.declared.node_kind.NodeKind.TheVariants as kind
 
 pub octets_read : (w r octets : List ℕ) (s then : NodeList) → class_of_next w ≡ is.Apostrophe → skip_while is_not_apostrophe (tail w) ≡ 39 ∷ 72 ∷ r → are_pairs (without_whitespace (take_while is_not_apostrophe (tail w))) ≡ true → octets ≡ octets_of (without_whitespace (take_while is_not_apostrophe (tail w)))
     → then ≡ with_octets kind.OctetString octets 0 s → IsRead (λ t. Token w t r) s then false

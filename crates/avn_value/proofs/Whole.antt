@@ -11,8 +11,8 @@ use Rattle.std.specs.Char.{is_whitespace}
 use Rattle.avn_grammar.specs.Chars.{skip_while}
 use Rattle.avn_grammar.specs.Depth.{ExceedsDepth}
 use Rattle.avn_grammar.specs.ParseFailure.{ParseFailure, no_value, more_follows}
-use Rattle.avn_value.specs.NodeLists.{NodeList, extended}
-use Rattle.avn_value.specs.Preorder.{preorder}
+use Rattle.avn_nodes.specs.NodeLists.{NodeList, extended}
+use Rattle.avn_nodes.specs.Preorder.{preorder}
 use Rattle.avn_value.specs.ReadNodes.{IsRead}
 use Rattle.avn_value.specs.Answer.{Explains, unexpected_token, exceeds_depth, out_of_memory, IsSeenAs, IsRefusal, IsMoreOrMemory, more, no_memory, IsFoundOrMemory, excerpt, memory}
 

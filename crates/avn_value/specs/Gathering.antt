@@ -2,8 +2,8 @@
 use Rattle.std.specs.Prelude.{◌≡◌, true, false, List, Some}
 use Rattle.avn_grammar.specs.Tree.{Tree}
 use Rattle.avn_grammar.specs.Grammar.{Item, AllIntegers, AllNamed, AllBare, AreBraceItems}
-use Rattle.avn_value.specs.NodeViews.{kind_of}
-use Rattle.avn_value.specs.declared.node_kind.NodeKind.{NodeKind}
+use Rattle.avn_nodes.specs.NodeViews.{kind_of}
+use Rattle.avn_nodes.specs.declared.node_kind.NodeKind.{NodeKind}
 use Rattle.avn_value.specs.declared.brace_items.BraceItems.{BraceItems}
 
 -- The flags say what the items are.

@@ -2,8 +2,8 @@
 use Rattle.std.specs.Prelude.{◌≡◌, Bool, cond}
 use Rattle.avn_grammar.specs.Tree.{Tree}
 use Rattle.avn_grammar.specs.Grammar.{Item, named, bare, is_integer}
-use Rattle.avn_value.specs.Preorder.{preorder, item_preorder}
-use Rattle.avn_value.specs.NodeLists.{NodeList, extended}
+use Rattle.avn_nodes.specs.Preorder.{preorder, item_preorder}
+use Rattle.avn_nodes.specs.NodeLists.{NodeList, extended}
 use Rattle.avn_value.specs.declared.brace_items.ItemKind.{ItemKind}
 use Rattle.avn_value.specs.declared.brace_items.ItemKind.TheVariants as kind
 

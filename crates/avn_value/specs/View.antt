@@ -1,20 +1,10 @@
 -- Values of the notation as trees.
-use Rattle.std.specs.Prelude.{map, option_map, List, [], ◌∷◌, Option, Some, None, string_bytes}
+use Rattle.std.specs.Prelude.{map, option_map, List, Option, string_bytes}
 use Rattle.std.specs.declared.string.String.{String}
-use Rattle.avn_grammar.specs.Tree.{Tree, Trees, Fields, boolean, null, integer, real, octet_string, bit_string, oid, enumerated, char_string, sequence, sequence_of, choice, no_trees, tree, no_fields, field, absent}
+use Rattle.avn_grammar.specs.Tree.{Tree, Trees, Fields, boolean, null, integer, real, octet_string, bit_string, oid, enumerated, char_string, sequence, sequence_of, choice}
+use Rattle.avn_nodes.specs.TreeLists.{trees_in, fields_in}
 use Rattle.avn_value.specs.declared.value.AvnValue.{AvnValue, fold-AvnValue}
 use Rattle.avn_value.specs.declared.value.AvnValue.TheOpen.{AvnValue-F}
-
--- Trees as the values of a list.
-abbrev pub trees_in : List Tree → Trees
-trees_in [] = no_trees
-trees_in (t ∷ ts) = tree t (trees_in ts)
-
--- Names, each with a tree or with none, as the fields of a sequence.
-abbrev pub fields_in : {A : Type 0} → List (String A × Option Tree) → Fields
-fields_in [] = no_fields
-fields_in ((name, Some t) ∷ fs) = field (string_bytes name) t (fields_in fs)
-fields_in ((name, None) ∷ fs) = absent (string_bytes name) (fields_in fs)
 
 -- The tree of a value, of the trees of the values in it.
 abbrev pub view_step : AvnValue-F Tree → Tree

@@ -2,10 +2,10 @@
 ghost use Rattle.std.specs.Prelude.{◌≡◌, [], ◌∷◌, ◌++◌, List, IfSome, IfNone, cond};
 ghost use Rattle.avn_grammar.specs.Grammar.{Item, AreBraceItems};
 ghost use Rattle.avn_value.specs.Gathering.{Holds, MakesKind};
-ghost use Rattle.avn_value.specs.NodeKinds.{HasNoContent};
+ghost use Rattle.avn_nodes.specs.NodeKinds.{HasNoContent};
 ghost use Rattle.avn_value.specs.ReadNodes.{kind_of_item};
 
-use crate::node_kind::NodeKind;
+use avn_nodes::NodeKind;
 
 /// What an item of braces is.
 #[derive(Clone, Copy, Drop)]

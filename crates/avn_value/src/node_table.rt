@@ -1,6 +1,6 @@
 //! A value of the notation as a table of nodes, which contracts see as its tree.
 ghost use Rattle.std.specs.Prelude.{◌≡◌, ◌≢◌, Some, ◌<◌, ◌≤◌, ◌+◌, ◌*◌, ℕ, List, length, IfOk};
-ghost use Rattle.std.specs.Prelude.{IfErr, string_bytes};
+ghost use Rattle.std.specs.Prelude.{IfErr, string_bytes, []};
 ghost use Rattle.std.specs.Str.{chars};
 ghost use Rattle.asn_fault.specs.Failure.{Cause, failure_of};
 ghost use Rattle.avn_grammar.specs.Depth.{ExceedsDepth};
@@ -8,22 +8,23 @@ ghost use Rattle.avn_grammar.specs.Grammar.{ParsesWhole};
 ghost use Rattle.avn_grammar.specs.Print.{print};
 ghost use Rattle.avn_grammar.specs.Tree.{Tree, sequence, sequence_of};
 ghost use Rattle.avn_grammar.specs.ParseFailure.{ParseFailure};
-ghost use Rattle.avn_value.specs.Ahead.{LooksAtMost};
+ghost use Rattle.avn_cursor.specs.Ahead.{LooksAtMost};
 ghost use Rattle.avn_value.specs.Answer.{Explains, IsTable, IsRefusal};
 ghost use Rattle.avn_value.specs.View.{tree_of, list_trees, fields_trees};
-ghost use Rattle.avn_value.specs.NodeViews.{kind_of, text_of, octets_of, bit_length_of, arcs_of};
-ghost use Rattle.avn_value.specs.Preorder.{node_at, tree_at, choice_with, node_count};
-ghost use Rattle.avn_value.specs.Preorder.{slot_descendants};
+ghost use Rattle.avn_nodes.specs.NodeViews.{kind_of, text_of, octets_of, bit_length_of, arcs_of};
+ghost use Rattle.avn_nodes.specs.Forest.{tree_of_nodes};
+ghost use Rattle.avn_nodes.specs.NodeLists.{extended, no_nodes};
+ghost use Rattle.avn_nodes.specs.Preorder.{node_at, tree_at, choice_with, node_count};
+ghost use Rattle.avn_nodes.specs.Preorder.{preorder, slot_descendants};
 
-use crate::cursor::Cursor;
-use crate::node_kind::NodeKind;
-use crate::nodes::Nodes;
 use crate::parse::read_whole;
 use crate::put::put_value;
 use crate::value::AvnValue;
 use asn_core::{OutOfMemory, Scan};
 use asn_fault::DecodeError;
+use avn_cursor::Cursor;
 use avn_grammar::limits::{LEVEL_LIMIT, LOOKS_PER_CHARACTER};
+use avn_nodes::{NodeKind, Nodes};
 use std::alloc::Global;
 use std::marker::Model;
 use std::mem;
@@ -38,15 +39,15 @@ pub struct NodeTable {
 impl Model for NodeTable {
     ghost use Rattle.std.specs.Prelude.{◌≡◌, []};
     ghost use Rattle.avn_grammar.specs.Tree.{Tree};
-    ghost use Rattle.avn_value.specs.TreeCode.{tree_code};
+    ghost use Rattle.avn_nodes.specs.TreeCode.{tree_code};
 
     ghost Value = { Tree };
 
     ghost coded = { tree_code };
 
-    ghost use Rattle.avn_value.specs.NodeViews.{node_views};
-    ghost use Rattle.avn_value.specs.Forest.{tree_of_nodes};
-    ghost use Rattle.avn_value.specs.Preorder.{preorder};
+    ghost use Rattle.avn_nodes.specs.NodeViews.{node_views};
+    ghost use Rattle.avn_nodes.specs.Forest.{tree_of_nodes};
+    ghost use Rattle.avn_nodes.specs.Preorder.{preorder};
 
     ghost view = { λ t. tree_of_nodes t.nodes.nodes };
 
@@ -123,6 +124,14 @@ impl NodeTable {
         let mut nodes = Nodes::new(alloc);
         put_value(&mut nodes, &value)?;
         Ok(NodeTable { nodes })
+    }
+
+    /// Returns the table of nodes that are those of one value. It takes no memory.
+    pub fn from_nodes(nodes: Nodes) -> NodeTable
+        requires { nodes ≡ extended no_nodes (preorder [] (tree_of_nodes nodes.nodes)) }
+        ensures { result ≡ tree_of_nodes nodes.nodes }
+    {
+        NodeTable { nodes }
     }
 
     /// Returns the number of nodes, those of absent fields counted.

@@ -8,24 +8,23 @@ ghost use Rattle.avn_grammar.specs.Depth.{ExceedsDepth, ItemExceedsDepth, ItemsE
 ghost use Rattle.avn_grammar.specs.Grammar.{Item, Parses, ItemParses, BracesParse, ParsesWhole};
 ghost use Rattle.avn_grammar.specs.Tree.{Tree};
 ghost use Rattle.avn_grammar.specs.ParseFailure.{Found};
-ghost use Rattle.avn_value.specs.Ahead.{Advances, LooksAtMost};
+ghost use Rattle.avn_cursor.specs.Ahead.{Advances, LooksAtMost};
 ghost use Rattle.avn_value.specs.Answer.{Explains, IsMoreOrMemory, IsFoundOrMemory};
-ghost use Rattle.avn_value.specs.NodeLists.{NodeList, extended};
-ghost use Rattle.avn_value.specs.Preorder.{preorder};
+ghost use Rattle.avn_nodes.specs.NodeLists.{NodeList, extended};
+ghost use Rattle.avn_nodes.specs.Preorder.{preorder};
 ghost use Rattle.avn_value.specs.ReadNodes.{IsRead, IsItemRead};
 ghost use Rattle.std.specs.Str.{chars};
 
 use crate::brace_items::{BraceItems, ItemKind};
-use crate::cursor::Cursor;
 use crate::fault::Fault;
-use crate::node_kind::NodeKind;
-use crate::nodes::Nodes;
 use crate::quoted::quoted;
 use crate::token::{identifier, number, text};
 use asn_core::{Codec, OutOfMemory};
 use asn_fault::{AvnDecodeErrorKind, DecodeError, DecodeErrorKind};
+use avn_cursor::Cursor;
 use avn_grammar::chars::CharClass;
 use avn_grammar::limits::EXCERPT_LENGTH;
+use avn_nodes::{NodeKind, Nodes};
 use std::alloc::Global;
 
 /// Reads a value that is looked for at the level into nodes. Returns whether it is an Integer.

@@ -1,12 +1,11 @@
 //! Values that are put into nodes.
 ghost use Rattle.std.specs.Prelude.{◌≡◌, [], OnOk};
 ghost use Rattle.avn_value.specs.View.{tree_of, list_trees, fields_trees};
-ghost use Rattle.avn_value.specs.Preorder.{preorder, fields_preorder, list_preorder};
-ghost use Rattle.avn_value.specs.NodeLists.{NodeList, extended};
+ghost use Rattle.avn_nodes.specs.Preorder.{preorder, fields_preorder, list_preorder};
+ghost use Rattle.avn_nodes.specs.NodeLists.{NodeList, extended};
 
-use crate::node_kind::NodeKind;
-use crate::nodes::Nodes;
 use crate::value::AvnValue;
+use avn_nodes::{NodeKind, Nodes};
 use std::alloc::AllocError;
 
 /// Puts the nodes of a value, of the pending name, after the others.

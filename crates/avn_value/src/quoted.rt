@@ -4,17 +4,15 @@ ghost use Rattle.std.specs.Prelude.{length, Err, IfOk, OnOk, MatchOption};
 ghost use Rattle.avn_grammar.specs.Tree.{Tree};
 ghost use Rattle.avn_grammar.specs.Chars.{class_of_next};
 ghost use Rattle.avn_grammar.specs.Grammar.{Token};
-ghost use Rattle.avn_value.specs.Ahead.{Advances};
+ghost use Rattle.avn_cursor.specs.Ahead.{Advances};
 ghost use Rattle.avn_value.specs.Radix.{letter_of};
-ghost use Rattle.avn_value.specs.NodeLists.{NodeList};
+ghost use Rattle.avn_nodes.specs.NodeLists.{NodeList};
 ghost use Rattle.avn_value.specs.ReadNodes.{IsRead};
 
-use crate::cursor::Cursor;
 use crate::fault::Fault;
-use crate::hex_digits::HexDigits;
-use crate::node_kind::NodeKind;
-use crate::nodes::Nodes;
+use avn_cursor::{Cursor, HexDigits};
 use avn_grammar::chars::CharClass;
+use avn_nodes::{NodeKind, Nodes};
 use std::alloc::Global;
 
 /// What a text between apostrophes is, by the letter after it.

@@ -3,17 +3,15 @@ ghost use Rattle.std.specs.Prelude.{◌≡◌, ◌≢◌, ◌⊎◌, ◌<◌, �
 ghost use Rattle.avn_grammar.specs.Tree.{Tree};
 ghost use Rattle.avn_grammar.specs.Chars.{class_of_next, utf8_of};
 ghost use Rattle.avn_grammar.specs.Grammar.{number_tree, past_number, Token, Ident, is_integer};
-ghost use Rattle.avn_value.specs.Ahead.{Advances};
-ghost use Rattle.avn_value.specs.NodeLists.{NodeList, extended};
-ghost use Rattle.avn_value.specs.Preorder.{preorder};
+ghost use Rattle.avn_cursor.specs.Ahead.{Advances};
+ghost use Rattle.avn_nodes.specs.NodeLists.{NodeList, extended};
+ghost use Rattle.avn_nodes.specs.Preorder.{preorder};
 ghost use Rattle.avn_value.specs.ReadNodes.{IsRead};
 
-use crate::chars::CharSet;
-use crate::cursor::Cursor;
 use crate::fault::Fault;
-use crate::node_kind::NodeKind;
-use crate::nodes::Nodes;
+use avn_cursor::{CharSet, Cursor};
 use avn_grammar::chars::CharClass;
+use avn_nodes::{NodeKind, Nodes};
 use std::alloc::AllocError;
 
 /// Reads an identifier, whose first letter is ahead, as the pending word.

@@ -9,8 +9,8 @@ ghost use Rattle.avn_grammar.specs.WellFormed.{is_arc, is_well_formed, are_well_
 ghost use Rattle.avn_grammar.specs.WellFormed.{are_fields_well_formed};
 ghost use Rattle.avn_value.specs.View.{tree_of, list_trees, fields_trees};
 
-use crate::chars::{CharSet, all_pass, passes, past_run};
 use crate::value::AvnValue;
+use avn_cursor::chars::{CharSet, all_pass, passes, past_run};
 use avn_grammar::names::{is_identifier, is_keyword, is_real_keyword};
 
 /// The text without its sign.

@@ -1,7 +1,7 @@
 //! Makes the errors of decoding that neither text notation returns. Binary rules that a caller
 //! hands in make them.
 ghost use Rattle.std.specs.Prelude.{◌≡◌, ◌≢◌, ◌⊎◌, MatchResult};
-ghost use Rattle.asn_fault.specs.Failure.{ExceedsWidth};
+ghost use Rattle.asn_fault.specs.Failure.{ExceedsWidth, decode_error};
 
 use crate::{
     DecodeError, DecodeErrorKind, InnerSubtypeConstraintError, Needed, PermittedAlphabetError,
@@ -14,10 +14,7 @@ impl DecodeError {
     /// Returns the error that a string has a character that the permitted alphabet of its type
     /// lacks.
     pub fn permitted_alphabet_error(reason: PermittedAlphabetError, codec: Codec) -> DecodeError
-        ensures { result ≡ record {
-          kind = DecodeErrorKind.PermittedAlphabetError reason;
-          codec = codec;
-        } }
+        ensures { result ≡ decode_error (DecodeErrorKind.PermittedAlphabetError reason) codec }
     {
         DecodeError::from_kind(DecodeErrorKind::PermittedAlphabetError { reason }, codec)
     }
@@ -29,10 +26,8 @@ impl DecodeError {
         expected: String,
         codec: Codec,
     ) -> DecodeError
-        ensures { result ≡ record {
-          kind = DecodeErrorKind.SizeConstraintNotSatisfied size expected;
-          codec = codec;
-        } }
+        ensures { result ≡ decode_error
+            (DecodeErrorKind.SizeConstraintNotSatisfied size expected) codec }
     {
         let kind = DecodeErrorKind::SizeConstraintNotSatisfied { size, expected };
         DecodeError::from_kind(kind, codec)
@@ -44,10 +39,8 @@ impl DecodeError {
         expected: Bounded<i128>,
         codec: Codec,
     ) -> DecodeError
-        ensures { result ≡ record {
-          kind = DecodeErrorKind.ValueConstraintNotSatisfied value expected;
-          codec = codec;
-        } }
+        ensures { result ≡ decode_error
+            (DecodeErrorKind.ValueConstraintNotSatisfied value expected) codec }
     {
         let kind = DecodeErrorKind::ValueConstraintNotSatisfied { value, expected };
         DecodeError::from_kind(kind, codec)
@@ -58,10 +51,8 @@ impl DecodeError {
         reason: InnerSubtypeConstraintError,
         codec: Codec,
     ) -> DecodeError
-        ensures { result ≡ record {
-          kind = DecodeErrorKind.InnerSubtypeConstraintNotSatisfied reason;
-          codec = codec;
-        } }
+        ensures { result ≡ decode_error
+            (DecodeErrorKind.InnerSubtypeConstraintNotSatisfied reason) codec }
     {
         let kind = DecodeErrorKind::InnerSubtypeConstraintNotSatisfied { reason };
         DecodeError::from_kind(kind, codec)
@@ -69,10 +60,8 @@ impl DecodeError {
 
     /// Returns the error that a number is that of no item of the ENUMERATED type.
     pub fn discriminant_value_not_found(discriminant: isize, codec: Codec) -> DecodeError
-        ensures { result ≡ record {
-          kind = DecodeErrorKind.DiscriminantValueNotFound discriminant;
-          codec = codec;
-        } }
+        ensures { result ≡ decode_error
+            (DecodeErrorKind.DiscriminantValueNotFound discriminant) codec }
     {
         DecodeError::from_kind(
             DecodeErrorKind::DiscriminantValueNotFound { discriminant },
@@ -82,10 +71,8 @@ impl DecodeError {
 
     /// Returns the error that the range of an INTEGER needs more bits than the platform has.
     pub fn range_exceeds_platform_width(needed: u32, present: u32, codec: Codec) -> DecodeError
-        ensures { result ≡ record {
-          kind = DecodeErrorKind.RangeExceedsPlatformWidth needed present;
-          codec = codec;
-        } }
+        ensures { result ≡ decode_error
+            (DecodeErrorKind.RangeExceedsPlatformWidth needed present) codec }
     {
         let kind = DecodeErrorKind::RangeExceedsPlatformWidth { needed, present };
         DecodeError::from_kind(kind, codec)
@@ -99,10 +86,8 @@ impl DecodeError {
         expected: usize,
         codec: Codec,
     ) -> DecodeError
-        ensures { result ≡ record {
-          kind = DecodeErrorKind.FixedStringConversionFailed tag expected actual;
-          codec = codec;
-        } }
+        ensures { result ≡ decode_error
+            (DecodeErrorKind.FixedStringConversionFailed tag expected actual) codec }
     {
         let kind = DecodeErrorKind::FixedStringConversionFailed {
             tag,
@@ -118,10 +103,8 @@ impl DecodeError {
         actual: usize,
         codec: Codec,
     ) -> DecodeError
-        ensures { result ≡ record {
-          kind = DecodeErrorKind.IncorrectItemNumberInSequence expected actual;
-          codec = codec;
-        } }
+        ensures { result ≡ decode_error
+            (DecodeErrorKind.IncorrectItemNumberInSequence expected actual) codec }
     {
         let kind = DecodeErrorKind::IncorrectItemNumberInSequence { expected, actual };
         DecodeError::from_kind(kind, codec)
@@ -130,10 +113,7 @@ impl DecodeError {
     /// Returns the error that a number is not one of another integer type, for the reason in
     /// `msg`.
     pub fn integer_type_conversion_failed(msg: String, codec: Codec) -> DecodeError
-        ensures { result ≡ record {
-          kind = DecodeErrorKind.IntegerTypeConversionFailed msg;
-          codec = codec;
-        } }
+        ensures { result ≡ decode_error (DecodeErrorKind.IntegerTypeConversionFailed msg) codec }
     {
         DecodeError::from_kind(DecodeErrorKind::IntegerTypeConversionFailed { msg }, codec)
     }
@@ -141,10 +121,7 @@ impl DecodeError {
     /// Returns the error that the last octet of a bit string has this many unused bits, which is
     /// more than it has bits.
     pub fn invalid_bit_string(bits: u8, codec: Codec) -> DecodeError
-        ensures { result ≡ record {
-          kind = DecodeErrorKind.InvalidBitString bits;
-          codec = codec;
-        } }
+        ensures { result ≡ decode_error (DecodeErrorKind.InvalidBitString bits) codec }
     {
         DecodeError::from_kind(DecodeErrorKind::InvalidBitString { bits }, codec)
     }
@@ -156,10 +133,8 @@ impl DecodeError {
         value: u32,
         codec: Codec,
     ) -> DecodeError
-        ensures { result ≡ record {
-          kind = DecodeErrorKind.MissingTagClassOrValueInSequenceOrSet class value;
-          codec = codec;
-        } }
+        ensures { result ≡ decode_error
+            (DecodeErrorKind.MissingTagClassOrValueInSequenceOrSet class value) codec }
     {
         let kind = DecodeErrorKind::MissingTagClassOrValueInSequenceOrSet { class, value };
         DecodeError::from_kind(kind, codec)
@@ -168,17 +143,14 @@ impl DecodeError {
     /// Returns the error that an extension addition is there, and the type has no extension
     /// marker.
     pub fn type_not_extensible(codec: Codec) -> DecodeError
-        ensures { result ≡ record { kind = DecodeErrorKind.TypeNotExtensible; codec = codec } }
+        ensures { result ≡ decode_error DecodeErrorKind.TypeNotExtensible codec }
     {
         DecodeError::from_kind(DecodeErrorKind::TypeNotExtensible, codec)
     }
 
     /// Returns the error that the extension addition of this tag has to be there and is absent.
     pub fn required_extension_not_present(tag: Tag, codec: Codec) -> DecodeError
-        ensures { result ≡ record {
-          kind = DecodeErrorKind.RequiredExtensionNotPresent tag;
-          codec = codec;
-        } }
+        ensures { result ≡ decode_error (DecodeErrorKind.RequiredExtensionNotPresent tag) codec }
     {
         DecodeError::from_kind(DecodeErrorKind::RequiredExtensionNotPresent { tag }, codec)
     }
@@ -190,10 +162,8 @@ impl DecodeError {
         extended_list: bool,
         codec: Codec,
     ) -> DecodeError
-        ensures { result ≡ record {
-          kind = DecodeErrorKind.EnumerationIndexNotFound index extended_list;
-          codec = codec;
-        } }
+        ensures { result ≡ decode_error
+            (DecodeErrorKind.EnumerationIndexNotFound index extended_list) codec }
     {
         let kind = DecodeErrorKind::EnumerationIndexNotFound {
             index,
@@ -227,10 +197,7 @@ impl DecodeError {
 
     /// Returns the error that a length is greater than the platform can count. `msg` states it.
     pub fn length_exceeds_platform_width(msg: String, codec: Codec) -> DecodeError
-        ensures { result ≡ record {
-          kind = DecodeErrorKind.LengthExceedsPlatformWidth msg;
-          codec = codec;
-        } }
+        ensures { result ≡ decode_error (DecodeErrorKind.LengthExceedsPlatformWidth msg) codec }
     {
         DecodeError::from_kind(DecodeErrorKind::LengthExceedsPlatformWidth { msg }, codec)
     }
@@ -238,10 +205,7 @@ impl DecodeError {
     /// Returns the error that an index is that of no alternative of the CHOICE type, whose tags
     /// are `variants`.
     pub fn choice_index_not_found(index: usize, variants: Variants, codec: Codec) -> DecodeError
-        ensures { result ≡ record {
-          kind = DecodeErrorKind.ChoiceIndexNotFound index variants;
-          codec = codec;
-        } }
+        ensures { result ≡ decode_error (DecodeErrorKind.ChoiceIndexNotFound index variants) codec }
     {
         DecodeError::from_kind(
             DecodeErrorKind::ChoiceIndexNotFound { index, variants },
@@ -251,44 +215,35 @@ impl DecodeError {
 
     /// Returns the error that this many octets follow the value.
     pub fn unexpected_extra_data(length: usize, codec: Codec) -> DecodeError
-        ensures { result ≡ record {
-          kind = DecodeErrorKind.UnexpectedExtraData length;
-          codec = codec;
-        } }
+        ensures { result ≡ decode_error (DecodeErrorKind.UnexpectedExtraData length) codec }
     {
         DecodeError::from_kind(DecodeErrorKind::UnexpectedExtraData { length }, codec)
     }
 
     /// Returns the error that the input is empty where a SEQUENCE or an INTEGER is expected.
     pub fn unexpected_empty_input(codec: Codec) -> DecodeError
-        ensures { result ≡ record { kind = DecodeErrorKind.UnexpectedEmptyInput; codec = codec } }
+        ensures { result ≡ decode_error DecodeErrorKind.UnexpectedEmptyInput codec }
     {
         DecodeError::from_kind(DecodeErrorKind::UnexpectedEmptyInput, codec)
     }
 
     /// Returns the error that the input ends within a value, which needs this much more of it.
     pub fn incomplete(needed: Needed, codec: Codec) -> DecodeError
-        ensures { result ≡ record { kind = DecodeErrorKind.Incomplete needed; codec = codec } }
+        ensures { result ≡ decode_error (DecodeErrorKind.Incomplete needed) codec }
     {
         DecodeError::from_kind(DecodeErrorKind::Incomplete { needed }, codec)
     }
 
     /// Returns the error that a value has more elements than this number, which are read at most.
     pub fn exceeds_max_length(length: u128, codec: Codec) -> DecodeError
-        ensures { result ≡ record {
-          kind = DecodeErrorKind.ExceedsMaxLength length;
-          codec = codec;
-        } }
+        ensures { result ≡ decode_error (DecodeErrorKind.ExceedsMaxLength length) codec }
     {
         DecodeError::from_kind(DecodeErrorKind::ExceedsMaxLength { length }, codec)
     }
 
     /// Returns the error that the field of this name is there twice.
     pub fn duplicate_field(name: &'static str, codec: Codec) -> DecodeError
-        ensures { result ≡ record {
-          kind = DecodeErrorKind.DuplicateField name.entry;
-          codec = codec;
-        } }
+        ensures { result ≡ decode_error (DecodeErrorKind.DuplicateField name.entry) codec }
     {
         DecodeError::from_kind(DecodeErrorKind::DuplicateField { name }, codec)
     }
@@ -296,10 +251,7 @@ impl DecodeError {
     /// Returns the error that the component at this place, of this tag, is one that the type
     /// lacks.
     pub fn unknown_field(index: usize, tag: Tag, codec: Codec) -> DecodeError
-        ensures { result ≡ record {
-          kind = DecodeErrorKind.UnknownField index tag;
-          codec = codec;
-        } }
+        ensures { result ≡ decode_error (DecodeErrorKind.UnknownField index tag) codec }
     {
         DecodeError::from_kind(DecodeErrorKind::UnknownField { index, tag }, codec)
     }
@@ -311,10 +263,7 @@ impl DecodeError {
     /// `MismatchedLength`, exactly where the two differ.
     pub fn assert_length(expected: usize, actual: usize, codec: Codec) -> Result<(), DecodeError>
         ensures { MatchResult result (λ _. expected ≡ actual) (λ error. (expected ≢ actual)
-            × (error ≡ record {
-              kind = DecodeErrorKind.MismatchedLength expected actual;
-              codec = codec;
-            })) }
+            × (error ≡ decode_error (DecodeErrorKind.MismatchedLength expected actual) codec)) }
     {
         if expected == actual {
             Ok(())

@@ -12,7 +12,7 @@ ghost use Rattle.avn_grammar.specs.Print.{print};
 ghost use Rattle.avn_rules.specs.LeafAnswer.{IsCause};
 ghost use Rattle.avn_rules.specs.Parts.{list_failure};
 ghost use Rattle.avn_rules.specs.Pending.{IsPresent, avn_or_null, value_at};
-ghost use Rattle.avn_value.specs.Preorder.{tree_at};
+ghost use Rattle.avn_nodes.specs.Preorder.{tree_at};
 ghost use Rattle.std.specs.Prelude.{◌≡◌, IfOk, string_bytes};
 ghost use Rattle.asn_model.specs.declared.words.TheConstants.{AVN_ARC, AVN_NO_UNICODE};
 ghost use Rattle.asn_model.specs.declared.words.TheConstants.{AVN_NO_UTF8};

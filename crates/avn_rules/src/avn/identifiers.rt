@@ -8,8 +8,8 @@ ghost use Rattle.asn_traits.specs.Tree.{Tree};
 ghost use Rattle.avn_rules.specs.LeafAnswer.{IsWrong, LeafAnswer};
 ghost use Rattle.avn_rules.specs.Parts.{elements_of};
 ghost use Rattle.avn_rules.specs.Pending.{IsPresent, avn_or_null, value_at};
-ghost use Rattle.avn_value.specs.NodeViews.{kind_of};
-ghost use Rattle.avn_value.specs.Preorder.{tree_at};
+ghost use Rattle.avn_nodes.specs.NodeViews.{kind_of};
+ghost use Rattle.avn_nodes.specs.Preorder.{tree_at};
 ghost use Rattle.std.specs.Prelude.{◌≡◌, Ok, MatchResult};
 
 use super::faults::{no_arc, no_oid, other_arcs};

@@ -6,7 +6,7 @@ ghost use Rattle.asn_coding.specs.Tables.{names_of};
 ghost use Rattle.asn_traits.specs.Tree.{Slot, as_list, as_members};
 ghost use Rattle.avn_rules.specs.Parts.{place_of_slot};
 ghost use Rattle.avn_rules.specs.Pending.{IsPresent, IsSlot, value_at};
-ghost use Rattle.avn_value.specs.Preorder.{node_at, tree_at, node_count, slot_descendants};
+ghost use Rattle.avn_nodes.specs.Preorder.{node_at, tree_at, node_count, slot_descendants};
 ghost use Rattle.std.specs.List.{All};
 ghost use Rattle.std.specs.Prelude.{true, ◌≡◌, ◌<◌, ◌+◌, ◌++◌, List, ℕ, Some, None, IfOk, IfSome};
 ghost use Rattle.std.specs.Prelude.{is_some, length, map, nat_eq, replicate};

@@ -2,7 +2,8 @@ use Rattle.std.proofs.Common.{◌≡◌, ◌≢◌, [], take, map, arith, sym, a
 use Rattle.std.proofs.lemmas.Grind.{common_steps}
 use Rattle.std.proofs.lemmas.List.{take_all}
 use Rattle.avn_grammar.specs.Normal.{normal}
-use Rattle.avn_value.specs.View.{tree_of, trees_in, fields_trees}
+use Rattle.avn_value.specs.View.{tree_of, fields_trees}
+use Rattle.avn_nodes.specs.TreeLists.{trees_in}
 use Rattle.avn_value.proofs.Views.{view-Sequence}
 use Rattle.avn_value.proofs.Joins.{normal-list, braced-some, normal-some, normal-none, no-fields-normal}
 use Rattle.avn_value.proofs.normal.+normal.Goals.{present_fields-in-Some+in_ok-name-in-Some+in_ok-form-in-Some+in_ok-push-in-Some, present_fields-in-None}

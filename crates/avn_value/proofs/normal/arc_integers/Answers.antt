@@ -2,7 +2,8 @@ use Rattle.std.proofs.Common.{◌≡◌, take, map, ap, ◌∙◌, arith}
 use Rattle.std.specs.Fmt.{decimal}
 use Rattle.std.proofs.lemmas.List.{take_all}
 use Rattle.avn_grammar.specs.Tree.{integer}
-use Rattle.avn_value.specs.View.{tree_of, trees_in}
+use Rattle.avn_value.specs.View.{tree_of}
+use Rattle.avn_nodes.specs.TreeLists.{trees_in}
 use Rattle.avn_value.specs.declared.value.AvnValue.{Integer}
 use Rattle.avn_value.proofs.Views.{view-Integer}
 use Rattle.avn_value.proofs.Joins.{map-next, arcs-list}

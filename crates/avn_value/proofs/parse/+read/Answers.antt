@@ -10,8 +10,8 @@ use Rattle.avn_grammar.specs.Grammar.{Ident, ItemParses, ComesAfterWord, BeginsN
 use Rattle.avn_grammar.specs.Tree.{choice, sequence_of, no_trees}
 use Rattle.avn_value.proofs.NoToken.{lead_token}
 use Rattle.avn_value.proofs.NotDeep.{stopped_deep}
-use Rattle.avn_value.proofs.Steps.{ident-shorter, tail-le, value_choice, value_word, value_empty, value_braces, item_choice, item_word, item_field, item_value, braces_along, payload_deep, braces_deep, choice_deep, field_deep, value_deep, items_deep_along}
-use Rattle.avn_value.proofs.Extending.{word-integer, extended-no_trees}
+use Rattle.avn_cursor.proofs.Steps.{ident-shorter, tail-le, value_choice, value_word, value_empty, value_braces, item_choice, item_word, item_field, item_value, braces_along, payload_deep, braces_deep, choice_deep, field_deep, value_deep, items_deep_along}
+use Rattle.avn_nodes.proofs.Extending.{word-integer, extended-no_trees}
 use Rattle.avn_value.proofs.Readings.{value_read, item_read}
 use Rattle.avn_value.proofs.Maps.{going_comma, going_number, closed, unclosed, not_going, choice_closed, word_closed, field_closed}
 use Rattle.avn_value.proofs.parse.+read.Goals as goal

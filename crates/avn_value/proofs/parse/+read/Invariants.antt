@@ -1,8 +1,8 @@
 use Rattle.std.proofs.Common.{◌≡◌, ◌+◌, ◌*◌, length}
-use Rattle.avn_value.specs.Ahead.{Advances}
+use Rattle.avn_cursor.specs.Ahead.{Advances}
 use Rattle.avn_value.proofs.Going.{Going}
-use Rattle.avn_value.specs.NodeLists.{with_open}
-use Rattle.avn_value.specs.declared.node_kind.NodeKind.TheVariants as kind
+use Rattle.avn_nodes.specs.NodeLists.{with_open}
+use Rattle.avn_nodes.specs.declared.node_kind.NodeKind.TheVariants as kind
 use Rattle.avn_value.proofs.parse.+read.Given as goal
 
 abbrev pub decreases-read_value : goal.decreases-read_value

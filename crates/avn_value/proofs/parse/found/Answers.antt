@@ -1,7 +1,7 @@
 use Rattle.std.proofs.Common.{◌≡◌, true, false, arith, string_bytes}
 use Rattle.std.proofs.lemmas.Grind.{common_steps}
 use Rattle.avn_value.proofs.Finding.{found_on, found_end, found_ok}
-use Rattle.avn_value.proofs.Paying.{advances_on}
+use Rattle.avn_cursor.proofs.Paying.{advances_on}
 use Rattle.avn_value.proofs.parse.found.Goals as goal
 
 pub returns-then-not-take_choice-clause-found : goal.returns-then-not-take_choice-clause-found

@@ -1,6 +1,6 @@
 use Rattle.std.proofs.Common.{◌≡◌, ℕ, List, length}
 use Rattle.avn_grammar.specs.ParseFailure.{Found}
-use Rattle.avn_value.specs.Ahead.{Advances}
+use Rattle.avn_cursor.specs.Ahead.{Advances}
 use Rattle.avn_value.proofs.parse.found.Given as goal
 
 abbrev pub invariant-loop-cursor : goal.invariant-loop-cursor

@@ -5,12 +5,12 @@ use Rattle.std.specs.Fmt.{HasWritten}
 use Rattle.std.proofs.lemmas.Grind.{put_three}
 use Rattle.std.proofs.lemmas.List.{take_all, append-nil}
 use Rattle.avn_grammar.specs.Print.{print, print_rows, print_fields, separator, indent}
-use Rattle.avn_value.specs.declared.print.Levels.{Under}
+use Rattle.avn_nodes.specs.declared.print_parts.Levels.{Under}
 use Rattle.avn_value.specs.declared.value.AvnValue.{AvnValue}
 use Rattle.avn_value.specs.View.{tree_of, list_trees, fields_trees}
-use Rattle.avn_value.specs.Levels.{depth_of}
+use Rattle.avn_nodes.specs.Levels.{depth_of}
 use Rattle.avn_value.proofs.Views.{view-Choice, view-Sequence}
-use Rattle.avn_value.proofs.Rows.{count_of, present, print-choice, print-list, print-fields, rows-more, fields-more, present-more, trees-next, count-trees, was_ok, depth-Under, no-rows, no-field_rows, field-next}
+use Rattle.avn_nodes.proofs.Rows.{count_of, present, print-choice, print-list, print-fields, rows-more, fields-more, present-more, trees-next, count-trees, was_ok, depth-Under, no-rows, no-field_rows, field-next}
 use Rattle.avn_value.proofs.print.+print.Goals.{print_fields-in-Some+in_ok-begin_field-in-Some+in_ok-print_at-in-Some, print_fields-in-None}
 use Rattle.avn_value.proofs.print.+print.Goals as goal
 

@@ -2,8 +2,8 @@ use Rattle.std.proofs.Common.{◌≡◌, ◌≤◌, suc, take}
 use Rattle.std.specs.Fmt.{HasWritten, IsPlainFormatter}
 use Rattle.avn_grammar.specs.Print.{print_rows, print_fields}
 use Rattle.avn_value.specs.View.{list_trees, fields_trees}
-use Rattle.avn_value.specs.Levels.{depth_of}
-use Rattle.avn_value.proofs.Rows.{present}
+use Rattle.avn_nodes.specs.Levels.{depth_of}
+use Rattle.avn_nodes.proofs.Rows.{present}
 use Rattle.avn_value.proofs.print.+print.Given as goal
 
 abbrev pub invariant-print_list-loop-row : goal.invariant-print_list-loop-row

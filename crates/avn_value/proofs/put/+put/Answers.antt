@@ -2,11 +2,11 @@ use Rattle.std.proofs.Common.{◌≡◌, ◌∙◌, ap, sym}
 use Rattle.avn_grammar.specs.Tree.{integer, real, enumerated, char_string, octet_string, bit_string, oid, sequence, sequence_of, choice}
 use Rattle.avn_value.specs.View.{tree_of, list_trees, fields_trees}
 use Rattle.avn_value.proofs.Views.{view-Boolean, view-Null, view-Real, view-Oid, view-Integer, view-Enumerated, view-CharString, view-OctetString, view-BitString, view-Sequence, view-SequenceOf, view-Choice}
-use Rattle.avn_value.proofs.Extending.{extended-integer, extended-real, extended-enumerated, extended-text, extended-boolean, extended-null, extended-octets, extended-bits, extended-arcs}
-use Rattle.avn_value.proofs.Putting.{plain_put, text_put, extended-none, items_put, fields_put, over-sequence, over-sequence_of, choice_put, list_put, here, here_some, here_none}
-use Rattle.avn_value.specs.Preorder.{list_preorder, fields_preorder, preorder}
-use Rattle.avn_value.specs.NodeLists.{extended}
-use Rattle.avn_value.specs.declared.node_kind.NodeKind.TheVariants as kind
+use Rattle.avn_nodes.proofs.Extending.{extended-integer, extended-real, extended-enumerated, extended-text, extended-boolean, extended-null, extended-octets, extended-bits, extended-arcs}
+use Rattle.avn_nodes.proofs.Putting.{plain_put, text_put, extended-none, items_put, fields_put, over-sequence, over-sequence_of, choice_put, list_put, here, here_some, here_none}
+use Rattle.avn_nodes.specs.Preorder.{list_preorder, fields_preorder, preorder}
+use Rattle.avn_nodes.specs.NodeLists.{extended}
+use Rattle.avn_nodes.specs.declared.node_kind.NodeKind.TheVariants as kind
 use Rattle.avn_value.proofs.put.+put.Goals.{put_fields-in-Some+in_ok-put_value-in-Some, put_fields-in-None+in_ok-leaf-in-None}
 use Rattle.avn_value.proofs.put.+put.Goals as goal
 

@@ -1,7 +1,7 @@
 use Rattle.std.proofs.Common.{◌≡◌, take}
 use Rattle.avn_value.specs.View.{list_trees, fields_trees}
-use Rattle.avn_value.specs.Preorder.{fields_preorder, list_preorder}
-use Rattle.avn_value.specs.NodeLists.{extended}
+use Rattle.avn_nodes.specs.Preorder.{fields_preorder, list_preorder}
+use Rattle.avn_nodes.specs.NodeLists.{extended}
 use Rattle.avn_value.proofs.put.+put.Given as goal
 
 abbrev pub invariant-put_list-loop-item : goal.invariant-put_list-loop-item

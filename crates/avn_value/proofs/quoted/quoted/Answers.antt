@@ -1,9 +1,9 @@
 use Rattle.std.proofs.Common.{sym, ap, subst, ◌∙◌, ◌≡◌, false, true, MatchOption}
 use Rattle.avn_grammar.specs.Chars.{tail, all}
 use Rattle.avn_grammar.specs.Octets.{is_hex, packed}
-use Rattle.avn_value.specs.HexDigits.{inside, binary_digits, is_bit_value}
+use Rattle.avn_cursor.specs.HexDigits.{inside, binary_digits, is_bit_value}
 use Rattle.avn_value.proofs.Tokens.{octets_read, bits_read, digits_read, closed_by, are_bits, packed_bits, count_bits}
-use Rattle.avn_value.proofs.DigitValues.{values_pairs, values_unpaired, unpaired, no_bits}
+use Rattle.avn_cursor.proofs.DigitValues.{values_pairs, values_unpaired, unpaired, no_bits}
 use Rattle.avn_value.proofs.NoToken.{octets_none, bits_none, unclosed_none, digits_none}
 use Rattle.avn_value.proofs.quoted.quoted.Goals as goal
 

@@ -5,7 +5,7 @@ use Rattle.std.specs.Str.{chars}
 use Rattle.avn_grammar.specs.Chars.{starts_with}
 use Rattle.avn_value.proofs.NoToken.{text_none}
 use Rattle.avn_value.proofs.QuotedText.{open_quote, run_more, quote_more, at_quote, closed}
-use Rattle.avn_value.proofs.NodeForms.{worded}
+use Rattle.avn_nodes.proofs.NodeForms.{worded}
 use Rattle.avn_value.proofs.TextNodes.{run_worded, char_worded, text_read}
 use Rattle.avn_value.proofs.token.text.Goals as goal
 

@@ -1,6 +1,6 @@
 use Rattle.std.proofs.Common.{◌≡◌, ℕ, List, ◌∷◌, ◌++◌, length}
 use Rattle.avn_grammar.specs.Chars.{quote_is_doubled, utf8_of}
-use Rattle.avn_value.specs.Ahead.{Advances}
+use Rattle.avn_cursor.specs.Ahead.{Advances}
 use Rattle.avn_value.proofs.token.text.Given as goal
 
 -- The characters that were read, each quote twice, stand before what is ahead.

@@ -2,7 +2,7 @@ use Rattle.std.proofs.Common.{◌≡◌, ◌∙◌, sym, ap, arith}
 use Rattle.std.proofs.lemmas.Grind.{common_steps}
 use Rattle.avn_grammar.specs.declared.chars.CharClass.TheVariants as is
 use Rattle.avn_grammar.specs.Chars.{class_of_next, has_fraction, tail}
-use Rattle.avn_value.proofs.Paying.{digit_paid}
+use Rattle.avn_cursor.proofs.Paying.{digit_paid}
 use Rattle.avn_value.proofs.NumberNodes.{integer_grown, real_grown}
 use Rattle.avn_value.proofs.token.unsigned.Goals as goal
 

@@ -3,7 +3,7 @@ use Rattle.std.proofs.lemmas.List.{nil_from_length}
 use Rattle.asn_coding.specs.Tables.{names_of}
 use Rattle.asn_coding.specs.Writing.{head_name}
 use Rattle.avn_value.specs.View.{tree_of, fields_trees}
-use Rattle.avn_value.proofs.Joins.{join}
+use Rattle.avn_nodes.proofs.JoinedFields.{join}
 use Rattle.asn_slots.specs.Trees.{trees_of}
 use Rattle.avn_rules.specs.Holding.{named_fields}
 use Rattle.avn_rules.proofs.Building.{fields-named, all-named}

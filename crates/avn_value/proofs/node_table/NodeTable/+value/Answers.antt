@@ -3,10 +3,10 @@ use Rattle.std.specs.Prelude.{option_map}
 use Rattle.std.proofs.lemmas.Grind.{common_steps}
 use Rattle.avn_grammar.specs.Tree.{tree}
 use Rattle.avn_value.specs.View.{tree_of, list_trees, fields_trees}
-use Rattle.avn_value.proofs.Joins.{join}
-use Rattle.avn_value.proofs.Walks.{Fielding, fielding_begun, fielding_first, fielding_more, fielding_done, Listing, listing_begun, listing_first, listing_more, listing_done, chained, join-push, chained-push, entry, kind_absent, kind_present, some_is}
-use Rattle.avn_value.specs.NodeViews.{kind_of}
-use Rattle.avn_value.specs.Preorder.{NamedSlot, tree_at}
+use Rattle.avn_nodes.proofs.JoinedFields.{join}
+use Rattle.avn_nodes.proofs.Walks.{Fielding, fielding_begun, fielding_first, fielding_more, fielding_done, Listing, listing_begun, listing_first, listing_more, listing_done, chained, join-push, chained-push, entry, kind_absent, kind_present, some_is}
+use Rattle.avn_nodes.specs.NodeViews.{kind_of}
+use Rattle.avn_nodes.specs.Preorder.{NamedSlot, tree_at}
 use Rattle.avn_value.proofs.node_table.NodeTable.+value.Goals.{to_fields-in-Absent, to_fields-in_default+in_ok-to_value-in_default}
 use Rattle.avn_value.proofs.node_table.NodeTable.+value.Goals as goal
 

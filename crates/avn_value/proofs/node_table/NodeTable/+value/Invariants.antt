@@ -1,7 +1,7 @@
 use Rattle.std.proofs.Common.{◌+◌, ◌-◌, ◌*◌}
 use Rattle.avn_value.specs.View.{list_trees, fields_trees}
-use Rattle.avn_value.proofs.Walks.{Fielding, Listing}
-use Rattle.avn_value.specs.Preorder.{node_count}
+use Rattle.avn_nodes.proofs.Walks.{Fielding, Listing}
+use Rattle.avn_nodes.specs.Preorder.{node_count}
 use Rattle.avn_value.proofs.node_table.NodeTable.+value.Given as goal
 
 abbrev pub decreases-to_value : goal.decreases-to_value

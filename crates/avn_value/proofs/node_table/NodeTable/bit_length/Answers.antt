@@ -1,6 +1,6 @@
 use Rattle.std.proofs.Common.{ap, ◌∙◌}
-use Rattle.avn_value.proofs.Tables.{table_below, table_at}
-use Rattle.avn_value.specs.NodeViews.{NodeView}
+use Rattle.avn_nodes.proofs.Tables.{table_below, table_at}
+use Rattle.avn_nodes.specs.NodeViews.{NodeView}
 use Rattle.avn_value.proofs.node_table.NodeTable.bit_length.Goals as goal
 
 pub bit_length-requires : goal.bit_length-requires

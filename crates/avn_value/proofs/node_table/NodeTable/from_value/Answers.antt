@@ -1,4 +1,4 @@
-use Rattle.avn_value.proofs.Tables.{new_holds}
+use Rattle.avn_nodes.proofs.Tables.{new_holds}
 use Rattle.avn_value.proofs.node_table.NodeTable.from_value.Goals as goal
 
 pub invariant_of-result : goal.invariant_of-result

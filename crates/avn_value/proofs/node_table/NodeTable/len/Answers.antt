@@ -1,5 +1,5 @@
 use Rattle.std.proofs.Common.{◌∙◌}
-use Rattle.avn_value.proofs.Tables.{table_size}
+use Rattle.avn_nodes.proofs.Tables.{table_size}
 use Rattle.avn_value.proofs.node_table.NodeTable.len.Goals as goal
 
 pub returns : goal.returns

@@ -1,7 +1,7 @@
 use Rattle.std.proofs.Common.{ap, sym, ◌∙◌}
-use Rattle.avn_value.proofs.Walks.{payload_at, kind_present}
-use Rattle.avn_value.specs.NodeViews.{kind_of}
-use Rattle.avn_value.specs.Preorder.{choice_with, NamedSlot}
+use Rattle.avn_nodes.proofs.Walks.{payload_at, kind_present}
+use Rattle.avn_nodes.specs.NodeViews.{kind_of}
+use Rattle.avn_nodes.specs.Preorder.{choice_with, NamedSlot}
 use Rattle.avn_value.proofs.node_table.NodeTable.payload.Goals as goal
 
 pub returns-clause-below : goal.returns-clause-below

@@ -1,9 +1,9 @@
 use Rattle.std.proofs.Common.{ap, ◌∙◌}
 use Rattle.avn_grammar.specs.Print.{print}
-use Rattle.avn_value.specs.Preorder.{tree_at}
-use Rattle.avn_value.proofs.Tables.{table_nodes}
-use Rattle.avn_value.proofs.Subtrees.{table_tree}
-use Rattle.avn_value.proofs.Walks.{kind_not_absent}
+use Rattle.avn_nodes.specs.Preorder.{tree_at}
+use Rattle.avn_nodes.proofs.Tables.{table_nodes}
+use Rattle.avn_nodes.proofs.Subtrees.{table_tree}
+use Rattle.avn_nodes.proofs.Walks.{kind_not_absent}
 use Rattle.avn_value.proofs.node_table.NodeTable.print.Goals as goal
 
 pub print-requires : goal.print-requires

@@ -1,6 +1,6 @@
 use Rattle.std.proofs.Common.{sym, subst}
 use Rattle.avn_grammar.specs.Grammar.{ParsesWhole}
-use Rattle.avn_value.proofs.Tables.{new_holds}
+use Rattle.avn_nodes.proofs.Tables.{new_holds}
 use Rattle.avn_value.proofs.node_table.NodeTable.read.Goals as goal
 
 pub invariant_of-result : goal.invariant_of-result

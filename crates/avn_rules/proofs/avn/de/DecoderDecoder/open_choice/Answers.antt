@@ -6,7 +6,7 @@ use Rattle.asn_traits.specs.Leaf.{LeafFailure}
 use Rattle.asn_traits.specs.Notation.{Notation}
 use Rattle.asn_traits.specs.Shape.{Shape}
 use Rattle.asn_traits.specs.Tree.{as_choice}
-use Rattle.avn_value.specs.Preorder.{tree_at}
+use Rattle.avn_nodes.specs.Preorder.{tree_at}
 use Rattle.avn_rules.specs.Pending.{DecoderView, value_at}
 use Rattle.avn_rules.proofs.Opened.{choice_opened, choice_refused, choice_unnamed}
 use Rattle.avn_rules.proofs.Walks.{choice_parts, no_choice_here}

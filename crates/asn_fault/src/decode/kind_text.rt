@@ -1,0 +1,183 @@
+//! Writes the texts of the kinds of errors that hold no other error, a group of kinds at a time.
+//! Each function hands a kind of another group to the next.
+ghost use Rattle.asn_fault.specs.Texts.{component_text, input_text, length_text};
+ghost use Rattle.asn_fault.specs.Texts.{number_text, string_text, variant_text};
+ghost use Rattle.std.specs.Fmt.{WritesOnOk};
+
+use super::DecodeErrorKind;
+use asn_core::Tag;
+use std::fmt;
+
+/// Writes the text of a kind, by the group that it is in.
+impl DecodeErrorKind {
+    /// Writes a kind that speaks of the components of a SEQUENCE or SET.
+    pub(super) fn write_component<W: fmt::Write>(&self, f: &mut fmt::Formatter<W>) -> fmt::Result
+        ensures { WritesOnOk W.write_str_gives f.old result (component_text self.now) f.new }
+    {
+        match self {
+            DecodeErrorKind::DuplicateField { name } => write!(f, "Duplicate field for `{name}`"),
+            DecodeErrorKind::MissingField { name } => write!(f, "Missing field `{name}`"),
+            DecodeErrorKind::UnknownField { index, tag } => {
+                write!(f, "Unknown field with index {index} and tag {tag}")
+            }
+            DecodeErrorKind::IncorrectItemNumberInSequence { expected, actual } => write!(
+                f,
+                "Invalid item number in Sequence: expected: {expected}; actual: {actual}"
+            ),
+            DecodeErrorKind::MissingTagClassOrValueInSequenceOrSet { class, value } => write!(
+                f,
+                "Expected class: {class}, value: {value} in sequence or set \
+                 Missing tag class or value in sequence or set"
+            ),
+            DecodeErrorKind::RequiredExtensionNotPresent {
+                tag: Tag { class, value },
+            } => write!(
+                f,
+                "Extension with class `{class}` and tag `{value}` required, but not present"
+            ),
+            DecodeErrorKind::TypeNotExtensible => {
+                write!(f, "Attempted to decode extension on non-extensible type")
+            }
+            kind => kind.write_variant(f),
+        }
+    }
+
+    /// Writes a kind that speaks of the alternatives of a CHOICE or the items of an ENUMERATED.
+    fn write_variant<W: fmt::Write>(&self, f: &mut fmt::Formatter<W>) -> fmt::Result
+        ensures { WritesOnOk W.write_str_gives f.old result (variant_text self.now) f.new }
+    {
+        match self {
+            DecodeErrorKind::EnumerationIndexNotFound {
+                index,
+                extended_list,
+            } => write!(
+                f,
+                "Enumeration index {index} did not match any variant. \
+                 Extended list checked: {extended_list}"
+            ),
+            DecodeErrorKind::ChoiceIndexNotFound { index, .. } => {
+                write!(f, "Choice index {index} did not match any variant")
+            }
+            DecodeErrorKind::DiscriminantValueNotFound { discriminant } => write!(
+                f,
+                "Discriminant value {discriminant} did not match any variant"
+            ),
+            DecodeErrorKind::NoValidChoice { name } => write!(f, "No valid choice for `{name}`"),
+            kind => kind.write_number(f),
+        }
+    }
+
+    /// Writes a kind that speaks of a number or a truth value.
+    fn write_number<W: fmt::Write>(&self, f: &mut fmt::Formatter<W>) -> fmt::Result
+        ensures { WritesOnOk W.write_str_gives f.old result (number_text self.now) f.new }
+    {
+        match self {
+            DecodeErrorKind::ValueConstraintNotSatisfied { value, expected } => write!(
+                f,
+                "Value constraint not satisfied: expected: {expected}; actual: {value}"
+            ),
+            DecodeErrorKind::IntegerOverflow { max_width } => write!(
+                f,
+                "Actual integer larger than expected {max_width} bits"
+            ),
+            DecodeErrorKind::IntegerTypeConversionFailed { msg } => {
+                write!(f, "Failed to cast integer to another integer type: {msg} ")
+            }
+            DecodeErrorKind::RangeExceedsPlatformWidth { needed, present } => write!(
+                f,
+                "Integer range larger than possible to address on this platform. \
+                 needed: {needed} present: {present}"
+            ),
+            DecodeErrorKind::InvalidRealEncoding => write!(f, "Invalid real encoding"),
+            DecodeErrorKind::RealNotSupported => {
+                write!(f, "Decoder doesn't support `REAL` type")
+            }
+            DecodeErrorKind::InvalidBool { value } => write!(
+                f,
+                "Bool value is not `0` or `0xFF` as canonical requires. Actual: {value}"
+            ),
+            kind => kind.write_string(f),
+        }
+    }
+
+    /// Writes a kind that speaks of a string.
+    fn write_string<W: fmt::Write>(&self, f: &mut fmt::Formatter<W>) -> fmt::Result
+        ensures { WritesOnOk W.write_str_gives f.old result (string_text self.now) f.new }
+    {
+        match self {
+            DecodeErrorKind::PermittedAlphabetError { reason } => {
+                write!(f, "Alphabet constraint not satisfied {reason}")
+            }
+            DecodeErrorKind::SizeConstraintNotSatisfied { size, expected } => write!(
+                f,
+                "Size constraint not satisfied: expected: {expected}; actual: {size:?}"
+            ),
+            DecodeErrorKind::StringConversionFailed { tag, msg } => write!(
+                f,
+                "Failed to convert byte array into valid ASN.1 string. \
+                 String type as tag: {tag} Error: {msg}"
+            ),
+            DecodeErrorKind::FixedStringConversionFailed {
+                tag,
+                expected,
+                actual,
+            } => write!(
+                f,
+                "Failed to convert byte array into valid fixed-sized ASN.1 string. \
+                 String type as tag: {tag}, actual: {actual}, expected: {expected}"
+            ),
+            DecodeErrorKind::InvalidBitString { bits } => write!(
+                f,
+                "BitString contains an invalid amount of unused bits: {bits}"
+            ),
+            kind => kind.write_length(f),
+        }
+    }
+
+    /// Writes a kind that speaks of a length.
+    fn write_length<W: fmt::Write>(&self, f: &mut fmt::Formatter<W>) -> fmt::Result
+        ensures { WritesOnOk W.write_str_gives f.old result (length_text self.now) f.new }
+    {
+        match self {
+            DecodeErrorKind::ExceedsMaxLength { length } => {
+                write!(f, "Expected maximum of {length} items")
+            }
+            DecodeErrorKind::LengthExceedsPlatformWidth { msg } => {
+                write!(
+                    f,
+                    "Length of the data exceeds platform address width: {msg}"
+                )
+            }
+            DecodeErrorKind::ZeroLengthOfLength => write!(f, "Length of Length cannot be zero"),
+            DecodeErrorKind::MismatchedLength { expected, actual } => write!(
+                f,
+                "Expected {expected} bytes, actual length was {actual} bytes"
+            ),
+            kind => kind.write_input(f),
+        }
+    }
+
+    /// Writes a kind that speaks of the input as a whole, and nothing of a kind of another group.
+    fn write_input<W: fmt::Write>(&self, f: &mut fmt::Formatter<W>) -> fmt::Result
+        ensures { WritesOnOk W.write_str_gives f.old result (input_text self.now) f.new }
+    {
+        match self {
+            DecodeErrorKind::Custom { msg } => write!(f, "Custom error: {msg}"),
+            DecodeErrorKind::Incomplete { needed } => {
+                write!(f, "Need more data to continue: {needed}")
+            }
+            DecodeErrorKind::Eof => write!(f, "Unexpected EOF when decoding"),
+            DecodeErrorKind::Parser { msg } => write!(f, "Error in Parser: {msg}"),
+            DecodeErrorKind::UnexpectedExtraData { length } => {
+                write!(f, "Unexpected extra data found: length `{length}` bytes")
+            }
+            DecodeErrorKind::UnexpectedEmptyInput => write!(
+                f,
+                "No input was provided where expected in the given SEQUENCE or INTEGER type"
+            ),
+            DecodeErrorKind::ExceedsMaxParseDepth => write!(f, "Exceeded maximum parse depth"),
+            DecodeErrorKind::OutOfMemory => write!(f, "Out of memory"),
+            _ => Ok(()),
+        }
+    }
+}

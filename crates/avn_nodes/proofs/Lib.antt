@@ -1,0 +1,13 @@
+pub mod JoinedFields
+pub mod Rows
+pub mod DigitRows
+pub mod Doubling
+pub mod NodeForms
+pub mod Descendants
+pub mod RangesGrow
+pub mod Extending
+pub mod Tables
+pub mod Walks
+pub mod Subtrees
+pub mod NodeRows
+pub mod Putting

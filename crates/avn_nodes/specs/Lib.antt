@@ -1,0 +1,11 @@
+pub mod TreeLists
+pub mod Levels
+pub mod NodeKinds
+pub mod Preorder
+pub mod NodeViews
+pub mod NodeLists
+pub mod NodeRanges
+pub mod Forest
+pub mod Subtrees
+pub mod ForestLaws
+pub mod TreeCode

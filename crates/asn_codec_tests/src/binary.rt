@@ -2,13 +2,14 @@
 //! errors are those of the crate `rasn`, but for `no binary rules`, which is the library's own.
 ghost use Rattle.std.specs.Prelude.{⊤};
 
-use crate::checks::{assert_refused, assert_text};
+use crate::checks::assert_refused;
 use asn_base::Codec;
 use asn_codec::{BinaryRules, CodecCalls, NoRules};
 use asn_fault::{DecodeError, EncodeError};
 use asn_traits::{Decode, Encode};
 use jer_rules::jer;
 use std::alloc::Global;
+use std::process::Abort;
 use std::test::Fail;
 
 /// Lists the codecs that have binary rules.
@@ -190,10 +191,8 @@ fn some_bytes_are_not_decoded(rt: HostRuntime) -> Result<(), Fail> {
 #[test]
 fn a_remainder_needs_rules(rt: HostRuntime) -> Result<(), Fail> {
     for row in UNREAD_FRONT.iter() {
-        match bool_of_front(rt.alloc(), row.0, b"true".as_slice(), &mut NoRules) {
-            Ok(_) => return Err(Fail::from("read")),
-            Err(error) => assert_text(&rt, error.to_string(rt.alloc())?.as_str(), row.1),
-        }
+        let read = bool_of_front(rt.alloc(), row.0, b"true".as_slice(), &mut NoRules);
+        assert_refused(&rt, rt.alloc(), read, row.1)?;
     }
     Ok(())
 }
@@ -223,13 +222,9 @@ fn rules_answer_for_each_binary_codec(rt: HostRuntime) -> Result<(), Fail> {
 /// Checks that the codec hands a remainder on.
 fn assert_remainder(rt: &impl Abort, alloc: Global, codec: Codec) -> Result<(), Fail> {
     let mut rules = JsonRules { last: Codec::Xer };
-    match bool_of_front(alloc, codec, b"true, and more".as_slice(), &mut rules) {
-        Ok((value, rest)) => {
-            assert!(rt; value);
-            assert!(rt; rest == b", and more".as_slice());
-        }
-        Err(_) => return Err(Fail::from("not read")),
-    }
+    let front = bool_of_front(alloc, codec, b"true, and more".as_slice(), &mut rules)?;
+    assert!(rt; front.0);
+    assert!(rt; front.1 == b", and more".as_slice());
     assert!(rt; rules.last == codec);
     Ok(())
 }

@@ -1,10 +1,11 @@
-//! Compares what the tests find. No function here states what it returns, so that a test's proof is
-//! of the test alone.
+//! Compares what the tests find. No function here states what it does, so that a test's proof is of
+//! the test alone. Errors, decoders and other large values are let go here, where their types are
+//! open: where a type is known, a proof goes through each part that is let go.
 use asn_traits::{Decode, Encode};
 use avn_rules::avn;
 use jer_rules::jer;
 use std::alloc::Global;
-use std::fmt::Display;
+use std::fmt::{Debug, Display};
 use std::process::Abort;
 use std::test::Fail;
 
@@ -17,10 +18,10 @@ pub fn assert_text(rt: &impl Abort, text: &str, want: &str) {
 pub fn assert_refused<T: Drop, E: Display + Drop>(
     rt: &impl Abort,
     alloc: Global,
-    result: Result<T, E>,
+    answer: Result<T, E>,
     want: &str,
 ) -> Result<(), Fail> {
-    match result {
+    match answer {
         Ok(_) => Err(Fail::from("no error")),
         Err(error) => {
             let text = error.to_string(alloc)?;
@@ -28,6 +29,20 @@ pub fn assert_refused<T: Drop, E: Display + Drop>(
             Ok(())
         }
     }
+}
+
+/// Lets the value go.
+pub fn let_go<T: Drop>(_value: T) {}
+
+/// Returns the value, if what was done with it succeeded.
+pub fn kept<T: Drop, E: Debug + Drop>(value: T, done: Result<(), E>) -> Result<T, Fail> {
+    done?;
+    Ok(value)
+}
+
+/// Returns whether there is an error.
+pub fn is_refused<T: Drop, E: Drop>(answer: Result<T, E>) -> bool {
+    answer.is_err()
 }
 
 /// Returns the text of the value in JER.

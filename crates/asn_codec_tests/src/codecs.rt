@@ -1,6 +1,6 @@
 //! Calls the codecs by name, and the encoder and the decoder of AVN directly, where a text can't
 //! lead: to a codec without text, to a root without a value, to a number that is none.
-use crate::checks::{assert_refused, assert_text};
+use crate::checks::{assert_refused, assert_text, kept, let_go};
 use asn_base::{Codec, Constraints, Identifier, Scan, Tag};
 use asn_codec::CodecCalls;
 use asn_traits::{Decoder, Encoder};
@@ -68,8 +68,9 @@ fn nothing_stands_at_the_root_of_avn_at_first(rt: HostRuntime) -> Result<(), Fai
 #[test]
 fn shows_what_stands_at_the_root_of_avn(rt: HostRuntime) -> Result<(), Fail> {
     let mut encoder = enc::Encoder::new(rt.alloc());
-    encoder.encode_bool(Tag::BOOL, true, Identifier::EMPTY)?;
-    assert_text(&rt, encoder.to_string()?.as_str(), "TRUE");
+    let written = encoder.encode_bool(Tag::BOOL, true, Identifier::EMPTY);
+    let text = kept(encoder, written)?.to_string()?;
+    assert_text(&rt, text.as_str(), "TRUE");
     Ok(())
 }
 
@@ -83,6 +84,7 @@ fn an_integer_value_may_be_no_number(rt: HostRuntime) -> Result<(), Fail> {
     // `from_value` takes a value as it is, whether it is well formed or not.
     let mut decoder = de::Decoder::from_value(rt.alloc(), value)?;
     let number = decoder.decode_integer::<u8>(Tag::INTEGER, &Constraints::NONE);
+    let_go(decoder);
     assert_refused(
         &rt,
         rt.alloc(),
@@ -97,7 +99,8 @@ fn a_table_is_decoded(rt: HostRuntime) -> Result<(), Fail> {
     let mut scan = Scan::new("TRUE");
     let table = NodeTable::parse(rt.alloc(), &mut scan)?;
     let mut decoder = de::Decoder::from_table(rt.alloc(), table);
-    let value = decoder.decode_bool(Tag::BOOL)?;
-    assert!(rt; value);
+    let value = decoder.decode_bool(Tag::BOOL);
+    let_go(decoder);
+    assert!(rt; value?);
     Ok(())
 }

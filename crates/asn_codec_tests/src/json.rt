@@ -1,5 +1,5 @@
 //! Calls JER directly: the edges of its numbers, shapes of types, and an encoder without a value.
-use crate::checks::{assert_refused, assert_text, jer_text};
+use crate::checks::{assert_refused, assert_text, jer_text, kept, let_go};
 use asn_base::{Identifier, Tag};
 use asn_traits::{AsnType, Encoder, Shape};
 use jer_rules::jer::{enc, encode};
@@ -48,7 +48,9 @@ fn is_list_of_bool(shape: &Shape) -> bool {
 #[test]
 fn gives_the_shape_of_a_boolean(rt: HostRuntime) -> Result<(), Fail> {
     let shape = bool::shape(rt.alloc())?;
-    assert!(rt; is_bool(&shape));
+    let is_found = is_bool(&shape);
+    let_go(shape);
+    assert!(rt; is_found);
     Ok(())
 }
 
@@ -56,7 +58,9 @@ fn gives_the_shape_of_a_boolean(rt: HostRuntime) -> Result<(), Fail> {
 #[test]
 fn gives_the_shape_of_a_list(rt: HostRuntime) -> Result<(), Fail> {
     let shape = Vec::<bool>::shape(rt.alloc())?;
-    assert!(rt; is_list_of_bool(&shape));
+    let is_found = is_list_of_bool(&shape);
+    let_go(shape);
+    assert!(rt; is_found);
     Ok(())
 }
 
@@ -80,8 +84,8 @@ fn no_value_stands_at_the_root_at_first(rt: HostRuntime) -> Result<(), Fail> {
 /// Returns an encoder of JER that was given the value `true`.
 fn encoder_of_true(alloc: Global) -> Result<enc::Encoder, Fail> {
     let mut encoder = enc::Encoder::new(alloc);
-    encoder.encode_bool(Tag::BOOL, true, Identifier::EMPTY)?;
-    Ok(encoder)
+    let written = encoder.encode_bool(Tag::BOOL, true, Identifier::EMPTY);
+    kept(encoder, written)
 }
 
 /// An encoder of JER that was given a value has its text and its JSON value.
@@ -90,6 +94,8 @@ fn shows_what_stands_at_the_root(rt: HostRuntime) -> Result<(), Fail> {
     let text = encoder_of_true(rt.alloc())?.to_string()?;
     assert_text(&rt, text.as_str(), "true");
     let value = encoder_of_true(rt.alloc())?.to_json()?;
-    assert!(rt; value.as_bool() == Some(true));
+    let is_true = value.as_bool() == Some(true);
+    let_go(value);
+    assert!(rt; is_true);
     Ok(())
 }

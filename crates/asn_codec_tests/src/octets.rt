@@ -1,6 +1,6 @@
 //! Encodes and decodes OCTET STRING in both notations, and makes the shape of a SEQUENCE that has
 //! an extension addition. The forms are those of X.697 and X.680, section 23.
-use crate::checks::{assert_refused, assert_text, avn_text, jer_text};
+use crate::checks::{assert_refused, assert_text, avn_text, jer_text, kept, let_go};
 use asn_base::{OctetString, Tag};
 use asn_fault::DecodeError;
 use asn_fields::FieldShapes;
@@ -11,13 +11,11 @@ use std::alloc::Global;
 use std::process::Abort;
 use std::test::Fail;
 
-/// Checks that the text was decoded to the octets 01 and FF.
-fn assert_read(rt: &impl Abort, read: Result<OctetString, DecodeError>) {
-    let is_read = match read {
-        Ok(value) => value.as_bytes() == [0x01, 0xFF].as_slice(),
-        Err(_) => false,
-    };
-    assert!(rt; is_read);
+/// Checks that the text is decoded to the octets 01 and FF.
+fn assert_read(rt: &impl Abort, alloc: Global, is_json: bool, text: &str) -> Result<(), Fail> {
+    let value = read_octets(alloc, is_json, text)?;
+    assert!(rt; value.as_bytes() == [0x01, 0xFF].as_slice());
+    Ok(())
 }
 
 /// Octets are written in capitals and without spaces. They are read in either case, and in AVN
@@ -31,10 +29,9 @@ fn octets_are_written_in_capitals_and_read_in_either_case(rt: HostRuntime) -> Re
     let value = OctetString::from_vec(octets);
     assert_text(&rt, jer_text(alloc, &value)?.as_str(), "\"01FF\"");
     assert_text(&rt, avn_text(alloc, &value)?.as_str(), "'01FF'H");
-    assert_read(&rt, read_octets(alloc, true, "\"01fF\""));
+    assert_read(&rt, alloc, true, "\"01fF\"")?;
     // X.680, section 12, admits white space between the digits.
-    assert_read(&rt, read_octets(alloc, false, "' 01 fF 'H"));
-    Ok(())
+    assert_read(&rt, alloc, false, "' 01 fF 'H")
 }
 
 /// Lists texts that are no octets, each with the error: whether the text is JSON comes first. AVN
@@ -80,25 +77,51 @@ fn what_is_no_octets_is_refused(rt: HostRuntime) -> Result<(), Fail> {
     Ok(())
 }
 
-/// A shape with an extension addition can be put together and read: it has the fields of the root
-/// and those after the marker apart.
-#[test]
-fn a_sequence_with_an_extension_addition(rt: HostRuntime) -> Result<(), Fail> {
-    let mut root = FieldShapes::new(rt.alloc());
-    root.required::<u8>("id", Tag::CONTEXT_0)?;
-    // An addition's tag goes on from that of the last root field.
-    let mut added = FieldShapes::new(rt.alloc());
-    added.optional::<String>("note", Tag::CONTEXT_1)?;
-    let shape = root.extensible_sequence(added);
-    assert!(rt; is_readable(&shape));
-    let fields = match &shape {
+/// Returns the fields of the root: one that has to be present.
+fn root_fields(alloc: Global) -> Result<FieldShapes, Fail> {
+    let mut root = FieldShapes::new(alloc);
+    let done = root.required::<u8>("id", Tag::CONTEXT_0);
+    kept(root, done)
+}
+
+/// Returns the fields after the marker. An addition's tag goes on from that of the last root field.
+fn added_fields(alloc: Global) -> Result<FieldShapes, Fail> {
+    let mut added = FieldShapes::new(alloc);
+    let done = added.optional::<String>("note", Tag::CONTEXT_1);
+    kept(added, done)
+}
+
+/// Returns the shape of a SEQUENCE that has an extension addition.
+fn extensible(alloc: Global) -> Result<Shape, Fail> {
+    let root = root_fields(alloc)?;
+    match added_fields(alloc) {
+        Ok(added) => Ok(root.extensible_sequence(added)),
+        Err(fail) => {
+            let_go(root);
+            Err(fail)
+        }
+    }
+}
+
+/// Counts the fields of the root and those after the marker.
+fn count_fields(shape: &Shape) -> (usize, usize) {
+    match shape {
         Shape::Seq {
             fields,
             added: Some(added),
             ..
-        } => fields.len() + added.len(),
-        _ => 0,
-    };
-    assert_eq!(rt; fields, 2);
+        } => (fields.len(), added.len()),
+        _ => (0, 0),
+    }
+}
+
+/// A shape with an extension addition can be put together and read: it has the fields of the root
+/// and those after the marker apart.
+#[test]
+fn a_sequence_with_an_extension_addition(rt: HostRuntime) -> Result<(), Fail> {
+    let shape = extensible(rt.alloc())?;
+    let is_found = is_readable(&shape) && count_fields(&shape) == (1, 1);
+    let_go(shape);
+    assert!(rt; is_found);
     Ok(())
 }

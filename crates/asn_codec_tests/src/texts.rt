@@ -1,5 +1,5 @@
 // Values that have no text in one of the notations, and calls that always refuse.
-use crate::checks::{assert_refused, assert_text, avn_text};
+use crate::checks::{assert_refused, assert_text, avn_text, let_go};
 use asn_base::{Constraints, Identifier, Tag};
 use asn_fault::{DecodeError, EncodeError};
 use asn_strings::{BmpString, GeneralString, GraphicString, TeletexString};
@@ -163,7 +163,10 @@ fn write_refused_in_jer(
     string: &TeletexString,
     real: bool,
 ) -> Result<(), EncodeError> {
-    write_refused(&mut jer::enc::Encoder::new(alloc), string, real)
+    let mut encoder = jer::enc::Encoder::new(alloc);
+    let written = write_refused(&mut encoder, string, real);
+    let_go(encoder);
+    written
 }
 
 /// Writes in AVN what is always refused.
@@ -172,19 +175,22 @@ fn write_refused_in_avn(
     string: &TeletexString,
     real: bool,
 ) -> Result<(), EncodeError> {
-    write_refused(&mut avn::enc::Encoder::new(alloc), string, real)
+    let mut encoder = avn::enc::Encoder::new(alloc);
+    let written = write_refused(&mut encoder, string, real);
+    let_go(encoder);
+    written
 }
 
 /// Checks that there is an error, which prints this text and the name of the codec.
 fn assert_refused_by<E: Display + Drop>(
     rt: &impl Abort,
     alloc: Global,
-    result: Result<(), E>,
+    answer: Result<(), E>,
     text: &str,
     codec: &str,
 ) -> Result<(), Fail> {
     let want = format!(in alloc; "{text} (Codec: {codec})")?;
-    assert_refused(rt, alloc, result, want.as_str())
+    assert_refused(rt, alloc, answer, want.as_str())
 }
 
 #[test]
@@ -208,7 +214,17 @@ fn assert_unread_in_jer(
     text: &str,
 ) -> Result<(), Fail> {
     let mut decoder = jer::de::Decoder::from_value(alloc, Value::Null)?;
-    assert_refused_by(rt, alloc, read_refused(&mut decoder, real), text, "JER")
+    let read = read_refused(&mut decoder, real);
+    let_go(decoder);
+    assert_refused_by(rt, alloc, read, text, "JER")
+}
+
+/// Reads NULL, and then a TeletexString, or a REAL.
+fn read_null_and_refused<D: Decoder>(decoder: &mut D, real: bool) -> Result<(), DecodeError> {
+    match decoder.decode_null(Tag::NULL) {
+        Ok(()) => read_refused(decoder, real),
+        Err(error) => Err(error),
+    }
 }
 
 /// Checks that neither is read in AVN, where a value was read before.
@@ -219,8 +235,9 @@ fn assert_unread_in_avn(
     text: &str,
 ) -> Result<(), Fail> {
     let mut decoder = avn::de::Decoder::from_value(alloc, AvnValue::Null)?;
-    decoder.decode_null(Tag::NULL)?;
-    assert_refused_by(rt, alloc, read_refused(&mut decoder, real), text, "AVN")
+    let read = read_null_and_refused(&mut decoder, real);
+    let_go(decoder);
+    assert_refused_by(rt, alloc, read, text, "AVN")
 }
 
 #[test]

@@ -1,4 +1,5 @@
 //! Runs the decoding of `MarkSet` by hand on both notations.
+use crate::checks::{assert_refused, let_go};
 use asn_by_hand::read_mark_set;
 use asn_fault::DecodeError;
 use asn_samples::MarkSet;
@@ -10,7 +11,11 @@ use std::test::Fail;
 /// Decodes a set from JER by hand.
 fn set_of_jer(alloc: Global, text: &str) -> Result<MarkSet, DecodeError> {
     match jer::de::Decoder::new(alloc, text) {
-        Ok(mut decoder) => read_mark_set(&mut decoder),
+        Ok(mut decoder) => {
+            let set = read_mark_set(&mut decoder);
+            let_go(decoder);
+            set
+        }
         Err(error) => Err(error),
     }
 }
@@ -18,7 +23,11 @@ fn set_of_jer(alloc: Global, text: &str) -> Result<MarkSet, DecodeError> {
 /// Decodes a set from AVN by hand.
 fn set_of_avn(alloc: Global, text: &str) -> Result<MarkSet, DecodeError> {
     match avn::de::Decoder::new(alloc, text) {
-        Ok(mut decoder) => read_mark_set(&mut decoder),
+        Ok(mut decoder) => {
+            let set = read_mark_set(&mut decoder);
+            let_go(decoder);
+            set
+        }
         Err(error) => Err(error),
     }
 }
@@ -42,12 +51,6 @@ fn a_set_is_read_field_by_field(rt: HostRuntime) -> Result<(), Fail> {
 /// Of two members that are of another kind the one with the smaller tag is named.
 #[test]
 fn the_member_with_the_smaller_tag_is_named(rt: HostRuntime) -> Result<(), Fail> {
-    match set_of_jer(rt.alloc(), "{\"mark\":true,\"note\":3}") {
-        Ok(_) => Err(Fail::from("a set")),
-        Err(error) => {
-            let text = error.to_string(rt.alloc())?;
-            assert!(rt; text.starts_with("Error when decoding field `note`"));
-            Ok(())
-        }
-    }
+    let set = set_of_jer(rt.alloc(), "{\"mark\":true,\"note\":3}");
+    assert_refused(&rt, rt.alloc(), set, "Error when decoding field `note`")
 }

@@ -1,5 +1,6 @@
 //! Calls both codecs directly by each call that encodes or decodes a value. The calls under a tag,
 //! constraints or a prefix give what the plain call gives, since neither notation writes tags.
+use crate::checks::{assert_refused, kept, let_go};
 use asn_base::{Class, Constraints, Identifier, Tag};
 use asn_fault::{DecodeError, EncodeError};
 use asn_traits::{Decode, Decoder, Encode, Encoder};
@@ -8,7 +9,6 @@ use avn_value::AvnValue;
 use jer_rules::jer;
 use serde_json::Value;
 use std::alloc::Global;
-use std::process::Abort;
 use std::test::Fail;
 
 /// Is the tag `[9]`, which no sample type has.
@@ -39,15 +39,15 @@ fn write_five<E: Encoder>(encoder: &mut E, call: usize) -> Result<(), EncodeErro
 /// Returns the text in JER of the number 5.
 fn five_in_jer(alloc: Global, call: usize) -> Result<String, Fail> {
     let mut encoder = jer::enc::Encoder::new(alloc);
-    write_five(&mut encoder, call)?;
-    Ok(encoder.to_string()?)
+    let written = write_five(&mut encoder, call);
+    Ok(kept(encoder, written)?.to_string()?)
 }
 
 /// Returns the text in AVN of the number 5.
 fn five_in_avn(alloc: Global, call: usize) -> Result<String, Fail> {
     let mut encoder = avn::enc::Encoder::new(alloc);
-    write_five(&mut encoder, call)?;
-    Ok(encoder.to_string()?)
+    let written = write_five(&mut encoder, call);
+    Ok(kept(encoder, written)?.to_string()?)
 }
 
 /// Each call that encodes a value gives the same text, in both notations.
@@ -76,37 +76,17 @@ fn write_none<E: Encoder>(encoder: &mut E, tagged: bool) -> Result<(), EncodeErr
 }
 
 /// Returns the text in JER of an absent slot.
-fn none_in_jer(alloc: Global, tagged: bool) -> Result<String, EncodeError> {
+fn none_in_jer(alloc: Global, tagged: bool) -> Result<Result<String, EncodeError>, Fail> {
     let mut encoder = jer::enc::Encoder::new(alloc);
-    match write_none(&mut encoder, tagged) {
-        Ok(()) => encoder.to_string(),
-        Err(error) => Err(error),
-    }
+    let written = write_none(&mut encoder, tagged);
+    Ok(kept(encoder, written)?.to_string())
 }
 
 /// Returns the text in AVN of an absent slot.
-fn none_in_avn(alloc: Global, tagged: bool) -> Result<String, EncodeError> {
+fn none_in_avn(alloc: Global, tagged: bool) -> Result<Result<String, EncodeError>, Fail> {
     let mut encoder = avn::enc::Encoder::new(alloc);
-    match write_none(&mut encoder, tagged) {
-        Ok(()) => encoder.to_string(),
-        Err(error) => Err(error),
-    }
-}
-
-/// Checks that there is no text, by the text of the error.
-fn assert_no_text(
-    rt: &impl Abort,
-    alloc: Global,
-    text: Result<String, EncodeError>,
-    want: &str,
-) -> Result<(), Fail> {
-    match text {
-        Ok(_) => Err(Fail::from("a text")),
-        Err(error) => {
-            assert_eq!(rt; error.to_string(alloc)?.as_str(), want);
-            Ok(())
-        }
-    }
+    let written = write_none(&mut encoder, tagged);
+    Ok(kept(encoder, written)?.to_string())
 }
 
 /// An absent slot at the root is no value: the encoder has no text, in either notation.
@@ -116,8 +96,8 @@ fn an_absent_slot_leaves_no_value_at_the_root(rt: HostRuntime) -> Result<(), Fai
     let in_jer = "JER encoding error: No encoded JSON root value found (Codec: JER)";
     let in_avn = "AVN encoding error: No encoded AVN root value found (Codec: AVN)";
     for &tagged in &[false, true] {
-        assert_no_text(&rt, rt.alloc(), none_in_jer(rt.alloc(), tagged), in_jer)?;
-        assert_no_text(&rt, rt.alloc(), none_in_avn(rt.alloc(), tagged), in_avn)?;
+        assert_refused(&rt, rt.alloc(), none_in_jer(rt.alloc(), tagged)?, in_jer)?;
+        assert_refused(&rt, rt.alloc(), none_in_avn(rt.alloc(), tagged)?, in_avn)?;
     }
     Ok(())
 }
@@ -143,14 +123,18 @@ fn read_number<D: Decoder>(decoder: &mut D, call: usize) -> Result<Option<u8>, D
 fn number_in_jer(alloc: Global, call: usize) -> Result<Option<u8>, Fail> {
     let five = Value::from_str(alloc, "5")?;
     let mut decoder = jer::de::Decoder::from_value(alloc, five)?;
-    Ok(read_number(&mut decoder, call)?)
+    let number = read_number(&mut decoder, call);
+    let_go(decoder);
+    Ok(number?)
 }
 
 /// Decodes the number 5 from a value of AVN.
 fn number_in_avn(alloc: Global, call: usize) -> Result<Option<u8>, Fail> {
     let five = AvnValue::Integer(String::from_str(alloc, "5")?);
     let mut decoder = avn::de::Decoder::from_value(alloc, five)?;
-    Ok(read_number(&mut decoder, call)?)
+    let number = read_number(&mut decoder, call);
+    let_go(decoder);
+    Ok(number?)
 }
 
 /// Each call that decodes a value takes it, in both notations.
@@ -169,26 +153,22 @@ fn each_reading_call_takes_the_value(rt: HostRuntime) -> Result<(), Fail> {
     Ok(())
 }
 
-/// Returns the text of the error of decoding a number from a float.
-fn refusal_of_a_float(alloc: Global) -> Result<String, Fail> {
-    // Not by a text: `Decoder::new` refuses one with a float as a REAL.
-    let float = Value::from_str(alloc, "1.5")?;
-    let mut decoder = jer::de::Decoder::from_value(alloc, float)?;
-    match decoder.decode_integer::<u8>(Tag::INTEGER, &Constraints::NONE) {
-        Ok(_) => Err(Fail::from("a number")),
-        Err(error) => Ok(error.to_string(alloc)?),
-    }
-}
-
 /// A JSON value that a program makes may hold a float, which is of no kind that a type needs. How
 /// the error prints it is unspecified, so its beginning alone is compared.
 /// The beginning is that of the crate `rasn`.
 #[test]
 fn a_float_is_of_another_kind(rt: HostRuntime) -> Result<(), Fail> {
+    // Not by a text: `Decoder::new` refuses one with a float as a REAL.
+    let float = Value::from_str(rt.alloc(), "1.5")?;
+    let mut decoder = jer::de::Decoder::from_value(rt.alloc(), float)?;
+    let number = decoder.decode_integer::<u8>(Tag::INTEGER, &Constraints::NONE);
+    let_go(decoder);
     // The words name the numbers that JER has, and not those of the type.
-    let kind = "JER decoding error: Found mismatching JSON value. Expected type: number \
-         (supported range -2^63..2^64).";
-    let text = refusal_of_a_float(rt.alloc())?;
-    assert!(rt; text.starts_with(kind));
-    Ok(())
+    assert_refused(
+        &rt,
+        rt.alloc(),
+        number,
+        "JER decoding error: Found mismatching JSON value. Expected type: number \
+         (supported range -2^63..2^64).",
+    )
 }

@@ -7,6 +7,8 @@ mod by_hand;
 #[cfg(test)]
 mod calls;
 #[cfg(test)]
+mod checks;
+#[cfg(test)]
 mod samples;
 #[cfg(test)]
 mod shapes;

@@ -1,4 +1,5 @@
 //! Runs visitors at the sample types, and shows the shape of one.
+use crate::checks::let_go;
 use asn_base::{Identifier, Tag};
 use asn_samples::{Sample, SampleVisitor, is_sample_name};
 use asn_traits::{Decode, Encode, Shape, is_readable};
@@ -94,6 +95,14 @@ fn constants_of(sample: Sample) -> (Tag, (bool, bool)) {
     (tag, constants)
 }
 
+/// Returns whether the shape of the sample's type can be read.
+fn has_readable_shape(alloc: Global, sample: Sample) -> Result<bool, Fail> {
+    let shape = sample.shape(alloc)?;
+    let is_found = is_readable(&shape);
+    let_go(shape);
+    Ok(is_found)
+}
+
 /// Checks that the name leads to a type of this tag, whose shape can be read.
 fn assert_sample(rt: &impl Abort, alloc: Global, name: &str, tag: Tag) -> Result<(), Fail> {
     assert!(rt; is_sample_name(name), "{name}");
@@ -103,7 +112,7 @@ fn assert_sample(rt: &impl Abort, alloc: Global, name: &str, tag: Tag) -> Result
                 constants_of(sample) == (tag, (tag == Tag::EOC, true)),
                 "{name}"
             );
-            assert!(rt; is_readable(&sample.shape(alloc)?), "{name}");
+            assert!(rt; has_readable_shape(alloc, sample)?, "{name}");
             Ok(())
         }
         None => Err(Fail::from("no sample")),
@@ -152,6 +161,8 @@ fn has_addition(shape: &Shape, identifier: &str, tag: u32) -> bool {
 #[test]
 fn a_choice_shows_its_additions(rt: HostRuntime) -> Result<(), Fail> {
     let shape = Sample::ExtChoice.shape(rt.alloc())?;
-    assert!(rt; has_addition(&shape, "Test3", 2));
+    let is_found = has_addition(&shape, "Test3", 2);
+    let_go(shape);
+    assert!(rt; is_found);
     Ok(())
 }

@@ -1,31 +1,27 @@
 //! Tests shapes that can't be read.
+use crate::checks::let_go;
 use asn_base::{Class, Tag};
 use asn_traits::{AlternativeShape, FieldShape, Plain, PresenceShape, SeqKind, Shape, is_readable};
 use std::alloc::Global;
 use std::test::Fail;
 
-/// Returns a field of this name that has to be present.
-fn field(alloc: Global, name: &str) -> Result<FieldShape, Fail> {
-    Ok(FieldShape {
-        name: String::from_str(alloc, name)?,
+/// Returns a BOOLEAN field of this name.
+fn field(name: String, presence: PresenceShape) -> FieldShape {
+    FieldShape {
+        name,
         tag: Tag::CONTEXT_0,
-        presence: PresenceShape::Required,
+        presence,
         shape: Shape::Bool,
-    })
+    }
 }
 
-/// Returns an alternative of this identifier, whose tag has this class and number.
-fn alternative(
-    alloc: Global,
-    identifier: &str,
-    class: Class,
-    value: u32,
-) -> Result<AlternativeShape, Fail> {
-    Ok(AlternativeShape {
-        identifier: String::from_str(alloc, identifier)?,
+/// Returns a BOOLEAN alternative of this identifier, whose tag has this class and number.
+fn alternative(identifier: String, class: Class, value: u32) -> AlternativeShape {
+    AlternativeShape {
+        identifier,
         tag: Tag { class, value },
         shape: Shape::Bool,
-    })
+    }
 }
 
 /// Returns the SEQUENCE of these fields.
@@ -53,34 +49,41 @@ fn items_of(alloc: Global, item: &str) -> Result<Shape, Fail> {
 
 /// Returns the CHOICE of one alternative.
 fn choice_of(alloc: Global, class: Class, value: u32) -> Result<Shape, Fail> {
-    let only = alternative(alloc, "a", class, value)?;
+    let only = alternative(String::from_str(alloc, "a")?, class, value);
     Ok(choice(Vec::from_array(alloc, [only])?))
 }
 
 /// Returns the CHOICE of two alternatives whose identifiers differ in case alone.
 fn identifiers_alike(alloc: Global) -> Result<Shape, Fail> {
-    let small = alternative(alloc, "a", Class::Context, 0)?;
-    let capital = alternative(alloc, "A", Class::Context, 1)?;
-    Ok(choice(Vec::from_array(alloc, [small, capital])?))
+    let small = String::from_str(alloc, "a")?;
+    let capital = String::from_str(alloc, "A")?;
+    let both = [
+        alternative(small, Class::Context, 0),
+        alternative(capital, Class::Context, 1),
+    ];
+    Ok(choice(Vec::from_array(alloc, both)?))
 }
 
 /// Returns the SEQUENCE of two fields of one name.
 fn name_twice(alloc: Global) -> Result<Shape, Fail> {
-    let twice = [field(alloc, "a")?, field(alloc, "a")?];
+    let first = String::from_str(alloc, "a")?;
+    let second = String::from_str(alloc, "a")?;
+    let twice = [
+        field(first, PresenceShape::Required),
+        field(second, PresenceShape::Required),
+    ];
     Ok(sequence(Vec::from_array(alloc, twice)?))
 }
 
 /// Returns the SEQUENCE of one field.
-fn sequence_of(alloc: Global, name: &str) -> Result<Shape, Fail> {
-    let only = [field(alloc, name)?];
-    Ok(sequence(Vec::from_array(alloc, only)?))
-}
-
-/// Returns the SEQUENCE of a BOOLEAN whose default is a number.
-fn default_of_another_kind(alloc: Global) -> Result<Shape, Fail> {
-    let mut only = field(alloc, "a")?;
-    only.presence = PresenceShape::Default(Plain::Int(1));
-    Ok(sequence(Vec::from_array(alloc, [only])?))
+fn sequence_of(alloc: Global, name: &str, presence: PresenceShape) -> Result<Shape, Fail> {
+    match String::from_str(alloc, name) {
+        Ok(name) => Ok(sequence(Vec::from_array(alloc, [field(name, presence)])?)),
+        Err(error) => {
+            let_go(presence);
+            Err(Fail::from(error))
+        }
+    }
 }
 
 /// Counts the shapes of `unreadable`.
@@ -101,9 +104,10 @@ fn unreadable(alloc: Global, case: usize) -> Result<Shape, Fail> {
         // A keyword as an item.
         5 => items_of(alloc, "TRUE"),
         6 => name_twice(alloc),
-        7 => default_of_another_kind(alloc),
+        // A BOOLEAN whose default is a number.
+        7 => sequence_of(alloc, "a", PresenceShape::Default(Plain::Int(1))),
         // A name that AVN cannot spell.
-        _ => sequence_of(alloc, "1a"),
+        _ => sequence_of(alloc, "1a", PresenceShape::Required),
     }
 }
 
@@ -112,7 +116,9 @@ fn unreadable(alloc: Global, case: usize) -> Result<Shape, Fail> {
 fn shapes_that_cannot_be_read(rt: HostRuntime) -> Result<(), Fail> {
     for case in 0..UNREADABLE {
         let shape = unreadable(rt.alloc(), case)?;
-        assert!(rt; !is_readable(&shape));
+        let is_found = !is_readable(&shape);
+        let_go(shape);
+        assert!(rt; is_found, "shape {case}");
     }
     Ok(())
 }

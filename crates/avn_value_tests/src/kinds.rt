@@ -1,7 +1,10 @@
 //! Names the variants of values, which their printed text does not always show, and compares both.
-//! No function here states what it returns, so that a test's proof is of the test alone.
+//! No function here states what it does, so that a test's proof is of the test alone. Values and
+//! errors are let go here, where their types are open: where a type is known, a proof goes through
+//! each part that is let go.
 use avn_value::{AvnValue, parse_avn};
 use std::alloc::{AllocError, Global};
+use std::fmt::Display;
 use std::process::Abort;
 use std::test::Fail;
 
@@ -65,16 +68,17 @@ pub fn assert_text(rt: &impl Abort, text: &str, want: &str) {
     assert_eq!(rt; text, want);
 }
 
-/// Checks that the value prints this text.
-pub fn assert_printed(
-    rt: &impl Abort,
-    alloc: Global,
-    value: &AvnValue,
-    text: &str,
-) -> Result<(), Fail> {
-    let printed = value.to_string(alloc)?;
-    assert_text(rt, printed.as_str(), text);
-    Ok(())
+/// Lets the value go.
+pub fn let_go<T: Drop>(_value: T) {}
+
+/// Returns whether there is an error.
+pub fn is_refused<T: Drop, E: Drop>(answer: Result<T, E>) -> bool {
+    answer.is_err()
+}
+
+/// Returns what the value or the error prints.
+pub fn printed<T: Display + Drop>(alloc: Global, value: T) -> Result<String, AllocError> {
+    value.to_string(alloc)
 }
 
 /// Checks that the value has these variants and prints this text.
@@ -88,7 +92,21 @@ pub fn assert_value(
     // The variants are compared too, since the text doesn't always show them.
     let names = kinds(alloc, value)?;
     assert_text(rt, names.as_str(), variants);
-    assert_printed(rt, alloc, value, text)
+    assert_text(rt, value.to_string(alloc)?.as_str(), text);
+    Ok(())
+}
+
+/// Checks that a value that is let go has these variants and prints this text.
+pub fn assert_owned(
+    rt: &impl Abort,
+    alloc: Global,
+    value: AvnValue,
+    variants: &str,
+    text: &str,
+) -> Result<(), Fail> {
+    let checked = assert_value(rt, alloc, &value, variants, text);
+    let_go(value);
+    checked
 }
 
 /// Returns what the text is read as.

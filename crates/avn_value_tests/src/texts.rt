@@ -1,6 +1,6 @@
 //! Reads texts of the notation with ample memory.
-use crate::kinds::{assert_printed, assert_text, assert_value, copy_of, kinds, normal_form, read};
-use avn_value::parse_avn;
+use crate::kinds::{assert_text, assert_value, copy_of, kinds, let_go, normal_form, printed, read};
+use avn_value::{AvnValue, parse_avn};
 use std::alloc::{AllocError, Global};
 use std::process::Abort;
 use std::test::Fail;
@@ -92,21 +92,42 @@ const READ_TEXTS: [(&str, &str, &str); 37] = [
     ("\"say \"\"hi\"\"\"", "CharString", "\"say \"\"hi\"\"\""),
 ];
 
-/// Checks what the text is read as, a copy of it, and its normal form.
-fn assert_read(
+/// Checks a copy of what a text was read as, and the normal form of the copy.
+fn assert_copy(
     rt: &impl Abort,
     alloc: Global,
-    text: &str,
+    copy: &AvnValue,
     variants: &str,
-    printed: &str,
+    text: &str,
 ) -> Result<(), Fail> {
-    let value = read(alloc, text)?;
-    assert_value(rt, alloc, &value, variants, printed)?;
-    let copy = copy_of(alloc, &value)?;
-    assert_value(rt, alloc, &copy, variants, printed)?;
+    assert_value(rt, alloc, copy, variants, text)?;
     // The normal form prints the same, if as octets in place of whole octets of bits.
-    let normal = normal_form(alloc, &copy)?;
-    assert_printed(rt, alloc, &normal, printed)
+    let normal = printed(alloc, normal_form(alloc, copy)?)?;
+    assert_text(rt, normal.as_str(), text);
+    Ok(())
+}
+
+/// Checks what a text was read as, a copy of it, and its normal form.
+fn assert_forms(
+    rt: &impl Abort,
+    alloc: Global,
+    value: &AvnValue,
+    variants: &str,
+    text: &str,
+) -> Result<(), Fail> {
+    assert_value(rt, alloc, value, variants, text)?;
+    let copy = copy_of(alloc, value)?;
+    let checked = assert_copy(rt, alloc, &copy, variants, text);
+    let_go(copy);
+    checked
+}
+
+/// Checks what the text of a row of `READ_TEXTS` is read as.
+fn assert_read(rt: &impl Abort, alloc: Global, row: &(&str, &str, &str)) -> Result<(), Fail> {
+    let value = read(alloc, row.0)?;
+    let checked = assert_forms(rt, alloc, &value, row.1, row.2);
+    let_go(value);
+    checked
 }
 
 /// Each text is read as its value, a copy of it is the same, and its normal form prints the same
@@ -115,7 +136,7 @@ fn assert_read(
 #[test]
 fn texts_that_are_read(rt: HostRuntime) -> Result<(), Fail> {
     for row in READ_TEXTS.iter() {
-        assert_read(&rt, rt.alloc(), row.0, row.1, row.2)?;
+        assert_read(&rt, rt.alloc(), row)?;
     }
     Ok(())
 }
@@ -123,8 +144,8 @@ fn texts_that_are_read(rt: HostRuntime) -> Result<(), Fail> {
 /// Returns the text of the error that refuses the text, or else what the text is read as.
 fn refusal(alloc: Global, text: &str) -> Result<String, AllocError> {
     match parse_avn(alloc, text) {
-        Ok(value) => value.to_string(alloc),
-        Err(error) => error.to_string(alloc),
+        Ok(value) => printed(alloc, value),
+        Err(error) => printed(alloc, error),
     }
 }
 
@@ -197,6 +218,14 @@ fn assert_unexpected_token(rt: &impl Abort, alloc: Global, text: &str) -> Result
     Ok(())
 }
 
+/// Returns the names of the variants of what the text is read as.
+fn kinds_of_text(alloc: Global, text: &str) -> Result<String, Fail> {
+    let value = read(alloc, text)?;
+    let names = kinds(alloc, &value);
+    let_go(value);
+    Ok(names?)
+}
+
 /// Each front part of a text that has all kinds of tokens is refused, and the whole is read.
 /// No front part is a value, since the text is one pair of braces.
 #[test]
@@ -209,7 +238,7 @@ fn a_text_that_is_cut_short_is_refused(rt: HostRuntime) -> Result<(), Fail> {
         text.push(c)?;
     }
     // Every character is there now.
-    let names = kinds(rt.alloc(), &read(rt.alloc(), text.as_str())?)?;
+    let names = kinds_of_text(rt.alloc(), text.as_str())?;
     assert_text(
         &rt,
         names.as_str(),

@@ -1,5 +1,5 @@
 //! Prints, copies and normalizes values of the notation with ample memory.
-use crate::kinds::{assert_value, copy_of, kinds, normal_form, read};
+use crate::kinds::{assert_owned, assert_value, copy_of, kinds, let_go, normal_form, read};
 use avn_value::AvnValue;
 use std::alloc::{AllocError, Global};
 use std::process::Abort;
@@ -18,26 +18,25 @@ fn bits(alloc: Global, octets: &[u8], bit_length: usize) -> Result<AvnValue, All
     })
 }
 
-/// Returns fields: one of this name, if it has a value, and an absent one.
-fn sequence(
-    alloc: Global,
-    name: &str,
-    value: Option<AvnValue>,
-    absent: &str,
-) -> Result<AvnValue, AllocError> {
-    let mut fields = Vec::new(alloc);
-    if let Some(value) = value {
-        fields.push((string(alloc, name)?, Some(value)))?;
-    }
-    fields.push((string(alloc, absent)?, None))?;
-    Ok(AvnValue::Sequence(fields))
+/// Returns one field of this name, without a value.
+fn absent_field(alloc: Global, name: &str) -> Result<AvnValue, AllocError> {
+    let name = string(alloc, name)?;
+    Ok(AvnValue::Sequence(Vec::from_array(alloc, [(name, None)])?))
 }
 
-/// Returns a choice of this identifier and payload.
-fn choice(alloc: Global, identifier: &str, value: AvnValue) -> Result<AvnValue, AllocError> {
+/// Returns a field with a value, and an absent one.
+fn two_fields(alloc: Global) -> Result<AvnValue, AllocError> {
+    let present = string(alloc, "field1")?;
+    let absent = string(alloc, "field2")?;
+    let fields = [(present, Some(AvnValue::Boolean(true))), (absent, None)];
+    Ok(AvnValue::Sequence(Vec::from_array(alloc, fields)?))
+}
+
+/// Returns a choice of this identifier, whose payload is NULL.
+fn choice(alloc: Global, identifier: &str) -> Result<AvnValue, AllocError> {
     Ok(AvnValue::Choice {
         identifier: string(alloc, identifier)?,
-        value: Box::new(alloc, value)?,
+        value: Box::new(alloc, AvnValue::Null)?,
     })
 }
 
@@ -70,8 +69,8 @@ fn other_form(alloc: Global, place: usize) -> Result<AvnValue, AllocError> {
     match place {
         0 => Ok(AvnValue::Real(string(alloc, "5")?)),
         1 => Ok(AvnValue::Oid(Vec::from_slice(alloc, &[2, 5])?)),
-        2 => sequence(alloc, "field1", Some(AvnValue::Boolean(true)), "field2"),
-        3 => sequence(alloc, "", None, "absent"),
+        2 => two_fields(alloc),
+        3 => absent_field(alloc, "absent"),
         4 => bits(alloc, &[0xA0], 8),
         _ => bits(alloc, &[0xFF], 3),
     }
@@ -79,15 +78,21 @@ fn other_form(alloc: Global, place: usize) -> Result<AvnValue, AllocError> {
 
 /// Checks a value, a copy of it, its normal form and what its text is read as.
 fn assert_forms(rt: &impl Abort, alloc: Global, value: &AvnValue, row: &Row) -> Result<(), Fail> {
+    assert!(rt; value.is_well_formed());
     // The value itself and its copy have the same variants, the normal form may have others.
     let own = kinds(alloc, value)?;
     assert_value(rt, alloc, value, own.as_str(), row.0)?;
-    let copy = copy_of(alloc, value)?;
-    assert_value(rt, alloc, &copy, own.as_str(), row.0)?;
-    let normal = normal_form(alloc, value)?;
-    assert_value(rt, alloc, &normal, row.1, row.2)?;
-    let read = read(alloc, row.0)?;
-    assert_value(rt, alloc, &read, row.1, row.2)
+    assert_owned(rt, alloc, copy_of(alloc, value)?, own.as_str(), row.0)?;
+    assert_owned(rt, alloc, normal_form(alloc, value)?, row.1, row.2)?;
+    assert_owned(rt, alloc, read(alloc, row.0)?, row.1, row.2)
+}
+
+/// Checks the value at this place of `OTHER_FORMS`.
+fn assert_other_form(rt: &impl Abort, alloc: Global, place: usize, row: &Row) -> Result<(), Fail> {
+    let value = other_form(alloc, place)?;
+    let checked = assert_forms(rt, alloc, &value, row);
+    let_go(value);
+    checked
 }
 
 /// Values are printed as their text and are well formed, a copy is the same value, and the normal
@@ -96,25 +101,37 @@ fn assert_forms(rt: &impl Abort, alloc: Global, value: &AvnValue, row: &Row) -> 
 fn values_are_printed_and_copied_and_have_a_normal_form(rt: HostRuntime) -> Result<(), Fail> {
     for (place, row) in OTHER_FORMS.iter().enumerate() {
         // The place of the texts in the list is that of their value.
-        let value = other_form(rt.alloc(), place)?;
-        assert!(rt; value.is_well_formed());
-        assert_forms(&rt, rt.alloc(), &value, row)?;
+        assert_other_form(&rt, rt.alloc(), place, row)?;
     }
     Ok(())
+}
+
+/// Returns whether the value is the bit string of these octets, of which a number of bits counts.
+fn is_bits(value: &AvnValue, octets: &[u8], length: usize) -> bool {
+    match value {
+        AvnValue::BitString { bytes, bit_length } => {
+            bytes.as_slice() == octets && *bit_length == length
+        }
+        _ => false,
+    }
+}
+
+/// Returns the normal form of the octet 0xFF as three bits.
+fn normal_bits(alloc: Global) -> Result<AvnValue, Fail> {
+    let value = bits(alloc, &[0xFF], 3)?;
+    let normal = normal_form(alloc, &value);
+    let_go(value);
+    normal
 }
 
 /// The bits past the length are set to 0 by the normal form, which its printed text can't show.
 /// Of 0xFF, three bits are left: 0xE0.
 #[test]
 fn bits_past_the_length_are_zero_in_a_normal_form(rt: HostRuntime) -> Result<(), Fail> {
-    let value = bits(rt.alloc(), &[0xFF], 3)?;
-    match normal_form(rt.alloc(), &value)? {
-        AvnValue::BitString { bytes, bit_length } => {
-            assert!(rt; bytes.as_slice() == [0xE0].as_slice());
-            assert!(rt; bit_length == 3);
-        }
-        _ => assert!(rt; false, "no bit string"),
-    }
+    let normal = normal_bits(rt.alloc())?;
+    let is_found = is_bits(&normal, &[0xE0], 3);
+    let_go(normal);
+    assert!(rt; is_found);
     Ok(())
 }
 
@@ -134,9 +151,9 @@ fn ill_formed(alloc: Global, place: usize) -> Result<AvnValue, AllocError> {
         3 => bits(alloc, &[], 3),
         4 => bits(alloc, &[0, 0], 3),
         // An absent field has a name too, which is no identifier here.
-        5 => sequence(alloc, "", None, "1"),
+        5 => absent_field(alloc, "1"),
         // A blank would end the identifier.
-        _ => choice(alloc, "a b", AvnValue::Null),
+        _ => choice(alloc, "a b"),
     }
 }
 
@@ -145,7 +162,9 @@ fn ill_formed(alloc: Global, place: usize) -> Result<AvnValue, AllocError> {
 fn values_that_cannot_be_read_again_are_not_well_formed(rt: HostRuntime) -> Result<(), Fail> {
     for place in 0..ILL_FORMED {
         let value = ill_formed(rt.alloc(), place)?;
-        assert!(rt; !value.is_well_formed(), "value {place}");
+        let is_well_formed = value.is_well_formed();
+        let_go(value);
+        assert!(rt; !is_well_formed, "value {place}");
     }
     Ok(())
 }

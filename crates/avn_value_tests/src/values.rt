@@ -1,5 +1,5 @@
 //! Prints, copies and normalizes values of the notation with ample memory.
-use crate::kinds::{assert_owned, assert_value, copy_of, kinds, let_go, normal_form, read};
+use crate::kinds::{assert_owned, assert_text, copy_of, kinds, let_go, normal_form, read};
 use avn_value::AvnValue;
 use std::alloc::{AllocError, Global};
 use std::process::Abort;
@@ -76,15 +76,22 @@ fn other_form(alloc: Global, place: usize) -> Result<AvnValue, AllocError> {
     }
 }
 
-/// Checks a value, a copy of it, its normal form and what its text is read as.
-fn assert_forms(rt: &impl Abort, alloc: Global, value: &AvnValue, row: &Row) -> Result<(), Fail> {
-    assert!(rt; value.is_well_formed());
-    // The value itself and its copy have the same variants, the normal form may have others.
+/// Checks that a value and a copy of it have the same variants and print this text.
+fn assert_copied(rt: &impl Abort, alloc: Global, value: &AvnValue, text: &str) -> Result<(), Fail> {
     let own = kinds(alloc, value)?;
-    assert_value(rt, alloc, value, own.as_str(), row.0)?;
-    assert_owned(rt, alloc, copy_of(alloc, value)?, own.as_str(), row.0)?;
-    assert_owned(rt, alloc, normal_form(alloc, value)?, row.1, row.2)?;
-    assert_owned(rt, alloc, read(alloc, row.0)?, row.1, row.2)
+    let copy = copy_of(alloc, value)?;
+    assert_owned(rt, alloc, copy, own.as_str(), text)
+}
+
+/// Checks a value, a copy of it, its normal form and what its text is read as. The normal form may
+/// have other variants than the value.
+fn assert_forms(rt: &impl Abort, alloc: Global, value: &AvnValue, row: &Row) -> Result<(), Fail> {
+    let (text, variants, normal_text) = *row;
+    assert!(rt; value.is_well_formed());
+    assert_text(rt, value.to_string(alloc)?.as_str(), text);
+    assert_copied(rt, alloc, value, text)?;
+    assert_owned(rt, alloc, normal_form(alloc, value)?, variants, normal_text)?;
+    assert_owned(rt, alloc, read(alloc, text)?, variants, normal_text)
 }
 
 /// Checks the value at this place of `OTHER_FORMS`.

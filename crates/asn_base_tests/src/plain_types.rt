@@ -47,6 +47,7 @@ fn assert_padded(rt: &impl Abort, alloc: Global, octet: u8) -> Result<(), Fail> 
 /// Checks that a bit that is added after five of the octet is set, and two that are taken are reset.
 fn assert_reset(rt: &impl Abort, alloc: Global, octet: u8) -> Result<(), Fail> {
     let mut bits = first_bits(alloc, octet, 5)?;
+    assert!(rt; bits.len() == 5);
     bits.push(true)?;
     assert_octets(rt, bits.octets(), [0xAC].as_slice());
     assert!(rt; bits.pop() == Some(true));

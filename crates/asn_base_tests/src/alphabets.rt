@@ -1,5 +1,6 @@
 // Tests the strings on the edges of their alphabets. The expected values come from the alphabets
 // of X.680, section 41.
+use crate::checks::{assert_octets, assert_printed, assert_text};
 use asn_strings::{
     BmpString, GeneralString, GraphicString, Ia5String, NumericString, PrintableString,
     StringFault, TeletexString, UnitFault, UniversalString, VisibleString,
@@ -55,54 +56,78 @@ fn place_outside(alloc: Global, name: &str, text: &str) -> Result<Option<usize>,
 #[test]
 fn alphabets(rt: HostRuntime) -> Result<(), Fail> {
     // Each row names its type, so one loop tries all of them.
-    for (name, text, place) in CASES {
-        assert_eq!(rt;
-            place_outside(rt.alloc(), name, text)?,
-            place,
-            "{name} {text}"
-        );
+    for row in CASES.iter() {
+        let place = place_outside(rt.alloc(), row.0, row.1)?;
+        assert!(rt; place == row.2, "{} {}", row.0, row.1);
     }
     Ok(())
 }
 
-/// A string has the content that it was made of, is equal to one of the same content, and is made
-/// of octets where its set has them.
+/// Returns the NumericString of the text.
+fn numeric(alloc: Global, text: &str) -> Result<NumericString, Fail> {
+    Ok(NumericString::try_from_text(alloc, text)?)
+}
+
+/// A string has the content that it was made of, and is equal to one of the same content.
 #[test]
-fn contents(rt: HostRuntime) -> Result<(), Fail> {
-    let alloc = rt.alloc();
-    let numeric = NumericString::try_from_text(alloc, "1 2")?;
-    assert_eq!(rt; numeric.as_str(), "1 2");
-    assert!(rt; numeric == NumericString::from_string("1 2".to_string(alloc)?)?);
-    assert!(rt; numeric != NumericString::try_from_text(alloc, "1 3")?);
-    // `é` is one unit, and two octets in UTF-8.
-    let bmp = BmpString::try_from_text(alloc, "é")?;
-    assert_eq!(rt; bmp.units(), [0xE9].as_slice());
-    assert!(rt; bmp == BmpString::from_units(vec![in alloc; 0xE9]?));
-    let graphic = GraphicString::from_string("é".to_string(alloc)?)?;
-    assert_eq!(rt; graphic.octets(), b"\xC3\xA9".as_slice());
-    // Octets past ASCII are in the set of GraphicString, and control characters are not.
-    assert!(rt; GraphicString::from_octets(vec![in alloc; 0xFF]?).is_some());
-    assert!(rt; GraphicString::from_octets(vec![in alloc; 0x20, 0x1F]?).is_none());
-    // These two sets have every octet.
-    let general = GeneralString::from_octets(vec![in alloc; 0, 0xFF]?);
-    assert_eq!(rt; general.octets(), b"\0\xFF".as_slice());
-    let teletex = TeletexString::from_octets(vec![in alloc; 0, 0xFF]?);
-    assert_eq!(rt; teletex.octets(), b"\0\xFF".as_slice());
+fn contents_of_texts(rt: HostRuntime) -> Result<(), Fail> {
+    let string = numeric(rt.alloc(), "1 2")?;
+    assert_text(&rt, string.as_str(), "1 2");
+    assert!(rt; string == NumericString::from_string("1 2".to_string(rt.alloc())?)?);
+    assert!(rt; string != numeric(rt.alloc(), "1 3")?);
     Ok(())
 }
 
-/// The texts of both faults are exact, which no contract states.
+/// `é` is one unit.
 #[test]
-fn fault_texts(rt: HostRuntime) -> Result<(), Fail> {
-    let fault = StringFault::Alphabet { place: 16 };
-    let text = format!(in rt.alloc(); "{fault}")?;
-    assert_eq!(rt; text.as_str(), "character outside the alphabet at place 16");
-    let text = format!(in rt.alloc(); "{}", StringFault::OutOfMemory)?;
-    assert_eq!(rt; text.as_str(), "Out of memory");
-    let fault = UnitFault::Surrogate { place: 16 };
-    let text = format!(in rt.alloc(); "{fault}")?;
-    assert_eq!(rt; text.as_str(), "surrogate at place 16");
-    let text = format!(in rt.alloc(); "{}", UnitFault::OutOfMemory)?;
-    assert_eq!(rt; text.as_str(), "Out of memory");
+fn contents_of_units(rt: HostRuntime) -> Result<(), Fail> {
+    let string = BmpString::try_from_text(rt.alloc(), "é")?;
+    assert!(rt; string.units() == [0xE9].as_slice());
+    assert!(rt; string == BmpString::from_units(vec![in rt.alloc(); 0xE9]?));
     Ok(())
+}
+
+/// `é` is two octets in UTF-8.
+#[test]
+fn contents_of_octets(rt: HostRuntime) -> Result<(), Fail> {
+    let string = GraphicString::from_string("é".to_string(rt.alloc())?)?;
+    assert_octets(&rt, string.octets(), b"\xC3\xA9".as_slice());
+    Ok(())
+}
+
+/// Octets past ASCII are in the set of GraphicString, and control characters are not.
+#[test]
+fn octets_of_graphic_strings(rt: HostRuntime) -> Result<(), Fail> {
+    let past = GraphicString::from_octets(vec![in rt.alloc(); 0xFF]?);
+    assert!(rt; past.is_some());
+    let control = GraphicString::from_octets(vec![in rt.alloc(); 0x20, 0x1F]?);
+    assert!(rt; control.is_none());
+    Ok(())
+}
+
+/// Two sets have every octet.
+#[test]
+fn octets_of_other_strings(rt: HostRuntime) -> Result<(), Fail> {
+    let general = GeneralString::from_octets(vec![in rt.alloc(); 0, 0xFF]?);
+    assert_octets(&rt, general.octets(), b"\0\xFF".as_slice());
+    let teletex = TeletexString::from_octets(vec![in rt.alloc(); 0, 0xFF]?);
+    assert_octets(&rt, teletex.octets(), b"\0\xFF".as_slice());
+    Ok(())
+}
+
+/// The texts of faults of characters are exact, which no contract states.
+#[test]
+fn texts_of_string_faults(rt: HostRuntime) -> Result<(), Fail> {
+    let fault = StringFault::Alphabet { place: 16 };
+    let text = "character outside the alphabet at place 16";
+    assert_printed(&rt, rt.alloc(), fault, text)?;
+    assert_printed(&rt, rt.alloc(), StringFault::OutOfMemory, "Out of memory")
+}
+
+/// The texts of faults of units are exact, which no contract states.
+#[test]
+fn texts_of_unit_faults(rt: HostRuntime) -> Result<(), Fail> {
+    let fault = UnitFault::Surrogate { place: 16 };
+    assert_printed(&rt, rt.alloc(), fault, "surrogate at place 16")?;
+    assert_printed(&rt, rt.alloc(), UnitFault::OutOfMemory, "Out of memory")
 }

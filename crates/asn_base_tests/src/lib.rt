@@ -6,6 +6,8 @@
 #[cfg(test)]
 mod alphabets;
 #[cfg(test)]
+mod checks;
+#[cfg(test)]
 mod plain_types;
 #[cfg(test)]
 mod sets;

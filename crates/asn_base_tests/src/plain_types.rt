@@ -1,8 +1,11 @@
 // Bit strings, object identifiers and constraints by examples.
+use crate::checks::assert_octets;
 use asn_base::{
     Any, Bits, Bounded, Constraint, Constraints, Extensible, ObjectIdentifier, OctetString, Oid,
     Size,
 };
+use std::alloc::{AllocError, Global};
+use std::process::Abort;
 use std::test::Fail;
 
 /// Arcs, and whether they are those of an object identifier.
@@ -17,24 +20,50 @@ const ARCS: [(&[u32], bool); 8] = [
     (&[], false),
 ];
 
+/// Returns the first bits of the octet, a number of them.
+fn first_bits(alloc: Global, octet: u8, length: usize) -> Result<Bits, AllocError> {
+    Ok(Bits::from_first_bits(vec![in alloc; octet]?, length))
+}
+
+/// Bits are not made of another number of octets than they need.
+#[test]
+fn bits_fill_their_octets(rt: HostRuntime) -> Result<(), Fail> {
+    let short = Bits::from_octets(vec![in rt.alloc(); 0xA8]?, 9);
+    assert!(rt; short.is_none());
+    let long = Bits::from_octets(vec![in rt.alloc(); 0xA8, 0]?, 8);
+    assert!(rt; long.is_none());
+    Ok(())
+}
+
+/// Checks that five bits of the octet are those of 0xA8, by either call.
+fn assert_padded(rt: &impl Abort, alloc: Global, octet: u8) -> Result<(), Fail> {
+    let bits = first_bits(alloc, octet, 5)?;
+    let read = Bits::from_octets(vec![in alloc; octet]?, 5);
+    assert!(rt; read.as_ref() == Some(&bits));
+    assert_octets(rt, bits.octets(), [0xA8].as_slice());
+    Ok(())
+}
+
+/// Checks that a bit that is added after five of the octet is set, and two that are taken are reset.
+fn assert_reset(rt: &impl Abort, alloc: Global, octet: u8) -> Result<(), Fail> {
+    let mut bits = first_bits(alloc, octet, 5)?;
+    assert!(rt; bits.len() == 5);
+    bits.push(true)?;
+    assert_octets(rt, bits.octets(), [0xAC].as_slice());
+    assert!(rt; bits.pop() == Some(true));
+    assert!(rt; bits.pop() == Some(true));
+    assert_octets(rt, bits.octets(), [0xA0].as_slice());
+    assert!(rt; bits.get(2) == Some(true));
+    assert!(rt; bits.get(4).is_none());
+    assert_octets(rt, bits.into_octets().as_slice(), [0xA0].as_slice());
+    Ok(())
+}
+
 #[test]
 fn bits_are_padded_with_zeros(rt: HostRuntime) -> Result<(), Fail> {
-    let alloc = rt.alloc();
-    assert!(rt; Bits::from_octets(vec![in alloc; 0xA8]?, 9).is_none());
-    assert!(rt; Bits::from_octets(vec![in alloc; 0xA8, 0]?, 8).is_none());
-    for octet in [0xA8, 0xAF] {
-        let mut bits = Bits::from_first_bits(vec![in alloc; octet]?, 5);
-        let read = Bits::from_octets(vec![in alloc; octet]?, 5);
-        assert!(rt; read.as_ref() == Some(&bits));
-        assert_eq!(rt; bits.octets(), [0xA8].as_slice());
-        bits.push(true)?;
-        assert_eq!(rt; bits.octets(), [0xAC].as_slice());
-        assert_eq!(rt; bits.pop(), Some(true));
-        assert_eq!(rt; bits.pop(), Some(true));
-        assert_eq!(rt; bits.octets(), [0xA0].as_slice());
-        assert_eq!(rt; bits.get(2), Some(true));
-        assert_eq!(rt; bits.get(4), None);
-        assert_eq!(rt; bits.into_octets().as_slice(), [0xA0].as_slice());
+    for &octet in &[0xA8, 0xAF] {
+        assert_padded(&rt, rt.alloc(), octet)?;
+        assert_reset(&rt, rt.alloc(), octet)?;
     }
     Ok(())
 }
@@ -53,30 +82,48 @@ fn bits_grow_by_octets(rt: HostRuntime) -> Result<(), Fail> {
 }
 
 #[test]
-fn octets_are_kept(rt: HostRuntime) -> Result<(), Fail> {
-    let alloc = rt.alloc();
-    let string = OctetString::from_vec(vec![in alloc; 1, 2]?);
-    assert_eq!(rt; string.as_bytes(), [1, 2].as_slice());
-    assert!(rt; string == OctetString::from_vec(vec![in alloc; 1, 2]?));
-    assert!(rt; string != OctetString::from_vec(vec![in alloc; 1]?));
-    let any = Any::new(string.into_vec());
-    assert_eq!(rt; any.as_bytes(), [1, 2].as_slice());
-    assert!(rt; any != Any::new(vec![in alloc; 2, 1]?));
-    assert_eq!(rt; any.into_vec().as_slice(), [1, 2].as_slice());
+fn octets_of_a_string_are_kept(rt: HostRuntime) -> Result<(), Fail> {
+    let string = OctetString::from_vec(vec![in rt.alloc(); 1, 2]?);
+    assert_octets(&rt, string.as_bytes(), [1, 2].as_slice());
+    assert!(rt; string == OctetString::from_vec(vec![in rt.alloc(); 1, 2]?));
+    assert!(rt; string != OctetString::from_vec(vec![in rt.alloc(); 1]?));
+    assert_octets(&rt, string.into_vec().as_slice(), [1, 2].as_slice());
+    Ok(())
+}
+
+#[test]
+fn octets_of_any_are_kept(rt: HostRuntime) -> Result<(), Fail> {
+    let any = Any::new(vec![in rt.alloc(); 1, 2]?);
+    assert_octets(&rt, any.as_bytes(), [1, 2].as_slice());
+    assert!(rt; any != Any::new(vec![in rt.alloc(); 2, 1]?));
+    assert_octets(&rt, any.into_vec().as_slice(), [1, 2].as_slice());
+    Ok(())
+}
+
+/// Returns whether the arcs are those of an object identifier, which then has them.
+fn makes_identifier(alloc: Global, arcs: &[u32]) -> Result<bool, Fail> {
+    match ObjectIdentifier::new(alloc, arcs)? {
+        Some(identifier) => Ok(identifier.arcs() == arcs),
+        None => Ok(false),
+    }
+}
+
+/// Checks whether the arcs are those of an object identifier, by each call that makes one.
+fn assert_arcs(rt: &impl Abort, alloc: Global, arcs: &[u32], accepted: bool) -> Result<(), Fail> {
+    assert!(rt; Oid::new(arcs).is_some() == accepted, "{arcs:?}");
+    let copy = Vec::from_slice(alloc, arcs)?;
+    assert!(rt;
+        ObjectIdentifier::from_vec(copy).is_some() == accepted,
+        "{arcs:?}"
+    );
+    assert!(rt; makes_identifier(alloc, arcs)? == accepted, "{arcs:?}");
     Ok(())
 }
 
 #[test]
 fn object_identifiers(rt: HostRuntime) -> Result<(), Fail> {
-    let alloc = rt.alloc();
-    for (arcs, accepted) in ARCS {
-        assert_eq!(rt; Oid::new(arcs).is_some(), accepted, "{arcs:?}");
-        let copy = Vec::from_slice(alloc, arcs)?;
-        assert_eq!(rt; ObjectIdentifier::from_vec(copy).is_some(), accepted);
-        match ObjectIdentifier::new(alloc, arcs)? {
-            Some(identifier) => assert_eq!(rt; identifier.arcs(), arcs),
-            None => assert!(rt; !accepted),
-        }
+    for row in ARCS.iter() {
+        assert_arcs(&rt, rt.alloc(), row.0, row.1)?;
     }
     Ok(())
 }

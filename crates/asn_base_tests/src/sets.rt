@@ -1,6 +1,7 @@
 // Sets of octets.
 use asn_sets::SetOf;
 use std::alloc::Global;
+use std::process::Abort;
 use std::test::Fail;
 
 /// Two lists, and whether they are the same multiset.
@@ -12,16 +13,26 @@ const ROWS: [(&[u8], &[u8], bool); 5] = [
     (&[], &[], true),
 ];
 
+/// Returns the set of the octets.
+fn set_of(alloc: Global, octets: &[u8]) -> Result<SetOf<u8>, Fail> {
+    Ok(SetOf::from_vec(alloc, Vec::from_slice(alloc, octets)?)?)
+}
+
+/// Checks that the set of the octets has as many elements.
+fn assert_length(rt: &impl Abort, alloc: Global, octets: &[u8]) -> Result<(), Fail> {
+    let set = set_of(alloc, octets)?;
+    assert!(rt; set.len() == octets.len());
+    assert!(rt; set.to_vec(alloc)?.len() == octets.len());
+    assert!(rt; set.is_empty() == octets.is_empty());
+    Ok(())
+}
+
 #[test]
 fn equality_counts_repeats(rt: HostRuntime) -> Result<(), Fail> {
-    let alloc = rt.alloc();
-    for (one, other, same) in ROWS {
-        let first = SetOf::from_vec(alloc, Vec::from_slice(alloc, one)?)?;
-        let second = SetOf::from_vec(alloc, Vec::from_slice(alloc, other)?)?;
-        assert_eq!(rt; first == second, same, "{one:?} {other:?}");
-        assert_eq!(rt; first.len(), one.len());
-        assert_eq!(rt; first.to_vec(alloc)?.len(), one.len());
-        assert_eq!(rt; first.is_empty(), one.is_empty());
+    for row in ROWS.iter() {
+        let is_same = set_of(rt.alloc(), row.0)? == set_of(rt.alloc(), row.1)?;
+        assert!(rt; is_same == row.2, "{:?} {:?}", row.0, row.1);
+        assert_length(&rt, rt.alloc(), row.0)?;
     }
     Ok(())
 }

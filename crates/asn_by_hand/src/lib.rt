@@ -4,7 +4,5 @@
 #![tactic(auto)]
 
 mod mark_fields;
-#[cfg(test)]
-mod tests;
 
 pub use mark_fields::{MarkField, read_mark_set};

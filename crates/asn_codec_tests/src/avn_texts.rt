@@ -1,23 +1,23 @@
 //! Encodes values of each kind as the text that they have in the value notation, and decodes them
 //! from it. The texts are written by the rules of X.680, in the layout of the crate `rasn`.
+use crate::checks::{assert_text, avn_text, avn_value, is_refused};
 use asn_traits::{Decode, Encode};
 use avn_rules::avn;
 use std::alloc::{AllocError, Global};
-use std::fmt::Debug;
 use std::process::Abort;
 use std::test::Fail;
 
 /// Checks that the value is encoded as the text, and decoded from it.
-fn is_text_of<T: Encode + Decode + PartialEq + Debug>(
+fn is_text_of<T: Encode + Decode + PartialEq>(
     rt: &impl Abort,
     alloc: Global,
     value: T,
     text: &str,
 ) -> Result<(), Fail> {
-    let written = avn::encode(alloc, &value)?;
-    assert_eq!(rt; written.as_str(), text);
-    let read: T = avn::decode(alloc, text)?;
-    assert_eq!(rt; read, value);
+    let written = avn_text(alloc, &value)?;
+    assert_text(rt, written.as_str(), text);
+    let read: T = avn_value(alloc, text)?;
+    assert!(rt; read == value, "{text}");
     Ok(())
 }
 
@@ -70,23 +70,24 @@ fn letters(alloc: Global, count: usize, before: &str, after: &str) -> Result<Str
     Ok(text)
 }
 
+/// Checks a text of a number of letters before an open quote, and one of as many before a doubled
+/// quote and a character of two bytes.
+fn assert_long_text(rt: &impl Abort, alloc: Global, count: usize) -> Result<(), Fail> {
+    // Two quotes at the end are one quote of the text, so the text isn't closed.
+    let open = letters(alloc, count, "\"", "\"\"")?;
+    assert!(rt; is_refused(avn::decode::<String>(alloc, open.as_str())));
+    let text = letters(alloc, count, "\"", "\"\"\u{e9}b\"\"\"")?;
+    let value = letters(alloc, count, "", "\"\u{e9}b\"")?;
+    is_text_of(rt, alloc, value, text.as_str())
+}
+
 /// A text is read in pieces of 256 characters. Around that length, an open quote, a doubled one
 /// and a character of two bytes after 250 to 259 letters are read as in any other place.
 /// The texts follow from the rule of doubled quotes (X.680, section 12).
 #[test]
 fn long_texts_are_read_whole(rt: HostRuntime) -> Result<(), Fail> {
-    let alloc = rt.alloc();
     for count in 250..260 {
-        // Two quotes at the end are one quote of the text, so the text isn't closed.
-        let open = letters(alloc, count, "\"", "\"\"")?;
-        assert!(rt; avn::decode::<String>(alloc, open.as_str()).is_err());
-        let text = letters(alloc, count, "\"", "\"\"\u{e9}b\"\"\"")?;
-        is_text_of(
-            &rt,
-            alloc,
-            letters(alloc, count, "", "\"\u{e9}b\"")?,
-            text.as_str(),
-        )?;
+        assert_long_text(&rt, rt.alloc(), count)?;
     }
     Ok(())
 }
@@ -102,9 +103,8 @@ const NO_OCTETS: [&str; 4] = [
 /// A number on either side of the range, one of more than 128 bits, and a value of another kind
 /// are refused.
 #[test]
-fn other_values_are_refused(rt: HostRuntime) -> Result<(), Fail> {
+fn other_values_are_refused(rt: HostRuntime) {
     for &text in &NO_OCTETS {
-        assert!(rt; avn::decode::<u8>(rt.alloc(), text).is_err());
+        assert!(rt; is_refused(avn::decode::<u8>(rt.alloc(), text)), "{text}");
     }
-    Ok(())
 }

@@ -2,12 +2,14 @@
 //! errors are those of the crate `rasn`, but for `no binary rules`, which is the library's own.
 ghost use Rattle.std.specs.Prelude.{⊤};
 
+use crate::checks::assert_refused;
 use asn_base::Codec;
 use asn_codec::{BinaryRules, CodecCalls, NoRules};
 use asn_fault::{DecodeError, EncodeError};
 use asn_traits::{Decode, Encode};
 use jer_rules::jer;
 use std::alloc::Global;
+use std::process::Abort;
 use std::test::Fail;
 
 /// Lists the codecs that have binary rules.
@@ -122,6 +124,35 @@ impl BinaryRules for JsonRules {
     }
 }
 
+/// Returns the bytes of `true`.
+fn bytes_of_true<R: BinaryRules>(
+    alloc: Global,
+    codec: Codec,
+    rules: &mut R,
+) -> Result<Vec<u8>, EncodeError> {
+    codec.encode_to_binary(alloc, &true, rules)
+}
+
+/// Returns the BOOLEAN of the bytes.
+fn bool_of_bytes<R: BinaryRules>(
+    alloc: Global,
+    codec: Codec,
+    bytes: &[u8],
+    rules: &mut R,
+) -> Result<bool, DecodeError> {
+    codec.decode_from_binary(alloc, bytes, rules)
+}
+
+/// Returns the BOOLEAN at the front of the bytes, and the bytes after it.
+fn bool_of_front<'i, R: BinaryRules>(
+    alloc: Global,
+    codec: Codec,
+    bytes: &'i [u8],
+    rules: &mut R,
+) -> Result<(bool, &'i [u8]), DecodeError> {
+    codec.decode_from_binary_with_remainder(alloc, bytes, rules)
+}
+
 /// Lists the text notations, each with the bytes of `true`.
 const TEXTS: [(Codec, &'static [u8]); 2] = [(Codec::Jer, b"true"), (Codec::Avn, b"TRUE")];
 
@@ -129,12 +160,9 @@ const TEXTS: [(Codec, &'static [u8]); 2] = [(Codec::Jer, b"true"), (Codec::Avn, 
 #[test]
 fn text_notations_have_the_bytes_of_their_texts(rt: HostRuntime) -> Result<(), Fail> {
     for row in TEXTS.iter() {
-        let bytes = row.0.encode_to_binary(rt.alloc(), &true, &mut NoRules)?;
-        assert_eq!(rt; bytes.as_slice(), row.1);
-        assert!(rt;
-            row.0
-                .decode_from_binary::<bool, _>(rt.alloc(), bytes.as_slice(), &mut NoRules)?
-        );
+        let bytes = bytes_of_true(rt.alloc(), row.0, &mut NoRules)?;
+        assert!(rt; bytes.as_slice() == row.1);
+        assert!(rt; bool_of_bytes(rt.alloc(), row.0, bytes.as_slice(), &mut NoRules)?);
     }
     Ok(())
 }
@@ -143,10 +171,8 @@ fn text_notations_have_the_bytes_of_their_texts(rt: HostRuntime) -> Result<(), F
 #[test]
 fn some_codecs_encode_no_bytes(rt: HostRuntime) -> Result<(), Fail> {
     for row in UNWRITTEN.iter() {
-        match row.0.encode_to_binary(rt.alloc(), &true, &mut NoRules) {
-            Ok(_) => return Err(Fail::from("written")),
-            Err(error) => assert_eq!(rt; format!(in rt.alloc(); "{error}")?.as_str(), row.1),
-        }
+        let written = bytes_of_true(rt.alloc(), row.0, &mut NoRules);
+        assert_refused(&rt, rt.alloc(), written, row.1)?;
     }
     Ok(())
 }
@@ -155,13 +181,8 @@ fn some_codecs_encode_no_bytes(rt: HostRuntime) -> Result<(), Fail> {
 #[test]
 fn some_bytes_are_not_decoded(rt: HostRuntime) -> Result<(), Fail> {
     for row in UNREAD.iter() {
-        match row
-            .0
-            .decode_from_binary::<bool, _>(rt.alloc(), &[0xff], &mut NoRules)
-        {
-            Ok(_) => return Err(Fail::from("read")),
-            Err(error) => assert_eq!(rt; format!(in rt.alloc(); "{error}")?.as_str(), row.1),
-        }
+        let read = bool_of_bytes(rt.alloc(), row.0, &[0xff], &mut NoRules);
+        assert_refused(&rt, rt.alloc(), read, row.1)?;
     }
     Ok(())
 }
@@ -169,16 +190,23 @@ fn some_bytes_are_not_decoded(rt: HostRuntime) -> Result<(), Fail> {
 /// No codec decodes the front of a text without rules.
 #[test]
 fn a_remainder_needs_rules(rt: HostRuntime) -> Result<(), Fail> {
-    let input = b"true".as_slice();
     for row in UNREAD_FRONT.iter() {
-        match row
-            .0
-            .decode_from_binary_with_remainder::<bool, _>(rt.alloc(), input, &mut NoRules)
-        {
-            Ok(_) => return Err(Fail::from("read")),
-            Err(error) => assert_eq!(rt; format!(in rt.alloc(); "{error}")?.as_str(), row.1),
-        }
+        let read = bool_of_front(rt.alloc(), row.0, b"true".as_slice(), &mut NoRules);
+        assert_refused(&rt, rt.alloc(), read, row.1)?;
     }
+    Ok(())
+}
+
+/// Checks that the codec hands its own name to the rules, and returns what they return.
+fn assert_rules_answer(rt: &impl Abort, alloc: Global, codec: Codec) -> Result<(), Fail> {
+    // Each call begins with another codec than the one that is to be handed on.
+    let mut rules = JsonRules { last: Codec::Xer };
+    let bytes = bytes_of_true(alloc, codec, &mut rules)?;
+    assert!(rt; bytes.as_slice() == b"true".as_slice());
+    assert!(rt; rules.last == codec);
+    let mut rules = JsonRules { last: Codec::Xer };
+    assert!(rt; bool_of_bytes(alloc, codec, bytes.as_slice(), &mut rules)?);
+    assert!(rt; rules.last == codec);
     Ok(())
 }
 
@@ -186,15 +214,18 @@ fn a_remainder_needs_rules(rt: HostRuntime) -> Result<(), Fail> {
 #[test]
 fn rules_answer_for_each_binary_codec(rt: HostRuntime) -> Result<(), Fail> {
     for codec in BINARY.iter() {
-        // Each call begins with another codec than the one that is to be handed on.
-        let mut rules = JsonRules { last: Codec::Xer };
-        let bytes = codec.encode_to_binary(rt.alloc(), &true, &mut rules)?;
-        assert_eq!(rt; bytes.as_slice(), b"true".as_slice());
-        assert_eq!(rt; rules.last, *codec);
-        let mut rules = JsonRules { last: Codec::Xer };
-        assert!(rt; codec.decode_from_binary::<bool, _>(rt.alloc(), bytes.as_slice(), &mut rules)?);
-        assert_eq!(rt; rules.last, *codec);
+        assert_rules_answer(&rt, rt.alloc(), *codec)?;
     }
+    Ok(())
+}
+
+/// Checks that the codec hands a remainder on.
+fn assert_remainder(rt: &impl Abort, alloc: Global, codec: Codec) -> Result<(), Fail> {
+    let mut rules = JsonRules { last: Codec::Xer };
+    let front = bool_of_front(alloc, codec, b"true, and more".as_slice(), &mut rules)?;
+    assert!(rt; front.0);
+    assert!(rt; front.1 == b", and more".as_slice());
+    assert!(rt; rules.last == codec);
     Ok(())
 }
 
@@ -202,16 +233,7 @@ fn rules_answer_for_each_binary_codec(rt: HostRuntime) -> Result<(), Fail> {
 #[test]
 fn rules_return_a_remainder(rt: HostRuntime) -> Result<(), Fail> {
     for codec in BINARY.iter() {
-        let mut rules = JsonRules { last: Codec::Xer };
-        let input = b"true, and more".as_slice();
-        match codec.decode_from_binary_with_remainder::<bool, _>(rt.alloc(), input, &mut rules) {
-            Ok((value, rest)) => {
-                assert!(rt; value);
-                assert_eq!(rt; rest, b", and more".as_slice());
-            }
-            Err(_) => return Err(Fail::from("not read")),
-        }
-        assert_eq!(rt; rules.last, *codec);
+        assert_remainder(&rt, rt.alloc(), *codec)?;
     }
     Ok(())
 }
@@ -236,13 +258,8 @@ const PASSED_ON: [(Codec, &'static [u8], &'static str); 2] = [
 fn errors_are_passed_on(rt: HostRuntime) -> Result<(), Fail> {
     for row in PASSED_ON.iter() {
         let mut rules = JsonRules { last: Codec::Xer };
-        match row
-            .0
-            .decode_from_binary::<bool, _>(rt.alloc(), row.1, &mut rules)
-        {
-            Ok(_) => return Err(Fail::from("read")),
-            Err(error) => assert_eq!(rt; format!(in rt.alloc(); "{error}")?.as_str(), row.2),
-        }
+        let read = bool_of_bytes(rt.alloc(), row.0, row.1, &mut rules);
+        assert_refused(&rt, rt.alloc(), read, row.2)?;
     }
     Ok(())
 }

@@ -1,5 +1,6 @@
 //! Calls the codecs by name, and the encoder and the decoder of AVN directly, where a text can't
 //! lead: to a codec without text, to a root without a value, to a number that is none.
+use crate::checks::{assert_refused, assert_text, kept, let_go};
 use asn_base::{Codec, Constraints, Identifier, Scan, Tag};
 use asn_codec::CodecCalls;
 use asn_traits::{Decoder, Encoder};
@@ -29,61 +30,67 @@ const REFUSED: [(Codec, &'static str); 3] = [
 /// A binary codec returns an error that names the call to make instead, and XER that it is not
 /// supported.
 #[test]
-fn other_codecs_have_no_text(rt: HostRuntime) -> Result<(), Fail> {
+fn other_codecs_encode_no_text(rt: HostRuntime) -> Result<(), Fail> {
     // The value plays no part: the codec is looked at first.
     for row in REFUSED.iter() {
-        match row.0.encode_to_string(rt.alloc(), &true) {
-            Ok(_) => return Err(Fail::from("written")),
-            Err(error) => assert_eq!(rt; format!(in rt.alloc(); "{error}")?.as_str(), row.1),
-        }
-    }
-    // Decoding names the other call.
-    match Codec::Uper.decode_from_str::<bool>(rt.alloc(), "TRUE") {
-        Ok(_) => return Err(Fail::from("read")),
-        Err(error) => assert_eq!(rt;
-            format!(in rt.alloc(); "{error}")?.as_str(),
-            "Custom error: UPER is a binary-based encoding. Call `Codec::decode_from_binary` \
-             instead. (Codec: UPER)"
-        ),
+        let written = row.0.encode_to_string(rt.alloc(), &true);
+        assert_refused(&rt, rt.alloc(), written, row.1)?;
     }
     Ok(())
 }
 
-/// An encoder of AVN that was given nothing has no text, and one that was given a value has its
-/// text.
+/// Decoding names the other call.
+#[test]
+fn other_codecs_decode_no_text(rt: HostRuntime) -> Result<(), Fail> {
+    let read = Codec::Uper.decode_from_str::<bool>(rt.alloc(), "TRUE");
+    assert_refused(
+        &rt,
+        rt.alloc(),
+        read,
+        "Custom error: UPER is a binary-based encoding. Call `Codec::decode_from_binary` \
+         instead. (Codec: UPER)",
+    )
+}
+
+/// An encoder of AVN that was given nothing has no text.
 /// The error's text is that of the crate `rasn`.
 #[test]
-fn shows_what_stands_at_the_root_in_avn(rt: HostRuntime) -> Result<(), Fail> {
-    match enc::Encoder::new(rt.alloc()).to_string() {
-        Ok(_) => return Err(Fail::from("a text of nothing")),
-        Err(error) => assert_eq!(rt;
-            format!(in rt.alloc(); "{error}")?.as_str(),
-            "AVN encoding error: No encoded AVN root value found (Codec: AVN)"
-        ),
-    }
+fn nothing_stands_at_the_root_of_avn_at_first(rt: HostRuntime) -> Result<(), Fail> {
+    assert_refused(
+        &rt,
+        rt.alloc(),
+        enc::Encoder::new(rt.alloc()).to_string(),
+        "AVN encoding error: No encoded AVN root value found (Codec: AVN)",
+    )
+}
+
+/// An encoder of AVN that was given a value has its text.
+#[test]
+fn shows_what_stands_at_the_root_of_avn(rt: HostRuntime) -> Result<(), Fail> {
     let mut encoder = enc::Encoder::new(rt.alloc());
-    encoder.encode_bool(Tag::BOOL, true, Identifier::EMPTY)?;
-    assert_eq!(rt; encoder.to_string()?.as_str(), "TRUE");
+    let written = encoder.encode_bool(Tag::BOOL, true, Identifier::EMPTY);
+    let text = kept(encoder, written)?.to_string()?;
+    assert_text(&rt, text.as_str(), "TRUE");
     Ok(())
 }
 
 /// An AVN value of a program's own may hold an integer whose text is no number. The parser makes
-/// none, so a test makes it by hand.
+/// none, so a test makes it by hand. A number is looked for in the text only when a type asks for
+/// one.
 /// The error's text is that of the crate `rasn`, with the integer's own text in it.
 #[test]
 fn an_integer_value_may_be_no_number(rt: HostRuntime) -> Result<(), Fail> {
     let value = AvnValue::Integer(String::from_str(rt.alloc(), "x")?);
     // `from_value` takes a value as it is, whether it is well formed or not.
     let mut decoder = de::Decoder::from_value(rt.alloc(), value)?;
-    // A number is looked for in the text only when a type asks for one.
-    match decoder.decode_integer::<u8>(Tag::INTEGER, &Constraints::NONE) {
-        Ok(_) => return Err(Fail::from("a number")),
-        Err(error) => assert_eq!(rt;
-            format!(in rt.alloc(); "{error}")?.as_str(),
-            "AVN decoding error: Integer parse error in AVN: x (Codec: AVN)"
-        ),
-    }
-    Ok(())
+    let number = decoder.decode_integer::<u8>(Tag::INTEGER, &Constraints::NONE);
+    let_go(decoder);
+    assert_refused(
+        &rt,
+        rt.alloc(),
+        number,
+        "AVN decoding error: Integer parse error in AVN: x (Codec: AVN)",
+    )
 }
 
 /// A decoder of a table decodes its value.
@@ -92,6 +99,8 @@ fn a_table_is_decoded(rt: HostRuntime) -> Result<(), Fail> {
     let mut scan = Scan::new("TRUE");
     let table = NodeTable::parse(rt.alloc(), &mut scan)?;
     let mut decoder = de::Decoder::from_table(rt.alloc(), table);
-    assert!(rt; decoder.decode_bool(Tag::BOOL)?);
+    let value = decoder.decode_bool(Tag::BOOL);
+    let_go(decoder);
+    assert!(rt; value?);
     Ok(())
 }

@@ -1,75 +1,101 @@
 //! Calls JER directly: the edges of its numbers, shapes of types, and an encoder without a value.
+use crate::checks::{assert_refused, assert_text, jer_text, kept, let_go};
 use asn_base::{Identifier, Tag};
 use asn_traits::{AsnType, Encoder, Shape};
 use jer_rules::jer::{enc, encode};
+use std::alloc::Global;
 use std::test::Fail;
 
-/// The least number that JER has is encoded, and the one below it is refused by its own text:
-/// JER has the numbers of `i64` and of `u64`.
+/// Is the least number that JER has, as the wider type of its values.
+const LEAST: i128 = -9_223_372_036_854_775_808;
+
+/// The least number that JER has is encoded: it has the numbers of `i64` and of `u64`.
+#[test]
+fn encodes_the_least_number(rt: HostRuntime) -> Result<(), Fail> {
+    let text = jer_text(rt.alloc(), &LEAST)?;
+    assert_text(&rt, text.as_str(), "-9223372036854775808");
+    Ok(())
+}
+
+/// The number below it, -2^63 - 1, is refused by its own text.
 /// The error's text is that of the crate `rasn`.
 #[test]
 fn refuses_numbers_that_json_lacks(rt: HostRuntime) -> Result<(), Fail> {
-    let least: i128 = -9_223_372_036_854_775_808;
-    match encode(rt.alloc(), &least) {
-        Ok(text) => assert_eq!(rt; text.as_str(), "-9223372036854775808"),
-        Err(_) => return Err(Fail::from("refused")),
-    }
-    // -2^63 - 1, which needs the wider type of the value.
-    match encode(rt.alloc(), &(least - 1)) {
-        Ok(_) => return Err(Fail::from("written")),
-        Err(error) => {
-            let text = format!(in rt.alloc(); "{error}")?;
-            assert_eq!(rt;
-                text.as_str(),
-                "JER encoding error: Exceeds supported integer range -2^63..2^64 \
-                 (-9223372036854775809) (Codec: JER)"
-            );
-        }
-    }
-    Ok(())
+    let below: i128 = -9_223_372_036_854_775_809;
+    assert_refused(
+        &rt,
+        rt.alloc(),
+        encode(rt.alloc(), &below),
+        "JER encoding error: Exceeds supported integer range -2^63..2^64 \
+         (-9223372036854775809) (Codec: JER)",
+    )
 }
 
-/// The call `shape` gives the shape of BOOLEAN and of a list of it as a value.
+/// Returns whether the shape is that of BOOLEAN.
+fn is_bool(shape: &Shape) -> bool {
+    matches!(shape, Shape::Bool)
+}
+
+/// Returns whether the shape is that of a list of BOOLEAN.
+fn is_list_of_bool(shape: &Shape) -> bool {
+    match shape {
+        Shape::ListOf(element) => is_bool(&**element),
+        _ => false,
+    }
+}
+
+/// The call `shape` gives the shape of BOOLEAN as a value.
 #[test]
-fn gives_the_shapes_of_types(rt: HostRuntime) -> Result<(), Fail> {
-    match bool::shape(rt.alloc()) {
-        Ok(Shape::Bool) => {}
-        _ => return Err(Fail::from("the shape of bool")),
-    }
-    match Vec::<bool>::shape(rt.alloc()) {
-        Ok(Shape::ListOf(element)) => match *element {
-            Shape::Bool => {}
-            _ => return Err(Fail::from("the shape of an element")),
-        },
-        _ => return Err(Fail::from("the shape of a list")),
-    }
+fn gives_the_shape_of_a_boolean(rt: HostRuntime) -> Result<(), Fail> {
+    let shape = bool::shape(rt.alloc())?;
+    let is_found = is_bool(&shape);
+    let_go(shape);
+    assert!(rt; is_found);
     Ok(())
 }
 
-/// An encoder of JER that was given nothing has no text and no JSON value. The error's text is that
-/// of the crate `rasn`. Both calls consume the encoder, so each has one of its own.
+/// The call `shape` gives the shape of a list of BOOLEAN as a value.
+#[test]
+fn gives_the_shape_of_a_list(rt: HostRuntime) -> Result<(), Fail> {
+    let shape = Vec::<bool>::shape(rt.alloc())?;
+    let is_found = is_list_of_bool(&shape);
+    let_go(shape);
+    assert!(rt; is_found);
+    Ok(())
+}
+
+/// Is the error of an encoder of JER that was given nothing, as that of the crate `rasn`.
+const NOTHING: &str = "JER encoding error: No encoded JSON root value found (Codec: JER)";
+
+/// An encoder of JER that was given nothing has no text. The call consumes the encoder.
 #[test]
 fn nothing_stands_at_the_root_at_first(rt: HostRuntime) -> Result<(), Fail> {
-    let none = "JER encoding error: No encoded JSON root value found (Codec: JER)";
-    match enc::Encoder::new(rt.alloc()).to_string() {
-        Ok(_) => return Err(Fail::from("a text of nothing")),
-        Err(error) => assert_eq!(rt; format!(in rt.alloc(); "{error}")?.as_str(), none),
-    }
-    match enc::Encoder::new(rt.alloc()).to_json() {
-        Ok(_) => return Err(Fail::from("a value of nothing")),
-        Err(error) => assert_eq!(rt; format!(in rt.alloc(); "{error}")?.as_str(), none),
-    }
-    Ok(())
+    let none = enc::Encoder::new(rt.alloc()).to_string();
+    assert_refused(&rt, rt.alloc(), none, NOTHING)
+}
+
+/// An encoder of JER that was given nothing has no JSON value. The call consumes the encoder.
+#[test]
+fn no_value_stands_at_the_root_at_first(rt: HostRuntime) -> Result<(), Fail> {
+    let none = enc::Encoder::new(rt.alloc()).to_json();
+    assert_refused(&rt, rt.alloc(), none, NOTHING)
+}
+
+/// Returns an encoder of JER that was given the value `true`.
+fn encoder_of_true(alloc: Global) -> Result<enc::Encoder, Fail> {
+    let mut encoder = enc::Encoder::new(alloc);
+    let written = encoder.encode_bool(Tag::BOOL, true, Identifier::EMPTY);
+    kept(encoder, written)
 }
 
 /// An encoder of JER that was given a value has its text and its JSON value.
 #[test]
 fn shows_what_stands_at_the_root(rt: HostRuntime) -> Result<(), Fail> {
-    let mut encoder = enc::Encoder::new(rt.alloc());
-    encoder.encode_bool(Tag::BOOL, true, Identifier::EMPTY)?;
-    assert_eq!(rt; encoder.to_string()?.as_str(), "true");
-    let mut encoder = enc::Encoder::new(rt.alloc());
-    encoder.encode_bool(Tag::BOOL, true, Identifier::EMPTY)?;
-    assert!(rt; encoder.to_json()?.as_bool() == Some(true));
+    let text = encoder_of_true(rt.alloc())?.to_string()?;
+    assert_text(&rt, text.as_str(), "true");
+    let value = encoder_of_true(rt.alloc())?.to_json()?;
+    let is_true = value.as_bool() == Some(true);
+    let_go(value);
+    assert!(rt; is_true);
     Ok(())
 }

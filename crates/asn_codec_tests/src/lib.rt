@@ -8,6 +8,8 @@ mod avn_texts;
 #[cfg(test)]
 mod binary;
 #[cfg(test)]
+mod checks;
+#[cfg(test)]
 mod codecs;
 #[cfg(test)]
 mod integers;

@@ -1,8 +1,9 @@
 //! Encodes and decodes OCTET STRING in both notations, and makes the shape of a SEQUENCE that has
 //! an extension addition. The forms are those of X.697 and X.680, section 23.
+use crate::checks::{assert_refused, assert_text, avn_text, jer_text, kept, let_go};
 use asn_base::{OctetString, Tag};
 use asn_fault::DecodeError;
-use asn_fields::{FieldShapes};
+use asn_fields::FieldShapes;
 use asn_traits::{Shape, is_readable};
 use avn_rules::avn;
 use jer_rules::jer;
@@ -10,13 +11,11 @@ use std::alloc::Global;
 use std::process::Abort;
 use std::test::Fail;
 
-/// Checks that the text was decoded to the octets 01 and FF.
-fn assert_read(rt: &impl Abort, read: Result<OctetString, DecodeError>) {
-    let is_read = match read {
-        Ok(value) => value.as_bytes() == [0x01, 0xFF].as_slice(),
-        Err(_) => false,
-    };
-    assert!(rt; is_read);
+/// Checks that the text is decoded to the octets 01 and FF.
+fn assert_read(rt: &impl Abort, alloc: Global, is_json: bool, text: &str) -> Result<(), Fail> {
+    let value = read_octets(alloc, is_json, text)?;
+    assert!(rt; value.as_bytes() == [0x01, 0xFF].as_slice());
+    Ok(())
 }
 
 /// Octets are written in capitals and without spaces. They are read in either case, and in AVN
@@ -28,12 +27,11 @@ fn octets_are_written_in_capitals_and_read_in_either_case(rt: HostRuntime) -> Re
     // 01 shows that leading zeros stay, and FF the case of letters.
     let octets = Vec::from_slice(alloc, [0x01, 0xFF].as_slice())?;
     let value = OctetString::from_vec(octets);
-    assert_eq!(rt; jer::encode(alloc, &value)?.as_str(), "\"01FF\"");
-    assert_eq!(rt; avn::encode(alloc, &value)?.as_str(), "'01FF'H");
-    assert_read(&rt, jer::decode(alloc, "\"01fF\""));
+    assert_text(&rt, jer_text(alloc, &value)?.as_str(), "\"01FF\"");
+    assert_text(&rt, avn_text(alloc, &value)?.as_str(), "'01FF'H");
+    assert_read(&rt, alloc, true, "\"01fF\"")?;
     // X.680, section 12, admits white space between the digits.
-    assert_read(&rt, avn::decode(alloc, "' 01 fF 'H"));
-    Ok(())
+    assert_read(&rt, alloc, false, "' 01 fF 'H")
 }
 
 /// Lists texts that are no octets, each with the error: whether the text is JSON comes first. AVN
@@ -73,33 +71,57 @@ fn read_octets(alloc: Global, is_json: bool, text: &str) -> Result<OctetString, 
 #[test]
 fn what_is_no_octets_is_refused(rt: HostRuntime) -> Result<(), Fail> {
     for row in REFUSED.iter() {
-        match read_octets(rt.alloc(), row.0, row.1) {
-            Ok(_) => return Err(Fail::from("read")),
-            Err(error) => assert_eq!(rt; error.to_string(rt.alloc())?.as_str(), row.2),
-        }
+        let read = read_octets(rt.alloc(), row.0, row.1);
+        assert_refused(&rt, rt.alloc(), read, row.2)?;
     }
     Ok(())
+}
+
+/// Returns the fields of the root: one that has to be present.
+fn root_fields(alloc: Global) -> Result<FieldShapes, Fail> {
+    let mut root = FieldShapes::new(alloc);
+    let done = root.required::<u8>("id", Tag::CONTEXT_0);
+    kept(root, done)
+}
+
+/// Returns the fields after the marker. An addition's tag goes on from that of the last root field.
+fn added_fields(alloc: Global) -> Result<FieldShapes, Fail> {
+    let mut added = FieldShapes::new(alloc);
+    let done = added.optional::<String>("note", Tag::CONTEXT_1);
+    kept(added, done)
+}
+
+/// Returns the shape of a SEQUENCE that has an extension addition.
+fn extensible(alloc: Global) -> Result<Shape, Fail> {
+    let root = root_fields(alloc)?;
+    match added_fields(alloc) {
+        Ok(added) => Ok(root.extensible_sequence(added)),
+        Err(fail) => {
+            let_go(root);
+            Err(fail)
+        }
+    }
+}
+
+/// Counts the fields of the root and those after the marker.
+fn count_fields(shape: &Shape) -> (usize, usize) {
+    match shape {
+        Shape::Seq {
+            fields,
+            added: Some(added),
+            ..
+        } => (fields.len(), added.len()),
+        _ => (0, 0),
+    }
 }
 
 /// A shape with an extension addition can be put together and read: it has the fields of the root
 /// and those after the marker apart.
 #[test]
 fn a_sequence_with_an_extension_addition(rt: HostRuntime) -> Result<(), Fail> {
-    let mut root = FieldShapes::new(rt.alloc());
-    root.required::<u8>("id", Tag::CONTEXT_0)?;
-    // An addition's tag goes on from that of the last root field.
-    let mut added = FieldShapes::new(rt.alloc());
-    added.optional::<String>("note", Tag::CONTEXT_1)?;
-    let shape = root.extensible_sequence(added);
-    assert!(rt; is_readable(&shape));
-    let fields = match &shape {
-        Shape::Seq {
-            fields,
-            added: Some(added),
-            ..
-        } => fields.len() + added.len(),
-        _ => 0,
-    };
-    assert_eq!(rt; fields, 2);
+    let shape = extensible(rt.alloc())?;
+    let is_found = is_readable(&shape) && count_fields(&shape) == (1, 1);
+    let_go(shape);
+    assert!(rt; is_found);
     Ok(())
 }

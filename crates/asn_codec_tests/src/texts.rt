@@ -1,4 +1,5 @@
 // Values that have no text in one of the notations, and calls that always refuse.
+use crate::checks::{assert_refused, assert_text, avn_text, let_go};
 use asn_base::{Constraints, Identifier, Tag};
 use asn_fault::{DecodeError, EncodeError};
 use asn_strings::{BmpString, GeneralString, GraphicString, TeletexString};
@@ -10,6 +11,7 @@ use jer_rules::jer;
 use jiff::civil;
 use serde_json::Value;
 use std::alloc::Global;
+use std::fmt::Display;
 use std::process::Abort;
 use std::test::Fail;
 
@@ -21,15 +23,8 @@ fn assert_unwritten<T: Encode>(
     in_jer: &str,
     in_avn: &str,
 ) -> Result<(), Fail> {
-    match jer::encode(alloc, value) {
-        Ok(_) => return Err(Fail::from("written in JER")),
-        Err(error) => assert_eq!(rt; error.to_string(alloc)?.as_str(), in_jer),
-    }
-    match avn::encode(alloc, value) {
-        Ok(_) => return Err(Fail::from("written in AVN")),
-        Err(error) => assert_eq!(rt; error.to_string(alloc)?.as_str(), in_avn),
-    }
-    Ok(())
+    assert_refused(rt, alloc, jer::encode(alloc, value), in_jer)?;
+    assert_refused(rt, alloc, avn::encode(alloc, value), in_avn)
 }
 
 const NO_UTF8: &str = "AVN encoding error: Error in AVN encoder: Invalid UTF-8 (Codec: AVN)";
@@ -50,16 +45,35 @@ const OCTETS: [(&'static [u8], &'static str); 3] = [
     ),
 ];
 
+/// Checks that a GeneralString of these octets is written in neither notation.
+fn assert_general_unwritten(
+    rt: &impl Abort,
+    alloc: Global,
+    octets: &[u8],
+    in_jer: &str,
+) -> Result<(), Fail> {
+    let value = GeneralString::from_octets(Vec::from_slice(alloc, octets)?);
+    assert_unwritten(rt, alloc, &value, in_jer, NO_UTF8)
+}
+
+/// Checks that a GraphicString of these octets is written in neither notation.
+fn assert_graphic_unwritten(
+    rt: &impl Abort,
+    alloc: Global,
+    octets: &[u8],
+    in_jer: &str,
+) -> Result<(), Fail> {
+    match GraphicString::from_octets(Vec::from_slice(alloc, octets)?) {
+        Some(value) => assert_unwritten(rt, alloc, &value, in_jer, NO_UTF8),
+        None => Err(Fail::from("no GraphicString")),
+    }
+}
+
 #[test]
 fn octets_that_are_not_utf8_are_not_written(rt: HostRuntime) -> Result<(), Fail> {
-    let alloc = rt.alloc();
     for row in OCTETS.iter() {
-        let general = GeneralString::from_octets(Vec::from_slice(alloc, row.0)?);
-        assert_unwritten(&rt, alloc, &general, row.1, NO_UTF8)?;
-        let Some(graphic) = GraphicString::from_octets(Vec::from_slice(alloc, row.0)?) else {
-            return Err(Fail::from("no GraphicString"));
-        };
-        assert_unwritten(&rt, alloc, &graphic, row.1, NO_UTF8)?;
+        assert_general_unwritten(&rt, rt.alloc(), row.0, row.1)?;
+        assert_graphic_unwritten(&rt, rt.alloc(), row.0, row.1)?;
     }
     Ok(())
 }
@@ -69,26 +83,34 @@ fn surrogates_are_not_written(rt: HostRuntime) -> Result<(), Fail> {
     let alloc = rt.alloc();
     let pair = BmpString::from_units(vec![in alloc; 0x61, 0xE9, 0xD83D, 0xDE00]?);
     let after = "JER encoding error: Invalid character: after 2 (Codec: JER)";
-    assert_unwritten(&rt, alloc, &pair, after, NO_UTF8)?;
+    assert_unwritten(&rt, alloc, &pair, after, NO_UTF8)
+}
+
+#[test]
+fn units_beside_the_surrogates_are_written(rt: HostRuntime) -> Result<(), Fail> {
+    let alloc = rt.alloc();
     let highest = BmpString::from_units(vec![in alloc; 0xD7FF, 0xE000, 0xFFFF]?);
-    assert_eq!(rt;
-        avn::encode(alloc, &highest)?.as_str(),
-        "\"\u{D7FF}\u{E000}\u{FFFF}\""
-    );
+    let text = avn_text(alloc, &highest)?;
+    assert_text(&rt, text.as_str(), "\"\u{D7FF}\u{E000}\u{FFFF}\"");
     Ok(())
+}
+
+const YEARS_IN_JER: &str = "Custom error: time outside the years of its text (Codec: JER)";
+
+const YEARS_IN_AVN: &str = "Custom error: time outside the years of its text (Codec: AVN)";
+
+#[test]
+fn dates_outside_the_years_of_their_text_are_not_written(rt: HostRuntime) -> Result<(), Fail> {
+    let day = Date::new(civil::Date::new(-1, 12, 31)?);
+    assert_unwritten(&rt, rt.alloc(), &day, YEARS_IN_JER, YEARS_IN_AVN)
 }
 
 #[test]
 fn times_outside_the_years_of_their_text_are_not_written(rt: HostRuntime) -> Result<(), Fail> {
-    let alloc = rt.alloc();
-    let in_jer = "Custom error: time outside the years of its text (Codec: JER)";
-    let in_avn = "Custom error: time outside the years of its text (Codec: AVN)";
-    let day = Date::new(civil::Date::new(-1, 12, 31)?);
-    assert_unwritten(&rt, alloc, &day, in_jer, in_avn)?;
-    let Some(early) = UtcTime::new(civil::DateTime::new(1949, 12, 31, 23, 59, 59, 0)?) else {
-        return Err(Fail::from("no UTCTime"));
-    };
-    assert_unwritten(&rt, alloc, &early, in_jer, in_avn)
+    match UtcTime::new(civil::DateTime::new(1949, 12, 31, 23, 59, 59, 0)?) {
+        Some(early) => assert_unwritten(&rt, rt.alloc(), &early, YEARS_IN_JER, YEARS_IN_AVN),
+        None => Err(Fail::from("no UTCTime")),
+    }
 }
 
 /// Writes a TeletexString, or a REAL, which are always refused.
@@ -135,50 +157,94 @@ const REFUSED: [(bool, &'static str, &'static str); 2] = [
     ),
 ];
 
+/// Writes in JER what is always refused.
+fn write_refused_in_jer(
+    alloc: Global,
+    string: &TeletexString,
+    real: bool,
+) -> Result<(), EncodeError> {
+    let mut encoder = jer::enc::Encoder::new(alloc);
+    let written = write_refused(&mut encoder, string, real);
+    let_go(encoder);
+    written
+}
+
+/// Writes in AVN what is always refused.
+fn write_refused_in_avn(
+    alloc: Global,
+    string: &TeletexString,
+    real: bool,
+) -> Result<(), EncodeError> {
+    let mut encoder = avn::enc::Encoder::new(alloc);
+    let written = write_refused(&mut encoder, string, real);
+    let_go(encoder);
+    written
+}
+
+/// Checks that there is an error, which prints this text and the name of the codec.
+fn assert_refused_by<E: Display + Drop>(
+    rt: &impl Abort,
+    alloc: Global,
+    answer: Result<(), E>,
+    text: &str,
+    codec: &str,
+) -> Result<(), Fail> {
+    let want = format!(in alloc; "{text} (Codec: {codec})")?;
+    assert_refused(rt, alloc, answer, want.as_str())
+}
+
 #[test]
 fn teletex_strings_and_reals_are_never_written(rt: HostRuntime) -> Result<(), Fail> {
     let alloc = rt.alloc();
     let string = TeletexString::from_octets(vec![in alloc; 0x61]?);
     for row in REFUSED.iter() {
-        match write_refused(&mut jer::enc::Encoder::new(alloc), &string, row.0) {
-            Ok(()) => return Err(Fail::from("written in JER")),
-            Err(error) => {
-                let want = format!(in alloc; "{} (Codec: JER)", row.1)?;
-                assert_eq!(rt; error.to_string(alloc)?.as_str(), want.as_str());
-            }
-        }
-        match write_refused(&mut avn::enc::Encoder::new(alloc), &string, row.0) {
-            Ok(()) => return Err(Fail::from("written in AVN")),
-            Err(error) => {
-                let want = format!(in alloc; "{} (Codec: AVN)", row.1)?;
-                assert_eq!(rt; error.to_string(alloc)?.as_str(), want.as_str());
-            }
-        }
+        let in_jer = write_refused_in_jer(alloc, &string, row.0);
+        assert_refused_by(&rt, alloc, in_jer, row.1, "JER")?;
+        let in_avn = write_refused_in_avn(alloc, &string, row.0);
+        assert_refused_by(&rt, alloc, in_avn, row.1, "AVN")?;
     }
     Ok(())
 }
 
+/// Checks that neither is read in JER.
+fn assert_unread_in_jer(
+    rt: &impl Abort,
+    alloc: Global,
+    real: bool,
+    text: &str,
+) -> Result<(), Fail> {
+    let mut decoder = jer::de::Decoder::from_value(alloc, Value::Null)?;
+    let read = read_refused(&mut decoder, real);
+    let_go(decoder);
+    assert_refused_by(rt, alloc, read, text, "JER")
+}
+
+/// Reads NULL, and then a TeletexString, or a REAL.
+fn read_null_and_refused<D: Decoder>(decoder: &mut D, real: bool) -> Result<(), DecodeError> {
+    match decoder.decode_null(Tag::NULL) {
+        Ok(()) => read_refused(decoder, real),
+        Err(error) => Err(error),
+    }
+}
+
+/// Checks that neither is read in AVN, where a value was read before.
+fn assert_unread_in_avn(
+    rt: &impl Abort,
+    alloc: Global,
+    real: bool,
+    text: &str,
+) -> Result<(), Fail> {
+    let mut decoder = avn::de::Decoder::from_value(alloc, AvnValue::Null)?;
+    let read = read_null_and_refused(&mut decoder, real);
+    let_go(decoder);
+    assert_refused_by(rt, alloc, read, text, "AVN")
+}
+
 #[test]
 fn teletex_strings_and_reals_are_never_read(rt: HostRuntime) -> Result<(), Fail> {
-    let alloc = rt.alloc();
     for row in REFUSED.iter() {
-        let mut decoder = jer::de::Decoder::from_value(alloc, Value::Null)?;
-        match read_refused(&mut decoder, row.0) {
-            Ok(()) => return Err(Fail::from("read in JER")),
-            Err(error) => {
-                let want = format!(in alloc; "{} (Codec: JER)", row.2)?;
-                assert_eq!(rt; error.to_string(alloc)?.as_str(), want.as_str());
-            }
-        }
-        let mut decoder = avn::de::Decoder::from_value(alloc, AvnValue::Null)?;
-        decoder.decode_null(Tag::NULL)?;
-        match read_refused(&mut decoder, row.0) {
-            Ok(()) => return Err(Fail::from("read in AVN")),
-            Err(error) => {
-                let want = format!(in alloc; "{} (Codec: AVN)", row.2)?;
-                assert_eq!(rt; error.to_string(alloc)?.as_str(), want.as_str());
-            }
-        }
+        assert_unread_in_jer(&rt, rt.alloc(), row.0, row.2)?;
+        assert_unread_in_avn(&rt, rt.alloc(), row.0, row.2)?;
     }
     Ok(())
 }

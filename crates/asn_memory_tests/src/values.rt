@@ -11,8 +11,18 @@ use asn_traits::{Decode, Encode};
 use avn_value::AvnValue;
 use serde_json::Value;
 use std::alloc::Global;
+use std::fmt::Display;
 use std::process::Abort;
 use std::test::Fail;
+
+/// Lets the value go, where its type is open: where a type is known, a proof goes through each part
+/// that is let go.
+fn let_go<T: Drop>(_value: T) {}
+
+/// Returns the printed text of a value that is let go.
+fn printed<T: Display + Drop>(alloc: Global, value: T) -> Result<String, OutOfMemory> {
+    Ok(value.to_string(alloc)?)
+}
 
 /// Checks that the text is converted to the one that is due, or that memory was refused.
 fn assert_due<T: Encode + Decode>(
@@ -29,7 +39,9 @@ fn assert_due<T: Encode + Decode>(
             Ok(())
         }
         Err(error) => {
-            assert!(rt; error.is_out_of_memory());
+            let is_refused = error.is_out_of_memory();
+            let_go(error);
+            assert!(rt; is_refused);
             Err(Fail::from(REFUSED))
         }
     }
@@ -91,8 +103,24 @@ fn put_member(alloc: Global, map: &mut DocumentMap, key: &str) -> Result<(), Out
     let key = String::from_str(alloc, key)?;
     match Document::from_value(Value::Bool(true)) {
         Ok(value) => map.insert(key, value),
-        Err(_) => Ok(()),
+        Err(refused) => {
+            let_go(refused);
+            Ok(())
+        }
     }
+}
+
+/// Puts four members into the object, of which one comes again.
+fn put_members(rt: &impl Abort, alloc: Global, map: &mut DocumentMap) -> Result<(), Fail> {
+    for key in ["a", "b", "a", "c"] {
+        let before = map.len();
+        if put_member(alloc, map, key).is_err() {
+            assert!(rt; map.len() == before);
+            return Err(Fail::from(REFUSED));
+        }
+    }
+    assert!(rt; map.len() == 3);
+    Ok(())
 }
 
 /// An object has the members that it had where one more is refused memory, and a member that comes
@@ -101,15 +129,9 @@ fn put_member(alloc: Global, map: &mut DocumentMap, key: &str) -> Result<(), Out
 fn an_object_after_a_refusal(rt: HostRuntime) -> Result<(), Fail> {
     take_pieces_before(rt.alloc(), Share::First)?;
     let mut map = DocumentMap::new(rt.alloc());
-    for key in ["a", "b", "a", "c"] {
-        let before = map.len();
-        if put_member(rt.alloc(), &mut map, key).is_err() {
-            assert_eq!(rt; map.len(), before);
-            return Err(Fail::from(REFUSED));
-        }
-    }
-    assert_eq!(rt; map.len(), 3);
-    Ok(())
+    let checked = put_members(&rt, rt.alloc(), &mut map);
+    let_go(map);
+    checked
 }
 
 /// A set has the elements that it had where one more is refused memory.
@@ -156,9 +178,18 @@ fn a_normal_form(rt: HostRuntime) -> Result<(), Fail> {
     Ok(())
 }
 
+/// Returns the printed text of the normal form of a clone of the value.
+fn normal_of_clone(alloc: Global, value: &AvnValue) -> Result<String, OutOfMemory> {
+    let clone = value.try_clone(alloc)?;
+    let normal = clone.normal(alloc);
+    let_go(clone);
+    printed(alloc, normal?)
+}
+
 /// Returns the printed text of the normal form of an object identifier, and of a clone of it.
 fn normal_of_identifier(alloc: Global) -> Result<String, OutOfMemory> {
     let identifier = AvnValue::Oid([2, 5].to_vec(alloc)?);
-    let normal = identifier.try_clone(alloc)?.normal(alloc)?;
-    Ok(normal.to_string(alloc)?)
+    let text = normal_of_clone(alloc, &identifier);
+    let_go(identifier);
+    text
 }

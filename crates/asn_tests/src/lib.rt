@@ -3,4 +3,12 @@
 #![tactic(auto)]
 
 #[cfg(test)]
+mod by_hand;
+#[cfg(test)]
+mod calls;
+#[cfg(test)]
+mod checks;
+#[cfg(test)]
 mod samples;
+#[cfg(test)]
+mod shapes;

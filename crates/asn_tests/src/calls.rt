@@ -1,0 +1,174 @@
+//! Calls both codecs directly by each call that encodes or decodes a value. The calls under a tag,
+//! constraints or a prefix give what the plain call gives, since neither notation writes tags.
+use crate::checks::{assert_refused, kept, let_go};
+use asn_base::{Class, Constraints, Identifier, Tag};
+use asn_fault::{DecodeError, EncodeError};
+use asn_traits::{Decode, Decoder, Encode, Encoder};
+use avn_rules::avn;
+use avn_value::AvnValue;
+use jer_rules::jer;
+use serde_json::Value;
+use std::alloc::Global;
+use std::test::Fail;
+
+/// Is the tag `[9]`, which no sample type has.
+const NINE: Tag = Tag {
+    class: Class::Context,
+    value: 9,
+};
+
+/// Encodes the number 5 at the root by the call of that number.
+fn write_five<E: Encoder>(encoder: &mut E, call: usize) -> Result<(), EncodeError> {
+    let five: u8 = 5;
+    // Four calls of the type's own `Encode` or of the encoder, and two for an optional value.
+    match call {
+        0 => five.encode(encoder),
+        1 => five.encode_with_tag(encoder, NINE),
+        2 => five.encode_with_constraints(encoder, &Constraints::NONE),
+        3 => encoder.encode_explicit_prefix::<u8>(NINE, &five, Identifier::EMPTY),
+        4 => encoder.encode_some::<u8>(&five, Identifier::EMPTY),
+        _ => encoder.encode_some_with_tag_and_constraints::<u8>(
+            NINE,
+            &Constraints::NONE,
+            &five,
+            Identifier::EMPTY,
+        ),
+    }
+}
+
+/// Returns the text in JER of the number 5.
+fn five_in_jer(alloc: Global, call: usize) -> Result<String, Fail> {
+    let mut encoder = jer::enc::Encoder::new(alloc);
+    let written = write_five(&mut encoder, call);
+    Ok(kept(encoder, written)?.to_string()?)
+}
+
+/// Returns the text in AVN of the number 5.
+fn five_in_avn(alloc: Global, call: usize) -> Result<String, Fail> {
+    let mut encoder = avn::enc::Encoder::new(alloc);
+    let written = write_five(&mut encoder, call);
+    Ok(kept(encoder, written)?.to_string()?)
+}
+
+/// Each call that encodes a value gives the same text, in both notations.
+#[test]
+fn each_writing_call_puts_the_value(rt: HostRuntime) -> Result<(), Fail> {
+    for call in 0..6 {
+        assert!(rt;
+            five_in_jer(rt.alloc(), call)?.as_str() == "5",
+            "call {call} of JER"
+        );
+        assert!(rt;
+            five_in_avn(rt.alloc(), call)?.as_str() == "5",
+            "call {call} of AVN"
+        );
+    }
+    Ok(())
+}
+
+/// Puts an absent slot at the root, under a tag or not.
+fn write_none<E: Encoder>(encoder: &mut E, tagged: bool) -> Result<(), EncodeError> {
+    if tagged {
+        encoder.encode_none_with_tag(NINE, Identifier::EMPTY)
+    } else {
+        encoder.encode_none::<u8>(Identifier::EMPTY)
+    }
+}
+
+/// Returns the text in JER of an absent slot.
+fn none_in_jer(alloc: Global, tagged: bool) -> Result<Result<String, EncodeError>, Fail> {
+    let mut encoder = jer::enc::Encoder::new(alloc);
+    let written = write_none(&mut encoder, tagged);
+    Ok(kept(encoder, written)?.to_string())
+}
+
+/// Returns the text in AVN of an absent slot.
+fn none_in_avn(alloc: Global, tagged: bool) -> Result<Result<String, EncodeError>, Fail> {
+    let mut encoder = avn::enc::Encoder::new(alloc);
+    let written = write_none(&mut encoder, tagged);
+    Ok(kept(encoder, written)?.to_string())
+}
+
+/// An absent slot at the root is no value: the encoder has no text, in either notation.
+/// The errors' texts are those of the crate `rasn`.
+#[test]
+fn an_absent_slot_leaves_no_value_at_the_root(rt: HostRuntime) -> Result<(), Fail> {
+    let in_jer = "JER encoding error: No encoded JSON root value found (Codec: JER)";
+    let in_avn = "AVN encoding error: No encoded AVN root value found (Codec: AVN)";
+    for &tagged in &[false, true] {
+        assert_refused(&rt, rt.alloc(), none_in_jer(rt.alloc(), tagged)?, in_jer)?;
+        assert_refused(&rt, rt.alloc(), none_in_avn(rt.alloc(), tagged)?, in_avn)?;
+    }
+    Ok(())
+}
+
+/// Decodes a number by the call of that number. The calls of an optional value give `Some` where
+/// the slot is present.
+fn read_number<D: Decoder>(decoder: &mut D, call: usize) -> Result<Option<u8>, DecodeError> {
+    // Four calls of a value that has to be there, and five of one that may be absent.
+    match call {
+        0 => Ok(Some(u8::decode(decoder)?)),
+        1 => Ok(Some(u8::decode_with_tag(decoder, NINE)?)),
+        2 => Ok(Some(u8::decode_with_constraints(decoder, &Constraints::NONE)?)),
+        3 => Ok(Some(decoder.decode_explicit_prefix::<u8>(NINE)?)),
+        4 => decoder.decode_optional::<u8>(),
+        5 => decoder.decode_optional_with_explicit_prefix::<u8>(NINE),
+        6 => decoder.decode_optional_with_tag::<u8>(NINE),
+        7 => decoder.decode_optional_with_constraints::<u8>(&Constraints::NONE),
+        _ => decoder.decode_optional_with_tag_and_constraints::<u8>(NINE, &Constraints::NONE),
+    }
+}
+
+/// Decodes the number 5 from a value of JSON.
+fn number_in_jer(alloc: Global, call: usize) -> Result<Option<u8>, Fail> {
+    let five = Value::from_str(alloc, "5")?;
+    let mut decoder = jer::de::Decoder::from_value(alloc, five)?;
+    let number = read_number(&mut decoder, call);
+    let_go(decoder);
+    Ok(number?)
+}
+
+/// Decodes the number 5 from a value of AVN.
+fn number_in_avn(alloc: Global, call: usize) -> Result<Option<u8>, Fail> {
+    let five = AvnValue::Integer(String::from_str(alloc, "5")?);
+    let mut decoder = avn::de::Decoder::from_value(alloc, five)?;
+    let number = read_number(&mut decoder, call);
+    let_go(decoder);
+    Ok(number?)
+}
+
+/// Each call that decodes a value takes it, in both notations.
+#[test]
+fn each_reading_call_takes_the_value(rt: HostRuntime) -> Result<(), Fail> {
+    for call in 0..9 {
+        assert!(rt;
+            number_in_jer(rt.alloc(), call)? == Some(5),
+            "call {call} of JER"
+        );
+        assert!(rt;
+            number_in_avn(rt.alloc(), call)? == Some(5),
+            "call {call} of AVN"
+        );
+    }
+    Ok(())
+}
+
+/// A JSON value that a program makes may hold a float, which is of no kind that a type needs. How
+/// the error prints it is unspecified, so its beginning alone is compared.
+/// The beginning is that of the crate `rasn`.
+#[test]
+fn a_float_is_of_another_kind(rt: HostRuntime) -> Result<(), Fail> {
+    // Not by a text: `Decoder::new` refuses one with a float as a REAL.
+    let float = Value::from_str(rt.alloc(), "1.5")?;
+    let mut decoder = jer::de::Decoder::from_value(rt.alloc(), float)?;
+    let number = decoder.decode_integer::<u8>(Tag::INTEGER, &Constraints::NONE);
+    let_go(decoder);
+    // The words name the numbers that JER has, and not those of the type.
+    assert_refused(
+        &rt,
+        rt.alloc(),
+        number,
+        "JER decoding error: Found mismatching JSON value. Expected type: number \
+         (supported range -2^63..2^64).",
+    )
+}

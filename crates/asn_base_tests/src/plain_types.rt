@@ -44,7 +44,8 @@ fn assert_padded(rt: &impl Abort, alloc: Global, octet: u8) -> Result<(), Fail> 
     Ok(())
 }
 
-/// Checks that a bit that is added after five of the octet is set, and two that are taken are reset.
+/// Checks that a bit that is added after five of the octet is set, and two that are taken are
+/// reset.
 fn assert_reset(rt: &impl Abort, alloc: Global, octet: u8) -> Result<(), Fail> {
     let mut bits = first_bits(alloc, octet, 5)?;
     assert!(rt; bits.len() == 5);

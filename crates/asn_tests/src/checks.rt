@@ -1,5 +1,6 @@
 //! Lets values go where their types are open: where a type is known, a proof goes through each part
-//! that is let go. No function here states what it does, so that a test's proof is of the test alone.
+//! that is let go. No function here states what it does, so that a test's proof is of the test
+//! alone.
 use std::alloc::Global;
 use std::fmt::{Debug, Display};
 use std::process::Abort;

@@ -7,8 +7,8 @@ use std::alloc::Global;
 use std::process::Abort;
 use std::test::Fail;
 
-/// Gives the tag of the type that it is run at, and returns whether that is a CHOICE, and whether it
-/// has neither an identifier of its own nor a rank above another type.
+/// Gives the tag of the type that it is run at, and returns whether that is a CHOICE, and whether
+/// it has neither an identifier of its own nor a rank above another type.
 #[derive(Drop)]
 struct TagOf {}
 

@@ -3,7 +3,8 @@ ghost use Rattle.std.specs.Prelude.{◌≡◌, ◌≢◌, ◌+◌, ◌*◌, ◌/
 ghost use Rattle.std.specs.Prelude.{IfOk, MatchOption, slice_index};
 ghost use Rattle.avn_grammar.specs.Chars.{all};
 ghost use Rattle.avn_grammar.specs.Octets.{packed};
-ghost use Rattle.avn_cursor.specs.HexDigits.{digit_values, binary_digits, is_bit_value, is_bit_pair};
+ghost use Rattle.avn_cursor.specs.HexDigits.{digit_values, binary_digits, is_bit_value};
+ghost use Rattle.avn_cursor.specs.HexDigits.{is_bit_pair};
 
 use std::alloc::{AllocError, Global};
 

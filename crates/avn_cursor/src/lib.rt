@@ -1,5 +1,5 @@
-//! Reads a text of the ASN.1 value notation (X.680) by its characters: runs of them, what they begin,
-//! and the octets that digits between apostrophes are.
+//! Reads a text of the ASN.1 value notation (X.680) by its characters: runs of them, what they
+//! begin, and the octets that digits between apostrophes are.
 #![tactic(auto)]
 
 mod bit_pairs;

@@ -11,3 +11,5 @@ pub mod Walks
 pub mod Subtrees
 pub mod NodeRows
 pub mod Putting
+pub mod Moving
+pub mod Naming

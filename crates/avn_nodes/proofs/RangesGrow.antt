@@ -134,10 +134,10 @@ last-part : (xs more new : List ℕ) (i j : ℕ) → new ≡ xs ++ more → i �
 last-part xs more new i j e f g =
     rest-part new i j g ∙ ap (drop i) e ∙ ap (λ n. drop n (xs ++ more)) f ∙ drop_at xs more (length xs) refl
 
-no-part : (xs : List ℕ) (m : ℕ) → slice_range xs m m ≡ []
+pub no-part : (xs : List ℕ) (m : ℕ) → slice_range xs m m ≡ []
 no-part xs m = let e : m - m ≡ 0 = omega arith in ap (λ n. take n (drop m xs)) e
 
-no-rest : (xs : List ℕ) (m : ℕ) → m ≡ length xs → drop m xs ≡ []
+pub no-rest : (xs : List ℕ) (m : ℕ) → m ≡ length xs → drop m xs ≡ []
 no-rest xs m e = drop_all m xs (omega arith)
 
 -- A node more over buffers of which one grew, where the name and the word begin anew.

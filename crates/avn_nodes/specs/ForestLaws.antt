@@ -35,7 +35,7 @@ no-first : (ss : List NamedSlot) → first_trees 0 ss ≡ []
 no-first [] = refl
 no-first (s ∷ ss) = refl
 
-no-later : (ss : List NamedSlot) → later_trees 0 ss ≡ ss
+pub no-later : (ss : List NamedSlot) → later_trees 0 ss ≡ ss
 no-later [] = refl
 no-later (s ∷ ss) = refl
 

@@ -1,5 +1,5 @@
 -- The ranges of a node, and what they hold.
-use Rattle.std.specs.Prelude.{◌≡◌, ℕ, ◌≤◌, true, cond, List, [], length, take, slice_range, map, drop}
+use Rattle.std.specs.Prelude.{◌≡◌, ℕ, ◌+◌, ◌-◌, ◌≤◌, true, cond, List, [], length, take, slice_range, map, drop}
 use Rattle.std.specs.Str.{IsUtf8}
 use Rattle.avn_nodes.specs.declared.nodes.Node.{Node}
 use Rattle.avn_nodes.specs.NodeViews.{NodeView}
@@ -40,3 +40,7 @@ view_of letters bytes numbers n = record {
 -- What contracts see of nodes over buffers, with the name and the word of the next one.
 abbrev pub node_list : List ℕ → List ℕ → List ℕ → List Node → ℕ → ℕ → NodeList
 node_list letters bytes numbers ns name word = record { nodes = map (view_of letters bytes numbers) ns; name = slice_range letters name word; word = drop word letters }
+
+-- A node of a subtree that moves from a place to another one.
+abbrev pub moved_node : ℕ → ℕ → Node → Node
+moved_node from to n = record n { end = n.end + to - from }

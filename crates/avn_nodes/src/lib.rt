@@ -1,5 +1,5 @@
-//! Keeps a value of the ASN.1 value notation (X.680) as a flat list of nodes in preorder, and prints
-//! it from there.
+//! Keeps a value of the ASN.1 value notation (X.680) as a flat list of nodes in preorder, and
+//! prints it from there.
 #![tactic(auto)]
 
 mod digits;

@@ -1,6 +1,6 @@
 //! Nodes of a table that is being built, and what they hold.
 ghost use Rattle.std.specs.Prelude.{true, false, Some, ◌≡◌, ◌<◌, ◌≤◌, ◌+◌, ◌^◌, ◌++◌, ◌∷◌, []};
-ghost use Rattle.std.specs.Prelude.{List, length};
+ghost use Rattle.std.specs.Prelude.{List, length, map, take, All};
 ghost use Rattle.std.specs.Prelude.{OnOk, OnErr, get_or};
 ghost use Rattle.std.specs.Str.{encode_utf8_all};
 ghost use Rattle.std.specs.Char.{encode_utf8};
@@ -8,7 +8,9 @@ ghost use Rattle.avn_grammar.specs.Chars.{take_while, skip_while};
 ghost use Rattle.avn_cursor.specs.Ahead.{Advances};
 ghost use Rattle.avn_cursor.specs.Runs.{passes};
 ghost use Rattle.avn_grammar.specs.Grammar.{word_of};
-ghost use Rattle.avn_nodes.specs.NodeViews.{NodeView, view_at, kind_of};
+ghost use Rattle.avn_nodes.specs.NodeViews.{NodeView, view_at, kind_of, node_views};
+ghost use Rattle.avn_nodes.specs.NodeRanges.{moved_node};
+ghost use Rattle.avn_nodes.specs.Subtrees.{HasSlot, subtrees_at};
 ghost use Rattle.avn_nodes.specs.Preorder.{preorder};
 ghost use Rattle.avn_nodes.specs.NodeKinds.{HasNoContent, has_text, has_octets, has_arcs};
 ghost use Rattle.avn_nodes.specs.NodeLists.{NodeList, no_nodes, extended, closed_node, with_leaf};
@@ -135,6 +137,34 @@ fn push_node(
     Ok(())
 }
 
+/// Adds the nodes of a subtree that is moved from a place to another one, where a node's end moves
+/// with it.
+///
+/// # Errors
+///
+/// `AllocError` where memory is refused, or a place is above `GREATEST`.
+fn push_moved(
+    subtree: &[Node],
+    from: usize,
+    to: usize,
+    moved: &mut Vec<Node>,
+) -> Result<(), AllocError>
+    requires { to < 2 ^ 34 }
+    ensures { OnOk result (moved.new.items
+        ≡ moved.old.items ++ map (moved_node from to) subtree.now) }
+{
+    for &node in subtree {
+        let end = (node.end as usize + to).saturating_sub(from);
+        if end > GREATEST {
+            return Err(AllocError);
+        }
+        let mut copy = node;
+        copy.end = end as u32;
+        moved.push(copy)?;
+    }
+    Ok(())
+}
+
 impl Nodes {
     /// Returns no nodes.
     pub fn new(alloc: Global) -> Nodes
@@ -148,6 +178,25 @@ impl Nodes {
             name: 0,
             word: 0,
         }
+    }
+
+    /// Removes all nodes, and what they hold.
+    pub fn clear(&mut self)
+        ensures { self.new ≡ no_nodes }
+    {
+        self.nodes.clear();
+        self.text.clear();
+        self.octets.clear();
+        self.arcs.clear();
+        self.name = 0;
+        self.word = 0;
+    }
+
+    /// Keeps the first nodes, at most so many.
+    pub fn truncate(&mut self, count: usize)
+        ensures { self.new ≡ record self.old { nodes = take count self.old.nodes } }
+    {
+        self.nodes.truncate(count);
     }
 
     /// Returns the number of nodes.
@@ -458,5 +507,67 @@ impl Nodes {
         let node = &mut self.nodes[place];
         node.kind = kind;
         node.end = end as u32;
+    }
+
+    /// Makes the word the name of a node.
+    ///
+    /// # Errors
+    ///
+    /// `AllocError` where the text is longer than `GREATEST`.
+    pub fn name_node(&mut self, place: usize) -> Result<(), AllocError>
+        requires { place < length self.old.nodes }
+        ensures { OnOk result ((before after : List NodeView) (node : NodeView)
+            → self.old.nodes ≡ before ++ node ∷ after → length before ≡ place
+            → self.new ≡ record {
+              nodes = before ++ record node { name = self.old.word } ∷ after;
+              name = [];
+              word = [];
+            }) }
+    {
+        let bound = self.text.len();
+        if bound > GREATEST {
+            return Err(AllocError);
+        }
+        let node = &mut self.nodes[place];
+        node.name_start = self.word as u32;
+        node.name_end = bound as u32;
+        self.name = bound;
+        self.word = bound;
+        Ok(())
+    }
+
+    /// Puts the subtrees at these nodes, in this order, in the place of the nodes from a place on.
+    ///
+    /// # Errors
+    ///
+    /// `AllocError` where memory is refused, or a place is above `GREATEST`.
+    pub fn arrange(
+        &mut self,
+        alloc: Global,
+        place: usize,
+        order: &[usize],
+    ) -> Result<(), AllocError>
+        requires within { place ≤ length self.old.nodes }
+        requires subtrees { All (HasSlot self.old.nodes) order.now }
+        ensures { OnOk result (self.new ≡ record self.old {
+          nodes = take place self.old.nodes
+              ++ node_views place (subtrees_at self.old.nodes order.now);
+        }) }
+    {
+        let mut moved = Vec::new(alloc);
+        for &node in order {
+            let to = place + moved.len();
+            if to > GREATEST {
+                return Err(AllocError);
+            }
+            let end = self.nodes[node].end as usize;
+            push_moved(&self.nodes[node..end], node, to, &mut moved)?;
+        }
+        if place + moved.len() > GREATEST {
+            return Err(AllocError);
+        }
+        self.nodes.truncate(place);
+        self.nodes.append(&mut moved)?;
+        Ok(())
     }
 }

@@ -1,0 +1,5 @@
+pub mod Listed
+pub mod Walking
+pub mod NamedSlots
+pub mod Rearranged
+pub mod Framing

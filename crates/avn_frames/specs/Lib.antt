@@ -1,0 +1,4 @@
+pub mod Listing
+pub mod Closing
+pub mod Places
+pub mod Arranged

@@ -1,5 +1,6 @@
 //! Prints chains of errors, and finds what is at their ends. The texts follow those of the crate
 //! `rasn` 0.30.0.
+use crate::checks::assert_printed;
 use asn_core::Codec;
 use asn_fault::{DecodeError, DecodeErrorKind};
 use std::alloc::Global;
@@ -18,11 +19,13 @@ fn within_fields(alloc: Global) -> DecodeError {
 #[test]
 fn fields_print_each_level(rt: HostRuntime) -> Result<(), Fail> {
     let error = within_fields(rt.alloc());
-    assert_eq!(rt;
-        error.to_string(rt.alloc())?.as_str(),
+    assert_printed(
+        &rt,
+        rt.alloc(),
+        error,
         "Error when decoding field `a`: Error when decoding field `x`: Actual integer larger \
-         than expected 8 bits (Codec: JER) (Codec: JER) (Codec: AVN)"
-    );
+         than expected 8 bits (Codec: JER) (Codec: JER) (Codec: AVN)",
+    )?;
     Ok(())
 }
 
@@ -50,9 +53,6 @@ fn fields_lead_to_the_root_cause(rt: HostRuntime) {
 fn memory_stays_outside_of_fields(rt: HostRuntime) -> Result<(), Fail> {
     let memory = DecodeError::out_of_memory(Codec::Jer);
     let memory = DecodeError::field_error(rt.alloc(), "x", memory, Codec::Avn);
-    assert_eq!(rt;
-        memory.to_string(rt.alloc())?.as_str(),
-        "Out of memory (Codec: AVN)"
-    );
+    assert_printed(&rt, rt.alloc(), memory, "Out of memory (Codec: AVN)")?;
     Ok(())
 }

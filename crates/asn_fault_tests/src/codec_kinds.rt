@@ -1,4 +1,5 @@
 //! Prints the kinds that a single set of encoding rules has, each as an error of its codec.
+use crate::checks::assert_printed;
 use asn_core::{Tag, WholeNumber};
 use asn_fault::{
     AvnDecodeErrorKind, AvnEncodeErrorKind, BerDecodeErrorKind, BerEncodeErrorKind,
@@ -77,7 +78,7 @@ fn kinds_of_rules_on_octets_have_their_texts(rt: HostRuntime) -> Result<(), Fail
     for (place, &want) in OCTET_TEXTS.iter().enumerate() {
         // `m` stands for any text that an error may hold.
         let error = octet_error(String::from_str(rt.alloc(), "m")?, place);
-        assert_eq!(rt; error.to_string(rt.alloc())?.as_str(), want);
+        assert_printed(&rt, rt.alloc(), error, want)?;
     }
     Ok(())
 }
@@ -184,7 +185,7 @@ fn kinds_of_rules_on_texts_have_their_texts(rt: HostRuntime) -> Result<(), Fail>
     for (place, &want) in TEXT_TEXTS.iter().enumerate() {
         // The place of a text in the list is that of its error.
         let error = text_error(rt.alloc(), place)?;
-        assert_eq!(rt; error.to_string(rt.alloc())?.as_str(), want);
+        assert_printed(&rt, rt.alloc(), error, want)?;
     }
     Ok(())
 }
@@ -256,7 +257,7 @@ fn kinds_of_encoding_have_their_texts(rt: HostRuntime) -> Result<(), Fail> {
     for (place, &want) in ENCODE_TEXTS.iter().enumerate() {
         // The place of a text in the list is that of its error.
         let error = encode_error(rt.alloc(), place)?;
-        assert_eq!(rt; error.to_string(rt.alloc())?.as_str(), want);
+        assert_printed(&rt, rt.alloc(), error, want)?;
     }
     Ok(())
 }
@@ -266,11 +267,13 @@ fn kinds_of_encoding_have_their_texts(rt: HostRuntime) -> Result<(), Fail> {
 fn arcs_are_printed_as_a_list(rt: HostRuntime) -> Result<(), Fail> {
     let arcs = Vec::from_array(rt.alloc(), [3, 5])?;
     let kind = BerEncodeErrorKind::invalid_object_identifier(arcs);
-    assert_eq!(rt;
-        kind.to_string(rt.alloc())?.as_str(),
+    assert_printed(
+        &rt,
+        rt.alloc(),
+        kind,
         "Invalid Object Identifier: must have at least two components and first octet must be \
-         0, 1 or 2. Provided: [3, 5]"
-    );
+         0, 1 or 2. Provided: [3, 5]",
+    )?;
     Ok(())
 }
 
@@ -278,8 +281,8 @@ fn arcs_are_printed_as_a_list(rt: HostRuntime) -> Result<(), Fail> {
 #[test]
 fn faults_of_digits(rt: HostRuntime) -> Result<(), Fail> {
     let too_large = DigitFault::TooLarge;
-    assert_eq!(rt; too_large.to_string(rt.alloc())?.as_str(), "too large");
+    assert_printed(&rt, rt.alloc(), too_large, "too large")?;
     let empty = DigitFault::Empty;
-    assert_eq!(rt; empty.to_string(rt.alloc())?.as_str(), "empty");
+    assert_printed(&rt, rt.alloc(), empty, "empty")?;
     Ok(())
 }

@@ -1,4 +1,5 @@
 //! Prints the ways in which the components of a value break a constraint of its type.
+use crate::checks::assert_printed;
 use asn_core::Codec;
 use asn_fault::{DecodeError, DecodeErrorKind, InnerSubtypeConstraintError};
 use std::test::Fail;
@@ -62,7 +63,7 @@ fn each_way_has_its_text(rt: HostRuntime) -> Result<(), Fail> {
     for (place, &want) in TEXTS.iter().enumerate() {
         // `m` stands for any text that an error may hold.
         let error = error(String::from_str(rt.alloc(), "m")?, place);
-        assert_eq!(rt; error.to_string(rt.alloc())?.as_str(), want);
+        assert_printed(&rt, rt.alloc(), error, want)?;
     }
     Ok(())
 }
@@ -78,10 +79,12 @@ fn contents_that_are_not_decoded(rt: HostRuntime) -> Result<(), Fail> {
         err: Box::new(alloc, eof)?,
     };
     let error = DecodeError::inner_subtype_constraint_not_satisfied(reason, Codec::Oer);
-    assert_eq!(rt;
-        error.to_string(alloc)?.as_str(),
+    assert_printed(
+        &rt,
+        alloc,
+        error,
         "Inner subtype constraint not satisfied: CONTAINING does not contain the expected \
-         component T: Unexpected EOF when decoding (Codec: BER) (Codec: OER)"
-    );
+         component T: Unexpected EOF when decoding (Codec: BER) (Codec: OER)",
+    )?;
     Ok(())
 }

@@ -1,5 +1,6 @@
 //! Prints the error of decoding of each kind that every codec has, made by its constructor where it
 //! has one.
+use crate::checks::assert_printed;
 use asn_core::{Bounded, Class, Codec, Tag, TagTree, Variants, WholeNumber};
 use asn_fault::{DecodeError, DecodeErrorKind, Needed, PermittedAlphabetError};
 use std::test::Fail;
@@ -136,7 +137,7 @@ fn each_kind_of_decoding_has_its_text(rt: HostRuntime) -> Result<(), Fail> {
     for (place, &want) in TEXTS.iter().enumerate() {
         // `m` stands for any text that an error may hold.
         let error = error(String::from_str(rt.alloc(), "m")?, place);
-        assert_eq!(rt; error.to_string(rt.alloc())?.as_str(), want);
+        assert_printed(&rt, rt.alloc(), error, want)?;
     }
     Ok(())
 }
@@ -149,10 +150,12 @@ const ALTERNATIVES: &[TagTree] = &[TagTree::Leaf(Tag::BOOL)];
 fn an_index_of_no_alternative(rt: HostRuntime) -> Result<(), Fail> {
     let variants = Variants::from_parts(rt.alloc(), ALTERNATIVES, None)?;
     let error = DecodeError::choice_index_not_found(7, variants, Codec::Uper);
-    assert_eq!(rt;
-        error.to_string(rt.alloc())?.as_str(),
-        "Choice index 7 did not match any variant (Codec: UPER)"
-    );
+    assert_printed(
+        &rt,
+        rt.alloc(),
+        error,
+        "Choice index 7 did not match any variant (Codec: UPER)",
+    )?;
     Ok(())
 }
 
@@ -162,16 +165,20 @@ fn errors_within_errors_are_printed_in_full(rt: HostRuntime) -> Result<(), Fail>
     let alloc = rt.alloc();
     let eof = DecodeError::from_kind(DecodeErrorKind::Eof, Codec::Ber);
     let error = DecodeError::field_error(alloc, "x", eof, Codec::Avn);
-    assert_eq!(rt;
-        error.to_string(alloc)?.as_str(),
-        "Error when decoding field `x`: Unexpected EOF when decoding (Codec: BER) (Codec: AVN)"
-    );
+    assert_printed(
+        &rt,
+        alloc,
+        error,
+        "Error when decoding field `x`: Unexpected EOF when decoding (Codec: BER) (Codec: AVN)",
+    )?;
     let eof = DecodeError::from_kind(DecodeErrorKind::Eof, Codec::Ber);
     let error = DecodeError::choice_index_exceeds_platform_width(alloc, 9, eof, Codec::Aper);
-    assert_eq!(rt;
-        error.to_string(alloc)?.as_str(),
+    assert_printed(
+        &rt,
+        alloc,
+        error,
         "Choice index exceeds platform index width. Needed 9 bytes, present: Unexpected EOF \
-         when decoding (Codec: BER) (Codec: APER)"
-    );
+         when decoding (Codec: BER) (Codec: APER)",
+    )?;
     Ok(())
 }

@@ -1,5 +1,6 @@
 //! Prints the error of encoding of each kind that every codec has, made by its constructor where it
 //! has one.
+use crate::checks::assert_printed;
 use asn_core::{Bounded, Codec, Size, WholeNumber};
 use asn_fault::{EncodeError, EncodeErrorKind, PermittedAlphabetError};
 use std::test::Fail;
@@ -87,7 +88,7 @@ fn each_kind_of_encoding_has_its_text(rt: HostRuntime) -> Result<(), Fail> {
     for (place, &want) in TEXTS.iter().enumerate() {
         // `m` stands for any text that an error may hold.
         let error = error(String::from_str(rt.alloc(), "m")?, place);
-        assert_eq!(rt; error.to_string(rt.alloc())?.as_str(), want);
+        assert_printed(&rt, rt.alloc(), error, want)?;
     }
     Ok(())
 }

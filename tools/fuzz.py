@@ -4,7 +4,7 @@
 usage: tools/fuzz.py [--texts N] [--seed S] [--types a,b,..] PROGRAM
 
 PROGRAM takes a request on standard input, as ./asn_convert does. Of each text:
-  ends       the status is 0 or 1, within a second and one more for each megabyte
+  ends       the status is 0 or 1, within a second of processor time and one more for each megabyte
   stable     what status 0 wrote is read again in its notation, and gives itself
   round      what JSON becomes in AVN becomes in JSON what JSON became at once
   whole      a text that was not damaged has status 0
@@ -14,6 +14,7 @@ Each breach is printed with its input; the last line counts texts and breaches, 
 import argparse
 import collections
 import json
+import math
 import os
 import random
 import subprocess
@@ -199,12 +200,11 @@ def damaged(r, text):
 
 
 def convert(program, source, target, name, text):
-    """The status and the text written, without its line feed; no status where it took too long."""
+    """The status and the text written, without its line feed; a signal's status where it took too long."""
     given = f"{source} {target} {name}\n".encode() + text.encode()
-    try:
-        done = subprocess.run([program], input=given, capture_output=True, timeout=1 + len(given) / 1e6)
-    except subprocess.TimeoutExpired:
-        return None, ""
+    # Processor time, so that other work on the machine is no breach.
+    limit = f"--cpu={1 + math.ceil(len(given) / 1e6)}"
+    done = subprocess.run(["prlimit", limit, program], input=given, capture_output=True)
     return done.returncode, done.stdout.decode("utf-8", "replace")[:-1]
 
 

@@ -9,7 +9,8 @@ use Rattle.asn_slots.specs.Trees.{trees_of, SameTrees}
 abbrev Frames : Type 0 → Type 0
 Frames A = List (List (Option A))
 
-push-trees : {A T : Type 0} (f : A → T) (s : Option A) (fs : Frames A) → map (trees_of f) (push s fs) ≡ push (option_map f s) (map (trees_of f) fs)
+-- A slot more is a tree more.
+pub push-trees : {A T : Type 0} (f : A → T) (s : Option A) (fs : Frames A) → map (trees_of f) (push s fs) ≡ push (option_map f s) (map (trees_of f) fs)
 push-trees f s [] = refl
 push-trees f s (slots ∷ fs) = ap (λ g. g ∷ map (trees_of f) fs) (map_push (option_map f) slots s)
 
@@ -50,7 +51,8 @@ or_some-trees : {A T : Type 0} (f : A → T) (a b : Option A) → or_some (optio
 or_some-trees f (Some x) b = refl
 or_some-trees f None b = refl
 
-last-trees : {A T : Type 0} (f : A → T) (slots : List (Option A)) → last_present (trees_of f slots) ≡ option_map f (last_present slots)
+-- The tree of the last value is the last tree.
+pub last-trees : {A T : Type 0} (f : A → T) (slots : List (Option A)) → last_present (trees_of f slots) ≡ option_map f (last_present slots)
 last-trees f [] = refl
 last-trees f (s ∷ slots) = ap (λ o. or_some o (option_map f s)) (last-trees f slots) ∙ or_some-trees f (last_present slots) s
 
@@ -59,7 +61,8 @@ pub last_same : {A V T : Type 0} (written : A → T) (kept : V → T) (old mid :
     → option_map written (last_present f) ≡ option_map kept (last_present slots)
 last_same written kept old mid slots f fs c h = sym (last-trees written f) ∙ ap last_present (closed_top written kept old mid slots f fs c h).0 ∙ last-trees kept slots
 
-no_tree : {A T : Type 0} (f : A → T) (o : Option A) → option_map f o ≡ None → o ≡ None
+-- Where there is no tree, there is no value.
+pub no_tree : {A T : Type 0} (f : A → T) (o : Option A) → option_map f o ≡ None → o ≡ None
 no_tree f None e = refl
 no_tree {T = T} f (Some x) e = let d : ◌≡◌ {A = Option T} (Some (f x)) None = e in cc d
 
@@ -88,6 +91,6 @@ no_value : {A : Type 0} (v : A) → Some v ≡ None → ⊥
 no_value v e = cc e
 
 -- Where a value is held at the root, no reason stands that none is there.
-pub value_kept : {A P Q : Type 0} (holds : Frames A → Type 0) (v : A) → holds ((Some v ∷ []) ∷ []) → P ⊎ (Q × ((f : List (Option A)) → holds (f ∷ []) → last_present f ≡ None)) → P
+pub value_kept : {A P Q : Type 0} (holds : Frames A → Type 0) (v : A) → holds ((Some v ∷ []) ∷ []) → P ⊎ (Q × ((f : List (Option A)) (fs : Frames A) → holds (f ∷ fs) → last_present f ≡ None)) → P
 value_kept holds v held (inl p) = p
-value_kept holds v held (inr none) = absurd (no_value v (none.1 (Some v ∷ []) held))
+value_kept holds v held (inr none) = absurd (no_value v (none.1 (Some v ∷ []) [] held))

@@ -1,9 +1,7 @@
 -- Whole texts, read and written.
-use Rattle.std.proofs.Common.{◌≡◌, sym, ◌∙◌, subst, ℕ, List, [], ◌∷◌, Option, Some, None, Result, Ok, Err, IfErr, ◌⊎◌, inl, inr}
+use Rattle.std.proofs.Common.{◌≡◌, sym, ◌∙◌, subst, ℕ, List, Option, Some, Result, Ok, Err, IfErr}
 use Rattle.serde_json.specs.Data.{Data}
 use Rattle.serde_json.specs.Read.{read}
-use Rattle.asn_slots.specs.Slots.{last_present}
-use Rattle.asn_slots.proofs.Trees.{value_kept}
 use Rattle.asn_fault.specs.Failure.{failure_of}
 use Rattle.asn_fault.specs.declared.decode.DecodeError.{DecodeError}
 use Rattle.asn_traits.specs.Notation.{Notation}
@@ -12,7 +10,6 @@ use Rattle.asn_traits.specs.DecodesTo.{DecodesTo}
 use Rattle.asn_traits.specs.Shape.{Shape}
 use Rattle.asn_traits.specs.Tree.{Tree}
 use Rattle.asn_traits.specs.Value.{Value}
-use Rattle.asn_coding.specs.Writing.{Frame}
 use Rattle.asn_coding.proofs.Whole.{root_complete}
 use Rattle.jer_rules.specs.Text.{IsJer, RefusesText}
 
@@ -30,8 +27,3 @@ pub text_complete : {A : Type 0} (s : Shape) (value : A → Value) (text : List 
     → (e : Data) (v : Value) → IsJer text e → DecodesTo Notation.jer s (Some (Tree.json e)) v → Reads value v r
 text_complete s value text d r is h e v was says =
     root_complete Notation.jer s value (Tree.json d) r tt h v (subst (λ x. DecodesTo Notation.jer s (Some (Tree.json x)) v) (one_data text e d was.0 is.0) says)
-
--- Where a value is held at the root alone, no reason stands that none is there.
-pub root_kept : {P Q : Type 0} (holds : List Frame → Type 0) (v : Value) → holds ((Some v ∷ []) ∷ []) → P ⊎ (Q × ((f : Frame) (fs : List Frame) → holds (f ∷ fs) → last_present f ≡ None)) → P
-root_kept holds v held (inl p) = p
-root_kept holds v held (inr none) = value_kept holds v held (inr (none.0, λ f. none.1 f []))

@@ -1,11 +1,11 @@
 use Rattle.std.proofs.Common.{◌≡◌, Some, [], ◌∷◌, sym, string_bytes}
 use Rattle.std.proofs.lemmas.Result.{err_from_is_err_and, IfOk-weaker, IfErr-weaker}
+use Rattle.asn_slots.proofs.Trees.{value_kept}
 use Rattle.asn_traits.specs.Canonical.{canonical_text}
 use Rattle.asn_traits.specs.Notation.{Notation}
 use Rattle.asn_coding.specs.Writing.{FailsToEncode}
 use Rattle.asn_coding.proofs.Whole.{write_complete}
 use Rattle.jer_rules.specs.Holding.{Holds}
-use Rattle.jer_rules.proofs.Roots.{root_kept}
 use Rattle.jer_rules.proofs.jer.encode.Goals as goal
 
 pub returns-in_err-encode-clause-complete : goal.returns-in_err-encode-clause-complete
@@ -27,9 +27,9 @@ returns-clause-reads_back g c =
 pub returns-clause-refused : goal.returns-clause-refused
 returns-clause-refused g c =
     let held = c.in_ok-encode.ensures.written.added ([] ∷ []) c.new-encoder.ensures in
-    IfErr-weaker c.to_string.result _ _ (λ e cause. FailsToEncode.no_memory (root_kept (Holds c.encode.new.encoder) _ held cause)) c.to_string.ensures.refused
+    IfErr-weaker c.to_string.result _ _ (λ e cause. FailsToEncode.no_memory (value_kept (Holds c.encode.new.encoder) _ held cause)) c.to_string.ensures.refused
 
 pub returns-clause-complete : goal.returns-clause-complete
 returns-clause-complete g c =
     let held = c.in_ok-encode.ensures.written.added ([] ∷ []) c.new-encoder.ensures in
-    λ w. IfErr-weaker c.to_string.result _ _ (λ e cause. root_kept (Holds c.encode.new.encoder) _ held cause) c.to_string.ensures.refused
+    λ w. IfErr-weaker c.to_string.result _ _ (λ e cause. value_kept (Holds c.encode.new.encoder) _ held cause) c.to_string.ensures.refused

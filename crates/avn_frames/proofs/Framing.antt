@@ -19,7 +19,7 @@ use Rattle.avn_frames.specs.Places.{in_text_order, IsLastPlace}
 use Rattle.avn_nodes.specs.Subtrees.{Lists, tree_from}
 use Rattle.avn_nodes.proofs.Subtrees.{tree_from-is}
 use Rattle.avn_frames.specs.Closing.{as_choice, as_list, as_members, as_set, named_from}
-use Rattle.avn_frames.specs.Listing.{slot_nodes, frame_nodes, frames_nodes, opening_places, slots_from, AreSlots, AreFrames, frames_listed, above_root, slots_begin}
+use Rattle.avn_frames.specs.Listing.{slot_nodes, frame_nodes, frames_nodes, opening_places, slots_from, AreSlots, AreFrames, frames_listed, above_root, last_frame, IsListOf, slots_begin}
 use Rattle.avn_frames.proofs.Listed.{nameless, slots_from-is, are_slots, listed, settled, pushed, opened, has_frame}
 
 -- The nodes are those of the frames, and these are what is listed.
@@ -307,19 +307,16 @@ choice_done id s kept new then place left view frames c e k n h =
 -- The slots of the last frame.
 pub record LastSlots (s : NodeList) (places : List ℕ) (view : List (List (Option Tree))) : Type 0 where
   pub slots : AreSlots s.nodes (slots_begin places)
-  pub lists : (f : List (Option Tree)) (fs : List (List (Option Tree))) → view ≡ f ∷ fs → slots_from s.nodes (slots_begin places) ≡ f
+  pub lists : slots_from s.nodes (slots_begin places) ≡ last_frame view
   pub bound : last_start places ≤ length s.nodes - 1
-
-first_frame : (f g : List (Option Tree)) (fs gs : List (List (Option Tree))) → f ∷ fs ≡ g ∷ gs → f ≡ g
-first_frame f g fs gs e = cc e
 
 pub last_slots : (s : NodeList) (places : List ℕ) (view : List (List (Option Tree))) → AreFrames s places (frames_listed s.nodes places) → frames_listed s.nodes places ≡ view → LastSlots s places view
 last_slots s [] view k e =
     let r = root_alone s [] view k e refl in
-    record { slots = r.are; lists = λ f fs a. r.lists ∙ first_frame r.slots f [] fs (sym r.all ∙ a); bound = omega arith }
+    record { slots = r.are; lists = r.lists ∙ sym (ap last_frame r.all); bound = omega arith }
 last_slots s (p ∷ ps) view k e =
     let c = closable s (p ∷ ps) p ps view k e refl in
-    record { slots = c.slots; lists = λ f fs a. c.lists ∙ first_frame c.last f (c.next ∷ c.others) fs (sym c.all ∙ a); bound = omega (arith, c.within) }
+    record { slots = c.slots; lists = c.lists ∙ sym (ap last_frame c.all); bound = omega (arith, c.within) }
 
 -- The last slot that is present, as a place of the last frame's tells it.
 pub last_tree : (nodes : List NodeView) (i : ℕ) (node : ℕ) (f : List (Option Tree)) → IsLastPlace nodes i (Some node) → slots_from nodes i ≡ f → last_present f ≡ Some (tree_from nodes node)
@@ -327,3 +324,7 @@ last_tree nodes i node f k e = ap last_present (sym e) ∙ k.1 ∙ ap Some (sym 
 
 pub last_lists : (nodes : List NodeView) (i : ℕ) (node : ℕ) → IsLastPlace nodes i (Some node) → Lists nodes node (preorder [] (tree_from nodes node))
 last_lists nodes i node k = subst (λ t. Lists nodes node (preorder [] t)) (sym (tree_from-is nodes node [] k.0 k.2)) k.2
+
+-- The nodes that are kept alone are those of the last slot that is present.
+pub last_alone : (s new : NodeList) (i : ℕ) (node : ℕ) (f : List (Option Tree)) → IsLastPlace s.nodes i (Some node) → slots_from s.nodes i ≡ f → new ≡ extended no_nodes (preorder [] (tree_from s.nodes node)) → IsListOf new (last_present f)
+last_alone s new i node f k e n = subst (IsListOf new) (sym (last_tree s.nodes i node f k e)) n

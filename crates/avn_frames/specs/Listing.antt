@@ -1,7 +1,7 @@
 -- Frames of slots as nodes. A slot is a tree or absent.
 use Rattle.std.specs.Prelude.{◌≡◌, ℕ, suc, ◌+◌, List, [], ◌∷◌, ◌++◌, Option, Some, None, Bool, true, cond, map, length, take, drop}
 use Rattle.avn_grammar.specs.Tree.{Tree}
-use Rattle.avn_nodes.specs.Preorder.{NamedSlot, slot_descendants}
+use Rattle.avn_nodes.specs.Preorder.{NamedSlot, preorder, slot_descendants}
 use Rattle.avn_nodes.specs.NodeViews.{NodeView, node_views, kind_of}
 use Rattle.avn_nodes.specs.declared.node_kind.NodeKind.{NodeKind}
 use Rattle.avn_nodes.specs.declared.node_kind.NodeKind.TheVariants as kind
@@ -68,6 +68,16 @@ abbrev pub above_root : {A : Type 0} → List (List A) → List (List A)
 above_root [] = []
 above_root (f ∷ []) = f ∷ [] ∷ []
 above_root (f ∷ g ∷ fs) = f ∷ g ∷ fs
+
+-- The slots of the last frame.
+abbrev pub last_frame : {A : Type 0} → List (List A) → List A
+last_frame [] = []
+last_frame (f ∷ fs) = f
+
+-- The nodes are those of the slot alone, which is present.
+abbrev pub IsListOf : NodeList → Option Tree → Type 0
+IsListOf s None = ⊥
+IsListOf s (Some t) = s ≡ extended no_nodes (preorder [] t)
 
 -- Where the slots of the last frame begin.
 abbrev pub slots_begin : List ℕ → ℕ

@@ -1,4 +1,4 @@
-// Changes to the slots that nodes list from a place on.
+//! Changes the slots that nodes list from a place on.
 ghost use Rattle.asn_slots.specs.Slots.{first_of, present_of};
 ghost use Rattle.avn_frames.specs.Arranged.{AreSlotsAfter, KeepsFirst};
 ghost use Rattle.avn_frames.specs.Listing.{AreSlots, frame_nodes, slots_from};

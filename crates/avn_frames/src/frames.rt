@@ -3,13 +3,12 @@
 ghost use Rattle.asn_slots.specs.Frames.{push, close, last_start};
 ghost use Rattle.asn_slots.specs.Slots.{last_present};
 ghost use Rattle.avn_frames.specs.Closing.{as_choice, as_list, as_members, as_set};
-ghost use Rattle.avn_frames.specs.Listing.{IsSlotOf, above_root, slots_begin};
+ghost use Rattle.avn_frames.specs.Listing.{IsListOf, IsSlotOf, above_root, last_frame, slots_begin};
 ghost use Rattle.avn_grammar.specs.Print.{print};
 ghost use Rattle.avn_grammar.specs.Tree.{Tree, boolean, null, integer, enumerated, char_string};
 ghost use Rattle.avn_grammar.specs.Tree.{octet_string, bit_string, oid};
 ghost use Rattle.avn_nodes.specs.NodeKinds.{has_octets, has_arcs};
-ghost use Rattle.avn_nodes.specs.NodeLists.{NodeList, extended, no_nodes, with_leaf};
-ghost use Rattle.avn_nodes.specs.Preorder.{preorder, slot_descendants};
+ghost use Rattle.avn_nodes.specs.NodeLists.{no_nodes, with_leaf};
 ghost use Rattle.std.specs.Prelude.{◌≡◌, ◌<◌, ◌^◌, ◌+◌, ◌++◌, ◌∷◌, [], false, Some, None, Option};
 ghost use Rattle.std.specs.Prelude.{List, ℕ};
 ghost use Rattle.std.specs.Prelude.{IfOk, OnOk, MatchOption, reverse, option_map, string_bytes};
@@ -54,13 +53,14 @@ impl Model for NodeFrames {
         (frames_listed f.nodes.nodes (reverse f.places.items)) };
 }
 
-/// Removes all nodes and places.
-fn start_over(nodes: &mut Nodes, places: &mut Vec<usize>)
+/// Removes all nodes and places, and returns the refusal.
+fn start_over(nodes: &mut Nodes, places: &mut Vec<usize>) -> OutOfMemory
     ensures nodes { nodes.new ≡ no_nodes }
     ensures places { places.new.items ≡ [] }
 {
     nodes.clear();
     places.clear();
+    OutOfMemory
 }
 
 /// Adds a node of the kind, whose text, if it has one, is the text.
@@ -77,6 +77,20 @@ fn put_leaf(nodes: &mut Nodes, kind: NodeKind, text: &str) -> Result<(), AllocEr
 {
     nodes.push_text(text)?;
     nodes.leaf(kind)
+}
+
+/// Adds a character string that is handed over.
+///
+/// # Errors
+///
+/// `AllocError` where memory is refused, or the nodes are more than a table holds.
+fn put_string(nodes: &mut Nodes, text: String) -> Result<(), AllocError>
+    ensures { OnOk result (nodes.new ≡ with_leaf NodeKind.CharString (record nodes.old {
+      word = nodes.old.word ++ string_bytes text;
+    })) }
+{
+    nodes.push_string(text)?;
+    nodes.leaf(NodeKind::CharString)
 }
 
 /// Takes out the last place.
@@ -125,10 +139,7 @@ impl NodeFrames {
         self.places.push(self.nodes.len())?;
         match self.nodes.leaf(NodeKind::Absent) {
             Ok(()) => Ok(()),
-            Err(_) => {
-                start_over(&mut self.nodes, &mut self.places);
-                Err(OutOfMemory)
-            }
+            Err(_) => Err(start_over(&mut self.nodes, &mut self.places)),
         }
     }
 
@@ -147,10 +158,7 @@ impl NodeFrames {
     {
         match put_leaf(&mut self.nodes, kind, text) {
             Ok(()) => Ok(()),
-            Err(_) => {
-                start_over(&mut self.nodes, &mut self.places);
-                Err(OutOfMemory)
-            }
+            Err(_) => Err(start_over(&mut self.nodes, &mut self.places)),
         }
     }
 
@@ -201,16 +209,24 @@ impl NodeFrames {
         self.put(NodeKind::CharString, text)
     }
 
+    /// Adds a character string that is handed over. It is moved where it is the first text.
+    pub fn add_string(&mut self, text: String) -> Result<(), OutOfMemory>
+        ensures { OnOk result (self.new
+            ≡ push (Some (char_string (string_bytes text))) self.old) }
+    {
+        match put_string(&mut self.nodes, text) {
+            Ok(()) => Ok(()),
+            Err(_) => Err(start_over(&mut self.nodes, &mut self.places)),
+        }
+    }
+
     /// Adds an OCTET STRING.
     pub fn add_octets(&mut self, octets: &[u8]) -> Result<(), OutOfMemory>
         ensures { OnOk result (self.new ≡ push (Some (octet_string octets.now)) self.old) }
     {
         match self.nodes.octets_leaf(NodeKind::OctetString, octets, 0) {
             Ok(()) => Ok(()),
-            Err(_) => {
-                start_over(&mut self.nodes, &mut self.places);
-                Err(OutOfMemory)
-            }
+            Err(_) => Err(start_over(&mut self.nodes, &mut self.places)),
         }
     }
 
@@ -223,10 +239,7 @@ impl NodeFrames {
             .octets_leaf(NodeKind::BitString, octets, bit_length)
         {
             Ok(()) => Ok(()),
-            Err(_) => {
-                start_over(&mut self.nodes, &mut self.places);
-                Err(OutOfMemory)
-            }
+            Err(_) => Err(start_over(&mut self.nodes, &mut self.places)),
         }
     }
 
@@ -236,10 +249,7 @@ impl NodeFrames {
     {
         match self.nodes.arcs_leaf(arcs) {
             Ok(()) => Ok(()),
-            Err(_) => {
-                start_over(&mut self.nodes, &mut self.places);
-                Err(OutOfMemory)
-            }
+            Err(_) => Err(start_over(&mut self.nodes, &mut self.places)),
         }
     }
 
@@ -257,10 +267,7 @@ impl NodeFrames {
         self.places.push(0)?;
         match put_absent_first(self.alloc, &mut self.nodes) {
             Ok(()) => Ok(()),
-            Err(_) => {
-                start_over(&mut self.nodes, &mut self.places);
-                Err(OutOfMemory)
-            }
+            Err(_) => Err(start_over(&mut self.nodes, &mut self.places)),
         }
     }
 
@@ -273,6 +280,7 @@ impl NodeFrames {
         ensures { OnOk result (self.new ≡ close as_list self.old) }
     {
         self.put_above_root()?;
+        // No place overflows, as the number of nodes is a `usize`.
         let _count = self.nodes.len();
         let place = take_place(&mut self.places);
         match keep_present(self.alloc, &mut self.nodes, place + 1) {
@@ -280,10 +288,7 @@ impl NodeFrames {
                 self.nodes.close(place, NodeKind::SequenceOf);
                 Ok(())
             }
-            Err(_) => {
-                start_over(&mut self.nodes, &mut self.places);
-                Err(OutOfMemory)
-            }
+            Err(_) => Err(start_over(&mut self.nodes, &mut self.places)),
         }
     }
 
@@ -293,6 +298,7 @@ impl NodeFrames {
         ensures { OnOk result (self.new ≡ close as_set self.old) }
     {
         self.put_above_root()?;
+        // No place overflows, as the number of nodes is a `usize`.
         let _count = self.nodes.len();
         let place = take_place(&mut self.places);
         match sort_present(self.alloc, &mut self.nodes, place + 1) {
@@ -300,10 +306,7 @@ impl NodeFrames {
                 self.nodes.close(place, NodeKind::SequenceOf);
                 Ok(())
             }
-            Err(_) => {
-                start_over(&mut self.nodes, &mut self.places);
-                Err(OutOfMemory)
-            }
+            Err(_) => Err(start_over(&mut self.nodes, &mut self.places)),
         }
     }
 
@@ -312,6 +315,7 @@ impl NodeFrames {
         ensures { OnOk result (self.new ≡ close (as_members (N.name_at names.now)) self.old) }
     {
         self.put_above_root()?;
+        // No place overflows, as the number of nodes is a `usize`.
         let _count = self.nodes.len();
         let place = take_place(&mut self.places);
         match name_slots(&mut self.nodes, place + 1, names) {
@@ -319,10 +323,7 @@ impl NodeFrames {
                 self.nodes.close(place, NodeKind::Sequence);
                 Ok(())
             }
-            Err(_) => {
-                start_over(&mut self.nodes, &mut self.places);
-                Err(OutOfMemory)
-            }
+            Err(_) => Err(start_over(&mut self.nodes, &mut self.places)),
         }
     }
 
@@ -332,6 +333,7 @@ impl NodeFrames {
         ensures { OnOk result (self.new ≡ close (as_choice identifier.now) self.old) }
     {
         self.put_above_root()?;
+        // No place overflows, as the number of nodes is a `usize`.
         let _count = self.nodes.len();
         let place = take_place(&mut self.places);
         if !keep_first(&mut self.nodes, place + 1) {
@@ -342,10 +344,7 @@ impl NodeFrames {
                 self.nodes.close(place, NodeKind::Choice);
                 Ok(())
             }
-            Err(_) => {
-                start_over(&mut self.nodes, &mut self.places);
-                Err(OutOfMemory)
-            }
+            Err(_) => Err(start_over(&mut self.nodes, &mut self.places)),
         }
     }
 
@@ -356,10 +355,10 @@ impl NodeFrames {
     ///
     /// `OutOfMemory` alone.
     pub fn print_last(&self) -> Result<Option<String>, OutOfMemory>
-        ensures { (f : List (Option Tree)) (fs : List (List (Option Tree))) → self.now ≡ f ∷ fs
-            → IfOk result (λ text. option_map string_bytes text
-            ≡ option_map (print 0) (last_present f)) }
+        ensures { IfOk result (λ text. option_map string_bytes text
+            ≡ option_map (print 0) (last_present (last_frame self.now))) }
     {
+        // No place overflows, as the number of nodes is a `usize`.
         let _count = self.nodes.len();
         match last_place(&self.nodes, first_slot(&self.places)) {
             Some(node) => Ok(Some(self.nodes.print(self.alloc, node)?)),
@@ -374,11 +373,11 @@ impl NodeFrames {
     ///
     /// `OutOfMemory` alone.
     pub fn into_last(self) -> Result<Option<Nodes>, OutOfMemory>
-        ensures { (f : List (Option Tree)) (fs : List (List (Option Tree))) → self ≡ f ∷ fs
-            → IfOk result (λ nodes. MatchOption nodes (last_present f ≡ None)
-            (λ s. (t : Tree) × (last_present f ≡ Some t)
-            × (s ≡ extended no_nodes (preorder [] t)))) }
+        ensures { IfOk result (λ nodes. MatchOption nodes
+            (last_present (last_frame self) ≡ None)
+            (λ list. IsListOf list (last_present (last_frame self)))) }
     {
+        // No place overflows, as the number of nodes is a `usize`.
         let _count = self.nodes.len();
         let from = first_slot(&self.places);
         let alloc = self.alloc;

@@ -1,4 +1,4 @@
-// Walks over the slots that nodes list from a place on.
+//! Walks over the slots that nodes list from a place on.
 ghost use Rattle.asn_slots.specs.Slots.{present_of};
 ghost use Rattle.avn_frames.specs.Listing.{AreSlots, has_absent, is_kept, slot_places, slots_from};
 ghost use Rattle.avn_frames.specs.Places.{IsLastPlace, StandAt, in_text_order};

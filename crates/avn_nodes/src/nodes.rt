@@ -1,7 +1,7 @@
 //! Nodes of a table that is being built, and what they hold.
 ghost use Rattle.std.specs.Prelude.{true, false, Some, ◌≡◌, ◌<◌, ◌≤◌, ◌+◌, ◌^◌, ◌++◌, ◌∷◌, []};
 ghost use Rattle.std.specs.Prelude.{List, length, map, take, All};
-ghost use Rattle.std.specs.Prelude.{OnOk, OnErr, get_or};
+ghost use Rattle.std.specs.Prelude.{OnOk, OnErr, get_or, string_bytes};
 ghost use Rattle.std.specs.Str.{encode_utf8_all};
 ghost use Rattle.std.specs.Char.{encode_utf8};
 ghost use Rattle.avn_grammar.specs.Chars.{take_while, skip_while};
@@ -165,6 +165,24 @@ fn push_moved(
     Ok(())
 }
 
+/// Puts a text to the end of another one, or in its place where that is empty.
+///
+/// # Errors
+///
+/// `AllocError` where memory is refused.
+fn append_text(text: &mut String, more: String) -> Result<(), AllocError>
+    ensures bytes { OnOk result (string_bytes text.new
+        ≡ string_bytes text.old ++ string_bytes more) }
+    ensures unchanged { OnErr result (string_bytes text.new ≡ string_bytes text.old) }
+{
+    if text.is_empty() {
+        *text = more;
+        return Ok(());
+    }
+    text.push_str(more.as_str())?;
+    Ok(())
+}
+
 impl Nodes {
     /// Returns no nodes.
     pub fn new(alloc: Global) -> Nodes
@@ -262,6 +280,21 @@ impl Nodes {
         }) }
     {
         self.text.push_str(text)?;
+        Ok(())
+    }
+
+    /// Puts a text that is handed over to the end of the word. It is moved where there is no text
+    /// yet.
+    ///
+    /// # Errors
+    ///
+    /// `AllocError` where memory is refused.
+    pub fn push_string(&mut self, text: String) -> Result<(), AllocError>
+        ensures { OnOk result (self.new ≡ record self.old {
+          word = self.old.word ++ string_bytes text;
+        }) }
+    {
+        append_text(&mut self.text, text)?;
         Ok(())
     }
 

@@ -73,7 +73,7 @@ fn print_list<W: fmt::Write>(
     let mut row: usize = 0;
     f.write_str("{")?;
     'children: while child < end {
-        begin_row(row, &under, f)?;
+        begin_row(row, levels, f)?;
         print_node(nodes, child, &under, f)?;
         row += 1;
         child = nodes.end(child);
@@ -103,7 +103,7 @@ fn print_fields<W: fmt::Write>(
         match nodes.kind(child) {
             NodeKind::Absent => {}
             _ => {
-                begin_field(row, nodes.name(child), &under, f)?;
+                begin_field(row, nodes.name(child), levels, f)?;
                 print_node(nodes, child, &under, f)?;
                 row += 1;
             }

@@ -1,5 +1,5 @@
 //! The parts of printed text that values and nodes share.
-ghost use Rattle.std.specs.Prelude.{◌≡◌, ◌++◌, codes};
+ghost use Rattle.std.specs.Prelude.{◌≡◌, ◌++◌, codes, suc};
 ghost use Rattle.std.specs.Fmt.{WritesOnOk};
 ghost use Rattle.avn_grammar.specs.Tree.{octet_string, bit_string, oid, char_string};
 ghost use Rattle.avn_grammar.specs.Chars.{quote_is_doubled};
@@ -17,34 +17,35 @@ pub enum Levels<'a> {
     Under(&'a Levels<'a>),
 }
 
-/// Writes two spaces for each level.
+/// Writes two spaces for each level, for two levels together.
 fn write_indent<W: fmt::Write>(levels: &Levels<'_>, f: &mut fmt::Formatter<W>) -> fmt::Result
     ensures { WritesOnOk W.write_str_gives f.old result (indent (depth_of levels.now)) f.new }
 {
     match levels {
         Levels::Root => Ok(()),
-        Levels::Under(up) => {
-            f.write_str("  ")?;
+        Levels::Under(Levels::Root) => f.write_str("  "),
+        Levels::Under(Levels::Under(up)) => {
+            f.write_str("    ")?;
             write_indent(up, f)
         }
     }
 }
 
-/// What stands before a row.
+/// What stands before a row, and the spaces of one level.
 fn separator(row: usize) -> &'static str
-    ensures { result.now ≡ separator row }
+    ensures { result.now ≡ separator row ++ codes "  " }
 {
-    if row == 0 { "\n" } else { ",\n" }
+    if row == 0 { "\n  " } else { ",\n  " }
 }
 
-/// Writes what stands before the value of a row of a list.
+/// Writes what stands before the value of a row of a list in braces at the levels.
 pub fn begin_row<W: fmt::Write>(
     row: usize,
     levels: &Levels<'_>,
     f: &mut fmt::Formatter<W>,
 ) -> fmt::Result
     ensures { WritesOnOk W.write_str_gives f.old result
-        (separator row ++ indent (depth_of levels.now)) f.new }
+        (separator row ++ indent (suc (depth_of levels.now))) f.new }
 {
     f.write_str(separator(row))?;
     write_indent(levels, f)
@@ -58,7 +59,7 @@ pub fn begin_field<W: fmt::Write>(
     f: &mut fmt::Formatter<W>,
 ) -> fmt::Result
     ensures { WritesOnOk W.write_str_gives f.old result
-        (separator row ++ indent (depth_of levels.now) ++ name.now ++ codes " ") f.new }
+        (separator row ++ indent (suc (depth_of levels.now)) ++ name.now ++ codes " ") f.new }
 {
     begin_row(row, levels, f)?;
     f.write_str(name)?;

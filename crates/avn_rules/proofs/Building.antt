@@ -1,23 +1,49 @@
--- AVN values made of slots.
-use Rattle.std.proofs.Common.{◌≡◌, ℕ, zero, suc, List, [], ◌∷◌, ◌++◌, map, drop, length, Option, Some, None, ap, refl, sym, ◌∙◌, String, Vec, Global, string_bytes}
+-- Frames of values, and those of their trees.
+use Rattle.std.proofs.Common.{◌≡◌, ◌≢◌, ℕ, zero, suc, List, [], ◌∷◌, map, drop, Option, Some, None, ap, refl, sym, ◌∙◌}
 use Rattle.std.specs.Prelude.{option_map}
-use Rattle.avn_grammar.specs.Tree.{Tree as AvnTree, Fields as AvnFields, sequence, sequence_of, choice, tree, no_fields, field, absent}
-use Rattle.avn_value.specs.View.{tree_of, fields_trees}
+use Rattle.avn_grammar.specs.Tree.{Tree as AvnTree, sequence, sequence_of, tree, field, absent}
 use Rattle.avn_nodes.specs.TreeLists.{trees_in}
-use Rattle.avn_value.specs.declared.value.AvnValue.{AvnValue, Sequence, SequenceOf}
-use Rattle.avn_nodes.proofs.JoinedFields.{join, fields-push}
-use Rattle.avn_value.proofs.Views.{view-Sequence, view-SequenceOf}
-use Rattle.asn_slots.specs.Slots.{present_of, first_of}
+use Rattle.avn_frames.specs.Closing.{named_from, as_list as list_of_trees, as_set as set_of_trees, as_members as members_of_trees, as_choice as choice_of_tree}
+use Rattle.asn_slots.specs.Frames.{push, close}
+use Rattle.asn_slots.specs.Slots.{present_of}
 use Rattle.asn_slots.specs.Trees.{trees_of}
-use Rattle.asn_slots.proofs.Trees.{first_same, present_same}
-use Rattle.asn_traits.specs.Canonical.{avn_tree, avn_trees, avn_fields}
+use Rattle.asn_slots.proofs.Trees.{push-trees}
+use Rattle.asn_traits.specs.Canonical.{avn_tree, avn_trees, avn_fields, sorted_trees}
+use Rattle.asn_traits.specs.Notation.{Notation}
 use Rattle.asn_traits.specs.Tree.{Tree}
-use Rattle.asn_coding.specs.Writing.{Frame, present_values, named, tail_names, head_name, as_list, as_members, as_choice}
-use Rattle.avn_rules.specs.Holding.{named_fields}
+use Rattle.asn_traits.specs.Value.{Value, Values}
+use Rattle.asn_coding.specs.Writing.{Frame, IsWrittenAsSet, present_values, named, tail_names, head_name, as_list, as_members, as_choice}
+
+-- Frames of trees, the last one first.
+abbrev TreeFrames : Type 0
+TreeFrames = List (List (Option AvnTree))
+
+-- The trees of the values of frames.
+abbrev frames_of : List Frame → TreeFrames
+frames_of = map (trees_of avn_tree)
 
 -- One AVN value stands in a tree.
 pub avn_same : {t u : AvnTree} → Tree.avn t ≡ Tree.avn u → t ≡ u
 avn_same e = cc e
+
+-- A slot more.
+pub slot_added : (s : Option Value) (t : Option AvnTree) (old new : TreeFrames) → option_map avn_tree s ≡ t → new ≡ push t old → (fs : List Frame) → frames_of fs ≡ old → frames_of (push s fs) ≡ new
+slot_added s t old new e put fs h = push-trees avn_tree s fs ∙ ap (λ o. push o (frames_of fs)) e ∙ ap (push t) h ∙ sym put
+
+-- The last frame becomes a slot of the one before it.
+pub frame_closed : (F : Frame → Option Value) (G : List (Option AvnTree) → Option AvnTree) → ((f : Frame) → option_map avn_tree (F f) ≡ G (trees_of avn_tree f)) → (old new : TreeFrames) → new ≡ close G old
+    → (fs : List Frame) → frames_of fs ≡ old → frames_of (close F fs) ≡ new
+frame_closed F G same old new put [] h = ap (close G) h ∙ sym put
+frame_closed F G same old new put (f ∷ fs) h = push-trees avn_tree (F f) fs ∙ ap (λ o. push o (frames_of fs)) (same f) ∙ ap (close G) h ∙ sym put
+
+present-trees : (f : Frame) → avn_trees (present_values f) ≡ trees_in (present_of (trees_of avn_tree f))
+present-trees [] = refl
+present-trees (None ∷ ss) = present-trees ss
+present-trees (Some v ∷ ss) = ap (tree (avn_tree v)) (present-trees ss)
+
+-- The list of a frame.
+pub list-trees : (f : Frame) → option_map avn_tree (as_list f) ≡ list_of_trees (trees_of avn_tree f)
+list-trees f = ap (λ ts. Some (sequence_of ts)) (present-trees f)
 
 tail-drop : (k : ℕ) (names : List (List ℕ)) → drop (suc k) names ≡ tail_names (drop k names)
 tail-drop zero [] = refl
@@ -25,65 +51,37 @@ tail-drop zero (n ∷ names) = refl
 tail-drop (suc k) [] = refl
 tail-drop (suc k) (n ∷ names) = tail-drop k names
 
-abbrev Named : Type 0
-Named = String Global × Option AvnValue
+-- The name at a place.
+abbrev name_at : List (List ℕ) → ℕ → List ℕ
+name_at names place = head_name (drop place names)
 
-join-assoc : (a b c : AvnFields) → join (join a b) c ≡ join a (join b c)
-join-assoc no_fields b c = refl
-join-assoc (field n t fs) b c = ap (field n t) (join-assoc fs b c)
-join-assoc (absent n fs) b c = ap (absent n) (join-assoc fs b c)
+next-names : (names : List (List ℕ)) (i : ℕ) (f : Frame) → avn_fields (named f (tail_names (drop i names))) ≡ avn_fields (named f (drop (suc i) names))
+next-names names i f = ap (λ ns. avn_fields (named f ns)) (sym (tail-drop i names))
 
-one_more : (name : String Global) (slot : Option AvnValue) (rest : List (Option AvnValue)) (names : List (List ℕ)) → string_bytes name ≡ head_name names
-    → join (fields_trees ((name, slot) ∷ [])) (named_fields (trees_of tree_of rest) (tail_names names)) ≡ named_fields (trees_of tree_of (slot ∷ rest)) names
-one_more name None rest names e = ap (λ n. absent n (named_fields (trees_of tree_of rest) (tail_names names))) e
-one_more name (Some v) rest names e = ap (λ n. field n (tree_of v) (named_fields (trees_of tree_of rest) (tail_names names))) e
+named-trees : (names : List (List ℕ)) (i : ℕ) (f : Frame) → avn_fields (named f (drop i names)) ≡ named_from (name_at names) i (trees_of avn_tree f)
+named-trees names i [] = refl
+named-trees names i (None ∷ ss) = ap (absent (name_at names i)) (next-names names i ss ∙ named-trees names (suc i) ss)
+named-trees names i (Some v ∷ ss) = ap (field (name_at names i) (avn_tree v)) (next-names names i ss ∙ named-trees names (suc i) ss)
 
--- A slot that is named goes from the slots to the fields.
-pub fields-named : (xs ys : List Named) (name : String Global) (slot : Option AvnValue) (rest : List (Option AvnValue)) (names : List (List ℕ)) → ys ≡ xs ++ ((name, slot) ∷ []) → string_bytes name ≡ head_name (drop (length xs) names)
-    → length ys ≡ suc (length xs) → join (fields_trees ys) (named_fields (trees_of tree_of rest) (drop (length ys) names)) ≡ join (fields_trees xs) (named_fields (trees_of tree_of (slot ∷ rest)) (drop (length xs) names))
-fields-named xs ys name slot rest names e at long =
-    let after : drop (length ys) names ≡ tail_names (drop (length xs) names) = ap (λ k. drop k names) long ∙ tail-drop (length xs) names in
-    ap (λ ns. join (fields_trees ys) (named_fields (trees_of tree_of rest) ns)) after
-    ∙ ap (λ fs. join fs (named_fields (trees_of tree_of rest) (tail_names (drop (length xs) names)))) (ap fields_trees e ∙ fields-push tree_of xs (name, slot))
-    ∙ join-assoc (fields_trees xs) (fields_trees ((name, slot) ∷ [])) (named_fields (trees_of tree_of rest) (tail_names (drop (length xs) names)))
-    ∙ ap (join (fields_trees xs)) (one_more name slot rest (drop (length xs) names) at)
+-- The sequence of a frame.
+pub members-trees : (names : List (List ℕ)) (f : Frame) → option_map avn_tree (as_members names f) ≡ members_of_trees (name_at names) (trees_of avn_tree f)
+members-trees names f = ap (λ fs. Some (sequence fs)) (named-trees names 0 f)
 
-join-none : (fs : AvnFields) → join fs no_fields ≡ fs
-join-none no_fields = refl
-join-none (field n t fs) = ap (field n t) (join-none fs)
-join-none (absent n fs) = ap (absent n) (join-none fs)
+-- The choice of a frame.
+pub choice-trees : (id : List ℕ) (f : Frame) → option_map avn_tree (as_choice id f) ≡ choice_of_tree id (trees_of avn_tree f)
+choice-trees id [] = refl
+choice-trees id (None ∷ ss) = refl
+choice-trees id (Some v ∷ ss) = refl
 
--- All slots are named.
-pub all-named : (xs : List Named) (rest : List (Option AvnValue)) (names : List (List ℕ)) (all : AvnFields) → rest ≡ [] → join (fields_trees xs) (named_fields (trees_of tree_of rest) (drop (length xs) names)) ≡ all → fields_trees xs ≡ all
-all-named xs rest names all e h = sym (join-none (fields_trees xs)) ∙ ap (λ ss. join (fields_trees xs) (named_fields (trees_of tree_of ss) (drop (length xs) names))) (sym e) ∙ h
+not_other : Notation.avn ≢ Notation.other
+not_other e = cc e
 
--- The trees of the present values.
-pub present-trees : (f : Frame) → trees_in (map avn_tree (present_of f)) ≡ avn_trees (present_values f)
-present-trees [] = refl
-present-trees (None ∷ ss) = present-trees ss
-present-trees (Some v ∷ ss) = ap (tree (avn_tree v)) (present-trees ss)
+written-set : {vs : Values} {w : Value} → IsWrittenAsSet Notation.avn vs w → avn_tree w ≡ avn_tree (Value.bag vs)
+written-set (IsWrittenAsSet.written_alike same) = avn_same same
+written-set (IsWrittenAsSet.set_itself e other) = absurd (not_other other)
 
--- A list of the present slots is the list that a frame is.
-pub list_built : (items : Vec AvnValue Global) (slots : List (Option AvnValue)) → items.items ≡ present_of slots → (f : Frame) → trees_of avn_tree f ≡ trees_of tree_of slots
-    → option_map tree_of (Some (SequenceOf items)) ≡ option_map avn_tree (as_list f)
-list_built items slots e f h = ap Some (view-SequenceOf items ∙ ap sequence_of (ap trees_in (ap (map tree_of) e ∙ sym (present_same avn_tree tree_of f slots h)) ∙ present-trees f))
-
-named-trees : (f : Frame) (names : List (List ℕ)) → named_fields (trees_of avn_tree f) names ≡ avn_fields (named f names)
-named-trees [] names = refl
-named-trees (None ∷ ss) names = ap (absent (head_name names)) (named-trees ss (tail_names names))
-named-trees (Some v ∷ ss) names = ap (field (head_name names) (avn_tree v)) (named-trees ss (tail_names names))
-
--- A sequence of the named slots is the members that a frame is.
-pub members_built : (fields : Vec Named Global) (slots : List (Option AvnValue)) (names : List (List ℕ)) → fields_trees fields.items ≡ named_fields (trees_of tree_of slots) names
-    → (f : Frame) → trees_of avn_tree f ≡ trees_of tree_of slots → option_map tree_of (Some (Sequence fields)) ≡ option_map avn_tree (as_members names f)
-members_built fields slots names e f h = ap Some (view-Sequence fields ∙ ap sequence (e ∙ (ap (λ ss. named_fields ss names) (sym h) ∙ named-trees f names)))
-
-chosen : (id : List ℕ) (f : Frame) → option_map (choice id) (option_map avn_tree (first_of f)) ≡ option_map avn_tree (as_choice id f)
-chosen id [] = refl
-chosen id (None ∷ ss) = refl
-chosen id (Some v ∷ ss) = refl
-
--- A choice of the first slot, which is absent where that is, is the choice that a frame is.
-pub choice_built : (c : Option AvnValue) (slots : List (Option AvnValue)) (id : List ℕ) → option_map tree_of c ≡ option_map (choice id) (option_map tree_of (first_of slots))
-    → (f : Frame) → trees_of avn_tree f ≡ trees_of tree_of slots → option_map tree_of c ≡ option_map avn_tree (as_choice id f)
-choice_built c slots id e f h = e ∙ ap (option_map (choice id)) (sym (first_same avn_tree tree_of f slots h)) ∙ chosen id f
+-- The last frame becomes any value that is written as its set.
+pub set_closed : (old new : TreeFrames) → new ≡ close set_of_trees old → (f : Frame) (fs : List Frame) (w : Value) → frames_of (f ∷ fs) ≡ old → IsWrittenAsSet Notation.avn (present_values f) w → frames_of (push (Some w) fs) ≡ new
+set_closed old new put f fs w h written =
+    let same : option_map avn_tree (Some w) ≡ set_of_trees (trees_of avn_tree f) = ap Some (written-set written) ∙ ap (λ ts. Some (sequence_of (sorted_trees ts))) (present-trees f) in
+    push-trees avn_tree (Some w) fs ∙ ap (λ o. push o (frames_of fs)) same ∙ ap (close set_of_trees) h ∙ sym put

@@ -7,7 +7,7 @@ pub mod Octets
 pub mod Opened
 pub mod ReadBack
 pub mod Roots
-pub mod Sets
 pub mod Taken
+pub mod Told
 pub mod Views
 pub mod Walks

@@ -1,18 +1,16 @@
 -- What the encoder holds.
-use Rattle.std.specs.Prelude.{ℕ, List, [], ◌∷◌, Option, Some, None}
-use Rattle.avn_grammar.specs.Tree.{Tree as AvnTree, Fields as AvnFields, no_fields, field, absent}
-use Rattle.avn_value.specs.View.{tree_of}
-use Rattle.asn_slots.specs.Trees.{SameTrees}
+use Rattle.std.specs.Prelude.{◌≡◌, ℕ, List, ◌++◌, map, drop}
+use Rattle.asn_slots.specs.Trees.{trees_of}
 use Rattle.asn_traits.specs.Canonical.{avn_tree}
-use Rattle.asn_coding.specs.Writing.{Frame, head_name, tail_names}
+use Rattle.asn_coding.specs.Tables.{names_of}
+use Rattle.asn_coding.specs.Writing.{Frame, head_name}
+use Rattle.asn_coding.specs.declared.field.Field.{Field}
 use Rattle.avn_rules.specs.declared.avn.enc.Encoder.{Encoder}
 
--- The encoder has the AVN values of these frames.
+-- The encoder has the trees that are written for the values of these frames.
 abbrev pub Holds : Encoder → List Frame → Type 0
-Holds e fs = SameTrees avn_tree tree_of fs e.frames
+Holds e fs = map (trees_of avn_tree) fs ≡ e.frames
 
--- The fields of the slots, each with its name.
-abbrev pub named_fields : List (Option AvnTree) → List (List ℕ) → AvnFields
-named_fields [] names = no_fields
-named_fields (None ∷ ss) names = absent (head_name names) (named_fields ss (tail_names names))
-named_fields (Some t ∷ ss) names = field (head_name names) t (named_fields ss (tail_names names))
+-- The name of the field at the place, where extension additions come last.
+abbrev pub field_name_at : List Field → List Field → ℕ → List ℕ
+field_name_at root additions place = head_name (drop place (names_of root ++ names_of additions))

@@ -15,10 +15,10 @@ ghost use Rattle.avn_rules.specs.Text.{IsAvn, ReadsBack, RefusesText};
 ghost use Rattle.std.specs.Prelude.{◌≡◌, Some, IfOk, IfErr, OnOk, string_bytes};
 
 mod bits;
-mod build;
 pub mod de;
 pub mod enc;
 mod faults;
+mod field_names;
 mod identifiers;
 mod leaf_nodes;
 mod leaves;

@@ -58,7 +58,7 @@ fn print_list<W: fmt::Write>(
     let under = Levels::Under(&*levels);
     f.write_str("{")?;
     for (row, item) in list.iter().enumerate() {
-        begin_row(row, &under, f)?;
+        begin_row(row, levels, f)?;
         print_at(item, &under, f)?;
     }
     write_close(list.len(), levels, f)
@@ -80,7 +80,7 @@ fn print_fields<W: fmt::Write>(
     for (name, slot) in fields.iter() {
         match slot {
             Some(value) => {
-                begin_field(row, name.as_str(), &under, f)?;
+                begin_field(row, name.as_str(), levels, f)?;
                 print_at(value, &under, f)?;
                 row += 1;
             }

@@ -1,63 +1,74 @@
-// Values without parts as AVN values.
+//! Adds values without parts to the frames of an encoder.
+ghost use Rattle.asn_core.specs.Numbers.{signed};
+ghost use Rattle.asn_slots.specs.Frames.{push};
 ghost use Rattle.asn_traits.specs.Canonical.{avn_tree};
 ghost use Rattle.asn_traits.specs.Leaf.{leaf_value};
 ghost use Rattle.asn_traits.specs.Notation.{Notation};
 ghost use Rattle.asn_traits.specs.Writable.{Writable};
-ghost use Rattle.asn_coding.specs.Writing.{IsOutOfMemory};
-ghost use Rattle.avn_value.specs.View.{tree_of as avn_tree_of};
-ghost use Rattle.std.specs.Prelude.{◌≡◌, true, IfOk, IfErr, OnOk, string_bytes};
+ghost use Rattle.avn_grammar.specs.Tree.{integer};
+ghost use Rattle.std.specs.Fmt.{signed_decimal};
+ghost use Rattle.std.specs.Prelude.{◌≡◌, Some, true, OnOk};
 ghost use Rattle.std.specs.Str.{is_utf8};
 
-use super::build::integer_of;
-use asn_core::Codec;
-use asn_fault::EncodeError;
+use asn_core::{OutOfMemory, WholeNumber};
 use asn_traits::Leaf;
-use avn_value::AvnValue;
-use std::alloc::Global;
+use avn_frames::NodeFrames;
 
-/// The AVN value that is written for a value without parts. Its one error is `OutOfMemory`.
-#[inline(always)]
-pub fn avn_of_leaf(alloc: Global, leaf: Leaf<'_>) -> Result<AvnValue, EncodeError>
-    ensures avn { IfOk result (λ v. avn_tree_of v ≡ avn_tree (leaf_value leaf.entry)) }
-    ensures writable { OnOk result (Writable Notation.avn (leaf_value leaf.entry)) }
-    ensures refused { IfErr result (IsOutOfMemory Notation.avn) }
+/// Law: a text is UTF-8, as its type says.
+fn is_text(text: &str)
+    ensures { is_utf8 text.now ≡ true }
+{}
+
+/// Adds a whole number to the last frame: its sign and decimal digits, of which the text is made
+/// anew. AVN has numbers of any size, so each is one.
+///
+/// # Errors
+///
+/// `OutOfMemory` alone.
+fn add_number(
+    digits: &mut String,
+    frames: &mut NodeFrames,
+    number: WholeNumber,
+) -> Result<(), OutOfMemory>
+    ensures { OnOk result (frames.new ≡ push (Some (integer
+        (signed_decimal (signed number.negative number.magnitude)))) frames.old) }
 {
-    match leaf {
-        Leaf::Null => Ok(AvnValue::Null),
-        Leaf::Boolean(flag) => Ok(AvnValue::Boolean(flag)),
-        Leaf::Number(number) => match integer_of(alloc, number) {
-            Ok(value) => Ok(value),
-            Err(_) => Err(EncodeError::out_of_memory(Codec::Avn)),
-        },
-        Leaf::Text(text) => Ok(AvnValue::CharString(copy_of(alloc, text)?)),
-        Leaf::OwnedText(text) => Ok(AvnValue::CharString(text)),
-        Leaf::Item(name) => Ok(AvnValue::Enumerated(copy_of(alloc, name)?)),
-        Leaf::Octets(octets) => match Vec::from_slice(alloc, octets) {
-            Ok(octets) => Ok(AvnValue::OctetString(octets)),
-            Err(_) => Err(EncodeError::out_of_memory(Codec::Avn)),
-        },
-        Leaf::Arcs(arcs) => match Vec::from_slice(alloc, arcs) {
-            Ok(arcs) => Ok(AvnValue::Oid(arcs)),
-            Err(_) => Err(EncodeError::out_of_memory(Codec::Avn)),
-        },
-        Leaf::Bits(bits, _) => match Vec::from_slice(alloc, bits.octets()) {
-            Ok(bytes) => Ok(AvnValue::BitString {
-                bytes,
-                bit_length: bits.len(),
-            }),
-            Err(_) => Err(EncodeError::out_of_memory(Codec::Avn)),
-        },
-    }
+    digits.clear();
+    write!(digits, "{number}")?;
+    frames.add_integer(digits.as_str())
 }
 
-// A copy of a text. Its one error is `OutOfMemory`.
-fn copy_of(alloc: Global, text: &str) -> Result<String, EncodeError>
-    ensures copy { IfOk result (λ s. string_bytes s ≡ text.now) }
-    ensures text { is_utf8 text.now ≡ true }
-    ensures refused { IfErr result (IsOutOfMemory Notation.avn) }
+/// Adds what is written for a value without parts to the last frame. The digits of a number are put
+/// into the text that is handed over for them.
+///
+/// # Errors
+///
+/// `OutOfMemory` alone.
+#[inline(always)]
+pub fn add_leaf(
+    digits: &mut String,
+    frames: &mut NodeFrames,
+    leaf: Leaf<'_>,
+) -> Result<(), OutOfMemory>
+    ensures added { OnOk result (frames.new
+        ≡ push (Some (avn_tree (leaf_value leaf.entry))) frames.old) }
+    ensures writable { OnOk result (Writable Notation.avn (leaf_value leaf.entry)) }
 {
-    match String::from_str(alloc, text) {
-        Ok(copy) => Ok(copy),
-        Err(_) => Err(EncodeError::out_of_memory(Codec::Avn)),
+    match leaf {
+        Leaf::Null => frames.add_null(),
+        Leaf::Boolean(flag) => frames.add_boolean(flag),
+        Leaf::Number(number) => add_number(digits, frames, number),
+        Leaf::Text(text) => {
+            is_text(text);
+            frames.add_text(text)
+        }
+        Leaf::OwnedText(text) => frames.add_string(text),
+        Leaf::Item(name) => {
+            is_text(name);
+            frames.add_item(name)
+        }
+        Leaf::Octets(octets) => frames.add_octets(octets),
+        Leaf::Arcs(arcs) => frames.add_arcs(arcs),
+        Leaf::Bits(bits, _) => frames.add_bits(bits.octets(), bits.len()),
     }
 }

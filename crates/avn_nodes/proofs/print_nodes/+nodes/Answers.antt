@@ -9,7 +9,6 @@ use Rattle.avn_grammar.specs.Tree.{no_fields}
 use Rattle.avn_nodes.specs.Levels.{depth_of}
 use Rattle.avn_nodes.specs.NodeViews.{NodeView}
 use Rattle.avn_nodes.specs.Subtrees.{tree_from}
-use Rattle.avn_nodes.specs.declared.print_parts.Levels.{Under}
 use Rattle.avn_nodes.proofs.Rows.{count_of, present, print-choice, print-list, print-fields, rows-more, fields-more, field_row, no-rows, no-field_rows, was_ok, depth-Under}
 use Rattle.avn_nodes.proofs.Walks.{entry}
 use Rattle.avn_nodes.proofs.NodeRows.{kind_here, child_present, child_absent, payload_here, fields_begun, fields_next, fields_all, list_begun, list_next, list_all}
@@ -71,12 +70,11 @@ print_list-children-preserved g t c =
     let nodes = c.args.nodes.now.nodes in
     let w = c.children.invariant.0 in
     let n = list_next _ _ _ _ _ w c.requires.lists c.end-end.ensures c.children-test.true in
-    let k = n.next c.end-child.result (c.children.row + 1) c.end-child.ensures refl in
-    let u = Under c.args.levels in (
+    let k = n.next c.end-child.result (c.children.row + 1) c.end-child.ensures refl in (
       k.0,
       λ p.
           let h0 = c.children.invariant.1 p in
-          let h1 = has_written_of_eq _ _ _ _ _ (ap (λ r. separator r ++ indent (depth_of u)) w.rows ∙ ap (λ l. separator (count_of w.done) ++ indent l) (depth-Under c.args.levels)) (c.begin_row.ensures h0.plain (was_ok _ _ c.in_ok-begin_row.was)) in
+          let h1 = has_written_of_eq _ _ _ _ _ (ap (λ r. separator r ++ indent d) w.rows) (c.begin_row.ensures h0.plain (was_ok _ _ c.in_ok-begin_row.was)) in
           let h2 = has_written_of_eq _ _ _ _ _ (ap (λ l. print l (tree_from nodes c.children.child)) (depth-Under c.args.levels) ∙ ap (print d) (n.here.has n.item refl).1) (c.print_node.ensures h1.plain (was_ok _ _ c.in_ok-print_node.was)) in
           put_three g.W.Write.write_str_gives _ _ _ _ _ _ _ _ h0 h1 h2 (rows-more d w.done n.item ∙ ap (print_rows d 0) (sym k.1)),
     )
@@ -138,10 +136,8 @@ print_fields-children-preserved g t c =
           let s = child_present nodes child n.id n.slot c.kind.result n.here c.kind.ensures a.in_default.not-Absent in
           let one = ap (λ o. present (entry n.id o no_fields)) s.1 in
           let k = n.next c.end-child.result c.match-kind.row c.end-child.ensures (omega (arith, a.row-is, one)) in
-          let u = Under c.args.levels in
           let named : a.name.result.now ≡ n.id = a.name.ensures ∙ ap (λ (v : NodeView). v.name) n.here.view in
-          let lead = ap (λ r. separator r ++ indent (depth_of u) ++ a.name.result.now ++ codes " ") w.rows ∙ ap (λ l. separator (present w.done) ++ indent l ++ a.name.result.now ++ codes " ") (depth-Under c.args.levels)
-          ∙ ap (λ x. separator (present w.done) ++ indent d ++ x ++ codes " ") named in
+          let lead = ap (λ r. separator r ++ indent d ++ a.name.result.now ++ codes " ") w.rows ∙ ap (λ x. separator (present w.done) ++ indent d ++ x ++ codes " ") named in
           let e = ap (λ o. print_fields d 0 w.done ++ field_row d (present w.done) n.id o) (sym s.1) ∙ fields-more d w.done n.id n.slot ∙ ap (print_fields d 0) (sym k.1) in (
             k.0,
             (λ p.

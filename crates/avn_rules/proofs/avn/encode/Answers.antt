@@ -18,7 +18,7 @@ pub returns-clause-text : goal.returns-clause-text
 returns-clause-text g c =
     let held = c.in_ok-encode.ensures.written.added ([] ∷ []) c.new-encoder.ensures in
     let v = g.T.AsnType.value_of c.args.value.now in
-    IfOk-weaker c.to_string.result _ _ (λ s text. let same : Some (canonical_text Notation.avn v) ≡ Some (string_bytes s) = text (Some v ∷ []) held in sym (cc same)) c.to_string.ensures.text
+    IfOk-weaker c.to_string.result _ _ (λ s text. let same : Some (canonical_text Notation.avn v) ≡ Some (string_bytes s) = text (Some v ∷ []) [] held in sym (cc same)) c.to_string.ensures.text
 
 pub returns-clause-reads_back : goal.returns-clause-reads_back
 returns-clause-reads_back g c = read_back g.T.AsnType.shape_of _ c.to_string.result g.met.T.AsnType.readable c.in_ok-encode.ensures.written.fit c.in_ok-encode.ensures.written.writable (returns-clause-text g c)

@@ -5,7 +5,6 @@ use Rattle.std.specs.Fmt.{HasWritten}
 use Rattle.std.proofs.lemmas.Grind.{put_three}
 use Rattle.std.proofs.lemmas.List.{take_all, append-nil}
 use Rattle.avn_grammar.specs.Print.{print, print_rows, print_fields, separator, indent}
-use Rattle.avn_nodes.specs.declared.print_parts.Levels.{Under}
 use Rattle.avn_value.specs.declared.value.AvnValue.{AvnValue}
 use Rattle.avn_value.specs.View.{tree_of, list_trees, fields_trees}
 use Rattle.avn_nodes.specs.Levels.{depth_of}
@@ -38,12 +37,11 @@ print_list-loop-row-preserved g t c = λ p.
     let xs = c.deref-item-items.result.now in
     let i = c.loop-row.row in
     let x = c.item-item.result in
-    let u = Under c.args.levels in
     let done = list_trees (take i xs) in
     let below : i < length xs = omega arith in
     let count : i ≡ count_of done = sym (count-trees tree_of (take i xs) ∙ omega (arith, length-take-le i xs)) in
     let h0 = c.loop-row.invariant p in
-    let h1 = has_written_of_eq _ _ _ _ _ (ap (λ r. separator r ++ indent (depth_of u)) count ∙ ap (λ l. separator (count_of done) ++ indent l) (depth-Under c.args.levels)) (c.begin_row.ensures h0.plain (was_ok _ _ c.in_ok-begin_row.was)) in
+    let h1 = has_written_of_eq _ _ _ _ _ (ap (λ r. separator r ++ indent d) count) (c.begin_row.ensures h0.plain (was_ok _ _ c.in_ok-begin_row.was)) in
     let h2 = has_written_of_eq _ _ _ _ _ (ap (λ l. print l (tree_of x)) (depth-Under c.args.levels) ∙ ap (λ y. print d (tree_of y)) c.item-item.is) (c.print_at.ensures h1.plain (was_ok _ _ c.in_ok-print_at.was)) in
     put_three g.W.Write.write_str_gives _ _ _ _ _ _ _ _ h0 h1 h2 (rows-more d done (tree_of (get_or xs i x)) ∙ ap (print_rows d 0) (sym (trees-next tree_of xs i x below)))
 
@@ -66,7 +64,6 @@ print_fields-loop-name-preserved g t c =
     let xs = c.deref-name-items.result.now in
     let i = c.loop-name.name-index in
     let x = c.loop-name-item.result in
-    let u = Under c.args.levels in
     let done = fields_trees (take i xs) in
     let below : i < length xs = c.loop-name-test.true in
     let was = c.loop-name.invariant in
@@ -80,8 +77,7 @@ print_fields-loop-name-preserved g t c =
             omega (arith, was.1, w.row-is),
             (λ p.
                 let h0 = was.2 p in
-                let lead = ap (λ r. separator r ++ indent (depth_of u) ++ w.as_str.result.now ++ codes " ") was.0 ∙ ap (λ l. separator (present done) ++ indent l ++ w.as_str.result.now ++ codes " ") (depth-Under c.args.levels)
-                ∙ ap (λ y. separator (present done) ++ indent d ++ y ++ codes " ") w.as_str.ensures.value in
+                let lead = ap (λ r. separator r ++ indent d ++ w.as_str.result.now ++ codes " ") was.0 ∙ ap (λ y. separator (present done) ++ indent d ++ y ++ codes " ") w.as_str.ensures.value in
                 let h1 = has_written_of_eq _ _ _ _ _ lead (w.begin_field.ensures h0.plain (was_ok _ _ w.in_ok-begin_field-in-Some.was)) in
                 let h2 = has_written_of_eq _ _ _ _ _ (ap (λ k. print k (tree_of v)) (depth-Under c.args.levels)) (w.print_at.ensures h1.plain (was_ok _ _ w.in_ok-print_at-in-Some.was)) in
                 subst (λ y. HasWritten g.W.Write.write_str_gives c.write_str.new.self (print_fields d 0 (fields_trees (take (i + 1) xs))) y) (sym w.f-is)

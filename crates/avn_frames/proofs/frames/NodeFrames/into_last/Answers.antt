@@ -1,9 +1,8 @@
 use Rattle.std.proofs.Common.{◌≡◌, Some, ap, sym, subst, ◌∙◌, arith, reverse}
 use Rattle.asn_slots.specs.Frames.{last_start}
-use Rattle.avn_nodes.specs.Subtrees.{tree_from}
 use Rattle.avn_frames.specs.Listing.{AreSlots, slots_begin}
 use Rattle.avn_frames.specs.Places.{IsLastPlace}
-use Rattle.avn_frames.proofs.Framing.{last_slots, last_tree, last_lists}
+use Rattle.avn_frames.proofs.Framing.{last_slots, last_alone, last_lists}
 use Rattle.avn_frames.proofs.frames.NodeFrames.into_last.Goals as goal
 
 pub first_slot-from-requires : goal.first_slot-from-requires
@@ -25,9 +24,9 @@ keep_alone-requires-clause-tree c =
     last_lists nodes (slots_begin (reverse c.self.inside.places.items)) c.in-Some.node found
 
 pub returns-in-Some : goal.returns-in-Some
-returns-in-Some c = λ f fs a.
+returns-in-Some c =
     let k = last_slots c.self.inside.nodes (reverse c.self.inside.places.items) c.args.self c.self.invariant c.self.view_is in
     let nodes = c.self.inside.nodes.nodes in
     let at : c.first_slot-from.result ≡ slots_begin (reverse c.self.inside.places.items) = c.first_slot-from.ensures ∙ ap (λ x. slots_begin (reverse x)) c.deref.ensures.value in
     let found : IsLastPlace nodes (slots_begin (reverse c.self.inside.places.items)) (Some c.in-Some.node) = subst (λ i. IsLastPlace nodes i (Some c.in-Some.node)) at (subst (IsLastPlace nodes c.first_slot-from.result) c.in-Some.is c.last_place.ensures) in
-    (tree_from nodes c.in-Some.node, last_tree nodes (slots_begin (reverse c.self.inside.places.items)) c.in-Some.node f found (k.lists f fs a), c.in_ok-keep_alone-in-Some.ensures)
+    last_alone c.self.inside.nodes _ (slots_begin (reverse c.self.inside.places.items)) c.in-Some.node _ found k.lists c.in_ok-keep_alone-in-Some.ensures

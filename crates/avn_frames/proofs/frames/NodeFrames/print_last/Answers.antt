@@ -26,9 +26,9 @@ print-requires c =
     ([], last_lists nodes (slots_begin (reverse c.self.inside.places.items)) c.in-Some.node found)
 
 pub returns-in_ok-print-in-Some : goal.returns-in_ok-print-in-Some
-returns-in_ok-print-in-Some c = λ f fs a.
+returns-in_ok-print-in-Some c =
     let k = last_slots c.self.inside.nodes (reverse c.self.inside.places.items) c.args.self.now c.self.invariant c.self.view_is in
     let nodes = c.self.inside.nodes.nodes in
     let at : c.first_slot.result ≡ slots_begin (reverse c.self.inside.places.items) = c.first_slot.ensures ∙ ap (λ x. slots_begin (reverse x)) c.deref.ensures.value in
     let found : IsLastPlace nodes (slots_begin (reverse c.self.inside.places.items)) (Some c.in-Some.node) = subst (λ i. IsLastPlace nodes i (Some c.in-Some.node)) at (subst (IsLastPlace nodes c.first_slot.result) c.in-Some.is c.last_place.ensures) in
-    ap Some c.in_ok-print-in-Some.ensures ∙ ap (option_map (print 0)) (sym (last_tree nodes (slots_begin (reverse c.self.inside.places.items)) c.in-Some.node f found (k.lists f fs a)))
+    ap Some c.in_ok-print-in-Some.ensures ∙ ap (option_map (print 0)) (sym (last_tree nodes (slots_begin (reverse c.self.inside.places.items)) c.in-Some.node _ found k.lists))

@@ -1,22 +1,10 @@
-use Rattle.std.proofs.Common.{ap, Some, None, ◌∙◌}
-use Rattle.std.specs.Prelude.{option_map}
-use Rattle.std.proofs.lemmas.Result.{on_ok_weaker}
-use Rattle.avn_grammar.specs.Tree.{choice}
-use Rattle.avn_value.specs.View.{tree_of}
-use Rattle.asn_slots.proofs.Trees.{frame_closed}
-use Rattle.asn_traits.specs.Canonical.{avn_tree}
 use Rattle.asn_coding.specs.Writing.{as_choice}
-use Rattle.avn_rules.proofs.Building.{choice_built}
+use Rattle.avn_frames.specs.Closing.{as_choice as choice_of_tree}
+use Rattle.avn_rules.proofs.Building.{frame_closed, choice-trees}
+use Rattle.avn_rules.proofs.Told.{told}
 use Rattle.avn_rules.proofs.avn.enc.EncoderEncoder.close_choice.Goals as goal
 
-pub returns-in_default-clause-closed : goal.returns-in_default-clause-closed
-returns-in_default-clause-closed c =
+pub returns-clause-closed : goal.returns-clause-closed
+returns-clause-closed c =
     let id = c.args.identifier.now in
-    let built = choice_built None _ id (ap (λ o. option_map (choice id) (option_map tree_of o)) c.in_default.ensures.2) in
-    on_ok_weaker c.put.result (λ a. frame_closed avn_tree tree_of (as_choice id) _ _ _ _ _ c.in_default.ensures.1 built a) c.put.ensures.added
-
-pub returns-in-Ok-clause-closed : goal.returns-in-Ok-clause-closed
-returns-in-Ok-clause-closed c =
-    let id = c.args.identifier.now in
-    let built = choice_built (Some c.in-Ok.choice) _ id (ap Some c.in-Ok.ensures ∙ ap (λ o. option_map (choice id) (option_map tree_of o)) c.in-Some.ensures.2) in
-    on_ok_weaker c.put-in-Ok.result (λ a. frame_closed avn_tree tree_of (as_choice id) _ _ _ _ _ c.in-Some.ensures.1 built a) c.put-in-Ok.ensures.added
+    told c.close_choice.result c.in_avn.result c.in_avn.ensures.same (frame_closed (as_choice id) (choice_of_tree id) (choice-trees id) _ _) c.close_choice.ensures

@@ -1,11 +1,8 @@
-use Rattle.std.proofs.lemmas.Result.{on_ok_weaker}
 use Rattle.asn_coding.specs.Writing.{as_list}
-use Rattle.avn_rules.proofs.Building.{list_built}
-use Rattle.avn_value.specs.View.{tree_of}
-use Rattle.asn_slots.proofs.Trees.{frame_closed}
-use Rattle.asn_traits.specs.Canonical.{avn_tree}
+use Rattle.avn_frames.specs.Closing.{as_list as list_of_trees}
+use Rattle.avn_rules.proofs.Building.{frame_closed, list-trees}
+use Rattle.avn_rules.proofs.Told.{told}
 use Rattle.avn_rules.proofs.avn.enc.EncoderEncoder.close_list.Goals as goal
 
-pub returns-in-Ok-clause-closed : goal.returns-in-Ok-clause-closed
-returns-in-Ok-clause-closed c =
-    on_ok_weaker c.put.result (λ a. frame_closed avn_tree tree_of as_list _ _ _ _ _ c.in-Ok.ensures.closed.1 (list_built _ _ c.in-Ok.ensures.closed.2) a) c.put.ensures.added
+pub returns-clause-closed : goal.returns-clause-closed
+returns-clause-closed c = told c.close_list.result c.in_avn.result c.in_avn.ensures.same (frame_closed as_list list_of_trees list-trees _ _) c.close_list.ensures

@@ -1,14 +1,15 @@
 use Rattle.std.proofs.Common.{◌++◌}
-use Rattle.std.proofs.lemmas.Result.{on_ok_weaker}
 use Rattle.asn_coding.specs.Tables.{names_of}
 use Rattle.asn_coding.specs.Writing.{as_members}
-use Rattle.avn_rules.proofs.Building.{members_built}
-use Rattle.avn_value.specs.View.{tree_of}
-use Rattle.asn_slots.proofs.Trees.{frame_closed}
-use Rattle.asn_traits.specs.Canonical.{avn_tree}
+use Rattle.avn_frames.specs.Closing.{as_members as members_of_trees}
+use Rattle.avn_rules.specs.Holding.{field_name_at}
+use Rattle.avn_rules.proofs.Building.{frame_closed, members-trees}
+use Rattle.avn_rules.proofs.Told.{told}
 use Rattle.avn_rules.proofs.avn.enc.EncoderEncoder.close_members.Goals as goal
 
-pub returns-in-Ok-fields_of-clause-closed : goal.returns-in-Ok-fields_of-clause-closed
-returns-in-Ok-fields_of-clause-closed c =
-    let built = members_built _ _ (names_of c.args.root.now ++ names_of c.args.additions.now) c.in-Ok-fields_of.ensures in
-    on_ok_weaker c.put.result (λ a. frame_closed avn_tree tree_of (as_members _) _ _ _ _ _ c.in-Ok.ensures.closed built a) c.put.ensures.added
+pub returns-clause-closed : goal.returns-clause-closed
+returns-clause-closed c =
+    let root = c.args.root.now in
+    let additions = c.args.additions.now in
+    let names = names_of root ++ names_of additions in
+    told c.close_members.result c.in_avn.result c.in_avn.ensures.same (frame_closed (as_members names) (members_of_trees (field_name_at root additions)) (members-trees names) _ _) c.close_members.ensures

@@ -1,8 +1,0 @@
-use Rattle.std.proofs.lemmas.Str.{is_utf8-from_IsUtf8}
-use Rattle.avn_rules.proofs.avn.leaves.copy_of.Goals as goal
-
-pub returns-in-Ok-clause-text : goal.returns-in-Ok-clause-text
-returns-in-Ok-clause-text c = is_utf8-from_IsUtf8 _ c.utf8.text
-
-pub returns-in-Err-clause-text : goal.returns-in-Err-clause-text
-returns-in-Err-clause-text c = is_utf8-from_IsUtf8 _ c.utf8.text

@@ -361,7 +361,7 @@ impl NodeFrames {
         // No place overflows, as the number of nodes is a `usize`.
         let _count = self.nodes.len();
         match last_place(&self.nodes, first_slot(&self.places)) {
-            Some(node) => Ok(Some(self.nodes.print(self.alloc, node)?)),
+            Some(node) => Ok(Some(self.nodes.print_with_room(self.alloc, node)?)),
             None => Ok(None),
         }
     }

@@ -1,7 +1,7 @@
 //! Nodes of a table that is being built, and what they hold.
 ghost use Rattle.std.specs.Prelude.{true, false, Some, ◌≡◌, ◌<◌, ◌≤◌, ◌+◌, ◌^◌, ◌++◌, ◌∷◌, []};
 ghost use Rattle.std.specs.Prelude.{List, length, map, take, All};
-ghost use Rattle.std.specs.Prelude.{OnOk, OnErr, get_or, string_bytes};
+ghost use Rattle.std.specs.Prelude.{IfOk, OnOk, OnErr, get_or, string_bytes};
 ghost use Rattle.std.specs.Str.{encode_utf8_all};
 ghost use Rattle.std.specs.Char.{encode_utf8};
 ghost use Rattle.avn_grammar.specs.Chars.{take_while, skip_while};
@@ -10,13 +10,15 @@ ghost use Rattle.avn_cursor.specs.Runs.{passes};
 ghost use Rattle.avn_grammar.specs.Grammar.{word_of};
 ghost use Rattle.avn_nodes.specs.NodeViews.{NodeView, view_at, kind_of, node_views};
 ghost use Rattle.avn_nodes.specs.NodeRanges.{moved_node};
-ghost use Rattle.avn_nodes.specs.Subtrees.{HasSlot, subtrees_at};
+ghost use Rattle.avn_grammar.specs.Print.{print};
+ghost use Rattle.avn_nodes.specs.Subtrees.{HasSlot, HasTree, subtrees_at, tree_from};
 ghost use Rattle.avn_nodes.specs.Preorder.{preorder};
 ghost use Rattle.avn_nodes.specs.NodeKinds.{HasNoContent, has_text, has_octets, has_arcs};
 ghost use Rattle.avn_nodes.specs.NodeLists.{NodeList, no_nodes, extended, closed_node, with_leaf};
 ghost use Rattle.avn_nodes.specs.NodeLists.{with_octets, with_arcs, with_open};
 
 use crate::node_kind::NodeKind;
+use asn_core::OutOfMemory;
 use avn_cursor::{CharSet, Cursor};
 use std::alloc::{AllocError, Global};
 use std::marker::Model;
@@ -491,6 +493,29 @@ impl Nodes {
             return &[];
         }
         &self.arcs[node.start as usize..node.bound as usize]
+    }
+
+    /// Returns the printed text of the value at a node, as `print` does. The text has room from the
+    /// beginning for what all nodes hold, so it is for a value that has most of them within it.
+    ///
+    /// # Errors
+    ///
+    /// `OutOfMemory` where memory is refused.
+    pub fn print_with_room(&self, alloc: Global, node: usize) -> Result<String, OutOfMemory>
+        requires { HasTree self.now.nodes node }
+        ensures { IfOk result (λ text.
+            string_bytes text ≡ print 0 (tree_from self.now.nodes node)) }
+    {
+        // Two digits for each octet, and four bytes between two values.
+        let digits = self.octets.len().saturating_mul(2);
+        let breaks = self.nodes.len().saturating_mul(4);
+        let room = self
+            .text
+            .len()
+            .saturating_add(digits)
+            .saturating_add(breaks);
+        let empty = String::with_capacity(alloc, room)?;
+        self.print_into(empty, node)
     }
 
     /// Adds a node of the kind over those that follow it. The word is the name of the first of

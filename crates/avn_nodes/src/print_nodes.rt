@@ -1,5 +1,5 @@
 //! Prints the value at a node, from the nodes themselves.
-ghost use Rattle.std.specs.Prelude.{◌≡◌, Some, IfOk, string_bytes};
+ghost use Rattle.std.specs.Prelude.{◌≡◌, [], Some, IfOk, string_bytes};
 ghost use Rattle.std.specs.Fmt.{WritesOnOk};
 ghost use Rattle.avn_grammar.specs.Print.{print};
 ghost use Rattle.avn_nodes.specs.Levels.{depth_of};
@@ -124,7 +124,21 @@ impl Nodes {
         ensures { IfOk result (λ text.
             string_bytes text ≡ print 0 (tree_from self.now.nodes node)) }
     {
-        let mut f = fmt::Formatter::new(String::new(alloc));
+        self.print_into(String::new(alloc), node)
+    }
+
+    /// Puts the printed text of the value at a node into an empty text, which may have room for it.
+    ///
+    /// # Errors
+    ///
+    /// `OutOfMemory` where memory is refused.
+    pub(crate) fn print_into(&self, empty: String, node: usize) -> Result<String, OutOfMemory>
+        requires empty { string_bytes empty ≡ [] }
+        requires tree { HasTree self.now.nodes node }
+        ensures { IfOk result (λ text.
+            string_bytes text ≡ print 0 (tree_from self.now.nodes node)) }
+    {
+        let mut f = fmt::Formatter::new(empty);
         match print_node(self, node, &Levels::Root, &mut f) {
             Ok(()) => Ok(f.into_inner()),
             Err(_) => Err(OutOfMemory),

@@ -4,16 +4,13 @@ use Rattle.std.specs.Char.{IsScalar, OutOfScalarRange}
 use Rattle.std.specs.Int.{IsInRange}
 use Rattle.std.proofs.Math.Utf8.{scalar, scalar_cases}
 use Rattle.std.proofs.lemmas.Bool.Decides.{nat_tests}
-use Rattle.std.proofs.lemmas.List.{drop_more, at_drop_all}
+use Rattle.std.proofs.lemmas.List.{drop_more, at_drop_all, length-append, length-drop}
+use Rattle.std.proofs.lemmas.List.Folds.{drop_split}
+use Rattle.std.proofs.lemmas.Str.{encode_ascii}
+use Rattle.std.specs.List.{slice_range}
 use Rattle.asn_strings.specs.Alphabets.{all_within, is_ia5}
-use Rattle.asn_strings.specs.Units.{has_text, is_surrogate, text_of_units, units_valid_len}
+use Rattle.asn_strings.specs.Units.{IsTextBefore, has_text, is_surrogate, text_of_units, units_valid_len}
 use Rattle.asn_strings.proofs.Utf8Octets.{both}
-
--- What is written is the text of the units before the place, which are characters.
-pub record IsTextBefore (units : List ℕ) (place : ℕ) (written : List ℕ) : Type 0 where
-  pub text : written ++ text_of_units (drop place units) ≡ text_of_units units
-  pub characters : has_text (drop place units) ≡ has_text units
-  pub valid : place + units_valid_len (drop place units) ≡ units_valid_len units
 
 pub nothing_before : (units : List ℕ) → IsTextBefore units 0 []
 nothing_before units = record { text = refl; characters = refl; valid = omega arith }
@@ -50,6 +47,59 @@ one_before units place unit written l e is before =
       characters = ap (λ b. b && has_text rest) (sym is) ∙ ap has_text (sym from)
           ∙ before.characters;
       valid = let v = before.valid in omega arith;
+    }
+
+-- What units of ASCII add to the text of the units after them.
+record AddsItself (piece rest : List ℕ) : Type 0 where
+  text : text_of_units (piece ++ rest) ≡ piece ++ text_of_units rest
+  characters : has_text (piece ++ rest) ≡ has_text rest
+  valid : units_valid_len (piece ++ rest) ≡ length piece + units_valid_len rest
+
+ascii_is_scalar : (unit : ℕ) → is_ia5 unit ≡ true → scalar unit ≡ true
+ascii_is_scalar unit h = grind (arith, nat_tests)
+
+ascii_is_below : (unit : ℕ) → is_ia5 unit ≡ true → unit < 128
+ascii_is_below unit h = grind (arith, nat_tests)
+
+ascii_ahead : (piece rest : List ℕ) → IsTrue (all_within is_ia5 piece) → AddsItself piece rest
+ascii_ahead [] rest h = record { text = refl; characters = refl; valid = omega arith }
+ascii_ahead (unit ∷ piece) rest h =
+    let passing = both (is_ia5 unit) (all_within is_ia5 piece) h in
+    let others = ascii_ahead piece rest passing.1 in
+    let is = ascii_is_scalar unit passing.0 in
+    record {
+      text = ap (λ bs. bs ++ text_of_units (piece ++ rest))
+          (encode_ascii unit (ascii_is_below unit passing.0)) ∙ ap (λ bs. unit ∷ bs) others.text;
+      characters = ap (λ b. b && has_text (piece ++ rest)) is ∙ others.characters;
+      valid =
+          let one : units_valid_len (unit ∷ piece ++ rest) ≡ 1 + units_valid_len (piece ++ rest) =
+          ap (λ b. cond (not b) (1 + units_valid_len (piece ++ rest)) 0) (no_surrogate unit is) in
+          let v = others.valid in
+          omega arith;
+    }
+
+-- A piece of ASCII more.
+pub piece_before : (units : List ℕ) (place end : ℕ) (written : List ℕ) → place ≤ end
+    → end ≤ length units → IsTrue (all_within is_ia5 (slice_range units place end))
+    → IsTextBefore units place written
+    → IsTextBefore units end (written ++ slice_range units place end)
+piece_before units place end written l k within before =
+    let piece = slice_range units place end in
+    let rest = drop end units in
+    let from = drop_split units place end l in
+    let ahead = ascii_ahead piece rest within in
+    record {
+      text = append_assoc written piece (text_of_units rest)
+          ∙ ap (λ bs. written ++ bs) (sym ahead.text) ∙ ap (λ us. written ++ text_of_units us) (sym from)
+          ∙ before.text;
+      characters = sym ahead.characters ∙ ap has_text (sym from) ∙ before.characters;
+      valid =
+          let v = before.valid in
+          let e : units_valid_len (drop place units) ≡ length piece + units_valid_len rest =
+          ap units_valid_len from ∙ ahead.valid in
+          let all = sym (length-drop place units) ∙ ap length from ∙ length-append piece rest in
+          let after = length-drop end units in
+          omega arith;
     }
 
 -- All units are characters.

@@ -1,5 +1,5 @@
 -- The text of the units of a BMPString.
-use Rattle.std.specs.Prelude.{ℕ, List, Bool, encode_utf8_all}
+use Rattle.std.specs.Prelude.{◌≡◌, ◌+◌, ◌++◌, ℕ, List, Bool, drop, encode_utf8_all}
 use Rattle.std.specs.Int.{is_in_range}
 use Rattle.std.specs.List.{position_or_len}
 use Rattle.std.specs.Str.{all_scalars}
@@ -19,3 +19,9 @@ units_valid_len units = position_or_len is_surrogate units
 -- The UTF-8 bytes of units that are characters.
 abbrev pub text_of_units : List ℕ → List ℕ
 text_of_units units = encode_utf8_all units
+
+-- What is written is the text of the units before the place, which are characters.
+pub record IsTextBefore (units : List ℕ) (place : ℕ) (written : List ℕ) : Type 0 where
+  pub text : written ++ text_of_units (drop place units) ≡ text_of_units units
+  pub characters : has_text (drop place units) ≡ has_text units
+  pub valid : place + units_valid_len (drop place units) ≡ units_valid_len units

@@ -2,16 +2,20 @@
 //! two octets each.
 ghost use Rattle.asn_strings.specs.Alphabets.{all_within, is_bmp, is_ia5, place_outside};
 ghost use Rattle.asn_strings.specs.Refusals.{IsUntexted, refused_place};
-ghost use Rattle.asn_strings.specs.Units.{has_text, text_of_units};
+ghost use Rattle.asn_strings.specs.Units.{IsTextBefore, has_text, text_of_units};
 ghost use Rattle.std.specs.Cmp.Lexicographic.{nat_list_eq_equiv};
 ghost use Rattle.std.specs.Cmp.{partial_equiv_from_equiv};
-ghost use Rattle.std.specs.Prelude.{◌≡◌, IfErr, IfNone, IfOk, IsTrue, OnOk, bytes_eq, chars};
-ghost use Rattle.std.specs.Prelude.{string_bytes};
+ghost use Rattle.std.specs.Prelude.{◌≡◌, ◌≤◌, IfErr, IfNone, IfOk, IsTrue, OnOk, bytes_eq};
+ghost use Rattle.std.specs.Prelude.{chars, length, string_bytes};
 ghost use Rattle.std.specs.Str.{IsAscii};
 
 use crate::{StringFault, UnitFault};
 use std::alloc::{AllocError, Global};
 use std::marker::Model;
+
+/// Is the number of units that are made text at a time: they and their text stay in the nearest
+/// cache meanwhile.
+const PIECE_LEN: usize = 4096;
 
 /// Holds a BMPString. Contracts see its 16-bit units. A unit needn't be a character: binary
 /// encodings may have surrogates.
@@ -75,10 +79,15 @@ impl BmpString {
         ensures refused { IfErr result (IsUntexted self.now) }
     {
         let units = self.units.as_slice();
-        if are_ascii(units) {
-            return Ok(text_of_ascii(alloc, units)?);
+        // Most texts are of ASCII, for which this is the whole room.
+        let mut text = String::with_capacity(alloc, units.len())?;
+        let mut place = 0;
+        while place < units.len() {
+            let end = place + usize::min(PIECE_LEN, units.len() - place);
+            push_units(alloc, &mut text, units, place, end)?;
+            place = end;
         }
-        text_of(alloc, units)
+        Ok(text)
     }
 
     /// Returns the units.
@@ -165,20 +174,36 @@ fn text_of_ascii(alloc: Global, units: &[u16]) -> Result<String, AllocError>
     Ok(String::from_utf8(octets).unwrap())
 }
 
-/// Returns the text of the units.
-fn text_of(alloc: Global, units: &[u16]) -> Result<String, UnitFault>
-    ensures text { IfOk result (λ s. string_bytes s ≡ text_of_units units.now) }
-    ensures characters { OnOk result (IsTrue (has_text units.now)) }
+/// Appends to the text of the units before a place the text of those up to another place.
+///
+/// # Errors
+///
+/// `Surrogate` where one of these units is a surrogate, with the place of the first such one;
+/// `OutOfMemory`.
+fn push_units(
+    alloc: Global,
+    text: &mut String,
+    units: &[u16],
+    place: usize,
+    end: usize,
+) -> Result<(), UnitFault>
+    requires places { (place ≤ end) × (end ≤ length units.now) }
+    requires before { IsTextBefore units.now place (string_bytes text.old) }
+    ensures before { OnOk result (IsTextBefore units.now end (string_bytes text.new)) }
     ensures refused { IfErr result (IsUntexted units.now) }
 {
-    let mut text = String::new(alloc);
-    for place in 0..units.len() {
+    let piece = &units[place..end];
+    if are_ascii(piece) {
+        text.push_str(text_of_ascii(alloc, piece)?.as_str())?;
+        return Ok(());
+    }
+    for place in place..end {
         match char::from_u32(units[place] as u32) {
             Some(character) => text.push(character)?,
             None => return Err(UnitFault::Surrogate { place }),
         }
     }
-    Ok(text)
+    Ok(())
 }
 
 /// Compares two strings: they are equal where their units are.

@@ -87,6 +87,28 @@ fn contents_of_units(rt: HostRuntime) -> Result<(), Fail> {
     Ok(())
 }
 
+/// The text of many units is made a piece at a time: 4,999 of ASCII, then a surrogate or `é`, then
+/// 5,000 of ASCII.
+#[test]
+fn texts_of_many_units(rt: HostRuntime) -> Result<(), Fail> {
+    let alloc = rt.alloc();
+    for middle in [0xE9, 0xD800] {
+        let mut units = Vec::new(alloc);
+        for place in 0..10_000 {
+            units.push(if place == 4_999 { middle } else { 0x61 })?;
+        }
+        match BmpString::from_units(units).to_text(alloc) {
+            Ok(text) => {
+                assert!(rt; middle == 0xE9 && text.len() == 10_001);
+                assert!(rt; text.find('é') == Some(4_999));
+            }
+            Err(UnitFault::Surrogate { place }) => assert!(rt; middle == 0xD800 && place == 4_999),
+            Err(UnitFault::OutOfMemory) => return Err(Fail::from(AllocError)),
+        }
+    }
+    Ok(())
+}
+
 /// `é` is two octets in UTF-8.
 #[test]
 fn contents_of_octets(rt: HostRuntime) -> Result<(), Fail> {

@@ -1,11 +1,14 @@
 -- JSON values made of slots.
-use Rattle.std.proofs.Common.{◌≡◌, ℕ, zero, suc, List, [], ◌∷◌, ◌++◌, map, drop, length, Option, Some, None, ap, refl, sym, ◌∙◌, String, Vec, Global, BTreeMap}
+use Rattle.std.proofs.Common.{◌≡◌, ℕ, zero, suc, List, [], ◌∷◌, ◌++◌, map, drop, length, Option, Some, None, ap, refl, sym, ◌∙◌, Vec, Global}
+use Rattle.std.specs.Borrow.{Bor}
 use Rattle.std.specs.Prelude.{option_map}
 use Rattle.std.proofs.lemmas.List.{map_push, length-map}
 use Rattle.serde_json.specs.Data.{Data, Items, Members, put}
-use Rattle.serde_json.specs.View.{view, members_view, items_of}
-use Rattle.serde_json.specs.declared.value.Value.{Value as JsonValue, Array, Object}
-use Rattle.serde_json.proofs.Views.{view-Array, view-Object}
+use Rattle.serde_json.specs.View.{items_of}
+use Rattle.jer_values.specs.Views.{data_of, members_view}
+use Rattle.jer_values.specs.declared.value.JerValue.{JerValue}
+use Rattle.jer_values.specs.declared.value.JerValue.TheVariants as value
+use Rattle.jer_values.proofs.Layers.{data_list, data_members}
 use Rattle.asn_slots.specs.Slots.{present_of, first_of}
 use Rattle.asn_slots.specs.Trees.{trees_of}
 use Rattle.asn_slots.proofs.Trees.{first_same, present_same}
@@ -37,18 +40,18 @@ members_onto-some (Some x ∷ ss) d names ms =
     ap (put (head_name names) x) (members_onto-some ss d (tail_names names) ms ∙ ap (λ n. members_onto ss (tail_names names) (put n d ms)) (head_name-drop names (length ss)))
 
 -- A last slot that is put as a member leaves the members that all slots make.
-pub onto-inserted : (old new : List (Option JsonValue)) (v : JsonValue) (names : List (List ℕ)) (ms inserted : Members) (name : List ℕ) (k : ℕ) → old ≡ new ++ Some v ∷ [] → name ≡ head_name (drop k names) → k ≡ length new
-    → inserted ≡ put name (view v) ms → members_onto (trees_of view new) names inserted ≡ members_onto (trees_of view old) names ms
+pub onto-inserted : (old new : List (Option JerValue)) (v : JerValue) (names : List (List ℕ)) (ms inserted : Members) (name : List ℕ) (k : ℕ) → old ≡ new ++ Some v ∷ [] → name ≡ head_name (drop k names) → k ≡ length new
+    → inserted ≡ put name (data_of v) ms → members_onto (trees_of data_of new) names inserted ≡ members_onto (trees_of data_of old) names ms
 onto-inserted old new v names ms inserted name k e named at is =
-    let here : name ≡ head_name (drop (length (trees_of view new)) names) = named ∙ ap (λ n. head_name (drop n names)) (at ∙ sym (length-map new (option_map view))) in
-    ap (members_onto (trees_of view new) names) (is ∙ ap (λ n. put n (view v) ms) here)
-    ∙ sym (members_onto-some (trees_of view new) (view v) names ms)
-    ∙ ap (λ ss. members_onto ss names ms) (sym (ap (trees_of view) e ∙ map_push (option_map view) new (Some v)))
+    let here : name ≡ head_name (drop (length (trees_of data_of new)) names) = named ∙ ap (λ n. head_name (drop n names)) (at ∙ sym (length-map new (option_map data_of))) in
+    ap (members_onto (trees_of data_of new) names) (is ∙ ap (λ n. put n (data_of v) ms) here)
+    ∙ sym (members_onto-some (trees_of data_of new) (data_of v) names ms)
+    ∙ ap (λ ss. members_onto ss names ms) (sym (ap (trees_of data_of) e ∙ map_push (option_map data_of) new (Some v)))
 
 -- A last slot that is absent leaves them too.
-pub onto-passed : (old new : List (Option JsonValue)) (names : List (List ℕ)) (ms : Members) → old ≡ new ++ None ∷ [] → members_onto (trees_of view new) names ms ≡ members_onto (trees_of view old) names ms
+pub onto-passed : (old new : List (Option JerValue)) (names : List (List ℕ)) (ms : Members) → old ≡ new ++ None ∷ [] → members_onto (trees_of data_of new) names ms ≡ members_onto (trees_of data_of old) names ms
 onto-passed old new names ms e =
-    sym (members_onto-none (trees_of view new) names ms) ∙ ap (λ ss. members_onto ss names ms) (sym (ap (trees_of view) e ∙ map_push (option_map view) new None))
+    sym (members_onto-none (trees_of data_of new) names ms) ∙ ap (λ ss. members_onto ss names ms) (sym (ap (trees_of data_of) e ∙ map_push (option_map data_of) new None))
 
 -- The items of the present values.
 pub present-items : (f : Frame) → items_of (map jer_data (present_of f)) ≡ jer_items (present_values f)
@@ -57,9 +60,9 @@ present-items (None ∷ ss) = present-items ss
 present-items (Some v ∷ ss) = ap (Items.item (jer_data v)) (present-items ss)
 
 -- An array of the present slots is the list that a frame is.
-pub list_built : (items : Vec JsonValue Global) (slots : List (Option JsonValue)) → items.items ≡ present_of slots → (f : Frame) → trees_of jer_data f ≡ trees_of view slots
-    → option_map view (Some (Array items)) ≡ option_map jer_data (as_list f)
-list_built items slots e f h = ap Some (view-Array items ∙ ap Data.array (ap items_of (ap (map view) e ∙ sym (present_same jer_data view f slots h)) ∙ present-items f))
+pub list_built : (items : Vec JerValue Global) (slots : List (Option JerValue)) → items.items ≡ present_of slots → (f : Frame) → trees_of jer_data f ≡ trees_of data_of slots
+    → option_map data_of (Some (value.List items)) ≡ option_map jer_data (as_list f)
+list_built items slots e f h = ap Some (data_list items ∙ ap Data.array (ap items_of (ap (map data_of) e ∙ sym (present_same jer_data data_of f slots h)) ∙ present-items f))
 
 named-members : (f : Frame) (names : List (List ℕ)) → members_onto (trees_of jer_data f) names Members.no_members ≡ jer_members (named f names)
 named-members [] names = refl
@@ -67,9 +70,9 @@ named-members (None ∷ ss) names = named-members ss (tail_names names)
 named-members (Some v ∷ ss) names = ap (put (head_name names) (jer_data v)) (named-members ss (tail_names names))
 
 -- An object of the named slots is the members that a frame is.
-pub members_built : (members : BTreeMap (String Global) JsonValue) (slots : List (Option JsonValue)) (names : List (List ℕ)) → members_view members.entries ≡ members_onto (trees_of view slots) names Members.no_members
-    → (f : Frame) → trees_of jer_data f ≡ trees_of view slots → option_map view (Some (Object members)) ≡ option_map jer_data (as_members names f)
-members_built members slots names e f h = ap Some (view-Object members ∙ ap Data.object (e ∙ (ap (λ ss. members_onto ss names Members.no_members) (sym h) ∙ named-members f names)))
+pub members_built : (members : Vec (Bor (List ℕ) × JerValue) Global) (slots : List (Option JerValue)) (names : List (List ℕ)) → members_view members.items ≡ members_onto (trees_of data_of slots) names Members.no_members
+    → (f : Frame) → trees_of jer_data f ≡ trees_of data_of slots → option_map data_of (Some (value.Members members)) ≡ option_map jer_data (as_members names f)
+members_built members slots names e f h = ap Some (data_members members ∙ ap Data.object (e ∙ (ap (λ ss. members_onto ss names Members.no_members) (sym h) ∙ named-members f names)))
 
 chosen : (id : List ℕ) (f : Frame) → option_map (one_member id) (option_map jer_data (first_of f)) ≡ option_map jer_data (as_choice id f)
 chosen id [] = refl
@@ -77,6 +80,6 @@ chosen id (None ∷ ss) = refl
 chosen id (Some v ∷ ss) = refl
 
 -- A choice of the first slot, which is absent where that is, is the choice that a frame is.
-pub choice_built : (c : Option JsonValue) (slots : List (Option JsonValue)) (id : List ℕ) → option_map view c ≡ option_map (one_member id) (option_map view (first_of slots))
-    → (f : Frame) → trees_of jer_data f ≡ trees_of view slots → option_map view c ≡ option_map jer_data (as_choice id f)
-choice_built c slots id e f h = e ∙ ap (option_map (one_member id)) (sym (first_same jer_data view f slots h)) ∙ chosen id f
+pub choice_built : (c : Option JerValue) (slots : List (Option JerValue)) (id : List ℕ) → option_map data_of c ≡ option_map (one_member id) (option_map data_of (first_of slots))
+    → (f : Frame) → trees_of jer_data f ≡ trees_of data_of slots → option_map data_of c ≡ option_map jer_data (as_choice id f)
+choice_built c slots id e f h = e ∙ ap (option_map (one_member id)) (sym (first_same jer_data data_of f slots h)) ∙ chosen id f

@@ -13,7 +13,9 @@ use Rattle.asn_traits.specs.Sorting.{by_text}
 use Rattle.asn_traits.specs.Value.{Value, Values, Slots, elements}
 use Rattle.asn_model.proofs.Bags.{each-ordered, jer_items-sorted}
 use Rattle.json_floats.proofs.Putting.{put-false}
+use Rattle.jer_values.specs.Order.{IsOrdered}
 use Rattle.jer_rules.specs.Text.{ReadsBack}
+use Rattle.jer_rules.proofs.Ordered.{ordered}
 
 integer-false : (n : ℤ) → is_float (of_integer n) ≡ false
 integer-false (pos n) = refl
@@ -49,21 +51,25 @@ mutual
   members-false (Slots.absent n ms) = members-false ms
   members-false (Slots.present n v ms) = put-false n (jer_data v) (jer_members ms) (written-false v) (members-false ms)
 
--- Nor do the elements of what is written.
-pub items-without_float : (vs : Values) → items_have_float (jer_items vs) ≡ false
-items-without_float vs = items-of_each vs (each-false vs)
-
 -- The text of what is written is the canonical one.
-pub text-held : (o : Option Value) (d : Data) (text : List ℕ) → option_map jer_data o ≡ Some d → (has_float d ≡ false → text ≡ compact_text d) → option_map (canonical_text Notation.jer) o ≡ Some text
+pub text-held : (o : Option Value) (d : Data) (text : List ℕ) → option_map jer_data o ≡ Some d → text ≡ compact_text d → option_map (canonical_text Notation.jer) o ≡ Some text
 text-held None d text e h = let x : ◌≡◌ {A = Option Data} None (Some d) = e in cc x
 text-held (Some v) d text e h =
     let x : ◌≡◌ {A = Option Data} (Some (jer_data v)) (Some d) = e in
     let same : jer_data v ≡ d = cc x in
-    ap Some (sym (h (subst (λ y. has_float y ≡ false) same (written-false v)) ∙ ap compact_text (sym same)))
+    ap Some (sym (h ∙ ap compact_text (sym same)))
 
 -- The text of what was written for a value is read as its tree.
-pub back-held : (o : Option Value) (d : Data) (text : List ℕ) → option_map jer_data o ≡ Some d → (depth d ≤ max_depth → read text ≡ Some d) → IfSome o (λ v. ReadsBack v text)
+pub back-held : (o : Option Value) (d : Data) (text : List ℕ) → option_map jer_data o ≡ Some d → (IsOrdered d → depth d ≤ max_depth → read text ≡ Some d) → IfSome o (λ v. ReadsBack v text)
 back-held None d text e h = tt
 back-held (Some v) d text e h =
     let same : jer_data v ≡ d = cc e in
-    λ within. (subst (λ x. read text ≡ Some x) (sym same) (h (subst (λ x. depth x ≤ max_depth) same within)), written-false v)
+    let in_order = subst IsOrdered same (ordered v) in
+    λ within. (subst (λ x. read text ≡ Some x) (sym same) (h in_order (subst (λ x. depth x ≤ max_depth) same within)), written-false v)
+
+-- The tree of what was written for a value is its own.
+pub json-held : (o : Option Value) (d e : Data) → option_map jer_data o ≡ Some d → (IsOrdered d → e ≡ d) → option_map jer_data o ≡ Some e
+json-held None d e is h = let x : ◌≡◌ {A = Option Data} None (Some d) = is in cc x
+json-held (Some v) d e is h =
+    let same : jer_data v ≡ d = cc is in
+    is ∙ ap Some (sym (h (subst IsOrdered same (ordered v))))

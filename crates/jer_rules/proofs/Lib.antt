@@ -2,6 +2,7 @@ pub mod Readings
 pub mod Taken
 pub mod Choosing
 pub mod Building
+pub mod Ordered
 pub mod Floats
 pub mod Roots
 pub mod Sets

@@ -13,16 +13,17 @@ ghost use Rattle.jer_rules.specs.BitTexts.{IsDeclared, ReadsBits, bit_members};
 ghost use Rattle.jer_rules.specs.NoLeaves.{IsNoLeaf};
 ghost use Rattle.jer_rules.specs.Pending.{tree_of};
 ghost use Rattle.serde_json.specs.Data.{Data};
-ghost use Rattle.serde_json.specs.View.{view, members_view};
+ghost use Rattle.jer_values.specs.Views.{data_of, members_view};
+ghost use Rattle.serde_json.specs.View.{view};
 ghost use Rattle.std.specs.Prelude.{◌≡◌, ◌^◌, ◌<◌, Some, None, OnOk, IfOk, IfErr, MatchResult};
 ghost use Rattle.std.specs.Prelude.{length};
 
-use super::build::insert;
 use super::leaves::NoLeaf;
 use asn_core::{Bits, Bounded, Codec, OutOfMemory, Size};
 use asn_fault::EncodeError;
 use asn_traits::OwnedLeaf;
-use serde_json::{Map, Value};
+use jer_values::{JerValue, JsonInteger};
+use serde_json::Value;
 use std::alloc::Global;
 
 /// Returns the JSON value that is written for bits, of a fixed size or of any.
@@ -30,8 +31,12 @@ use std::alloc::Global;
 /// # Errors
 ///
 /// `SizeConstraintNotSatisfied` where the fixed size is another one; `OutOfMemory`.
-pub fn json_of_bits(alloc: Global, bits: &Bits, size: Option<usize>) -> Result<Value, EncodeError>
-    ensures json { IfOk result (λ v. view v ≡ bits_data size bits.now) }
+pub fn value_of_bits(
+    alloc: Global,
+    bits: &Bits,
+    size: Option<usize>,
+) -> Result<JerValue, EncodeError>
+    ensures json { IfOk result (λ v. data_of v ≡ bits_data size bits.now) }
     ensures writable { OnOk result (LengthStands Notation.jer size (length bits.now)) }
     ensures refused { IfErr result
         (FailsToEncode Notation.jer (AbstractValue.bits bits.now size)) }
@@ -47,8 +52,8 @@ pub fn json_of_bits(alloc: Global, bits: &Bits, size: Option<usize>) -> Result<V
 /// # Errors
 ///
 /// `SizeConstraintNotSatisfied` where the bits are not as many; `OutOfMemory`.
-fn text_of_bits(alloc: Global, bits: &Bits, size: usize) -> Result<Value, EncodeError>
-    ensures json { IfOk result (λ v. view v ≡ Data.string (encode_upper (padded bits.now))) }
+fn text_of_bits(alloc: Global, bits: &Bits, size: usize) -> Result<JerValue, EncodeError>
+    ensures json { IfOk result (λ v. data_of v ≡ Data.string (encode_upper (padded bits.now))) }
     ensures writable { OnOk result (length bits.now ≡ size) }
     ensures refused { IfErr result
         (FailsToEncode Notation.jer (AbstractValue.bits bits.now (Some size))) }
@@ -60,20 +65,20 @@ fn text_of_bits(alloc: Global, bits: &Bits, size: usize) -> Result<Value, Encode
         return Err(EncodeError::size_constraint_not_satisfied(bits.len(), &fixed, Codec::Jer));
     }
     match hex::encode_upper(alloc, bits.octets()) {
-        Ok(digits) => Ok(Value::String(digits)),
+        Ok(digits) => Ok(JerValue::Text(digits)),
         Err(_) => Err(EncodeError::out_of_memory(Codec::Jer)),
     }
 }
 
 /// Returns the object of bits of any number. Its one error is `OutOfMemory`.
-fn object_of_bits(alloc: Global, bits: &Bits) -> Result<Value, EncodeError>
-    ensures json { IfOk result (λ v. view v ≡ bits_data None bits.now) }
+fn object_of_bits(alloc: Global, bits: &Bits) -> Result<JerValue, EncodeError>
+    ensures json { IfOk result (λ v. data_of v ≡ bits_data None bits.now) }
     ensures writable { length bits.now < 2 ^ 64 }
     ensures refused { IfErr result (IsOutOfMemory Notation.jer) }
 {
     let size = bits.len();
     match members_of_bits(alloc, bits.octets(), size) {
-        Ok(members) => Ok(Value::Object(members)),
+        Ok(members) => Ok(JerValue::Members(members)),
         Err(_) => Err(EncodeError::out_of_memory(Codec::Jer)),
     }
 }
@@ -84,13 +89,13 @@ fn members_of_bits(
     alloc: Global,
     octets: &[u8],
     size: usize,
-) -> Result<Map<String, Value>, OutOfMemory>
-    ensures { IfOk result (λ m. members_view m.entries ≡ bit_members octets.now size) }
+) -> Result<Vec<(&'static str, JerValue)>, OutOfMemory>
+    ensures { IfOk result (λ ms. members_view ms.items ≡ bit_members octets.now size) }
 {
     let digits = hex::encode_upper(alloc, octets)?;
-    let mut members = Map::new(alloc);
-    insert(alloc, &mut members, "value", Value::String(digits))?;
-    insert(alloc, &mut members, "length", Value::from(size))?;
+    let mut members: Vec<(&'static str, JerValue)> = Vec::with_capacity(alloc, 2)?;
+    members.push(("length", JerValue::Integer(JsonInteger::from_usize(size))))?;
+    members.push(("value", JerValue::Text(digits)))?;
     Ok(members)
 }
 

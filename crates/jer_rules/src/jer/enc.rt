@@ -1,5 +1,6 @@
 //! Encodes a value of a type as a JSON value. The encoder holds the open frames, each the JSON
-//! values of the slots that were added to it; closing a frame makes one JSON value of them.
+//! values of the slots that were added to it; closing a frame makes one JSON value of them. They
+//! are values of `jer_values`, whose objects take little room.
 ghost use Rattle.asn_core.specs.declared.codec.Codec.TheVariants.{Jer};
 ghost use Rattle.asn_fault.specs.EncodeCause.{EncodeCause, encode_cause};
 ghost use Rattle.asn_traits.specs.Canonical.{jer_data, canonical_text};
@@ -8,17 +9,19 @@ ghost use Rattle.asn_slots.specs.Frames.{push};
 ghost use Rattle.asn_slots.specs.Slots.{last_present};
 ghost use Rattle.asn_coding.specs.Writing.{Frame, IsOutOfMemory};
 ghost use Rattle.jer_rules.specs.Text.{ReadsBack};
+ghost use Rattle.jer_values.specs.Views.{data_of};
 ghost use Rattle.serde_json.specs.View.{view};
 ghost use Rattle.std.specs.Prelude.{◌≡◌, ◌⊎◌, ◌∷◌, [], List, Option, Some, None, OnOk, IfOk};
 ghost use Rattle.std.specs.Prelude.{IfErr, IfSome, option_map, string_bytes};
 
-use super::build::{choice_of, in_text_order, members_of};
+use super::build::{in_text_order, members_of};
 use super::faults::encode_error;
-use super::leaves::json_of_leaf;
+use super::leaves::value_of_leaf;
 use asn_core::Codec;
 use asn_fault::{EncodeError, JerEncodeErrorKind, Utf8Fault};
 use asn_slots::Frames;
 use asn_traits::{Field, Leaf};
+use jer_values::{JerValue, one_member};
 use serde_json::Value;
 use std::alloc::Global;
 
@@ -29,7 +32,7 @@ pub struct Encoder {
     /// Allocates texts, maps and the room for slots.
     alloc: Global,
     /// Holds the JSON values of the open frames.
-    frames: Frames<Value>,
+    frames: Frames<JerValue>,
 }
 
 /// Makes encoders, and hands over what one holds at its root.
@@ -47,16 +50,36 @@ impl Encoder {
     }
 
     /// Returns the JSON value of the last value that was encoded at the root; where frames are
-    /// still open, of the last one in the last of them. It takes no memory.
+    /// still open, of the last one in the last of them.
     ///
     /// # Errors
     ///
-    /// `NoRootValueFound` where none was.
+    /// `NoRootValueFound` where none was; `OutOfMemory`.
     pub fn to_json(self) -> Result<Value, EncodeError>
         // Whatever slots the last frame has, the JSON value is that of the last one that is
         // present. The root's frame is the last one where no other is open.
         ensures tree { IfOk result (λ t. (f : Frame) (fs : List Frame) → Holds self (f ∷ fs)
             → option_map jer_data (last_present f) ≡ Some (view t)) }
+        ensures refused { IfErr result (λ e. IsOutOfMemory Notation.jer e
+            ⊎ ((encode_cause e.kind ≡ EncodeCause.no_root_value Jer)
+            × ((f : Frame) (fs : List Frame) → Holds self (f ∷ fs) → last_present f ≡ None))) }
+        ensures codec { IfErr result (λ e. e.codec ≡ Jer) }
+    {
+        let alloc = self.alloc;
+        match self.into_last()?.to_json(alloc) {
+            Ok(value) => Ok(value),
+            Err(_) => Err(EncodeError::out_of_memory(Codec::Jer)),
+        }
+    }
+
+    /// Returns the last value that is present in the last frame. It takes no memory.
+    ///
+    /// # Errors
+    ///
+    /// `NoRootValueFound` where there is none.
+    fn into_last(self) -> Result<JerValue, EncodeError>
+        ensures tree { IfOk result (λ t. (f : Frame) (fs : List Frame) → Holds self (f ∷ fs)
+            → option_map jer_data (last_present f) ≡ Some (data_of t)) }
         ensures kind { IfErr result (λ e. encode_cause e.kind ≡ EncodeCause.no_root_value Jer) }
         ensures codec { IfErr result (λ e. e.codec ≡ Jer) }
         ensures none { IfErr result (λ e. (f : Frame) (fs : List Frame) → Holds self (f ∷ fs)
@@ -86,8 +109,7 @@ impl Encoder {
         ensures codec { IfErr result (λ e. e.codec ≡ Jer) }
     {
         let alloc = self.alloc;
-        let value = self.to_json()?;
-        match value.to_string(alloc) {
+        match self.into_last()?.to_text(alloc) {
             Ok(text) => Ok(text),
             Err(_) => Err(EncodeError::out_of_memory(Codec::Jer)),
         }
@@ -98,7 +120,7 @@ impl Encoder {
     /// # Errors
     ///
     /// `OutOfMemory` alone.
-    fn put(&mut self, slot: Option<Value>) -> Result<(), EncodeError>
+    fn put(&mut self, slot: Option<JerValue>) -> Result<(), EncodeError>
         ensures added { OnOk result (self.new.frames ≡ push slot self.old.frames) }
         ensures refused { IfErr result (IsOutOfMemory Notation.jer) }
     {
@@ -127,7 +149,7 @@ impl asn_traits::Encoder for Encoder {
 
     #[inline(always)]
     fn put_leaf(&mut self, leaf: Leaf<'_>) -> Result<(), EncodeError> {
-        let value = json_of_leaf(self.alloc, leaf)?;
+        let value = value_of_leaf(self.alloc, leaf)?;
         self.put(Some(value))
     }
 
@@ -151,7 +173,7 @@ impl asn_traits::Encoder for Encoder {
     // The values are moved into the array, which keeps the vector.
     fn close_list(&mut self) -> Result<(), EncodeError> {
         match self.frames.close_list() {
-            Ok(items) => self.put(Some(Value::Array(items))),
+            Ok(items) => self.put(Some(JerValue::List(items))),
             Err(_) => Err(EncodeError::out_of_memory(Codec::Jer)),
         }
     }
@@ -162,7 +184,7 @@ impl asn_traits::Encoder for Encoder {
             return Err(EncodeError::out_of_memory(Codec::Jer));
         };
         match in_text_order(self.alloc, items) {
-            Ok(sorted) => self.put(Some(Value::Array(sorted))),
+            Ok(sorted) => self.put(Some(JerValue::List(sorted))),
             Err(_) => Err(EncodeError::out_of_memory(Codec::Jer)),
         }
     }
@@ -173,7 +195,7 @@ impl asn_traits::Encoder for Encoder {
             return Err(EncodeError::out_of_memory(Codec::Jer));
         };
         match members_of(self.alloc, slots, root, additions) {
-            Ok(members) => self.put(Some(Value::Object(members))),
+            Ok(members) => self.put(Some(JerValue::Members(members))),
             Err(_) => Err(EncodeError::out_of_memory(Codec::Jer)),
         }
     }
@@ -183,7 +205,7 @@ impl asn_traits::Encoder for Encoder {
         let Some(payload) = self.frames.close_first() else {
             return self.put(None);
         };
-        match choice_of(self.alloc, identifier, payload) {
+        match one_member(self.alloc, identifier, payload) {
             Ok(choice) => self.put(Some(choice)),
             Err(_) => Err(EncodeError::out_of_memory(Codec::Jer)),
         }

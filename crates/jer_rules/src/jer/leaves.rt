@@ -7,12 +7,12 @@ ghost use Rattle.asn_traits.specs.Writable.{Writable};
 ghost use Rattle.asn_coding.specs.Writing.{FailsToEncode, IsOutOfMemory};
 ghost use Rattle.jer_rules.specs.NoLeaves.{IsNoLeaf};
 ghost use Rattle.jer_rules.specs.Pending.{tree_of};
+ghost use Rattle.jer_values.specs.Views.{data_of};
 ghost use Rattle.serde_json.specs.Data.{Data};
-ghost use Rattle.serde_json.specs.View.{view};
 ghost use Rattle.std.specs.Str.{is_utf8};
 ghost use Rattle.std.specs.Prelude.{◌≡◌, true, OnOk, IfOk, IfErr, MatchResult};
 
-use super::bits::{counted_bits, fixed_bits, json_of_bits};
+use super::bits::{counted_bits, fixed_bits, value_of_bits};
 use super::build::integer_of;
 use super::faults::encode_error;
 use super::identifiers::identifier_of_json;
@@ -21,6 +21,7 @@ use asn_core::Codec;
 use asn_fault::{EncodeError, JerEncodeErrorKind};
 use asn_model::joined_arcs;
 use asn_traits::{Leaf, LeafKind, OwnedLeaf};
+use jer_values::JerValue;
 use serde_json::Value;
 use std::alloc::Global;
 
@@ -29,41 +30,41 @@ use std::alloc::Global;
 /// Errors: `ExceedsSupportedIntSize` where JSON doesn't have the number;
 /// `SizeConstraintNotSatisfied` where bits are not as many as their fixed size; `OutOfMemory`.
 #[inline(always)]
-pub fn json_of_leaf(alloc: Global, leaf: Leaf<'_>) -> Result<Value, EncodeError>
-    ensures json { IfOk result (λ v. view v ≡ jer_data (leaf_value leaf.entry)) }
+pub fn value_of_leaf(alloc: Global, leaf: Leaf<'_>) -> Result<JerValue, EncodeError>
+    ensures json { IfOk result (λ v. data_of v ≡ jer_data (leaf_value leaf.entry)) }
     ensures writable { OnOk result (Writable Notation.jer (leaf_value leaf.entry)) }
     ensures refused { IfErr result (FailsToEncode Notation.jer (leaf_value leaf.entry)) }
 {
     match leaf {
-        Leaf::Null => Ok(Value::Null),
-        Leaf::Boolean(flag) => Ok(Value::Bool(flag)),
+        Leaf::Null => Ok(JerValue::Null),
+        Leaf::Boolean(flag) => Ok(JerValue::Boolean(flag)),
         Leaf::Number(value) => match integer_of(value.negative, value.magnitude) {
-            Some(number) => Ok(Value::Number(number)),
+            Some(number) => Ok(JerValue::Integer(number)),
             None => Err(encode_error(JerEncodeErrorKind::ExceedsSupportedIntSize { value })),
         },
-        Leaf::Text(text) => json_of_text(alloc, text),
-        Leaf::OwnedText(text) => Ok(Value::String(text)),
-        Leaf::Item(name) => json_of_text(alloc, name),
+        Leaf::Text(text) => value_of_text(alloc, text),
+        Leaf::OwnedText(text) => Ok(JerValue::Text(text)),
+        Leaf::Item(name) => value_of_text(alloc, name),
         Leaf::Octets(octets) => match hex::encode_upper(alloc, octets) {
-            Ok(text) => Ok(Value::String(text)),
+            Ok(text) => Ok(JerValue::Text(text)),
             Err(_) => Err(EncodeError::out_of_memory(Codec::Jer)),
         },
         Leaf::Arcs(arcs) => match joined_arcs(alloc, arcs, ".") {
-            Ok(text) => Ok(Value::String(text)),
+            Ok(text) => Ok(JerValue::Text(text)),
             Err(_) => Err(EncodeError::out_of_memory(Codec::Jer)),
         },
-        Leaf::Bits(bits, size) => json_of_bits(alloc, bits, size),
+        Leaf::Bits(bits, size) => value_of_bits(alloc, bits, size),
     }
 }
 
 // The JSON string of a text. Its one error is `OutOfMemory`.
-fn json_of_text(alloc: Global, text: &str) -> Result<Value, EncodeError>
-    ensures json { IfOk result (λ v. view v ≡ Data.string text.now) }
+fn value_of_text(alloc: Global, text: &str) -> Result<JerValue, EncodeError>
+    ensures json { IfOk result (λ v. data_of v ≡ Data.string text.now) }
     ensures text { is_utf8 text.now ≡ true }
     ensures refused { IfErr result (IsOutOfMemory Notation.jer) }
 {
     match String::from_str(alloc, text) {
-        Ok(text) => Ok(Value::String(text)),
+        Ok(text) => Ok(JerValue::Text(text)),
         Err(_) => Err(EncodeError::out_of_memory(Codec::Jer)),
     }
 }

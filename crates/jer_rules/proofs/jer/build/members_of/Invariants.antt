@@ -1,6 +1,6 @@
 use Rattle.std.proofs.Common.{◌≡◌, ◌++◌, length}
 use Rattle.serde_json.specs.Data.{Members}
-use Rattle.serde_json.specs.View.{view, members_view}
+use Rattle.jer_values.specs.Views.{data_of, members_view}
 use Rattle.asn_coding.specs.Tables.{names_of}
 use Rattle.asn_slots.specs.Trees.{trees_of}
 use Rattle.jer_rules.specs.Holding.{members_onto}
@@ -10,7 +10,7 @@ use Rattle.jer_rules.proofs.jer.build.members_of.Given as goal
 abbrev pub invariant-loop-slot : goal.invariant-loop-slot
 invariant-loop-slot l =
     let names = names_of l.root ++ names_of l.additions in
-    members_onto (trees_of view l.slots.items) names (members_view l.members.entries) ≡ members_onto (trees_of view l.fn.slots.items) names Members.no_members
+    members_onto (trees_of data_of l.slots.items) names (members_view l.members.items) ≡ members_onto (trees_of data_of l.fn.slots.items) names Members.no_members
 
 abbrev pub decreases-loop-slot : goal.decreases-loop-slot
 decreases-loop-slot l = length l.slots.items

@@ -1,12 +1,6 @@
-use Rattle.std.proofs.Common.{ap, ◌∙◌, sym}
-use Rattle.std.specs.Prelude.{option_map}
-use Rattle.serde_json.specs.View.{view}
-use Rattle.asn_slots.proofs.Trees.{last_same, last_none}
-use Rattle.asn_traits.specs.Canonical.{jer_data}
+use Rattle.asn_slots.specs.Slots.{last_present}
+use Rattle.jer_rules.proofs.Floats.{json-held}
 use Rattle.jer_rules.proofs.jer.enc.Encoder.to_json.Goals as goal
 
-pub returns-in-Some-clause-tree : goal.returns-in-Some-clause-tree
-returns-in-Some-clause-tree c = λ f fs h. last_same jer_data view _ _ _ f fs c.in-Some.ensures.1 h ∙ ap (option_map view) (sym c.in-Some.ensures.2)
-
-pub returns-clause-none : goal.returns-clause-none
-returns-clause-none c = λ f fs h. last_none jer_data view _ _ _ f fs c.in-None.ensures.1 h c.in-None.ensures.2
+pub returns-in-Ok-clause-tree : goal.returns-in-Ok-clause-tree
+returns-in-Ok-clause-tree c = λ f fs h. json-held (last_present f) _ _ (c.in_ok-into_last.ensures.tree f fs h) c.in-Ok.ensures

@@ -1,6 +1,6 @@
 use Rattle.std.proofs.Common.{◌++◌}
 use Rattle.std.proofs.lemmas.Result.{on_ok_weaker}
-use Rattle.serde_json.specs.View.{view}
+use Rattle.jer_values.specs.Views.{data_of}
 use Rattle.asn_slots.proofs.Trees.{frame_closed}
 use Rattle.asn_traits.specs.Canonical.{jer_data}
 use Rattle.asn_coding.specs.Tables.{names_of}
@@ -11,4 +11,4 @@ use Rattle.jer_rules.proofs.jer.enc.EncoderEncoder.close_members.Goals as goal
 pub returns-in-Ok-members_of-clause-closed : goal.returns-in-Ok-members_of-clause-closed
 returns-in-Ok-members_of-clause-closed c =
     let built = members_built _ _ (names_of c.args.root.now ++ names_of c.args.additions.now) c.in-Ok-members_of.ensures in
-    on_ok_weaker c.put.result (λ a. frame_closed jer_data view (as_members _) _ _ _ _ _ c.in-Ok.ensures.closed built a) c.put.ensures.added
+    on_ok_weaker c.put.result (λ a. frame_closed jer_data data_of (as_members _) _ _ _ _ _ c.in-Ok.ensures.closed built a) c.put.ensures.added

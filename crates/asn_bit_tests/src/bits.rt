@@ -1,4 +1,4 @@
-// Bit strings and object identifiers by calls that no text makes.
+//! Tests bit strings and object identifiers by calls that no text makes.
 use asn_base::{Bits, Identifier, ObjectIdentifier, Tag};
 use asn_fault::DecodeError;
 use asn_sample_fields::{ConstrainedBitString, ExtensibleBitString};

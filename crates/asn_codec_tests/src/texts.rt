@@ -1,4 +1,4 @@
-// Values that have no text in one of the notations, and calls that always refuse.
+//! Tests values that have no text in one of the notations, and calls that always refuse.
 use crate::checks::{assert_refused, assert_text, avn_text, let_go};
 use asn_base::{Constraints, Identifier, Tag};
 use asn_fault::{DecodeError, EncodeError};

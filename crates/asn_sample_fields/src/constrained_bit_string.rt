@@ -1,4 +1,4 @@
-// A bit string of a fixed size.
+//! Defines a bit string of a fixed size.
 ghost use Rattle.asn_sample_fields.specs.ConstrainedBitString.{constrained_bit_string_shape};
 ghost use Rattle.asn_sample_fields.specs.ConstrainedBitString.{constrained_bit_string_value};
 ghost use Rattle.std.specs.Prelude.{refl};
@@ -13,6 +13,7 @@ use std::alloc::Global;
 /// `ConstrainedBitString ::= BIT STRING (SIZE(3))`
 #[derive(Debug, PartialEq, Eq, Drop)]
 pub struct ConstrainedBitString {
+    /// Holds the bits.
     pub bits: Bits,
 }
 

@@ -1,4 +1,4 @@
-// A bit string whose size later versions may admit more of, which is so not fixed.
+//! Defines a bit string whose size later versions may admit more of, which is so not fixed.
 ghost use Rattle.asn_sample_fields.specs.ExtensibleBitString.{extensible_bit_string_shape};
 ghost use Rattle.asn_sample_fields.specs.ExtensibleBitString.{extensible_bit_string_value};
 ghost use Rattle.std.specs.Prelude.{refl};
@@ -13,6 +13,7 @@ use std::alloc::Global;
 /// `ExtensibleBitString ::= BIT STRING (SIZE(3, ...))`
 #[derive(Debug, PartialEq, Eq, Drop)]
 pub struct ExtensibleBitString {
+    /// Holds the bits.
     pub bits: Bits,
 }
 

@@ -1,4 +1,4 @@
-// A SEQUENCE of one field, a bit string whose size isn't fixed.
+//! Defines a SEQUENCE of one field, a bit string whose size isn't fixed.
 ghost use Rattle.asn_sample_fields.specs.ExtensibleBitStringField.{bit_string_fields, bit_string_slots};
 ghost use Rattle.std.specs.Prelude.{refl};
 
@@ -14,6 +14,7 @@ use std::alloc::Global;
 /// `ExtensibleBitStringField ::= SEQUENCE { bits BIT STRING (SIZE(3), ...) }`
 #[derive(Debug, PartialEq, Eq, Drop)]
 pub struct ExtensibleBitStringField {
+    /// Holds the field.
     pub bits: MarkedBitString,
 }
 

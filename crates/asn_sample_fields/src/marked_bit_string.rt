@@ -1,4 +1,4 @@
-// A bit string with an extension marker after its size, which is so not fixed.
+//! Defines a bit string with an extension marker after its size, which is so not fixed.
 ghost use Rattle.asn_sample_fields.specs.MarkedBitString.{marked_bit_string_shape};
 ghost use Rattle.asn_sample_fields.specs.MarkedBitString.{marked_bit_string_value};
 ghost use Rattle.std.specs.Prelude.{refl};
@@ -13,6 +13,7 @@ use std::alloc::Global;
 /// `MarkedBitString ::= BIT STRING (SIZE(3), ...)`
 #[derive(Debug, PartialEq, Eq, Drop)]
 pub struct MarkedBitString {
+    /// Holds the bits.
     pub bits: Bits,
 }
 

@@ -1,4 +1,4 @@
-// Octets of binary digits, of which each two are given as an octet in hexadecimal.
+//! Makes octets of binary digits, of which each two are given as an octet in hexadecimal.
 ghost use Rattle.std.specs.Prelude.{◌≡◌, ◌≢◌, ◌+◌, ◌*◌, ◌/◌, ◌%◌, ◌<◌, [], ◌∷◌, true, false, drop};
 ghost use Rattle.std.specs.Prelude.{IfOk, MatchOption, slice_index};
 ghost use Rattle.avn_grammar.specs.Chars.{all};
@@ -8,7 +8,8 @@ ghost use Rattle.avn_cursor.specs.HexDigits.{is_bit_pair};
 
 use std::alloc::{AllocError, Global};
 
-/// The two bits of the pair at the place, zeros past the end.
+/// Returns the two bits of the pair at the place, zeros past the end, or `None` where they are no
+/// binary digits.
 #[inline(always)]
 fn bits_at(pairs: &[u8], place: usize) -> Option<u8>
     ensures { MatchOption result (is_bit_pair (slice_index pairs.now place) ≡ false)
@@ -27,7 +28,8 @@ fn bits_at(pairs: &[u8], place: usize) -> Option<u8>
     }
 }
 
-/// The octet of the first four pairs, with zeros past the end, if they are binary digits.
+/// Returns the octet of the first four pairs, with zeros past the end, or `None` where one of them
+/// is no two binary digits.
 #[inline(always)]
 fn first_octet(pairs: &[u8]) -> Option<u8>
     requires { pairs.now ≢ [] }
@@ -44,7 +46,12 @@ fn first_octet(pairs: &[u8]) -> Option<u8>
     Some(64 * first + 16 * second + 4 * third + fourth)
 }
 
-/// The octets of the pairs, the last padded with zeros, if they are binary digits.
+/// Returns the octets of the pairs, the last padded with zeros, or `None` where a pair is no two
+/// binary digits.
+///
+/// # Errors
+///
+/// `AllocError` alone.
 pub fn octets_of_pairs(alloc: Global, pairs: &[u8]) -> Result<Option<Vec<u8>>, AllocError>
     ensures { IfOk result (λ found. MatchOption found
         (all is_bit_value (digit_values pairs.now) ≡ false)

@@ -1,4 +1,4 @@
-// Runs of characters that pass a test.
+//! Tests runs of characters.
 ghost use Rattle.std.specs.Prelude.{◌≡◌};
 ghost use Rattle.std.specs.Str.{IsAscii};
 ghost use Rattle.avn_grammar.specs.Chars.{all, skip_while};
@@ -21,7 +21,7 @@ pub enum CharSet {
     Inside,
 }
 
-/// The character belongs to the run.
+/// Returns whether the character belongs to the run.
 #[inline(always)]
 pub fn passes(run: CharSet, c: char) -> bool
     ensures { result ≡ passes run c }
@@ -36,7 +36,7 @@ pub fn passes(run: CharSet, c: char) -> bool
     }
 }
 
-/// All bytes of the text belong to the run.
+/// Returns whether all bytes of the text belong to the run.
 pub fn all_pass(run: CharSet, text: &[u8]) -> bool
     ensures { result ≡ all (passes run) text.now }
 {
@@ -48,7 +48,7 @@ pub fn all_pass(run: CharSet, text: &[u8]) -> bool
     true
 }
 
-/// What follows the longest front of the text whose bytes belong to the run.
+/// Returns what follows the longest front of the text whose bytes belong to the run.
 pub fn past_run(run: CharSet, text: &[u8]) -> &[u8]
     ensures { result.now ≡ skip_while (passes run) text.now }
 {
@@ -59,7 +59,7 @@ pub fn past_run(run: CharSet, text: &[u8]) -> &[u8]
     &text[place..]
 }
 
-/// The text that ASCII characters are.
+/// Returns the text that octets of ASCII are.
 pub fn ascii(bytes: &[u8]) -> &str
     requires { IsAscii bytes.now }
     ensures { result.now ≡ bytes.now }

@@ -1,4 +1,4 @@
-// A place in a scan, and the character there.
+//! Defines a place in a scan, with the character there.
 ghost use Rattle.std.specs.Prelude.{◌≡◌, ◌≢◌, ◌⊎◌, ◌+◌, ◌≤◌, ◌∷◌, [], true, false, All, length};
 ghost use Rattle.std.specs.Prelude.{MatchOption};
 ghost use Rattle.std.specs.Prelude.{OnOk, string_bytes, ◌++◌, ◌*◌, ◌<◌, IfOk, take};
@@ -17,7 +17,7 @@ use std::alloc::{AllocError, Global};
 use std::marker::Model;
 use std::mem;
 
-/// The octets of a character.
+/// Returns how many octets a character takes.
 #[inline(always)]
 fn width(c: char) -> usize
     ensures { result ≡ len_utf8 c }
@@ -28,8 +28,8 @@ fn width(c: char) -> usize
     wide_width(c)
 }
 
-/// The octets of any character. It stands apart, so that a branch and no arithmetic leads to the
-/// next place.
+/// Returns how many octets any character takes. It stands apart, so that a branch and no arithmetic
+/// leads to the next place.
 #[cold]
 #[inline(never)]
 fn wide_width(c: char) -> usize
@@ -42,9 +42,13 @@ fn wide_width(c: char) -> usize
 /// past the blanks there, so that a character is looked at again only after a point.
 #[derive(Drop)]
 pub struct Cursor<'a> {
+    /// Shows the text.
     scan: Scan<'a>,
+    /// Is the character at the place.
     kept: Option<char>,
+    /// Is where the rest begins.
     mark: usize,
+    /// Is the mark, or lies past the blanks there.
     place: usize,
 }
 
@@ -77,7 +81,7 @@ impl<'a> Model for Cursor<'a> {
 }
 
 impl<'a> Cursor<'a> {
-    /// At the text's beginning.
+    /// Returns a cursor at the text's beginning.
     pub fn new(scan: Scan<'a>) -> Cursor<'a>
         ensures text { result.text ≡ scan.entry.text }
         ensures rest { result.rest ≡ chars scan.entry.text }
@@ -96,7 +100,7 @@ impl<'a> Cursor<'a> {
         }
     }
 
-    /// At the end of an empty text.
+    /// Returns a cursor at the end of an empty text.
     #[inline(always)]
     fn empty() -> Cursor<'a>
         ensures text { result.text ≡ [] }
@@ -113,8 +117,8 @@ impl<'a> Cursor<'a> {
         }
     }
 
-    /// The cursor itself, which leaves one of an empty text. A loop over a cursor that it owns
-    /// keeps the cursor's parts in registers.
+    /// Returns the cursor itself, and leaves one of an empty text. A loop over a cursor that it
+    /// owns keeps the cursor's parts in registers.
     #[inline(always)]
     pub fn take_out(&mut self) -> Cursor<'a>
         ensures { result ≡ self.old }
@@ -122,7 +126,7 @@ impl<'a> Cursor<'a> {
         mem::replace(self, Cursor::empty())
     }
 
-    /// The scan, with its count.
+    /// Returns the scan, with its count.
     pub fn into_scan(self) -> Scan<'a>
         ensures text { result.text ≡ self.entry.text }
         ensures looks { result.looks ≡ self.entry.looks }
@@ -130,7 +134,7 @@ impl<'a> Cursor<'a> {
         self.scan
     }
 
-    /// The character ahead, and past it.
+    /// Returns the character ahead and goes past it, or returns `None` at the end.
     #[inline(always)]
     pub fn take(&mut self) -> Option<char>
         requires { self.old.ahead ≡ self.old.rest }
@@ -150,7 +154,8 @@ impl<'a> Cursor<'a> {
         found
     }
 
-    /// The character ahead, and past it, if it belongs to the run.
+    /// Returns the character ahead and goes past it where it belongs to the run, or else returns
+    /// `None` and stays.
     #[inline(always)]
     pub fn take_if(&mut self, run: CharSet) -> Option<char>
         requires { self.old.ahead ≡ self.old.rest }
@@ -164,7 +169,7 @@ impl<'a> Cursor<'a> {
         if passes(run, c) { self.take() } else { None }
     }
 
-    /// The character ahead.
+    /// Returns the character ahead, or `None` at the end.
     #[inline(always)]
     pub fn peek(&self) -> Option<char>
         requires { self.now.ahead ≡ self.now.rest }
@@ -174,7 +179,7 @@ impl<'a> Cursor<'a> {
         self.kept
     }
 
-    /// The character ahead, if it belongs to the run.
+    /// Returns the character ahead where it belongs to the run, or else `None`.
     #[inline(always)]
     pub fn peek_if(&self, run: CharSet) -> Option<char>
         requires { self.now.ahead ≡ self.now.rest }
@@ -188,7 +193,7 @@ impl<'a> Cursor<'a> {
         }
     }
 
-    /// Past the characters up to the next quote, or up to the end. Returns them as a text.
+    /// Goes past the characters up to the next quote, or up to the end, and returns them as a text.
     #[inline(always)]
     pub fn take_up_to_quote(&mut self) -> &'a str
         requires { self.old.ahead ≡ self.old.rest }
@@ -207,7 +212,7 @@ impl<'a> Cursor<'a> {
         run
     }
 
-    /// What is ahead.
+    /// Returns what is ahead.
     #[inline(always)]
     pub fn class_of_next(&mut self) -> CharClass
         requires { self.old.ahead ≡ self.old.rest }
@@ -221,7 +226,7 @@ impl<'a> Cursor<'a> {
         }
     }
 
-    /// Past the blanks ahead.
+    /// Goes past the blanks ahead.
     #[inline(always)]
     #[tactic(auto, using(crate::proofs::Looking::blanks))]
     pub fn skip(&mut self)
@@ -233,7 +238,7 @@ impl<'a> Cursor<'a> {
         while self.take_if(CharSet::Blanks).is_some() {}
     }
 
-    /// What is ahead past blanks.
+    /// Returns what is ahead past blanks, and stays before them.
     #[inline(always)]
     #[tactic(auto, using(crate::proofs::Looking::twice))]
     pub fn lead_past_blanks(&mut self) -> CharClass
@@ -249,7 +254,11 @@ impl<'a> Cursor<'a> {
         found
     }
 
-    /// Past the longest run ahead, which goes to the end of `out`.
+    /// Goes past the longest run ahead, which is put to the end of `out`.
+    ///
+    /// # Errors
+    ///
+    /// `AllocError` alone.
     #[inline(always)]
     pub fn take_run(&mut self, run: CharSet, out: &mut String) -> Result<(), AllocError>
         requires { self.old.ahead ≡ self.old.rest }
@@ -264,7 +273,7 @@ impl<'a> Cursor<'a> {
         taken
     }
 
-    /// What `take_run` does, over a cursor that is moved in and out.
+    /// Does what `take_run` does, over a cursor that is moved in and out.
     #[inline(always)]
     #[tactic(auto, using(avn_grammar::proofs::Runs::runs))]
     fn after_run(self, run: CharSet, out: &mut String) -> (Cursor<'a>, Result<(), AllocError>)
@@ -285,7 +294,7 @@ impl<'a> Cursor<'a> {
         (here, Ok(()))
     }
 
-    /// A point and a digit are ahead.
+    /// Returns whether a point and a digit are ahead.
     #[inline(always)]
     #[tactic(auto, using(avn_grammar::proofs::Runs::fractions))]
     pub fn has_fraction(&mut self) -> bool
@@ -304,7 +313,7 @@ impl<'a> Cursor<'a> {
         }
     }
 
-    /// At the place.
+    /// Goes to the place.
     fn go_to(&mut self, place: usize)
         requires { IsCharBoundary self.old.text place }
         ensures looks { LooksAtMost 1 self.old self.new }
@@ -316,7 +325,7 @@ impl<'a> Cursor<'a> {
         self.place = place;
     }
 
-    /// Back at the mark.
+    /// Goes back to the mark.
     fn rewind(&mut self)
         ensures looks { LooksAtMost 1 self.old self.new }
         ensures stays { self.new.rest ≡ self.old.rest }
@@ -325,7 +334,7 @@ impl<'a> Cursor<'a> {
         self.go_to(self.mark);
     }
 
-    /// Back at the text's beginning.
+    /// Goes back to the text's beginning.
     pub fn restart(&mut self)
         ensures looks { LooksAtMost 1 self.old self.new }
         ensures rest { self.new.rest ≡ chars self.old.text }
@@ -335,7 +344,12 @@ impl<'a> Cursor<'a> {
         self.go_to(0);
     }
 
-    /// The first characters of the rest.
+    /// Returns a copy of the first `at_most` characters of the rest, or of fewer where it has
+    /// fewer.
+    ///
+    /// # Errors
+    ///
+    /// `OutOfMemory` alone.
     pub fn excerpt(&mut self, alloc: Global, at_most: usize) -> Result<String, OutOfMemory>
         ensures looks { LooksAtMost (length self.old.rest) self.old self.new }
         ensures copied { IfOk result (λ s. string_bytes s
@@ -344,7 +358,11 @@ impl<'a> Cursor<'a> {
         self.scan.excerpt(alloc, self.mark, at_most)
     }
 
-    /// The rest.
+    /// Returns a copy of the rest.
+    ///
+    /// # Errors
+    ///
+    /// `OutOfMemory` alone.
     fn all_of_rest(&mut self, alloc: Global) -> Result<String, OutOfMemory>
         ensures looks { LooksAtMost (length self.old.rest) self.old self.new }
         ensures copied { IfOk result (λ s. string_bytes s ≡ encode_utf8_all self.old.rest) }
@@ -353,7 +371,7 @@ impl<'a> Cursor<'a> {
         self.excerpt(alloc, usize::MAX)
     }
 
-    /// The rest is white space only.
+    /// Returns whether the rest is white space only. The cursor is somewhere in the rest after it.
     #[tactic(auto, using(crate::proofs::Looking::whites))]
     fn is_white(&mut self) -> bool
         ensures looks { LooksAtMost (length self.old.rest + 1) self.old self.new }
@@ -369,7 +387,11 @@ impl<'a> Cursor<'a> {
         true
     }
 
-    /// The rest, unless it is white space only.
+    /// Returns a copy of the rest, or `None` where it is white space only.
+    ///
+    /// # Errors
+    ///
+    /// `OutOfMemory` alone.
     pub fn other_than_white(&mut self, alloc: Global) -> Result<Option<String>, OutOfMemory>
         ensures looks { LooksAtMost (2 * length self.old.rest + 2) self.old self.new }
         ensures found { IfOk result (λ o. MatchOption o (skip_while is_whitespace self.old.rest ≡
@@ -386,7 +408,8 @@ impl<'a> Cursor<'a> {
         Ok(Some(rest))
     }
 
-    /// Past an identifier, blanks and a colon, if these are ahead.
+    /// Goes past an identifier, blanks and a colon where these are ahead, and returns whether they
+    /// were. Else it stays.
     pub fn take_choice(&mut self) -> bool
         requires { self.old.ahead ≡ self.old.rest }
         ensures looks { LooksAtMost (length self.old.ahead + 1) self.old self.new }
@@ -418,7 +441,7 @@ impl<'a> Cursor<'a> {
         }
     }
 
-    /// Past the longest run ahead.
+    /// Goes past the longest run ahead.
     #[tactic(auto, using(avn_grammar::proofs::Runs::runs))]
     fn pass_run(&mut self, run: CharSet)
         requires { self.old.ahead ≡ self.old.rest }

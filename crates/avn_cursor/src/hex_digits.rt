@@ -16,7 +16,8 @@ use std::marker::Model;
 /// The most octets whose digits are taken together.
 const CHUNK: usize = 256;
 
-/// The number that a hexadecimal digit stands for, of either case.
+/// Returns the number that a hexadecimal digit of either case stands for, or `None` where the
+/// character is none.
 #[inline(always)]
 fn hex_value(c: char) -> Option<u8>
     ensures { MatchOption result (is_hex c ≡ false)
@@ -48,7 +49,9 @@ fn take_digit(cursor: &mut Cursor<'_>) -> Option<u8>
 /// Digits that were taken together: how many octets they are, and the value of one more.
 #[derive(Clone, Copy, Drop)]
 struct Pairs {
+    /// Is how many octets of the chunk hold two digits.
     length: usize,
+    /// Is the digit that has no second one yet.
     odd: Option<u8>,
 }
 

@@ -1,4 +1,4 @@
-// Octets as hexadecimal and binary digits.
+//! Writes octets as hexadecimal and binary digits.
 ghost use Rattle.std.specs.Prelude.{◌≡◌, ◌<◌, ◌≤◌, [], ◌∷◌, length, take};
 ghost use Rattle.std.specs.Fmt.{WritesOnOk};
 ghost use Rattle.std.specs.Str.{IsAscii};
@@ -11,7 +11,7 @@ use std::fmt;
 /// The most octets whose hexadecimal digits are written together.
 const CHUNK: usize = 256;
 
-/// The hexadecimal digit of a number below 16, in capitals.
+/// Returns the hexadecimal digit of a number below 16, in capitals.
 fn hex_digit(number: u8) -> u8
     requires { number < 16 }
     ensures { result ≡ hex_digit number }
@@ -56,7 +56,7 @@ pub fn write_hex<W: fmt::Write>(octets: &[u8], f: &mut fmt::Formatter<W>) -> fmt
     Ok(())
 }
 
-/// The eight binary digits of an octet, the most significant first.
+/// Returns the eight binary digits of an octet, the most significant first.
 #[tactic(auto, unfolding(avn_grammar::specs::Octets::bit_text))]
 fn binary_digits(octet: u8) -> [u8; 8]
     ensures { result ≡ bit_text (octet ∷ []) }

@@ -49,6 +49,7 @@ const GREATEST: usize = u32::MAX as usize;
 /// node is pending: the name of the next node, and then a word.
 #[derive(Drop)]
 pub struct Nodes {
+    /// The nodes.
     nodes: Vec<Node>,
     /// All names, numbers, identifiers and character strings.
     text: String,

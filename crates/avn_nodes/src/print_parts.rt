@@ -13,7 +13,9 @@ use std::fmt;
 /// overflow, and printing takes no memory.
 #[derive(Drop)]
 pub enum Levels<'a> {
+    /// No brace is open.
     Root,
+    /// A brace is open within those of the levels.
     Under(&'a Levels<'a>),
 }
 
@@ -31,7 +33,7 @@ fn write_indent<W: fmt::Write>(levels: &Levels<'_>, f: &mut fmt::Formatter<W>) -
     }
 }
 
-/// What stands before a row, and the spaces of one level.
+/// Returns what stands before a row, and the spaces of one level.
 fn separator(row: usize) -> &'static str
     ensures { result.now ≡ separator row ++ codes "  " }
 {

@@ -1,4 +1,4 @@
-// A copy of a value.
+//! Copies values.
 ghost use Rattle.std.specs.Prelude.{◌≡◌, IfOk, string_bytes};
 ghost use Rattle.avn_value.specs.View.{tree_of, list_trees, fields_trees};
 
@@ -6,7 +6,11 @@ use crate::value::AvnValue;
 use asn_core::OutOfMemory;
 use std::alloc::Global;
 
-/// A copy of a text. Its only error is lack of memory.
+/// Returns a copy of a text.
+///
+/// # Errors
+///
+/// `OutOfMemory` alone.
 pub fn copy_text(alloc: Global, text: &String) -> Result<String, OutOfMemory>
     ensures { IfOk result (λ copy. string_bytes copy ≡ string_bytes text.now) }
 {
@@ -14,7 +18,11 @@ pub fn copy_text(alloc: Global, text: &String) -> Result<String, OutOfMemory>
     Ok(copy)
 }
 
-/// A copy of octets. Its only error is lack of memory.
+/// Returns a copy of octets.
+///
+/// # Errors
+///
+/// `OutOfMemory` alone.
 pub fn copy_octets(alloc: Global, octets: &Vec<u8>) -> Result<Vec<u8>, OutOfMemory>
     ensures { IfOk result (λ copy. copy.items ≡ octets.now.items) }
 {
@@ -22,7 +30,11 @@ pub fn copy_octets(alloc: Global, octets: &Vec<u8>) -> Result<Vec<u8>, OutOfMemo
     Ok(copy)
 }
 
-/// A copy of a value.
+/// Returns a copy of a value.
+///
+/// # Errors
+///
+/// `OutOfMemory` alone.
 #[cycle(copy)]
 fn copy_value(alloc: Global, value: &AvnValue) -> Result<AvnValue, OutOfMemory>
     ensures { IfOk result (λ copy. tree_of copy ≡ tree_of value.now) }
@@ -53,7 +65,11 @@ fn copy_value(alloc: Global, value: &AvnValue) -> Result<AvnValue, OutOfMemory>
     }
 }
 
-/// Copies of the values of a list.
+/// Returns copies of the values of a list.
+///
+/// # Errors
+///
+/// `OutOfMemory` alone.
 #[cycle(copy)]
 fn copy_list(alloc: Global, list: &Vec<AvnValue>) -> Result<Vec<AvnValue>, OutOfMemory>
     ensures { IfOk result (λ copies. list_trees copies.items ≡ list_trees list.now.items) }
@@ -65,7 +81,11 @@ fn copy_list(alloc: Global, list: &Vec<AvnValue>) -> Result<Vec<AvnValue>, OutOf
     Ok(copies)
 }
 
-/// Copies of the fields of a sequence.
+/// Returns copies of the fields of a sequence.
+///
+/// # Errors
+///
+/// `OutOfMemory` alone.
 #[cycle(copy)]
 fn copy_fields(
     alloc: Global,
@@ -86,7 +106,11 @@ fn copy_fields(
 }
 
 impl AvnValue {
-    /// A copy of the value. Its only error is lack of memory.
+    /// Returns a copy of the value.
+    ///
+    /// # Errors
+    ///
+    /// `OutOfMemory` alone.
     pub fn try_clone(&self, alloc: Global) -> Result<AvnValue, OutOfMemory>
         ensures { IfOk result (λ copy. tree_of copy ≡ tree_of self.now) }
     {

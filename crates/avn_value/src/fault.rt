@@ -1,4 +1,4 @@
-// Why a value is not read.
+//! Defines why a value is not read.
 use asn_core::OutOfMemory;
 use std::alloc::{AllocError, AllocFailed};
 

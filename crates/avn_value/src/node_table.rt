@@ -33,6 +33,7 @@ use std::mem;
 /// within a node is the next one, and the one after that stands at the first one's `end`.
 #[derive(Drop)]
 pub struct NodeTable {
+    /// The nodes, the first of them that of the whole value.
     nodes: Nodes,
 }
 

@@ -1,4 +1,4 @@
-// The normal form of a value.
+//! Makes the normal form of a value.
 ghost use Rattle.std.specs.Prelude.{◌≡◌, ◌<◌, ◌%◌, ◌≢◌, [], ◌∷◌, IfOk, take, string_bytes};
 ghost use Rattle.avn_grammar.specs.Tree.{bit_string, real, sequence};
 ghost use Rattle.avn_grammar.specs.Octets.{packed, bit_text};
@@ -11,7 +11,7 @@ use crate::well_formed::is_number;
 use asn_core::OutOfMemory;
 use std::alloc::Global;
 
-/// The first bits of an octet, fewer than eight, with zeros after them.
+/// Returns the first bits of an octet, fewer than eight, with zeros after them.
 fn first_bits(octet: u8, count: usize) -> u8
     requires some { count ≢ 0 }
     requires below { count < 8 }
@@ -21,7 +21,11 @@ fn first_bits(octet: u8, count: usize) -> u8
     octet >> rest << rest
 }
 
-/// The octets of the first bits, with zeros after them. Its only error is lack of memory.
+/// Returns the octets of the first bits, with zeros after them.
+///
+/// # Errors
+///
+/// `OutOfMemory` alone.
 fn octets_of_bits(alloc: Global, octets: &[u8], bit_length: usize) -> Result<Vec<u8>, OutOfMemory>
     requires { bit_length % 8 ≢ 0 }
     ensures { IfOk result (λ kept. kept.items ≡ packed (take bit_length (bit_text octets.now))) }
@@ -37,7 +41,11 @@ fn octets_of_bits(alloc: Global, octets: &[u8], bit_length: usize) -> Result<Vec
     Ok(kept)
 }
 
-/// The normal form of a bit string. Its only error is lack of memory.
+/// Returns the normal form of a bit string.
+///
+/// # Errors
+///
+/// `OutOfMemory` alone.
 #[tactic(auto, unfolding(avn_grammar::specs::Normal::normal))]
 fn normal_bit_string(
     alloc: Global,
@@ -58,7 +66,11 @@ fn normal_bit_string(
     Ok(AvnValue::BitString { bytes, bit_length })
 }
 
-/// The normal form of a real number. Its only error is lack of memory.
+/// Returns the normal form of a real number.
+///
+/// # Errors
+///
+/// `OutOfMemory` alone.
 #[tactic(auto, unfolding(avn_grammar::specs::Normal::normal))]
 fn normal_real(alloc: Global, text: &String) -> Result<AvnValue, OutOfMemory>
     ensures { IfOk result (λ form. tree_of form ≡ normal (real (string_bytes text.now))) }
@@ -71,7 +83,11 @@ fn normal_real(alloc: Global, text: &String) -> Result<AvnValue, OutOfMemory>
     }
 }
 
-/// The arcs as integers in decimal. Its only error is lack of memory.
+/// Returns the arcs as integers in decimal.
+///
+/// # Errors
+///
+/// `OutOfMemory` alone.
 fn arc_integers(alloc: Global, arcs: &Vec<u32>) -> Result<Vec<AvnValue>, OutOfMemory>
     ensures { IfOk result (λ integers. list_trees integers.items ≡ arc_trees arcs.now.items) }
 {
@@ -83,7 +99,11 @@ fn arc_integers(alloc: Global, arcs: &Vec<u32>) -> Result<Vec<AvnValue>, OutOfMe
     Ok(integers)
 }
 
-/// The normal form of a value.
+/// Returns the normal form of a value.
+///
+/// # Errors
+///
+/// `OutOfMemory` alone.
 #[cycle(normal)]
 #[tactic(auto, unfolding(avn_grammar::specs::Normal::normal))]
 fn normal_value(alloc: Global, value: &AvnValue) -> Result<AvnValue, OutOfMemory>
@@ -109,7 +129,11 @@ fn normal_value(alloc: Global, value: &AvnValue) -> Result<AvnValue, OutOfMemory
     }
 }
 
-/// The normal forms of the values of a list.
+/// Returns the normal forms of the values of a list.
+///
+/// # Errors
+///
+/// `OutOfMemory` alone.
 #[cycle(normal)]
 fn normal_list(alloc: Global, list: &Vec<AvnValue>) -> Result<Vec<AvnValue>, OutOfMemory>
     ensures { IfOk result (λ forms. list_trees forms.items
@@ -122,7 +146,11 @@ fn normal_list(alloc: Global, list: &Vec<AvnValue>) -> Result<Vec<AvnValue>, Out
     Ok(forms)
 }
 
-/// The normal form of a sequence of the fields.
+/// Returns the normal form of a sequence of the fields.
+///
+/// # Errors
+///
+/// `OutOfMemory` alone.
 #[cycle(normal)]
 #[tactic(auto, unfolding(avn_grammar::specs::Normal::normal))]
 fn normal_sequence(
@@ -140,7 +168,11 @@ fn normal_sequence(
     }
 }
 
-/// The fields that are present, with the normal forms of their values.
+/// Returns the fields that are present, with the normal forms of their values.
+///
+/// # Errors
+///
+/// `OutOfMemory` alone.
 #[cycle(normal)]
 fn present_fields(
     alloc: Global,
@@ -164,12 +196,14 @@ fn present_fields(
 }
 
 impl AvnValue {
-    /// The normal form of the value, which its printed text is read as. Absent fields are left out,
-    /// and a sequence that is then empty is an empty list. An object identifier is the list of its
-    /// arcs as integers. A bit string of whole octets is an octet string, and any other has zeros
-    /// past its length. A real number without a point is an integer.
+    /// Returns the normal form of the value, which its printed text is read as. Absent fields are
+    /// left out, and a sequence that is then empty is an empty list. An object identifier is the
+    /// list of its arcs as integers. A bit string of whole octets is an octet string, and any other
+    /// has zeros past its length. A real number without a point is an integer.
     ///
-    /// Its only error is lack of memory.
+    /// # Errors
+    ///
+    /// `OutOfMemory` alone.
     pub fn normal(&self, alloc: Global) -> Result<AvnValue, OutOfMemory>
         ensures { IfOk result (λ form. tree_of form ≡ normal (tree_of self.now)) }
     {

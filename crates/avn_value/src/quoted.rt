@@ -1,4 +1,4 @@
-// The tokens between apostrophes: octets in hexadecimal, and bits.
+//! Reads the tokens between apostrophes: octets in hexadecimal, and bits.
 ghost use Rattle.std.specs.Prelude.{◌≡◌, ◌≢◌, ◌<◌, ℕ, List, [], ◌∷◌};
 ghost use Rattle.std.specs.Prelude.{length, Err, IfOk, OnOk, MatchOption};
 ghost use Rattle.avn_grammar.specs.Tree.{Tree};
@@ -18,11 +18,14 @@ use std::alloc::Global;
 /// What a text between apostrophes is, by the letter after it.
 #[derive(Clone, Copy, Drop)]
 pub enum Radix {
+    /// Octets in hexadecimal, before `H`.
     Hexadecimal,
+    /// Bits, before `B`.
     Binary,
 }
 
-/// Past an apostrophe and the letter after it, if these are ahead.
+/// Goes past an apostrophe and the letter after it, and returns what the letter says, or `None`
+/// where these are not ahead.
 fn closing(cursor: &mut Cursor<'_>) -> Option<Radix>
     requires together { cursor.old.ahead ≡ cursor.old.rest }
     ensures advances { Advances 2 cursor.old cursor.new }

@@ -1,4 +1,4 @@
-// Whether a value's printed text can be read again.
+//! Tests whether a value's printed text can be read again.
 ghost use Rattle.std.specs.Prelude.{◌≡◌, ◌+◌, ◌/◌};
 ghost use Rattle.std.specs.Str.{is_utf8};
 ghost use Rattle.avn_grammar.specs.Chars.{all};
@@ -13,7 +13,7 @@ use crate::value::AvnValue;
 use avn_cursor::chars::{CharSet, all_pass, passes, past_run};
 use avn_grammar::names::{is_identifier, is_keyword, is_real_keyword};
 
-/// The text without its sign.
+/// Returns the text without its sign.
 fn unsigned(text: &[u8]) -> &[u8]
     ensures { result.now ≡ unsigned text.now }
 {
@@ -24,28 +24,28 @@ fn unsigned(text: &[u8]) -> &[u8]
     }
 }
 
-/// The text is one digit or more.
+/// Returns whether the text is one digit or more.
 fn is_digits(text: &[u8]) -> bool
     ensures { result ≡ is_digits text.now }
 {
     !text.is_empty() && all_pass(CharSet::Digits, text)
 }
 
-/// The text is an optional `-` and digits.
+/// Returns whether the text is an optional `-` and digits.
 pub fn is_number(text: &str) -> bool
     ensures { result ≡ is_number text.now }
 {
     is_digits(unsigned(text.as_bytes()))
 }
 
-/// The text is a point and digits.
+/// Returns whether the text is a point and digits.
 fn is_fraction(text: &[u8]) -> bool
     ensures { result ≡ is_fraction text.now }
 {
     !text.is_empty() && text[0] == b'.' && is_digits(&text[1..])
 }
 
-/// The text is an optional `-`, digits, a point and digits.
+/// Returns whether the text is an optional `-`, digits, a point and digits.
 fn is_decimal(text: &str) -> bool
     ensures { result ≡ is_decimal text.now }
 {
@@ -55,7 +55,7 @@ fn is_decimal(text: &str) -> bool
         && is_fraction(past_run(CharSet::Digits, digits))
 }
 
-/// How many octets so many bits take.
+/// Returns how many octets so many bits take.
 fn octets_for(bit_length: usize) -> usize
     ensures { result ≡ (bit_length + 7) / 8 }
 {
@@ -66,7 +66,7 @@ fn octets_for(bit_length: usize) -> usize
     }
 }
 
-/// The numbers are octets, as their type says.
+/// Returns that the numbers are octets, as their type says.
 fn are_octets(octets: &[u8]) -> bool
     ensures { result ≡ all is_octet octets.now }
 {
@@ -74,7 +74,7 @@ fn are_octets(octets: &[u8]) -> bool
     true
 }
 
-/// The numbers are arcs, as their type says.
+/// Returns that the numbers are arcs, as their type says.
 fn are_arcs(arcs: &[u32]) -> bool
     ensures { result ≡ all is_arc arcs.now }
 {
@@ -82,7 +82,7 @@ fn are_arcs(arcs: &[u32]) -> bool
     true
 }
 
-/// The bytes of the text are UTF-8, as its type says.
+/// Returns that the bytes of the text are UTF-8, as its type says.
 fn is_utf8(text: &str) -> bool
     ensures { result ≡ is_utf8 text.now }
 {
@@ -90,7 +90,7 @@ fn is_utf8(text: &str) -> bool
     true
 }
 
-/// The value's printed text can be read again.
+/// Returns whether the value's printed text can be read again.
 #[cycle(form)]
 #[tactic(auto, unfolding(avn_grammar::specs::WellFormed::is_well_formed))]
 fn is_value_well_formed(value: &AvnValue) -> bool
@@ -122,7 +122,7 @@ fn is_value_well_formed(value: &AvnValue) -> bool
     }
 }
 
-/// The printed text of each value of the list can be read again.
+/// Returns whether the printed text of each value of the list can be read again.
 #[cycle(form)]
 fn is_list_well_formed(list: &Vec<AvnValue>) -> bool
     ensures { result ≡ are_well_formed (list_trees list.now.items) }
@@ -135,7 +135,8 @@ fn is_list_well_formed(list: &Vec<AvnValue>) -> bool
     true
 }
 
-/// Each name of the fields is an identifier, and each value's printed text can be read again.
+/// Returns whether each name of the fields is an identifier, and each value's printed text can be
+/// read again.
 #[cycle(form)]
 fn are_fields_well_formed(fields: &Vec<(String, Option<AvnValue>)>) -> bool
     ensures { result ≡ are_fields_well_formed (fields_trees fields.now.items) }
@@ -157,9 +158,9 @@ fn are_fields_well_formed(fields: &Vec<(String, Option<AvnValue>)>) -> bool
 }
 
 impl AvnValue {
-    /// Whether the value's printed text can be read again. Its numbers are spelled as X.680 spells
-    /// them (a Real with digits after its point, or as a keyword). Its names and identifiers are
-    /// ASCII letters, digits, `-` and `_` after a letter, and no Enumerated is a keyword. A
+    /// Returns whether the value's printed text can be read again. Its numbers are spelled as X.680
+    /// spells them (a Real with digits after its point, or as a keyword). Its names and identifiers
+    /// are ASCII letters, digits, `-` and `_` after a letter, and no Enumerated is a keyword. A
     /// BitString has as many octets as its length needs.
     pub fn is_well_formed(&self) -> bool
         ensures { result ≡ is_well_formed (tree_of self.now) }

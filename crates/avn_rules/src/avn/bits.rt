@@ -1,4 +1,4 @@
-// Bit strings, read from nodes.
+//! Reads bit strings from nodes.
 ghost use Rattle.asn_core.specs.BitStrings.{all_bits};
 ghost use Rattle.asn_model.specs.declared.leaves.LeafKind.TheVariants.{Bits as BitsKind};
 ghost use Rattle.avn_rules.specs.LeafAnswer.{LeafAnswer};

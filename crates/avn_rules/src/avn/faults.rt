@@ -1,4 +1,4 @@
-// What a reader of AVN refuses by.
+//! Makes the refusals of the reader of AVN.
 ghost use Rattle.asn_core.specs.declared.codec.Codec.TheVariants.{Avn};
 ghost use Rattle.asn_fault.specs.Failure.{Cause, failure_of, at_root, codec_cause};
 ghost use Rattle.asn_fault.specs.EncodeCause.{EncodeCause};
@@ -30,7 +30,7 @@ use asn_traits::SeqKind;
 use avn_value::NodeTable;
 use std::alloc::Global;
 
-/// A value is expected, and there is none.
+/// Returns the refusal where a value is expected and there is none.
 pub fn end_of_input() -> DecodeError
     ensures { failure_of result ≡ at_root (Cause.end_of_input Avn) Avn }
 {
@@ -42,7 +42,8 @@ pub fn end_of_input() -> DecodeError
     )
 }
 
-/// The value at the node is of another kind than the one that is needed. Memory may run out.
+/// Returns the refusal of the value at the node, which is of another kind than the one that is
+/// needed. Where memory runs out, the refusal says that.
 pub fn mismatch(alloc: Global, table: &NodeTable, node: usize, needed: &'static str) -> DecodeError
     requires { IsPresent table.now node }
     ensures { RefusesLeaf Notation.avn (value_at table.now node) (LeafFailure.mismatch needed.now)
@@ -54,7 +55,7 @@ pub fn mismatch(alloc: Global, table: &NodeTable, node: usize, needed: &'static 
     }
 }
 
-/// The words by which a mismatch names SEQUENCE or SET.
+/// Returns the words by which a mismatch names SEQUENCE or SET.
 pub fn needed_members(kind: SeqKind) -> &'static str
     ensures { LeafFailure.mismatch result.now ≡ members_mismatch Notation.avn (kind_view kind) }
 {
@@ -64,7 +65,7 @@ pub fn needed_members(kind: SeqKind) -> &'static str
     }
 }
 
-/// The words by which a mismatch names SEQUENCE OF or SET OF.
+/// Returns the words by which a mismatch names SEQUENCE OF or SET OF.
 pub fn needed_list(kind: SeqKind) -> &'static str
     ensures { LeafFailure.mismatch result.now ≡ list_failure (kind_view kind) }
 {
@@ -74,7 +75,7 @@ pub fn needed_list(kind: SeqKind) -> &'static str
     }
 }
 
-/// The text names no item of the type.
+/// Returns the refusal of a text that names no item of the type.
 pub fn no_item(text: String) -> DecodeError
     ensures { failure_of result ≡ at_root
         (Cause.invalid_enum_discriminant Avn (string_bytes text)) Avn }
@@ -82,7 +83,8 @@ pub fn no_item(text: String) -> DecodeError
     avn_error(AvnDecodeErrorKind::AvnInvalidEnumDiscriminant { discriminant: text })
 }
 
-/// The text is no whole number. Memory may run out.
+/// Returns the refusal of a text that is no whole number. Where memory runs out, the refusal says
+/// that.
 pub fn no_number(alloc: Global, text: &str) -> DecodeError
     ensures { IsCause (Cause.integer_parse_error text.now) (failure_of result) }
 {
@@ -92,7 +94,8 @@ pub fn no_number(alloc: Global, text: &str) -> DecodeError
     }
 }
 
-/// The octets of a character string are no UTF-8. Memory may run out.
+/// Returns the refusal of the octets of a character string that are no UTF-8. Where memory runs
+/// out, the refusal says that.
 pub fn no_utf8(alloc: Global) -> DecodeError
     ensures { IsCause (Cause.custom AVN_NO_UTF8.now) (failure_of result) }
 {
@@ -102,7 +105,8 @@ pub fn no_utf8(alloc: Global) -> DecodeError
     }
 }
 
-/// Returns the refusal to write a text that isn't Unicode. Memory may run out.
+/// Returns the refusal to write a text that isn't Unicode. Where memory runs out, the refusal says
+/// that.
 pub fn no_unicode(alloc: Global) -> EncodeError
     ensures { TellsUnwritten Notation.avn (EncodeCause.avn_encoder AVN_NO_UNICODE.now)
         result }
@@ -118,7 +122,8 @@ pub fn no_unicode(alloc: Global) -> EncodeError
     )
 }
 
-/// The value at the node, in the place of an arc, is no integer. Memory may run out.
+/// Returns the refusal of the value at the node, which stands in the place of an arc and is no
+/// integer. Where memory runs out, the refusal says that.
 pub fn no_arc(alloc: Global, table: &NodeTable, node: usize) -> DecodeError
     requires { IsPresent table.now node }
     ensures { IsCause (Cause.type_mismatch Avn AVN_ARC.now
@@ -133,7 +138,8 @@ pub fn no_arc(alloc: Global, table: &NodeTable, node: usize) -> DecodeError
     }
 }
 
-/// The text of an integer is no arc. Memory may run out.
+/// Returns the refusal of the text of an integer that is no arc. Where memory runs out, the refusal
+/// says that.
 pub fn no_oid(alloc: Global, text: &str) -> DecodeError
     ensures { IsCause (Cause.invalid_oid text.now) (failure_of result) }
 {
@@ -143,7 +149,8 @@ pub fn no_oid(alloc: Global, text: &str) -> DecodeError
     }
 }
 
-/// The arcs are those of no object identifier. Memory may run out.
+/// Returns the refusal of arcs that are those of no object identifier. Where memory runs out, the
+/// refusal says that.
 pub fn other_arcs(alloc: Global, arcs: &[u32]) -> DecodeError
     ensures { IsCause (Cause.invalid_oid (listed_text arcs.now)) (failure_of result) }
 {
@@ -153,7 +160,11 @@ pub fn other_arcs(alloc: Global, arcs: &[u32]) -> DecodeError
     }
 }
 
-// The arcs in brackets. Its one error is `OutOfMemory`.
+/// Returns the arcs in brackets.
+///
+/// # Errors
+///
+/// `OutOfMemory` alone.
 fn list_of_arcs(alloc: Global, arcs: &[u32]) -> Result<String, OutOfMemory>
     ensures { IfOk result (λ text. string_bytes text ≡ listed_text arcs.now) }
 {
@@ -161,7 +172,7 @@ fn list_of_arcs(alloc: Global, arcs: &[u32]) -> Result<String, OutOfMemory>
     Ok(format!(in alloc; "[{joined}]")?)
 }
 
-// The refusal of this kind.
+/// Returns the refusal of this kind.
 fn avn_error(kind: AvnDecodeErrorKind) -> DecodeError
     ensures { failure_of result ≡ at_root (codec_cause (CodecDecodeError.Avn kind)) Avn }
 {

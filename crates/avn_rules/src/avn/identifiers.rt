@@ -1,4 +1,4 @@
-// Object identifiers, read from nodes.
+//! Reads object identifiers from nodes.
 ghost use Rattle.asn_fault.specs.Failure.{failure_of};
 ghost use Rattle.asn_model.specs.declared.leaves.LeafKind.TheVariants.{Oid};
 ghost use Rattle.asn_traits.specs.Arcs.{braced_arc, braced_arcs, checked_identifier};

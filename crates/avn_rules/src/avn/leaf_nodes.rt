@@ -1,4 +1,4 @@
-// Values without parts, read from nodes.
+//! Reads values without parts from nodes.
 ghost use Rattle.asn_model.specs.declared.leaves.LeafKind.TheVariants.{Any, Item, Number, Octets};
 ghost use Rattle.asn_model.specs.declared.leaves.LeafKind.TheVariants.{Text};
 ghost use Rattle.asn_traits.specs.Leaf.{LeafFailure, answer_kind, as_leaf, needed};

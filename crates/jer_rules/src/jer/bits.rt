@@ -1,5 +1,5 @@
-// Bit strings as JSON values: of a fixed size the digits of their octets, and else an object of
-// their length and these digits.
+//! Writes and reads bit strings as JSON values: of a fixed size the digits of their octets, and
+//! else an object of their length and these digits.
 ghost use Rattle.asn_core.specs.BitStrings.{padded};
 ghost use Rattle.asn_model.specs.declared.leaves.LeafKind.TheVariants.{Bits as BitsKind};
 ghost use Rattle.asn_traits.specs.BitLeaves.{LengthStands, another_length, sized_bits};

@@ -1,4 +1,4 @@
-// What a reader of JSON refuses by.
+//! Makes the refusals of the reader of JSON.
 ghost use Rattle.asn_core.specs.declared.codec.Codec.TheVariants.{Jer};
 ghost use Rattle.asn_fault.specs.Failure.{Cause, failure_of, at_root, codec_cause};
 ghost use Rattle.asn_coding.specs.Answer.{RefusesLeaf};
@@ -20,7 +20,7 @@ use asn_model::words::{JER_NO_BITS, JER_NO_JSON, JER_OBJECT, JER_UNKNOWN};
 use serde_json::Value;
 use std::alloc::Global;
 
-/// A value is expected, and there is none.
+/// Returns the refusal where a value is expected and there is none.
 pub fn end_of_input() -> DecodeError
     ensures { failure_of result ≡ at_root (Cause.end_of_input Jer) Jer }
 {
@@ -32,7 +32,8 @@ pub fn end_of_input() -> DecodeError
     )
 }
 
-/// The JSON value is of another kind than the one that is needed. Memory may run out.
+/// Returns the refusal of a JSON value that is of another kind than the one that is needed. Where
+/// memory runs out, the refusal says that.
 pub fn mismatch(alloc: Global, needed: &'static str, value: &Value) -> DecodeError
     ensures { RefusesLeaf Notation.jer (Tree.json (view value.now)) (LeafFailure.mismatch
         needed.now)
@@ -44,7 +45,8 @@ pub fn mismatch(alloc: Global, needed: &'static str, value: &Value) -> DecodeErr
     }
 }
 
-/// The JSON value is no object where members are needed. Memory may run out.
+/// Returns the refusal of a JSON value that is no object where members are needed. Where memory
+/// runs out, the refusal says that.
 pub fn no_object(alloc: Global) -> DecodeError
     ensures { (failure_of result
         ≡ at_root (Cause.type_mismatch Jer JER_OBJECT.now JER_UNKNOWN.now) Jer)
@@ -59,7 +61,7 @@ pub fn no_object(alloc: Global) -> DecodeError
     }
 }
 
-/// The text names no item of the type.
+/// Returns the refusal of a text that names no item of the type.
 pub fn no_item(text: String) -> DecodeError
     ensures { failure_of result ≡ at_root
         (Cause.invalid_enum_discriminant Jer (string_bytes text)) Jer }
@@ -67,14 +69,15 @@ pub fn no_item(text: String) -> DecodeError
     jer_error(JerDecodeErrorKind::InvalidEnumDiscriminant { discriminant: text })
 }
 
-/// The text is no hexadecimal of whole octets.
+/// Returns the refusal of a text that is no hexadecimal of whole octets.
 pub fn no_octets() -> DecodeError
     ensures { failure_of result ≡ at_root Cause.invalid_jer_octet_string Jer }
 {
     jer_error(JerDecodeErrorKind::InvalidJerOctetString {})
 }
 
-/// The digits beside a length are no hexadecimal of whole octets. Memory may run out.
+/// Returns the refusal of digits beside a length that are no hexadecimal of whole octets. Where
+/// memory runs out, the refusal says that.
 pub fn no_digits(alloc: Global) -> DecodeError
     ensures { (failure_of result ≡ at_root no_bits Jer)
         ⊎ (failure_of result ≡ at_root Cause.out_of_memory Jer) }
@@ -85,7 +88,8 @@ pub fn no_digits(alloc: Global) -> DecodeError
     }
 }
 
-/// The octets are not as many as a length takes. Memory may run out.
+/// Returns the refusal of octets that are not as many as a length takes. Where memory runs out, the
+/// refusal says that.
 pub fn other_length(alloc: Global, octets: usize, size: usize) -> DecodeError
     ensures { (failure_of result ≡ at_root (another_length octets size) Jer)
         ⊎ (failure_of result ≡ at_root Cause.out_of_memory Jer) }
@@ -97,7 +101,8 @@ pub fn other_length(alloc: Global, octets: usize, size: usize) -> DecodeError
     }
 }
 
-// How many bits so many octets hold, less those of the last octet that a length leaves unused.
+/// Returns how many bits so many octets hold, less those of the last octet that a length leaves
+/// unused.
 fn bits_held(octets: usize, size: usize) -> u128
     ensures { result ≡ held_bits octets size }
 {
@@ -105,7 +110,8 @@ fn bits_held(octets: usize, size: usize) -> u128
     (octets as u128 * 8).saturating_sub(unused as u128)
 }
 
-/// The text is no object identifier. Memory may run out.
+/// Returns the refusal of a text that is no object identifier. Where memory runs out, the refusal
+/// says that.
 pub fn no_oid(alloc: Global, text: String) -> DecodeError
     ensures { (failure_of result ≡ at_root (no_identifier (string_bytes text)) Jer)
         ⊎ (failure_of result ≡ at_root Cause.out_of_memory Jer) }
@@ -116,7 +122,7 @@ pub fn no_oid(alloc: Global, text: String) -> DecodeError
     }
 }
 
-/// The text is no JSON. Memory may run out.
+/// Returns the refusal of a text that is no JSON. Where memory runs out, the refusal says that.
 pub fn no_json(alloc: Global) -> DecodeError
     ensures { (failure_of result ≡ at_root (Cause.parser JER_NO_JSON.now) Jer)
         ⊎ (failure_of result ≡ at_root Cause.out_of_memory Jer) }
@@ -127,7 +133,7 @@ pub fn no_json(alloc: Global) -> DecodeError
     }
 }
 
-// The refusal of this kind.
+/// Returns the refusal of this kind.
 fn jer_error(kind: JerDecodeErrorKind) -> DecodeError
     ensures { failure_of result ≡ at_root (codec_cause (CodecDecodeError.Jer kind)) Jer }
 {
@@ -139,7 +145,7 @@ fn jer_error(kind: JerDecodeErrorKind) -> DecodeError
     )
 }
 
-/// The refusal to write of this kind.
+/// Returns the refusal to write of this kind.
 pub fn encode_error(kind: JerEncodeErrorKind) -> EncodeError
     ensures { result ≡ record {
       kind = EncodeErrorKind.CodecSpecific

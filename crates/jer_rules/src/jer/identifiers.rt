@@ -1,4 +1,4 @@
-// Object identifiers as JSON values: texts of arcs with `.` between each two.
+//! Reads object identifiers from JSON values: texts of arcs with `.` between each two.
 ghost use Rattle.asn_model.specs.declared.leaves.LeafKind.TheVariants.{Oid};
 ghost use Rattle.asn_traits.specs.Arcs.{arc_numbers};
 ghost use Rattle.asn_traits.specs.Notation.{Notation};

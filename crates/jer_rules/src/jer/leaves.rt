@@ -1,4 +1,4 @@
-// Values without parts as JSON values.
+//! Writes and reads values without parts as JSON values.
 ghost use Rattle.asn_traits.specs.Canonical.{jer_data};
 ghost use Rattle.asn_traits.specs.Leaf.{leaf_value};
 ghost use Rattle.asn_traits.specs.Notation.{Notation};
@@ -25,10 +25,12 @@ use jer_values::JerValue;
 use serde_json::Value;
 use std::alloc::Global;
 
-/// The JSON value that is written for a value without parts.
+/// Returns the JSON value that is written for a value without parts.
 ///
-/// Errors: `ExceedsSupportedIntSize` where JSON doesn't have the number;
-/// `SizeConstraintNotSatisfied` where bits are not as many as their fixed size; `OutOfMemory`.
+/// # Errors
+///
+/// `ExceedsSupportedIntSize` where JSON doesn't have the number; `SizeConstraintNotSatisfied` where
+/// bits are not as many as their fixed size; `OutOfMemory`.
 #[inline(always)]
 pub fn value_of_leaf(alloc: Global, leaf: Leaf<'_>) -> Result<JerValue, EncodeError>
     ensures json { IfOk result (λ v. data_of v ≡ jer_data (leaf_value leaf.entry)) }
@@ -57,7 +59,11 @@ pub fn value_of_leaf(alloc: Global, leaf: Leaf<'_>) -> Result<JerValue, EncodeEr
     }
 }
 
-// The JSON string of a text. Its one error is `OutOfMemory`.
+/// Returns the JSON string of a text.
+///
+/// # Errors
+///
+/// `OutOfMemory` alone.
 fn value_of_text(alloc: Global, text: &str) -> Result<JerValue, EncodeError>
     ensures json { IfOk result (λ v. data_of v ≡ Data.string text.now) }
     ensures text { is_utf8 text.now ≡ true }
@@ -81,14 +87,19 @@ pub enum NoLeaf {
     /// The digits of its bits are no hexadecimal of whole octets.
     Digits,
     /// Its bits are so many octets, and their size takes another number.
-    Count { octets: usize, size: usize },
+    Count {
+        /// How many octets there are.
+        octets: usize,
+        /// The number of bits that the size takes.
+        size: usize,
+    },
     /// Its text is no object identifier.
     Arcs(String),
     /// Memory ran out.
     OutOfMemory,
 }
 
-/// The value without parts that a JSON value is, or why it is none of this kind.
+/// Returns the value without parts that a JSON value is, or why it is none of this kind.
 #[inline(always)]
 pub fn leaf_of_json(alloc: Global, value: Value, kind: LeafKind) -> Result<OwnedLeaf, NoLeaf>
     ensures { MatchResult result (IsTaken Notation.jer kind (tree_of value))

@@ -1,4 +1,4 @@
-// Values that are sorted by their texts.
+//! Sorts values by their texts.
 ghost use Rattle.asn_model.specs.Sorting.{sort, by_text};
 ghost use Rattle.asn_sorting.specs.Entries.{text_of, value_of};
 ghost use Rattle.asn_sorting.specs.Groups.{group_text, group_values, entries_of};
@@ -11,8 +11,11 @@ use std::marker::Model;
 /// Values of one text, in the order in which they came.
 #[derive(Drop)]
 struct Group<V> {
+    /// The text of each.
     text: String,
+    /// The first value.
     first: V,
+    /// The values after it.
     others: Vec<V>,
 }
 
@@ -23,7 +26,9 @@ struct Group<V> {
 /// together.
 #[derive(Drop)]
 pub struct ByText<V> {
+    /// Where memory comes from.
     alloc: Global,
+    /// The values, those of equal texts that came one after the other together.
     groups: Vec<Group<V>>,
     /// How many values there are, which is only a guess of the room for them.
     count: usize,

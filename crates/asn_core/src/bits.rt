@@ -1,4 +1,4 @@
-// BIT STRING.
+//! BIT STRING.
 ghost use Rattle.asn_core.specs.BitStrings.{IsPadded, all_bits, bits_of, padded};
 ghost use Rattle.std.proofs.Common.{rules};
 ghost use Rattle.std.specs.Bool.{beq};
@@ -24,7 +24,9 @@ use std::marker::Model;
 /// length are zero.
 #[derive(Debug, Drop)]
 pub struct Bits {
+    /// The bits, eight an octet, and zeros after the last one.
     octets: Vec<u8>,
+    /// The length in bits.
     bit_count: usize,
 }
 

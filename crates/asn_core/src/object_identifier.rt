@@ -1,4 +1,4 @@
-// OBJECT IDENTIFIER.
+//! OBJECT IDENTIFIER.
 ghost use Rattle.asn_core.specs.ObjectIdentifiers.{is_object_identifier};
 ghost use Rattle.std.specs.Cmp.Lexicographic.{nat_list_eq_equiv};
 ghost use Rattle.std.specs.Cmp.{partial_equiv_from_equiv};
@@ -15,6 +15,7 @@ use std::marker::Model;
 /// The arcs of an object identifier (X.680, section 32) that stand elsewhere, seen as their list.
 #[derive(Debug, Drop)]
 pub struct Oid<'a> {
+    /// At least two arcs, which are those of an object identifier.
     arcs: &'a [u32],
 }
 
@@ -54,6 +55,7 @@ impl<'a> Oid<'a> {
 /// An object identifier (X.680, section 32), seen as the list of its arcs.
 #[derive(Debug, Drop)]
 pub struct ObjectIdentifier {
+    /// At least two arcs, which are those of an object identifier.
     arcs: Vec<u32>,
 }
 

@@ -1,4 +1,4 @@
-// OCTET STRING, and values of types that aren't known.
+//! OCTET STRING, and values of types that aren't known.
 ghost use Rattle.std.specs.Cmp.Lexicographic.{nat_list_eq_equiv};
 ghost use Rattle.std.specs.Cmp.{partial_equiv_from_equiv};
 ghost use Rattle.std.specs.Hash as fed;

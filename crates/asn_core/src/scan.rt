@@ -15,7 +15,9 @@ use std::marker::Model;
 /// bounds the work of a reader. A place is a byte offset on a character's edge.
 #[derive(Drop)]
 pub struct Scan<'a> {
+    /// The text that is read.
     text: &'a str,
+    /// The looks so far.
     count: u128,
 }
 

@@ -197,7 +197,7 @@ impl Tag {
         value: 31,
     };
 
-    /// The tag of this class and number.
+    /// Returns the tag of this class and number.
     pub fn new(class: Class, value: u32) -> Tag
         ensures { result ≡ record { class = class; value = value } }
     {

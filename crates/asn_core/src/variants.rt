@@ -11,6 +11,7 @@ use std::marker::Model;
 /// itself a CHOICE without a tag of its own counts by its smallest tag (X.680, section 8.6).
 #[derive(Debug, Drop)]
 pub struct Variants {
+    /// One tag an alternative, in their order.
     tags: Vec<Tag>,
 }
 

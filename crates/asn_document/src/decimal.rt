@@ -18,6 +18,7 @@ use std::marker::Model;
 /// `u64` has and `i64` has not. Contracts see the number.
 #[derive(Drop)]
 pub struct Decimal {
+    /// At least 2^63.
     number: u64,
 }
 

@@ -1,4 +1,4 @@
-// The arcs of object identifiers as texts (X.680, section 32).
+//! The arcs of object identifiers as texts (X.680, section 32).
 ghost use Rattle.asn_model.specs.Arcs.{arc_number};
 ghost use Rattle.std.specs.Fmt.{decimal};
 ghost use Rattle.std.specs.List.{join_by};

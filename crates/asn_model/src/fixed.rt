@@ -1,4 +1,4 @@
-// The size that constraints fix (X.680, section 51.5).
+//! The size that constraints fix (X.680, section 51.5).
 ghost use Rattle.asn_model.specs.Fixed.{fixed_size};
 ghost use Rattle.std.specs.Prelude.{◌≡◌};
 

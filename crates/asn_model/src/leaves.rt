@@ -1,4 +1,4 @@
-// Values without parts, as encoders take them and as decoders answer them.
+//! Values without parts, as encoders take them and as decoders answer them.
 ghost use Rattle.asn_model.specs.Leaf.{needed};
 ghost use Rattle.asn_model.specs.Notation.{notation_of};
 ghost use Rattle.avn_grammar.specs.Chars.{all};
@@ -11,15 +11,21 @@ use asn_core::{Bits, Codec, ObjectIdentifier, WholeNumber};
 /// The kinds of values without parts that the notations distinguish.
 #[derive(Clone, Copy)]
 pub enum LeafKind {
+    /// A NULL.
     Null,
+    /// A BOOLEAN.
     Boolean,
+    /// An INTEGER.
     Number,
+    /// A character string.
     Text,
     /// The text of a time, which is returned as `Text`.
     Time,
     /// The text of a date, which is returned as `Text`.
     Date,
+    /// The name of an item of an enumeration.
     Item,
+    /// An octet string.
     Octets,
     /// A value of any type, as the octets of its encoding.
     Any,
@@ -30,7 +36,7 @@ pub enum LeafKind {
 }
 
 impl LeafKind {
-    /// The words by which a mismatch names the kind.
+    /// Returns the words by which a mismatch names the kind.
     pub fn needed(self, codec: Codec) -> &'static str
         ensures { result.now ≡ needed (notation_of codec) self }
     {
@@ -64,14 +70,19 @@ impl LeafKind {
 /// A value without parts that is written.
 #[derive(Drop)]
 pub enum Leaf<'a> {
+    /// A NULL.
     Null,
+    /// A BOOLEAN.
     Boolean(bool),
+    /// An INTEGER.
     Number(WholeNumber),
+    /// A character string, or the text of a time or date.
     Text(&'a str),
     /// A text that is handed over, and need not be copied.
     OwnedText(String),
     /// The name of an item of an enumeration.
     Item(&'a str),
+    /// An octet string, or the encoding of a value of any type.
     Octets(&'a [u8]),
     /// The arcs of an object identifier.
     Arcs(&'a [u32]),
@@ -82,13 +93,17 @@ pub enum Leaf<'a> {
 /// A value without parts that was read.
 #[derive(Drop)]
 pub enum OwnedLeaf {
+    /// A NULL.
     Null,
+    /// A BOOLEAN.
     Boolean(bool),
-    /// None inside where the number has more than 128 bits.
+    /// An INTEGER, with nothing inside where the number has more than 128 bits.
     Number(Option<WholeNumber>),
+    /// A character string, or the text of a time or date.
     Text(String),
     /// The name of an item of an enumeration, if it has one of that name.
     Item(String),
+    /// An octet string.
     Octets(Vec<u8>),
     /// A value of any type, as the octets of its encoding.
     Any(Vec<u8>),

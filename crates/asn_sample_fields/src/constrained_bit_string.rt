@@ -17,6 +17,7 @@ pub struct ConstrainedBitString {
     pub bits: Bits,
 }
 
+/// Exactly three bits.
 const THREE_BITS: &'static [Constraint] = &[Constraint::Size(Extensible {
     constraint: Size {
         bounds: Bounded::Single(3),

@@ -17,6 +17,7 @@ pub struct ExtensibleBitString {
     pub bits: Bits,
 }
 
+/// Three bits, or any other number by the extension marker of the size.
 const THREE_BITS_OR_MORE: &'static [Constraint] = &[Constraint::Size(Extensible {
     constraint: Size {
         bounds: Bounded::Single(3),

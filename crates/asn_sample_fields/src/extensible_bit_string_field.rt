@@ -18,6 +18,7 @@ pub struct ExtensibleBitStringField {
     pub bits: MarkedBitString,
 }
 
+/// The one field.
 const BIT_STRING_FIELDS: &'static [Field] = &[required!(0, Tag::CONTEXT_0, "bits")];
 
 impl OfKind for ExtensibleBitStringField {

@@ -17,6 +17,7 @@ pub struct MarkedBitString {
     pub bits: Bits,
 }
 
+/// Exactly three bits, by the size, and an extension marker beside it.
 const THREE_BITS_AND_MARKER: &'static [Constraint] = &[
     Constraint::Size(Extensible {
         constraint: Size {

@@ -1,4 +1,4 @@
-// Multisets.
+//! Multisets.
 ghost use Rattle.asn_sets.specs.Multiplicities.{same_multiset_equiv};
 ghost use Rattle.asn_sets.specs.Multisets.{IsSameMultiset, same_multiset};
 ghost use Rattle.std.specs.Cmp.{partial_equiv_from_equiv};
@@ -19,7 +19,9 @@ use std::marker::Model;
 /// is fixed.
 #[derive(Drop)]
 pub struct SetOf<D: Eq + Hash + Drop> {
+    /// How often each element is there, at least once.
     counts: IndexMap<D, usize>,
+    /// The sum of the counts.
     total: usize,
 }
 

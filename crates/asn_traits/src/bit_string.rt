@@ -1,4 +1,4 @@
-// BIT STRING as an ASN.1 type.
+//! BIT STRING as an ASN.1 type.
 ghost use Rattle.asn_model.specs.Shape.{Shape as AbstractShape};
 ghost use Rattle.asn_model.specs.Value.{Value};
 ghost use Rattle.std.specs.Prelude.{None, refl};

@@ -1,4 +1,4 @@
-// OBJECT IDENTIFIER as an ASN.1 type.
+//! OBJECT IDENTIFIER as an ASN.1 type.
 ghost use Rattle.asn_model.specs.Shape.{Shape as AbstractShape};
 ghost use Rattle.asn_model.specs.Value.{Value};
 ghost use Rattle.std.specs.Prelude.{refl};

@@ -1,4 +1,4 @@
-// Types whose values are octets.
+//! Types whose values are octets.
 ghost use Rattle.asn_model.specs.Shape.{Shape as AbstractShape};
 ghost use Rattle.asn_model.specs.Value.{Value};
 ghost use Rattle.std.specs.Prelude.{refl};

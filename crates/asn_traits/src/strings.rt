@@ -1,4 +1,4 @@
-// The restricted character string types as ASN.1 types (X.680, section 41).
+//! The restricted character string types as ASN.1 types (X.680, section 41).
 ghost use Rattle.asn_model.proofs.Readables.{and-both};
 ghost use Rattle.asn_model.specs.CharacterStrings.{alphabet_number, alphabet_of, is_string_of};
 ghost use Rattle.asn_model.specs.CharacterStrings.{outside_alphabet, universal_tag};

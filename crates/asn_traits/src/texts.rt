@@ -1,4 +1,4 @@
-// Types whose values are texts in both notations: character strings and times.
+//! Types whose values are texts in both notations: character strings and times.
 ghost use Rattle.asn_model.specs.Leaf.{answer_kind, kind_of};
 ghost use Rattle.asn_model.specs.Readable.{is_readable};
 ghost use Rattle.asn_model.specs.Shape.{Shape as AbstractShape, shape_under};

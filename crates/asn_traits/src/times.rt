@@ -1,4 +1,4 @@
-// The time types as ASN.1 types (X.680, sections 38, 46 and 47).
+//! The time types as ASN.1 types (X.680, sections 38, 46 and 47).
 ghost use Rattle.asn_model.specs.Notation.{notation_of};
 ghost use Rattle.asn_model.specs.Shape.{Shape as AbstractShape};
 ghost use Rattle.asn_model.specs.Value.{Value};

@@ -28,6 +28,7 @@ use std::marker::Model;
 /// refuses, the frames are gone, and an empty root is left.
 #[derive(Drop)]
 pub struct NodeFrames {
+    /// Gives the memory of new frames.
     alloc: Global,
     /// The nodes of all slots, and one for each frame above the root's, which stands before those
     /// of its slots and becomes the slot that the frame is once it is closed.

@@ -14,6 +14,7 @@ use serde_json::Number;
 /// Holds a whole number that an `i64` or a `u64` has, which are those that JER writes.
 #[derive(Drop)]
 pub struct JsonInteger {
+    /// A number that is whole.
     number: Number,
     ghost whole: { is_whole (number_view number) ≡ true },
 }

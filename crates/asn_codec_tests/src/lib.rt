@@ -12,6 +12,8 @@ mod checks;
 #[cfg(test)]
 mod codecs;
 #[cfg(test)]
+mod example;
+#[cfg(test)]
 mod integers;
 #[cfg(test)]
 mod json;

@@ -1,0 +1,33 @@
+//! Shows the calls that a program makes first, as README does.
+use crate::checks::{assert_refused, assert_text};
+use asn_base::Codec;
+use asn_codec::{CodecCalls, TranscodeError, transcode};
+use asn_traits::{Decode, Encode};
+use std::alloc::Global;
+use std::test::Fail;
+
+/// Returns the JSON text of a text in AVN.
+fn json_of<T: Encode + Decode>(alloc: Global, avn: &str) -> Result<String, TranscodeError> {
+    transcode::<T>(alloc, Codec::Avn, Codec::Jer, avn)
+}
+
+/// Numbers go from AVN to JSON, and are read there.
+#[test]
+fn numbers_go_from_avn_to_json(rt: HostRuntime) -> Result<(), Fail> {
+    let json = json_of::<Vec<u8>>(rt.alloc(), "{1 2, 3}")?;
+    assert_text(&rt, json.as_str(), "[1,2,3]");
+    let numbers: Vec<u8> = Codec::Jer.decode_from_str(rt.alloc(), json.as_str())?;
+    assert_eq!(rt; numbers.len(), 3);
+    Ok(())
+}
+
+/// A text that isn't one of the type is refused, with the cause.
+#[test]
+fn a_text_is_refused_with_the_cause(rt: HostRuntime) -> Result<(), Fail> {
+    assert_refused(
+        &rt,
+        rt.alloc(),
+        json_of::<Vec<u8>>(rt.alloc(), "{1,}"),
+        "AVN decoding error: Unexpected token in AVN: {1,} (Codec: AVN)",
+    )
+}

@@ -26,8 +26,8 @@ use std::alloc::Global;
 
 /// Provides the calls of a codec.
 ///
-/// Of the text calls, those of JER and AVN encode and decode; any other codec returns an error that
-/// names the call to make in its place. Of the binary calls, those of JER and AVN encode and decode
+/// Of the text calls, those of JER and AVN encode and decode; XER is refused, and any other codec
+/// returns an error that names the call to make in its place. Of the binary calls, those of JER and AVN encode and decode
 /// the bytes of their texts, XER is refused, and each of the other seven codecs returns what the
 /// rules return that are handed in, unchanged.
 pub trait CodecCalls: Copy {

@@ -35,7 +35,7 @@ const UNIVERSAL: [(Tag, u32); 24] = [
     (Tag::DATE, 31),
 ];
 
-/// Each constant of `Tag` is the universal tag of its number.
+/// Each universal constant of `Tag` has its number.
 #[test]
 fn universal_tags(rt: HostRuntime) {
     for &(tag, value) in &UNIVERSAL {

@@ -1,7 +1,7 @@
 //! Defines the traits of ASN.1 types and of codecs, with the laws that each implementation keeps.
 //! A codec implements `Encoder` and `Decoder` by a few primitive calls (`encoder`, `decoder`); a
 //! type implements `AsnType`, `Encode` and `Decode`, or the trait of its kind, from which it has
-//! them (`kinds`, `sequence`, `alternative`, `types`). What contracts cite of both stands in
+//! them (`kinds`, `sequence`, `alternative`, `texts`). What contracts cite of both stands in
 //! `specs/`, and what `asn_model` defines is passed on.
 #![tactic(auto)]
 

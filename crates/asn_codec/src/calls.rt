@@ -27,9 +27,9 @@ use std::alloc::Global;
 /// Provides the calls of a codec.
 ///
 /// Of the text calls, those of JER and AVN encode and decode; XER is refused, and any other codec
-/// returns an error that names the call to make in its place. Of the binary calls, those of JER and AVN encode and decode
-/// the bytes of their texts, XER is refused, and each of the other seven codecs returns what the
-/// rules return that are handed in, unchanged.
+/// returns an error that names the call to make in its place. Of the binary calls, those of JER and
+/// AVN encode and decode the bytes of their texts, XER is refused, and each of the other seven
+/// codecs returns what the rules return that are handed in, unchanged.
 pub trait CodecCalls: Copy {
     // The codec's name, by which the clauses choose the notation.
     ghost codec_of: { Self → CodecName };

@@ -124,6 +124,20 @@ def tree(*added):
     return make
 
 
+def document(r, depth=4):
+    """A JSON document, whose arrays and objects nest to the depth."""
+    def part(r):
+        return document(r, depth - 1)
+    kinds = {
+        "null": lambda r: both(None, "NULL"), "bool": boolean, "integer": number(-(1 << 63), (1 << 63) - 1),
+        "decimal": lambda r: both(str(r.randint(1 << 63, (1 << 64) - 1))), "string": string(LETTERS),
+    }
+    if depth:
+        kinds["array"] = list_of(part, 3)
+        kinds["object"] = list_of(fields(("key", string("abc", 2), False), ("value", part, False)), 3)
+    return choice(**kinds)(r)
+
+
 def moment(form):
     def make(r):
         year, month, day = r.randint(1950, 2049), r.randint(1, 12), r.randint(1, 28)
@@ -177,7 +191,7 @@ TYPES = {
     "Inner": inner, "SimpleChoice": simple,
     "ExtChoice": choice(Test1=number(0, 255), Test2=string(LETTERS), Test3=boolean), "Nest": nest,
     "ConstrainedBitString": bits(3, True), "ExtensibleBitString": bits(),
-    "ExtensibleBitStringField": fields(("bits", bits(), False)),
+    "ExtensibleBitStringField": fields(("bits", bits(), False)), "Document": document,
 }
 
 

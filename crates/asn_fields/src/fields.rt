@@ -1,6 +1,6 @@
-//! Encodes and decodes the fields of a SEQUENCE, one after another. A decoder has put a slot for
-//! each field before, found by its name in the text; so a field is the first pending slot, present
-//! or absent, and its name is the next of `FieldNames`.
+//! Encodes and decodes the fields of a SEQUENCE or SET, one after another. A decoder has put a slot
+//! for each field before, found by its name in the text; so a field is the first pending slot,
+//! present or absent, and its name is the next of `FieldNames`.
 ghost use Rattle.asn_core.specs.declared.codec.Codec.{Codec};
 ghost use Rattle.asn_fault.specs.Failure.{Cause, at_root, failure_of, wrapped};
 ghost use Rattle.asn_coding.specs.Answer.{OptionalFailsWith, Refuses};
@@ -19,8 +19,8 @@ use asn_core::Identifier;
 use asn_fault::{DecodeError, EncodeError};
 use asn_traits::{Decode, Decoder, Encode, Encoder};
 
-/// Returns the error within `FieldError` with the field's name, and by the decoder's codec. Out of
-/// memory stays as it is.
+/// Returns the error within `FieldError` with the field's name, and by the decoder's codec. Want of
+/// memory stays as it is, and is returned where memory runs out here.
 pub fn within_field<D: Decoder>(decoder: &D, name: &'static str, error: DecodeError) -> DecodeError
     ensures { (codec : Codec) × (notation_of codec ≡ D.notation)
         × ((failure_of result ≡ wrapped name.now codec (failure_of error))
@@ -34,8 +34,8 @@ pub fn within_field<D: Decoder>(decoder: &D, name: &'static str, error: DecodeEr
 ///
 /// # Errors
 ///
-/// Those of the field's type within `FieldError` with that name; an absent slot is the end of
-/// input. `OutOfMemory` without the field.
+/// Those of the field's type within `FieldError` with that name; where the slot is absent or none
+/// is pending, that is the end of input. `OutOfMemory` without the field.
 pub fn read_field<T: Decode, D: Decoder>(
     decoder: &mut D,
     names: &mut FieldNames,
@@ -59,7 +59,8 @@ pub fn read_field<T: Decode, D: Decoder>(
 ///
 /// # Errors
 ///
-/// Those of the field's type within `FieldError` with that name; `OutOfMemory` without the field.
+/// Those of the field's type, or the end of input where no slot is pending, within `FieldError`
+/// with that name; `OutOfMemory` without the field.
 pub fn read_optional_field<T: Decode, D: Decoder>(
     decoder: &mut D,
     names: &mut FieldNames,
@@ -84,7 +85,8 @@ pub fn read_optional_field<T: Decode, D: Decoder>(
 /// # Errors
 ///
 /// `MissingField` with that name where the slot is absent, without a `FieldError` of it; those of
-/// the field's type within `FieldError` with that name; `OutOfMemory` without the field.
+/// the field's type, or the end of input where no slot is pending, within `FieldError` with that
+/// name; `OutOfMemory` without the field.
 pub fn read_addition<T: Decode, D: Decoder>(
     decoder: &mut D,
     names: &mut FieldNames,
@@ -108,7 +110,8 @@ pub fn read_addition<T: Decode, D: Decoder>(
 ///
 /// # Errors
 ///
-/// Those of the field's type within `FieldError` with that name; `OutOfMemory` without the field.
+/// Those of the field's type, or the end of input where no slot is pending, within `FieldError`
+/// with that name; `OutOfMemory` without the field.
 pub fn read_default_field<T: Decode, D: Decoder>(
     decoder: &mut D,
     names: &mut FieldNames,
@@ -145,7 +148,7 @@ pub fn write_field<T: Encode, E: Encoder>(encoder: &mut E, value: &T) -> Result<
 ///
 /// # Errors
 ///
-/// Those of the field's type, without a `FieldError`.
+/// Those of the field's type, without a `FieldError`; `OutOfMemory` alone for an absent value.
 pub fn write_optional_field<T: Encode, E: Encoder>(
     encoder: &mut E,
     value: &Option<T>,
@@ -161,11 +164,11 @@ pub fn write_optional_field<T: Encode, E: Encoder>(
 }
 
 /// Encodes a field with a default: adds its value's slot to the open frame, or an absent one where
-/// the value is the default.
+/// `is_default` says that the value is the default.
 ///
 /// # Errors
 ///
-/// Those of the field's type, without a `FieldError`.
+/// Those of the field's type, without a `FieldError`; `OutOfMemory` alone for a default.
 pub fn write_default_field<T: Encode, E: Encoder>(
     encoder: &mut E,
     value: &T,

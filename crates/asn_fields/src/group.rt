@@ -23,8 +23,8 @@ pub trait FieldGroup: Sized + Drop {
     // The values of the fields, in order: one slot for each, absent where the field is.
     ghost group_slots: { Self → Frame };
 
-    /// Encodes the fields, by one call of `write_field` or `write_optional_field` for each, in
-    /// order.
+    /// Encodes the fields, by one call of `write_field`, `write_optional_field` or
+    /// `write_default_field` for each, in order.
     ///
     /// # Errors
     ///
@@ -36,12 +36,13 @@ pub trait FieldGroup: Sized + Drop {
             (RefusesAdding E.holds E.notation group (group_slots self.now)
             encoder.old) };
 
-    /// Decodes the fields, by one call of `read_field` or `read_optional_field` for each, in order.
-    /// Each call takes the field's name from `names`.
+    /// Decodes the fields, by one call of `read_field`, `read_optional_field` or
+    /// `read_default_field` for each, in order. Each call takes the field's name from `names`.
     ///
     /// # Errors
     ///
-    /// Those of the first field that can't be decoded, within its `FieldError`.
+    /// Those of the first field that can't be decoded, within its `FieldError`; `OutOfMemory`
+    /// without the field.
     fn read_group<D: Decoder>(decoder: &mut D, names: &mut FieldNames) -> Result<Self, DecodeError>
         ensures read { IfOk result (λ x. TakesFields D.notation
             (components Standing.root group) (group_slots x)

@@ -1,5 +1,5 @@
-//! Encodes, decodes and describes the parts of a type, in the order of the type: one call for each
-//! field of a SEQUENCE or SET, and for each part of a shape. A type's own description is made of
+//! Encodes, decodes and describes the parts of a type: one call for each field of a SEQUENCE or
+//! SET, and for each part of a shape. A type's own description is made of
 //! these calls.
 #![tactic(auto)]
 

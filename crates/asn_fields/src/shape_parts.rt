@@ -14,7 +14,7 @@ use asn_core::{OutOfMemory, Tag};
 use asn_traits::{AlternativeShape, AsnType, FieldShape, Plain, PresenceShape, SeqKind, Shape};
 use std::alloc::Global;
 
-/// Collects the fields of a SEQUENCE, in order.
+/// Collects the fields of a SEQUENCE or SET, in order.
 #[derive(Drop)]
 pub struct FieldShapes {
     /// Allocates the names and the shapes.
@@ -35,7 +35,7 @@ impl FieldShapes {
         }
     }
 
-    /// Adds a field of type `T` behind the others that has to be present.
+    /// Adds a field of type `T`, which has to be present, behind the others.
     ///
     /// # Errors
     ///
@@ -48,7 +48,7 @@ impl FieldShapes {
         self.push::<T>(name, tag, PresenceShape::Required)
     }
 
-    /// Adds a field of type `T` behind the others that may be absent.
+    /// Adds a field of type `T`, which may be absent, behind the others.
     ///
     /// # Errors
     ///
@@ -61,7 +61,7 @@ impl FieldShapes {
         self.push::<T>(name, tag, PresenceShape::Optional)
     }
 
-    /// Adds a field of type `T` behind the others that may be absent, with the value that stands
+    /// Adds a field of type `T`, which may be absent, behind the others, with the value that stands
     /// for it then.
     ///
     /// # Errors
@@ -80,7 +80,7 @@ impl FieldShapes {
         self.push::<T>(name, tag, PresenceShape::Default(default))
     }
 
-    /// Adds a field of this shape behind the others that has to be present.
+    /// Adds a field of this shape, which has to be present, behind the others.
     ///
     /// # Errors
     ///

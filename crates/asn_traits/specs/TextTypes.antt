@@ -1,4 +1,4 @@
--- Types whose values are texts in both notations: character strings and times.
+-- Types whose values are texts in both notations: character strings, times and decimals.
 use Rattle.std.specs.Prelude.{◌≡◌, ◌⊎◌, ℕ, List, Result, Ok, Err, String, string_bytes}
 use Rattle.std.specs.Global.{Global}
 use Rattle.asn_core.specs.declared.codec.Codec.{Codec}

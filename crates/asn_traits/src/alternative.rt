@@ -37,7 +37,7 @@ pub trait ChoicePayload: OfKind<Kind = ChoiceKind> {
     // The alternative of a value, with the payload.
     ghost chosen: { Self → Chosen };
 
-    /// Returns `ROOT`, whose smallest tags are those of the shape.
+    /// Returns `ROOT`, whose smallest tags are those of the shape's root.
     fn listed_root() -> &'static [TagTree]
         ensures { smallest_tags result.now ≡ root_tags alternatives };
 

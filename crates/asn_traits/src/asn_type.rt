@@ -65,13 +65,15 @@ macro_rules! with_default {
 
 /// Describes an ASN.1 type: its tags, its shape and the value that each Rust value stands for.
 pub trait AsnType {
-    /// Holds its tag, which for a CHOICE is `EOC`.
+    /// Holds its tag, which is `EOC` for a CHOICE without one of its own and for a value of any
+    /// type.
     const TAG: Tag;
 
     /// Holds the tags that its value may begin with.
     const TAG_TREE: TagTree;
 
-    /// Holds its constraints (X.680, sections 49 to 51), of which sizes of BIT STRING play a part.
+    /// Holds its constraints (X.680, sections 49 to 51), of which only the size of a BIT STRING
+    /// plays a part.
     const CONSTRAINTS: Constraints = Constraints::NONE;
 
     /// Holds the name that other encoding rules write for it. JER and AVN ignore it.
@@ -80,7 +82,8 @@ pub trait AsnType {
     /// States whether it is a CHOICE, whose tags are those of its alternatives.
     const IS_CHOICE: bool;
 
-    /// Ranks the type above each type whose decoding is handed the same tree.
+    /// Ranks the type above each type whose decoding is handed the same tree. No contract cites it:
+    /// that each call returns is proved of its body.
     const RANK: u32 = 0;
 
     // The shape of the type.
@@ -157,7 +160,7 @@ pub trait SetField: Drop {
 
 /// Describes a CHOICE (X.680, section 29) by the tables of its alternatives.
 pub trait Choice: AsnType {
-    /// Lists the tags that the alternatives may begin with.
+    /// Lists the tags that the alternatives of the root may begin with.
     const VARIANTS: &'static [TagTree];
 
     /// Lists those of the alternatives after the extension marker, if there is one.
@@ -171,7 +174,7 @@ pub trait Choice: AsnType {
 
     ghost added: { AlternativeAdditions };
 
-    /// Returns `VARIANTS`, whose smallest tags are those of the shape.
+    /// Returns `VARIANTS`, whose smallest tags are those of the shape's root.
     fn variant_table() -> &'static [TagTree]
         ensures { smallest_tags result.now ≡ root_tags alternatives };
 

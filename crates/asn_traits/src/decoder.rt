@@ -1,8 +1,8 @@
 //! Defines decoding: `Decoder`, which a codec implements, and `Decode` and `DecodeChoice`, which a
 //! type implements. A value of a type is made of the first slot that a decoder has pending.
 //!
-//! A codec writes the calls without a body. The calls that have a bound of this crate's are final,
-//! and are proved here once for every codec.
+//! A codec writes the calls without a body. The others are final, and are proved here once for
+//! every codec.
 ghost use Rattle.asn_fault.specs.Failure.{Cause, at_root, failure_of};
 ghost use Rattle.asn_model.specs.Components.{Component};
 ghost use Rattle.asn_model.specs.Fixed.{fixed_size};
@@ -81,7 +81,7 @@ pub trait Decoder {
     ///
     /// # Errors
     ///
-    /// The end of input where no slot is pending.
+    /// The end of input where no slot is pending; `OutOfMemory`.
     fn take_absent(&mut self) -> Result<bool, DecodeError>
         ensures { TakesAbsent notation (pending self.old) result (pending self.new) };
 
@@ -90,7 +90,8 @@ pub trait Decoder {
     ///
     /// # Errors
     ///
-    /// A type mismatch by the name of the kind where the slot has no elements; those of `Decoder`.
+    /// A type mismatch, which in AVN names the kind, where the slot has no elements; those of
+    /// `Decoder`.
     fn open_list(&mut self, kind: SeqKind) -> Result<usize, DecodeError>
         ensures { OpensList notation (kind_view kind) (pending self.old) result
             (pending self.new) };
@@ -101,7 +102,8 @@ pub trait Decoder {
     ///
     /// # Errors
     ///
-    /// A type mismatch by the name of the kind where the slot has no members; those of `Decoder`.
+    /// A type mismatch, which in AVN names the kind, where the slot has no members; those of
+    /// `Decoder`.
     fn open_members(
         &mut self,
         kind: SeqKind,
@@ -114,8 +116,12 @@ pub trait Decoder {
             (pending self.new) };
 
     /// Puts the payload of the first pending slot, a choice, in its place, and returns the place of
-    /// its identifier. Where the identifier is none of these, it puts an absent slot and returns
-    /// `None`.
+    /// its identifier. Where the identifier is none of these, or there is none, it puts an absent
+    /// slot and returns `None`.
+    ///
+    /// # Errors
+    ///
+    /// A type mismatch where the slot is no choice; those of `Decoder`.
     fn open_choice(&mut self, identifiers: &[&'static str]) -> Result<Option<usize>, DecodeError>
         ensures { OpensChoice notation (map (λ s. s.now) identifiers.now) (pending self.old) result
             (pending self.new) };
@@ -382,7 +388,8 @@ pub trait Decoder {
         self.decode_text::<Date>(tag, &Constraints::NONE)
     }
 
-    /// Refuses a TeletexString with `Custom`, always, and where nothing is pending too.
+    /// Refuses a TeletexString, always, and where nothing is pending too: with `Custom`, or
+    /// `OutOfMemory`.
     final fn decode_teletex_string(
         &mut self,
         tag: Tag,
@@ -493,8 +500,8 @@ pub trait Decoder {
 
     /// Decodes a SET field by field: those of the root in the order of their tags, and then the
     /// extension additions. `decode_fn` takes the first pending slot as the field at a place among
-    /// all fields, whose tag it is handed too, and `field_fn` makes the value of what it returned,
-    /// in that order. Their error is a `DecodeError`.
+    /// all fields, and is handed the tag of its row in the table too; `field_fn` makes the value of
+    /// what it returned, in that order. Their error is a `DecodeError`.
     ///
     /// # Errors
     ///

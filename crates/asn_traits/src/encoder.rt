@@ -1,8 +1,8 @@
 //! Defines encoding: `Encoder`, which a codec implements, and `Encode`, which a type implements. A
 //! value of a type becomes one slot more of what an encoder holds.
 //!
-//! A codec writes the calls without a body. The calls that have a bound of this crate's are final,
-//! and are proved here once for every codec.
+//! A codec writes the calls without a body. The others are final, and are proved here once for
+//! every codec.
 ghost use Rattle.asn_core.specs.ObjectIdentifiers.{is_object_identifier};
 ghost use Rattle.asn_model.specs.Fixed.{fixed_size};
 ghost use Rattle.asn_model.specs.Leaf.{leaf_value};
@@ -237,8 +237,8 @@ pub trait Encoder {
         self.put_leaf(Leaf::Octets(octets))
     }
 
-    /// Encodes an OBJECT IDENTIFIER, by its arcs, which are written even where they are those of
-    /// none.
+    /// Encodes an OBJECT IDENTIFIER, by its arcs, which are written even where they are those of no
+    /// object identifier.
     final fn encode_object_identifier(
         &mut self,
         tag: Tag,
@@ -417,7 +417,7 @@ pub trait Encoder {
         value.put_text(self)
     }
 
-    /// Refuses a TeletexString with `Custom`, always.
+    /// Refuses a TeletexString, always: with `Custom`, or `OutOfMemory`.
     final fn encode_teletex_string(
         &mut self,
         tag: Tag,
@@ -596,6 +596,11 @@ pub trait Encoder {
     }
 
     /// Encodes a SET OF, element by element. They are written in byte order of their texts.
+    ///
+    /// # Errors
+    ///
+    /// The kind of a part of any element that the notation cannot encode, since they have no order;
+    /// else `OutOfMemory` alone.
     final fn encode_set_of<T: Encode + SetElement>(
         &mut self,
         tag: Tag,

@@ -1,7 +1,7 @@
 //! Gives each type of a kind the traits `AsnType`, `Encode` and `Decode`. A type states its kind
 //! once (`OfKind`) and implements the trait of that kind (`SequenceFields`, `ChoicePayload`,
-//! `Enumerated` or `IntegerType`); the impls here go over the kind, since blanket impls for the
-//! types of each of these traits would overlap.
+//! `Enumerated`, `IntegerType` or `TextType`); the impls here go over the kind, since blanket impls
+//! for the types of each of these traits would overlap.
 ghost use Rattle.asn_coding.specs.Answer.{AnswerUnder};
 ghost use Rattle.asn_coding.specs.Chosen.{chosen_value};
 ghost use Rattle.asn_model.specs.Fixed.{fixed_size};
@@ -23,9 +23,10 @@ use asn_core::{Constraints, Identifier, OutOfMemory, Tag, TagTree};
 use asn_fault::{DecodeError, EncodeError};
 use std::alloc::Global;
 
-/// Gives a type its kind, as all types of which it is described, encoded and decoded.
+/// Gives a type its kind: all types of a kind are described, encoded and decoded alike.
 pub trait OfKind: Sized + Drop {
-    /// Names the kind: `SequenceKind`, `SetKind`, `ChoiceKind`, `EnumeratedKind` or `IntegerKind`.
+    /// Names the kind: `SequenceKind`, `SetKind`, `ChoiceKind`, `EnumeratedKind`, `IntegerKind` or
+    /// `TextKind`.
     type Kind;
 }
 

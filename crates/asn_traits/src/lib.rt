@@ -2,7 +2,8 @@
 //! A codec implements `Encoder` and `Decoder` by a few primitive calls (`encoder`, `decoder`); a
 //! type implements `AsnType`, `Encode` and `Decode`, or the trait of its kind, from which it has
 //! them (`kinds`, `sequence`, `alternative`, `texts`). What contracts cite of both stands in
-//! `specs/`, and what `asn_model` defines is passed on.
+//! `asn_coding`, and for texts and elements of sets in `specs/`; what `asn_model` defines is passed
+//! on.
 #![tactic(auto)]
 
 mod alternative;

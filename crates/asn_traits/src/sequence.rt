@@ -62,8 +62,8 @@ where
         ensures { IfOk result (λ s. shape_view s
             ≡ AbstractShape.seq Self.Kind.seq_kind fields added) };
 
-    /// Encodes the fields, by one call of `write_field` or `write_optional_field` for each, in
-    /// order.
+    /// Encodes the fields, by one call of `write_field`, `write_optional_field` or
+    /// `write_default_field` for each, in order.
     ///
     /// # Errors
     ///
@@ -74,14 +74,14 @@ where
         ensures refused { IfErr result (RefusesAdding E.holds E.notation (all_fields fields added)
             (slots self.now) encoder.old) };
 
-    /// Decodes the fields, by one call of `read_field`, `read_optional_field` or `read_addition`
-    /// for each: those of a SEQUENCE in order, those of a SET in the order of their tags, and then
-    /// the extension additions. Each call takes the field's name from `names`.
+    /// Decodes the fields, by one call of `read_field`, `read_optional_field`, `read_default_field`
+    /// or `read_addition` for each: those of a SEQUENCE in order, those of a SET in the order of
+    /// their tags, and then the extension additions. Each call takes the field's name from `names`.
     ///
     /// # Errors
     ///
     /// Those of the first field that can't be decoded, within its `FieldError`; `MissingField` for
-    /// a required extension addition that is absent.
+    /// a required extension addition that is absent; `OutOfMemory` without the field.
     fn read_fields<D: Decoder>(decoder: &mut D, names: &mut FieldNames) -> Result<Self, DecodeError>
         ensures read { IfOk result (λ x. TakesFields D.notation
             (reading_order Self.Kind.seq_kind fields added)
@@ -140,7 +140,7 @@ where
 /// # Errors
 ///
 /// Those of `read_fields`; a type mismatch where the slot's tree has no members, and the end of
-/// input where there is no slot; `OutOfMemory`.
+/// input where the slot is absent or none is pending; `OutOfMemory`.
 pub fn read_sequence<T: SequenceFields, D: Decoder>(decoder: &mut D) -> Result<T, DecodeError>
 where
     T::Kind: FieldsKind,

@@ -1,5 +1,5 @@
 //! Makes ASN.1 types of the language's own types, but for the integers: each states its tag, its
-//! shape and its values, and hands the coders' calls itself.
+//! shape and its values, and hands itself to the coders' calls.
 ghost use Rattle.asn_model.specs.Shape.{Shape as AbstractShape, Alphabet as AbstractAlphabet};
 ghost use Rattle.asn_model.specs.Value.{Value, values};
 ghost use Rattle.std.specs.Prelude.{refl, string_bytes};

@@ -1,4 +1,4 @@
-//! Types whose values are texts in both notations: character strings and times.
+//! Types whose values are texts in both notations: character strings, times and decimals.
 ghost use Rattle.asn_model.specs.Leaf.{answer_kind, kind_of};
 ghost use Rattle.asn_model.specs.Readable.{is_readable};
 ghost use Rattle.asn_model.specs.Shape.{Shape as AbstractShape, shape_under};
@@ -14,8 +14,8 @@ use asn_core::{Codec, Constraints, Identifier, OutOfMemory, Tag, TagTree};
 use asn_fault::{DecodeError, EncodeError};
 use std::alloc::Global;
 
-/// A type whose values are texts in both notations: a character string type (X.680, section 41) or
-/// a time type (X.680, sections 38, 46 and 47).
+/// A type whose values are texts in both notations: a character string type (X.680, section 41), a
+/// time type (X.680, sections 38, 46 and 47), or the decimals of a JSON document.
 pub trait TextType: OfKind<Kind = TextKind> {
     /// The universal tag of the type.
     const TEXT_TAG: Tag;
@@ -64,7 +64,7 @@ pub trait TextType: OfKind<Kind = TextKind> {
     ghost readable: { is_readable shape ≡ true };
 }
 
-/// Character string types and time types.
+/// Character string types, time types and decimals.
 pub struct TextKind;
 
 impl<T: TextType> DescribeKind<T> for TextKind {

@@ -1,7 +1,8 @@
 //! Decodes texts of one version of a type as another version. A type is a later version of another
 //! where it has what that type has, and where that type has an extension marker, extension
 //! additions may follow (X.680, section 52).
-ghost use Rattle.asn_codec.specs.Texts.{HasTree, IsShallow, ReadsBack};
+ghost use Rattle.asn_codec.specs.Texts.{HasTree, IsDecodeFailure, IsShallow, ReadsBack};
+ghost use Rattle.asn_codec.specs.Texts.{TextDecodesTo};
 ghost use Rattle.asn_fault.specs.Failure.{Cause, at_root, failure_of};
 ghost use Rattle.asn_growth.specs.Adapted.{lift, project};
 ghost use Rattle.asn_growth.specs.ComesUpon.{IsMissing, IsUnknown, Known};
@@ -28,11 +29,17 @@ use std::alloc::Global;
 /// Those of `decode_from_str`. Where the newer version decodes the text, `OutOfMemory`, or the
 /// refusal of the first alternative or item that the older version lacks.
 pub fn decode_as_older<Old: Decode, New: AsnType>(
-    codec: Codec,
     alloc: Global,
+    codec: Codec,
     input: &str,
 ) -> Result<Old, DecodeError>
     requires { Grows Old.shape_of New.shape_of }
+    // As by `decode_from_str` the text decodes to the value, or it is refused by a reason to fail,
+    // whatever the newer version decodes it to.
+    ensures value { IfOk result (λ x. TextDecodesTo (notation_of codec) Old.shape_of input.now
+        (Old.value_of x)) }
+    ensures refused { IfErr result (λ e. (failure_of e ≡ at_root Cause.out_of_memory codec)
+        ⊎ IsDecodeFailure codec Old.shape_of input.now (failure_of e)) }
     // What the newer version decodes the text to is decoded, without what the older one lacks,
     // unless its reader looks at an alternative or item that it lacks, or memory runs out.
     ensures known { (t : Tree) (v : Value) → HasTree (notation_of codec) input.now t
@@ -60,11 +67,17 @@ pub fn decode_as_older<Old: Decode, New: AsnType>(
 /// Those of `decode_from_str`. For such a text, `OutOfMemory`, or `MissingField` for the first
 /// extension addition that the newer version requires.
 pub fn decode_as_newer<Old: AsnType, New: Decode>(
-    codec: Codec,
     alloc: Global,
+    codec: Codec,
     text: &str,
 ) -> Result<New, DecodeError>
     requires { Grows Old.shape_of New.shape_of }
+    // As by `decode_from_str` the text decodes to the value, or it is refused by a reason to fail,
+    // whatever it was written for.
+    ensures value { IfOk result (λ x. TextDecodesTo (notation_of codec) New.shape_of text.now
+        (New.value_of x)) }
+    ensures refused { IfErr result (λ e. (failure_of e ≡ at_root Cause.out_of_memory codec)
+        ⊎ IsDecodeFailure codec New.shape_of text.now (failure_of e)) }
     // The value that the text was written for is decoded, with each addition absent, unless the
     // text nests deeper than texts are read.
     ensures lifted { (v : Value) → IsText (notation_of codec) → Fits Old.shape_of v

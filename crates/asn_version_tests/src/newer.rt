@@ -18,7 +18,7 @@ const WRITTEN: [(Codec, &'static str); 2] = [
 fn an_older_alternative_is_decoded(rt: HostRuntime) -> Result<(), Fail> {
     for row in WRITTEN.iter() {
         later_versions();
-        let part = decode_as_newer::<OldPart, NewPart>(row.0, rt.alloc(), row.1)?;
+        let part = decode_as_newer::<OldPart, NewPart>(rt.alloc(), row.0, row.1)?;
         assert_eq!(rt; part, NewPart::Code(7));
     }
     Ok(())
@@ -28,7 +28,7 @@ fn an_older_alternative_is_decoded(rt: HostRuntime) -> Result<(), Fail> {
 #[test]
 fn an_older_item_is_decoded(rt: HostRuntime) -> Result<(), Fail> {
     later_versions();
-    let mode = decode_as_newer::<OldMode, NewMode>(Codec::Avn, rt.alloc(), "low")?;
+    let mode = decode_as_newer::<OldMode, NewMode>(rt.alloc(), Codec::Avn, "low")?;
     assert_eq!(rt; mode, NewMode::Low);
     Ok(())
 }
@@ -38,7 +38,7 @@ fn an_older_item_is_decoded(rt: HostRuntime) -> Result<(), Fail> {
 fn a_required_addition_is_missing(rt: HostRuntime) -> Result<(), Fail> {
     later_versions();
     let text = "{\"id\":1,\"parts\":[]}";
-    match decode_as_newer::<OldReport, NewReport>(Codec::Jer, rt.alloc(), text) {
+    match decode_as_newer::<OldReport, NewReport>(rt.alloc(), Codec::Jer, text) {
         Ok(_) => Err(Fail::from("decoded")),
         Err(error) => {
             assert_eq!(rt;

@@ -15,7 +15,7 @@ const KNOWN: [(Codec, &'static str); 2] = [(Codec::Jer, "{\"code\":7}"), (Codec:
 #[test]
 fn a_known_alternative_is_decoded(rt: HostRuntime) -> Result<(), Fail> {
     for row in KNOWN.iter() {
-        assert_eq!(rt; decode_part(row.0, rt.alloc(), row.1)?, OldPart::Code(7));
+        assert_eq!(rt; decode_part(rt.alloc(), row.0, row.1)?, OldPart::Code(7));
     }
     Ok(())
 }
@@ -38,7 +38,7 @@ const UNKNOWN: [(Codec, &'static str, &'static str); 2] = [
 #[test]
 fn an_unknown_alternative_is_refused(rt: HostRuntime) -> Result<(), Fail> {
     for row in UNKNOWN.iter() {
-        match decode_part(row.0, rt.alloc(), row.1) {
+        match decode_part(rt.alloc(), row.0, row.1) {
             Ok(_) => return Err(Fail::from("decoded")),
             Err(error) => assert_eq!(rt; error.to_string(rt.alloc())?.as_str(), row.2),
         }
@@ -51,7 +51,7 @@ fn an_unknown_alternative_is_refused(rt: HostRuntime) -> Result<(), Fail> {
 fn additions_are_dropped_at_every_depth(rt: HostRuntime) -> Result<(), Fail> {
     later_versions();
     let text = "{\"kids\":[{\"kids\":[],\"label\":\"x\"}],\"label\":\"y\"}";
-    let tree: OldTree = decode_as_older::<OldTree, NewTree>(Codec::Jer, rt.alloc(), text)?;
+    let tree: OldTree = decode_as_older::<OldTree, NewTree>(rt.alloc(), Codec::Jer, text)?;
     let written = jer::encode(rt.alloc(), &tree)?;
     assert_eq!(rt; written.as_str(), "{\"kids\":[{\"kids\":[]}]}");
     Ok(())

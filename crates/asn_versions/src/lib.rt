@@ -3,7 +3,7 @@
 #![tactic(auto)]
 
 ghost use Rattle.asn_growth.specs.Adapted.{lift, project};
-ghost use Rattle.asn_growth.specs.ComesUpon.{Known};
+ghost use Rattle.asn_growth.specs.ComesUpon.{IsUnknown, Known};
 ghost use Rattle.asn_growth.specs.Grows.{Grows};
 ghost use Rattle.asn_model.specs.Canonical.{canonical_text};
 ghost use Rattle.asn_model.specs.DecodesTo.{DecodesTo};
@@ -21,9 +21,11 @@ ghost use Rattle.asn_sample_choices.specs.OldPart.{old_part_shape, old_part_valu
 ghost use Rattle.asn_sample_choices.specs.OldReport.{old_report_shape};
 ghost use Rattle.asn_sample_trees.specs.OldTree.{old_tree_shape};
 ghost use Rattle.asn_sample_fields.specs.SimpleEnum.{simple_enum_shape};
-ghost use Rattle.asn_codec.specs.Texts.{HasTree};
+ghost use Rattle.asn_codec.specs.Texts.{HasTree, IsDecodeFailure, TextDecodesTo};
 ghost use Rattle.asn_coding.specs.Root.{Reads};
-ghost use Rattle.std.specs.Prelude.{◌≡◌, Some};
+ghost use Rattle.asn_fault.specs.Failure.{Cause, at_root, failure_of};
+ghost use Rattle.asn_upgrades.specs.Apart.{IsApart};
+ghost use Rattle.std.specs.Prelude.{◌≡◌, ◌⊎◌, Some, IfErr, IfOk};
 
 use asn_core::Codec;
 use asn_fault::DecodeError;
@@ -59,12 +61,24 @@ pub fn versions_of_part()
 ///
 /// # Errors
 ///
-/// Those of `decode_from_str`.
-pub fn decode_part(codec: Codec, alloc: Global, input: &str) -> Result<OldPart, DecodeError>
+/// Those of `decode_from_str`. Where a `NewPart` decodes the text, `OutOfMemory`, or `NoValidChoice`
+/// for the alternative that `OldPart` lacks.
+pub fn decode_part(alloc: Global, codec: Codec, input: &str) -> Result<OldPart, DecodeError>
+    ensures value { IfOk result (λ x. TextDecodesTo (notation_of codec) old_part_shape input.now
+        (old_part_value x)) }
+    ensures refused { IfErr result (λ e. (failure_of e ≡ at_root Cause.out_of_memory codec)
+        ⊎ IsDecodeFailure codec old_part_shape input.now (failure_of e)) }
+    ensures projected { (t : Tree) (v : Value) → HasTree (notation_of codec) input.now t
+        → DecodesTo (notation_of codec) new_part_shape (Some t) v
+        → IfOk result (λ x. old_part_value x ≡ project old_part_shape v) }
+    ensures unknown { (t : Tree) (v : Value) → HasTree (notation_of codec) input.now t
+        → DecodesTo (notation_of codec) new_part_shape (Some t) v
+        → IfErr result (λ e. (failure_of e ≡ at_root Cause.out_of_memory codec)
+        ⊎ IsApart (notation_of codec) old_part_shape t IsUnknown (failure_of e)) }
     ensures known { (t : Tree) (v : Value) → HasTree (notation_of codec) input.now t
         → DecodesTo (notation_of codec) new_part_shape (Some t) v
         → Known (notation_of codec) old_part_shape t
         → Reads old_part_value (project old_part_shape v) result }
 {
-    decode_as_older::<OldPart, NewPart>(codec, alloc, input)
+    decode_as_older::<OldPart, NewPart>(alloc, codec, input)
 }

@@ -1,1 +1,2 @@
+mod Scope
 mod Slots

@@ -1,1 +1,2 @@
 pub mod MarkFields
+pub mod WithNullOpt

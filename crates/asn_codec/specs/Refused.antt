@@ -14,7 +14,7 @@ use Rattle.asn_codec.specs.declared.refusals.CodecRefusal.TheVariants.{NoTextEnc
 abbrev pub no_xer : List ℕ
 no_xer = codes "XER is not supported."
 
--- what the binary calls say where no rules are handed in
+-- what `NoRules` says of every call
 abbrev pub no_rules : List ℕ
 no_rules = codes "no binary rules"
 

@@ -75,7 +75,8 @@ pub trait BinaryRules {
             (map_ok (λ found. (T.value_of found.0, found.1.now)) result) };
 }
 
-/// Has no rules: it refuses every call with `Custom` and the codec of the call.
+/// Has no rules: it refuses every call by the codec of the call, with `Custom`, or `OutOfMemory`
+/// where there is no memory for the text.
 #[derive(Clone, Copy, Debug, PartialEq, Eq, Drop)]
 pub struct NoRules;
 

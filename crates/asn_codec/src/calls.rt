@@ -44,7 +44,8 @@ pub trait CodecCalls: Copy {
         // The text is the canonical one, of the value that `value` stands for.
         ensures text { IfOk result (λ s. string_bytes s
             ≡ canonical_text (notation_of (codec_of self)) (T.value_of value.now)) }
-        // The text decodes to the value again, unless it nests deeper than texts are read.
+        // The text is read as the tree that is written for the value, in AVN in normal form, unless
+        // it nests deeper than texts are read.
         ensures reads_back { IfOk result (λ s. ReadsBack (notation_of (codec_of self))
             (T.value_of value.now) (string_bytes s)) }
         // A text comes from a text notation alone, of a value of the shape that it can encode.
@@ -88,15 +89,15 @@ pub trait CodecCalls: Copy {
     /// # Errors
     ///
     /// Under JER and AVN `OutOfMemory`, or the kind of the first part of the value that the
-    /// notation cannot encode. `Custom` under XER. Else those of the rules.
+    /// notation cannot encode. `Custom` or `OutOfMemory` under XER. Else those of the rules.
     fn encode_to_binary<T: Encode, R: BinaryRules>(
         self,
         alloc: Global,
         value: &T,
         rules: &mut R,
     ) -> Result<Vec<u8>, EncodeError>
-        // The bytes of JER and AVN are those of the canonical text, which decode to the value
-        // again, unless it nests deeper than texts are read.
+        // The bytes of JER and AVN are those of the canonical text, which is read as the tree that
+        // is written for the value, unless it nests deeper than texts are read.
         ensures text { IsText (notation_of (codec_of self)) → IfOk result (λ bytes. bytes.items
             ≡ canonical_text (notation_of (codec_of self)) (T.value_of value.now)) }
         ensures reads_back { IfOk result (λ bytes. ReadsBack (notation_of (codec_of self))
@@ -128,7 +129,7 @@ pub trait CodecCalls: Copy {
     /// # Errors
     ///
     /// Under JER and AVN `OutOfMemory`, `Custom` where the bytes are no UTF-8, or the kinds of
-    /// `decode_from_str`. `Custom` under XER. Else those of the rules.
+    /// `decode_from_str`. `Custom` or `OutOfMemory` under XER. Else those of the rules.
     fn decode_from_binary<T: Decode, R: BinaryRules>(
         &self,
         alloc: Global,
@@ -161,7 +162,7 @@ pub trait CodecCalls: Copy {
     ///
     /// # Errors
     ///
-    /// `Custom` under JER, AVN and XER. Else those of the rules.
+    /// `Custom` or `OutOfMemory` under JER, AVN and XER. Else those of the rules.
     fn decode_from_binary_with_remainder<'i, T: Decode, R: BinaryRules>(
         &self,
         alloc: Global,

@@ -18,6 +18,7 @@ use asn_core::Codec;
 use asn_fault::{DecodeError, EncodeError};
 use asn_traits::{Decode, Encode};
 use std::alloc::Global;
+use std::error::Error;
 use std::fmt;
 
 /// States why a text is not converted: it was not decoded, or its value was not encoded.
@@ -53,6 +54,9 @@ impl fmt::Display for TranscodeError {
         }
     }
 }
+
+/// Has no source: its text is that of the inner error.
+impl Error for TranscodeError {}
 
 /// Returns the canonical text under `to` of the value that a text decodes to under `from` as a T.
 /// The two codecs may be the same: then it makes the text canonical.
@@ -94,7 +98,7 @@ pub fn transcode<T: Encode + Decode>(
     ensures complete { IsConvertible from to T.shape_of input.now
         → IfErr result (λ e. is_refusal_out_of_memory (refusal_of e) ≡ true) }
 {
-    // No tree of the input is left when the value is encoded: decoding takes it apart by moves.
+    // No tree of the input is left when the value is encoded: the decoder is let go before.
     match from.decode_from_str::<T>(alloc, input) {
         Ok(value) => match to.encode_to_string(alloc, &value) {
             Ok(text) => Ok(text),

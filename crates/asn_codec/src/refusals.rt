@@ -24,7 +24,7 @@ pub(crate) enum CodecRefusal {
     NoRemainder,
     /// It is XER, of which nothing is built.
     NoXer,
-    /// No binary rules were handed in.
+    /// The rules that were handed in are `NoRules`.
     NoRules,
 }
 

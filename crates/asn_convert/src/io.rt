@@ -11,7 +11,8 @@ ghost use Rattle.asn_convert.specs.Faults.{HasCause};
 pub struct Failed;
 
 /// Gives bytes in pieces. A source counts its faults, and lets contracts see the bytes that it has
-/// left where it can: a file or a pipe cannot, and its contracts then hold of whatever it gives.
+/// left where it can. A file or a pipe cannot: of what it gives contracts say only that there are
+/// such bytes.
 pub trait Source {
     /// The bytes that are left, or `None` where the source doesn't let contracts see them.
     ghost left: { Self → Option (List ℕ) };

@@ -48,8 +48,8 @@ pub fn report_on(alloc: Global, entries: u32) -> Result<String, OutOfMemory>
 ///
 /// # Errors
 ///
-/// Why one of the texts is refused. A value that both notations read and write as they nest is
-/// refused for lack of memory alone.
+/// Why one of the texts is refused. A value that both notations can write, and whose texts nest no
+/// deeper than they are read, is refused for lack of memory alone.
 fn relay<T: Encode + Decode>(alloc: Global, value: &T) -> Result<Lengths, TranscodeError>
     ensures lengths { IsRelayed (T.value_of value.now)
         → IfOk result (λ l. TextLengths (T.value_of value.now) l.jer l.avn l.back) }

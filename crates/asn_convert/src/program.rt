@@ -48,14 +48,14 @@ pub fn run<S: Source, K: Sink>(alloc: Global, source: &mut S, sink: &mut K) -> S
     ensures refused { result ≡ Refused
         → ReadWhole (transfer_of S.left S.faults source.old source.new)
         (Answered (transfer_of K.written K.faults sink.old sink.new) IsRefusalTo) }
-    // The input is text, and its first line is no request.
+    // The input is text and no request.
     ensures bad_request { result ≡ BadRequest
         → ReadWhole (transfer_of S.left S.faults source.old source.new)
         (λ input. IsUtf8 input × (request_of input ≡ None)) }
     // A read failed.
     ensures read_fault { result ≡ ReadFault
         → Increased (S.faults source.old) (S.faults source.new) }
-    // A write failed, and what was written is a front part of the text or of the error's line.
+    // A write failed, and what was written is a front part of what was due.
     ensures write_fault { result ≡ WriteFault → Increased (K.faults sink.old) (K.faults sink.new) }
     ensures cut { result ≡ WriteFault
         → ReadWhole (transfer_of S.left S.faults source.old source.new)

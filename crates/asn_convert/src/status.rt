@@ -4,15 +4,15 @@ ghost use Rattle.std.specs.Prelude.{◌≡◌};
 /// States how a run ended. Its number is the exit status of the program.
 #[derive(Clone, Copy, Debug, PartialEq, Eq, Drop)]
 pub enum Status {
-    /// The canonical text was written whole.
+    /// The canonical text, or the report of `make`, was written whole.
     Done,
     /// The text was refused, and the line that states why was written whole.
     Refused,
-    /// The first line is no request.
+    /// The first line is no request, or it is one to make a document and a text follows.
     BadRequest,
     /// Reading failed.
     ReadFault,
-    /// Writing failed, and a front part of the line or of the text may be written.
+    /// Writing failed, and a front part of what was due may be written.
     WriteFault,
     /// Memory ran out, and nothing was written.
     WantOfMemory,

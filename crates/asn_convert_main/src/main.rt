@@ -1,6 +1,7 @@
 //! Converts a value between the text notations: a request line and a text on standard input, the
-//! value's canonical text or the line of its error on standard output, and the status as the exit
-//! status. All of the work, and its contract, is `asn_convert::run`.
+//! value's canonical text, the line of its error or the report on a document that is made on
+//! standard output, and the status as the exit status. All of the work, and its contract, is
+//! `asn_convert::run`.
 #![tactic(auto)]
 
 use asn_convert::{StdSink, StdSource, run};

@@ -43,7 +43,8 @@ fn large(number: u64) -> Value
 ///
 /// # Errors
 ///
-/// `NoValidChoice` where no alternative is named; those of the alternative.
+/// A type mismatch where there is no choice; `NoValidChoice` where no alternative is named; those
+/// of the alternative; `OutOfMemory`.
 #[cycle(read)]
 pub(crate) fn read_value<D: Decoder>(decoder: &mut D) -> Result<Value, DecodeError>
     ensures read { Answer D.notation document_shape json_value (D.pending decoder.old) result
@@ -112,7 +113,8 @@ pub(crate) fn read_payload<D: Decoder>(decoder: &mut D, tag: Tag) -> Result<Valu
 ///
 /// # Errors
 ///
-/// A type mismatch where there is no list; those of the first element that can't be decoded.
+/// A type mismatch where there is no list; those of the first element that can't be decoded;
+/// `OutOfMemory`.
 #[cycle(read)]
 fn read_items<D: Decoder>(decoder: &mut D) -> Result<Vec<Value>, DecodeError>
     ensures read { Answer D.notation (Shape.list_of document_shape)
@@ -137,7 +139,8 @@ fn read_items<D: Decoder>(decoder: &mut D) -> Result<Vec<Value>, DecodeError>
 ///
 /// # Errors
 ///
-/// A type mismatch where there is no list; those of the first entry that can't be decoded.
+/// A type mismatch where there is no list; those of the first entry that can't be decoded;
+/// `OutOfMemory`.
 #[cycle(read)]
 pub(crate) fn read_members<D: Decoder>(decoder: &mut D) -> Result<Map<String, Value>, DecodeError>
     ensures read { Answer D.notation (Shape.table entry_shape)

@@ -1,5 +1,5 @@
 //! Encodes a JSON value as a document: a choice of its kind, over the primitive calls of the
-//! encoder. Nothing is copied but the digits of a number above the `i64`.
+//! encoder. Nothing is copied here; the digits of a number above the `i64` are made.
 ghost use Rattle.asn_document.specs.Meaning.{document_alternatives, document_name, document_payload};
 ghost use Rattle.asn_document.specs.Meaning.{document_shape, document_value, entry_fields};
 ghost use Rattle.asn_document.specs.Meaning.{entry_shape, json_entry, json_value, number_name};

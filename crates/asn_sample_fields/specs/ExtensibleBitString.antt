@@ -8,6 +8,6 @@ use Rattle.asn_sample_fields.specs.declared.extensible_bit_string.ExtensibleBitS
 abbrev pub extensible_bit_string_shape : Shape
 extensible_bit_string_shape = Shape.bits None
 
--- The value that a ExtensibleBitString stands for.
+-- The value that an ExtensibleBitString stands for.
 abbrev pub extensible_bit_string_value : ExtensibleBitString → Value
 extensible_bit_string_value x = Value.bits x.bits None

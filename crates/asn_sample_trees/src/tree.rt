@@ -119,7 +119,7 @@ fn write_tree<A: TreeAdditions, E: Encoder>(
 ///
 /// # Errors
 ///
-/// Those of the first tree that can't be encoded.
+/// Those of the first tree that can't be encoded; `OutOfMemory`.
 #[cycle(write)]
 fn write_kids<A: TreeAdditions, E: Encoder>(
     encoder: &mut E,
@@ -143,8 +143,8 @@ fn write_kids<A: TreeAdditions, E: Encoder>(
 ///
 /// # Errors
 ///
-/// A type mismatch where there are no members; those of the kids within `FieldError`; those of the
-/// additions.
+/// A type mismatch where there are no members, and the end of input where there is no slot; those
+/// of the kids within `FieldError`; those of the additions; `OutOfMemory`.
 #[cycle(read)]
 fn read_tree<A: TreeAdditions, D: Decoder>(decoder: &mut D) -> Result<Tree<A>, DecodeError>
     ensures { Answer D.notation (tree_shape A.fields) (tree_value A.fields A.slots)
@@ -170,7 +170,8 @@ fn read_tree<A: TreeAdditions, D: Decoder>(decoder: &mut D) -> Result<Tree<A>, D
 ///
 /// # Errors
 ///
-/// A type mismatch where there is no list; those of the first tree that can't be decoded.
+/// A type mismatch where there is no list, and the end of input where there is no slot; those of
+/// the first tree that can't be decoded; `OutOfMemory`.
 #[cycle(read)]
 fn read_kids<A: TreeAdditions, D: Decoder>(decoder: &mut D) -> Result<Vec<Tree<A>>, DecodeError>
     ensures { Answer D.notation (AbstractShape.list_of (tree_shape A.fields))

@@ -1,6 +1,6 @@
 -- The sample types, their names and their shapes.
 use denote.Enum.Bare.{sameb}
-use Rattle.std.specs.Prelude.{ℕ, List, [], ◌∷◌, ◌++◌, codes, bytes_eq, if◌then◌else◌, Option, Some, None, option_map}
+use Rattle.std.specs.Prelude.{ℕ, List, [], ◌∷◌, ◌++◌, codes, bytes_eq, if◌then◌else◌, Option, Some, None}
 use Rattle.asn_traits.specs.Shape.{Alphabet, Shape}
 use Rattle.asn_coding.specs.Terms.{signed, unsigned, utf8_string}
 use Rattle.asn_document.specs.Meaning.{document_shape}
@@ -118,7 +118,3 @@ shape_beside ((row_name, row_sample, row_shape) ∷ rows) sample = if sameb the_
 -- The shape of a sample type.
 abbrev pub sample_shape : Sample → Shape
 sample_shape sample = shape_beside samples sample
-
--- The shape of the sample type of that name.
-abbrev pub sample : List ℕ → Option Shape
-sample name = option_map sample_shape (sample_named name)

@@ -78,7 +78,7 @@ pub enum Sample {
     ObjectIdentifier,
     /// Is a JSON document.
     Document,
-    /// Is a SEQUENCE whose fields have other names than in Rust.
+    /// Is a SEQUENCE one of whose fields has another name than in Rust.
     Renamed,
     /// Is a CHOICE of one alternative.
     Inner,

@@ -1,2 +1,1 @@
-mod Scope
 mod Slots

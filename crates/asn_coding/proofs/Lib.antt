@@ -11,6 +11,7 @@ pub mod Scopes
 pub mod Whole
 pub mod FieldSteps
 pub mod Passing
+pub mod ScopeReading
 pub mod TagOrder
 pub mod Members
 pub mod SetWriting

@@ -165,9 +165,14 @@ module _ {n : Notation} {all : List Component} {start : List Slot} where
       component_refused r (subst (λ ns. Refuses n (ComponentFailsWith n c.presence c.standing c.shape (head_name ns) now) e) named h)
   refuses_rest r named (RefusesFields.refuses_later_field (TakesField.takes_field t others) more a) = refuses_rest (reads_any r t a) (others ∙ ap tail_names named) more
 
+-- The slots of components that are taken are gone, and they decode to the members that were taken.
+pub decodes_components : {n : Notation} {cs : List Component} {ss : Frame} {names others : List (List ℕ)} {before after : List Slot} → TakesFields n cs ss (Ahead.ahead names before) (Ahead.ahead others after) → (slots rest : List Slot) → length slots ≡ length cs → before ≡ slots ++ rest
+    → (after ≡ rest) × FieldsDecodeTo n (fields_from cs) slots (named ss (component_names cs))
+decodes_components t slots rest count is = reads_rest reads_start t slots rest count is
+
 -- The slots of components that are taken are gone.
 pub takes_components : {n : Notation} {cs : List Component} {ss : Frame} {names others : List (List ℕ)} {before after : List Slot} → TakesFields n cs ss (Ahead.ahead names before) (Ahead.ahead others after) → (slots rest : List Slot) → length slots ≡ length cs → before ≡ slots ++ rest → after ≡ rest
-takes_components t slots rest count is = let d = reads_rest reads_start t slots rest count is in d.0
+takes_components t slots rest count is = let d = decodes_components t slots rest count is in d.0
 
 -- A component's refusal is one of its slot.
 pub refuses_components : {n : Notation} {cs : List Component} {names : List (List ℕ)} {before : List Slot} {e : Failure} → names ≡ component_names cs → RefusesFields n cs (Ahead.ahead names before) e → (slots rest : List Slot) → length slots ≡ length cs → before ≡ slots ++ rest → Refuses n (FieldsFailWith n cs slots) e

@@ -2,9 +2,9 @@ use Rattle.std.proofs.Common.{◌∙◌, ◌++◌, [], ap, refl}
 use Rattle.std.proofs.lemmas.Result.{err_from_is_err_and}
 use Rattle.asn_model.specs.Shape.{FieldAdditions}
 use Rattle.asn_coding.specs.Passing.{RefusesFields, TakesFields}
+use Rattle.asn_coding.proofs.ScopeReading.{scope_read, scope_refused}
 use Rattle.asn_coding.proofs.Scopes.{table_names}
 use Rattle.asn_sample_fields.specs.WithNullOpt.{with_null_opt_fields}
-use Rattle.asn_by_hand.proofs.Scope.{scope_read, scope_refused}
 use Rattle.asn_by_hand.proofs.with_null_opt.fn.read_with_null_opt.decode_sequence.Goals as goal
 
 pub returns-in_err-read_field : goal.returns-in_err-read_field

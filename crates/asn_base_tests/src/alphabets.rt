@@ -1,5 +1,5 @@
-// Tests the strings on the edges of their alphabets. The expected values come from the alphabets
-// of X.680, section 41.
+//! Tests the strings on the edges of their alphabets. The expected values come from the alphabets
+//! of X.680, section 41.
 use crate::checks::{assert_octets, assert_printed, assert_text};
 use asn_strings::{
     BmpString, GeneralString, GraphicString, Ia5String, NumericString, PrintableString,
@@ -87,20 +87,22 @@ fn contents_of_units(rt: HostRuntime) -> Result<(), Fail> {
     Ok(())
 }
 
-/// The text of many units is made a piece at a time: 4,999 of ASCII, then a surrogate or `é`, then
-/// 5,000 of ASCII.
+/// The text of many units is made in pieces of 4,096 units. Here the second of three pieces has a
+/// surrogate or `é`, and all other units are ASCII.
 #[test]
 fn texts_of_many_units(rt: HostRuntime) -> Result<(), Fail> {
     let alloc = rt.alloc();
     for middle in [0xE9, 0xD800] {
         let mut units = Vec::new(alloc);
+        let mut want = String::new(alloc);
         for place in 0..10_000 {
             units.push(if place == 4_999 { middle } else { 0x61 })?;
+            want.push(if place == 4_999 { 'é' } else { 'a' })?;
         }
         match BmpString::from_units(units).to_text(alloc) {
             Ok(text) => {
-                assert!(rt; middle == 0xE9 && text.len() == 10_001);
-                assert!(rt; text.find('é') == Some(4_999));
+                assert!(rt; middle == 0xE9);
+                assert_text(&rt, text.as_str(), want.as_str());
             }
             Err(UnitFault::Surrogate { place }) => assert!(rt; middle == 0xD800 && place == 4_999),
             Err(UnitFault::OutOfMemory) => return Err(Fail::from(AllocError)),
@@ -120,8 +122,10 @@ fn contents_of_octets(rt: HostRuntime) -> Result<(), Fail> {
 /// Octets past ASCII are in the set of GraphicString, and control characters are not.
 #[test]
 fn octets_of_graphic_strings(rt: HostRuntime) -> Result<(), Fail> {
-    let past = GraphicString::from_octets(vec![in rt.alloc(); 0xFF]?);
-    assert!(rt; past.is_some());
+    match GraphicString::from_octets(vec![in rt.alloc(); 0xFF]?) {
+        Some(past) => assert_octets(&rt, past.octets(), b"\xFF".as_slice()),
+        None => return Err(Fail::from("the octet 0xFF is refused")),
+    }
     let control = GraphicString::from_octets(vec![in rt.alloc(); 0x20, 0x1F]?);
     assert!(rt; control.is_none());
     Ok(())

@@ -1,4 +1,4 @@
-// Bit strings, object identifiers and constraints by examples.
+//! Tests bit strings, octet strings, object identifiers and constraints by examples.
 use crate::checks::assert_octets;
 use asn_base::{
     Any, Bits, Bounded, Constraint, Constraints, Extensible, ObjectIdentifier, OctetString, Oid,
@@ -60,6 +60,7 @@ fn assert_reset(rt: &impl Abort, alloc: Global, octet: u8) -> Result<(), Fail> {
     Ok(())
 }
 
+/// The bits of the last octet past the length are zero, whatever the octet had there.
 #[test]
 fn bits_are_padded_with_zeros(rt: HostRuntime) -> Result<(), Fail> {
     for &octet in &[0xA8, 0xAF] {
@@ -69,19 +70,23 @@ fn bits_are_padded_with_zeros(rt: HostRuntime) -> Result<(), Fail> {
     Ok(())
 }
 
+/// A ninth bit begins a second octet.
 #[test]
 fn bits_grow_by_octets(rt: HostRuntime) -> Result<(), Fail> {
     let mut bits = Bits::new(rt.alloc());
+    assert!(rt; bits.is_empty());
     for bit in [true, false, false, false, false, false, true, true, true] {
         assert!(rt; bits.len() < 9);
         bits.push(bit)?;
     }
     assert_eq!(rt; bits.octets(), [0x83, 0x80].as_slice());
     assert_eq!(rt; bits.len(), 9);
+    assert!(rt; !bits.is_empty());
     assert!(rt; bits != Bits::from_first_bits(vec![in rt.alloc(); 0x83, 0x80]?, 10));
     Ok(())
 }
 
+/// An octet string has the octets that it was made of.
 #[test]
 fn octets_of_a_string_are_kept(rt: HostRuntime) -> Result<(), Fail> {
     let string = OctetString::from_vec(vec![in rt.alloc(); 1, 2]?);
@@ -92,6 +97,7 @@ fn octets_of_a_string_are_kept(rt: HostRuntime) -> Result<(), Fail> {
     Ok(())
 }
 
+/// The encoding in an open type is the octets that it was made of.
 #[test]
 fn octets_of_any_are_kept(rt: HostRuntime) -> Result<(), Fail> {
     let any = Any::new(vec![in rt.alloc(); 1, 2]?);
@@ -109,9 +115,18 @@ fn makes_identifier(alloc: Global, arcs: &[u32]) -> Result<bool, Fail> {
     }
 }
 
+/// Returns whether the arcs are those of an object identifier that holds no copy, which then has
+/// them.
+fn borrows_identifier(arcs: &[u32]) -> bool {
+    match Oid::new(arcs) {
+        Some(identifier) => identifier.arcs() == arcs,
+        None => false,
+    }
+}
+
 /// Checks whether the arcs are those of an object identifier, by each call that makes one.
 fn assert_arcs(rt: &impl Abort, alloc: Global, arcs: &[u32], accepted: bool) -> Result<(), Fail> {
-    assert!(rt; Oid::new(arcs).is_some() == accepted, "{arcs:?}");
+    assert!(rt; borrows_identifier(arcs) == accepted, "{arcs:?}");
     let copy = Vec::from_slice(alloc, arcs)?;
     assert!(rt;
         ObjectIdentifier::from_vec(copy).is_some() == accepted,
@@ -121,6 +136,7 @@ fn assert_arcs(rt: &impl Abort, alloc: Global, arcs: &[u32], accepted: bool) -> 
     Ok(())
 }
 
+/// Each call takes the arcs of object identifiers alone, and keeps them.
 #[test]
 fn object_identifiers(rt: HostRuntime) -> Result<(), Fail> {
     for row in ARCS.iter() {
@@ -129,6 +145,7 @@ fn object_identifiers(rt: HostRuntime) -> Result<(), Fail> {
     Ok(())
 }
 
+/// The bounds of two bounds are those that hold in both, in either order.
 #[test]
 fn intersections(rt: HostRuntime) {
     let from_three = Bounded::Range {
@@ -162,6 +179,7 @@ fn intersections(rt: HostRuntime) {
     }
 }
 
+/// A range is the number of values within bounds, where it is finite and its type holds it.
 #[test]
 fn ranges(rt: HostRuntime) {
     let rows: [(Bounded<i128>, Option<i128>); 6] = [
@@ -180,6 +198,7 @@ fn ranges(rt: HostRuntime) {
     assert!(rt; Bounded::new(5, 7).as_start() == Some(&5usize));
 }
 
+/// A size is found among constraints, and a length outside of it is refused.
 #[test]
 fn sizes(rt: HostRuntime) {
     const CONSTRAINTS: Constraints = Constraints {

@@ -1,4 +1,4 @@
-// Sets of octets.
+//! Tests sets of octets by examples.
 use asn_sets::SetOf;
 use std::alloc::Global;
 use std::process::Abort;
@@ -27,6 +27,7 @@ fn assert_length(rt: &impl Abort, alloc: Global, octets: &[u8]) -> Result<(), Fa
     Ok(())
 }
 
+/// Two sets are equal where they have the same elements, each as often.
 #[test]
 fn equality_counts_repeats(rt: HostRuntime) -> Result<(), Fail> {
     for row in ROWS.iter() {
@@ -37,6 +38,7 @@ fn equality_counts_repeats(rt: HostRuntime) -> Result<(), Fail> {
     Ok(())
 }
 
+/// An element that is inserted twice is there twice.
 #[test]
 fn insert_keeps_repeats(rt: HostRuntime) -> Result<(), Fail> {
     let alloc = rt.alloc();
@@ -45,10 +47,13 @@ fn insert_keeps_repeats(rt: HostRuntime) -> Result<(), Fail> {
         assert!(rt; set.len() < 3);
         set.insert(element)?;
     }
-    let elements = set.to_vec(alloc)?;
-    assert_eq!(rt; elements.len(), 3);
-    for (element, want) in elements.iter().zip(&[7, 7, 8]) {
-        assert_eq!(rt; **element, *want);
+    assert!(rt; set == set_of(alloc, &[8, 7, 7])?);
+    // The elements have no order, so the list of them is compared as a set too.
+    let mut listed = SetOf::new(alloc);
+    for element in set.to_vec(alloc)? {
+        assert!(rt; listed.len() < 3);
+        listed.insert(*element)?;
     }
+    assert!(rt; listed == set);
     Ok(())
 }

@@ -1,9 +1,9 @@
-// Tests texts as they are read and written again, and the printed texts of faults. The expected
-// texts follow from the forms of X.680 and the calendar.
+//! Tests texts as they are read and written again, days and moments by direct calls, and the texts
+//! of faults. The expected values follow from the forms of X.680 and the calendar.
 use crate::checks::{assert_printed, assert_text};
 use asn_times::{
-    Date, TimeFault, read_date, read_generalized, read_utc, write_date, write_generalized,
-    write_utc,
+    Date, GeneralizedTime, TimeFault, UtcTime, read_date, read_generalized, read_utc, write_date,
+    write_generalized, write_utc,
 };
 use jiff::civil;
 use std::alloc::Global;
@@ -80,22 +80,33 @@ fn rewritten(alloc: Global, form: Form, text: &str) -> Result<String, TimeFault>
     }
 }
 
-/// Returns the text as it is written again: empty, if it is refused.
-fn written_again(alloc: Global, form: Form, text: &str) -> String {
-    match rewritten(alloc, form, text) {
-        Ok(written) => written,
-        Err(_) => String::new(alloc),
+/// Returns the fault of the reader, or `None` where it takes the text. It takes no memory.
+fn fault_of_reader(form: Form, text: &str) -> Option<TimeFault> {
+    match form {
+        Form::Day => read_date(text).err(),
+        Form::Utc => read_utc(text).err(),
+        Form::Generalized => read_generalized(text).err(),
     }
 }
 
-/// Each text is read and written again, or is refused: days that the calendar lacks, times of day
-/// that the clock lacks, zones of a day and more, and moments that leave the years in UTC.
+/// Each text is read and written again, or is refused by the reader: days that the calendar lacks,
+/// times of day that the clock lacks, zones of a day and more, and moments that leave the years in
+/// UTC.
 #[test]
-fn texts_are_written_again(rt: HostRuntime) {
+fn texts_are_written_again(rt: HostRuntime) -> Result<(), Fail> {
     for row in ROWS.iter() {
-        let written = written_again(rt.alloc(), row.0, row.1);
-        assert_text(&rt, written.as_str(), row.2);
+        match fault_of_reader(row.0, row.1) {
+            Some(fault) => {
+                assert!(rt; matches!(fault, TimeFault::InvalidDate), "{}", row.1);
+                assert_text(&rt, "", row.2);
+            }
+            None => {
+                let written = rewritten(rt.alloc(), row.0, row.1)?;
+                assert_text(&rt, written.as_str(), row.2);
+            }
+        }
     }
+    Ok(())
 }
 
 /// The texts of the three faults are exact.
@@ -118,4 +129,37 @@ fn a_year_before_0000_is_not_written(rt: HostRuntime) -> Result<(), Fail> {
             Ok(())
         }
     }
+}
+
+/// A moment of a year before 0000 has no text as GeneralizedTime.
+#[test]
+fn a_moment_before_0000_is_not_written(rt: HostRuntime) -> Result<(), Fail> {
+    let before = GeneralizedTime::new(civil::DateTime::new(-1, 12, 31, 23, 59, 59, 0)?);
+    match write_generalized(rt.alloc(), &before) {
+        Ok(_) => Err(Fail::from("a moment of the year -1 is written")),
+        Err(fault) => {
+            assert!(rt; matches!(fault, TimeFault::OutOfYears));
+            Ok(())
+        }
+    }
+}
+
+/// A moment with a fraction of a second is no UTCTime.
+#[test]
+fn a_fraction_is_no_utc_time(rt: HostRuntime) -> Result<(), Fail> {
+    let moment = civil::DateTime::new(2024, 2, 29, 12, 0, 0, 1)?;
+    assert!(rt; UtcTime::new(moment).is_none());
+    Ok(())
+}
+
+/// What was read gives back its day, and its moment in UTC.
+#[test]
+fn what_was_read_is_given_back(rt: HostRuntime) -> Result<(), Fail> {
+    let day = read_date("2024-02-29")?.day();
+    assert!(rt; day == civil::Date::new(2024, 2, 29)?);
+    let utc = read_utc("2301221300+0100")?.moment();
+    assert!(rt; utc == civil::DateTime::new(2023, 1, 22, 12, 0, 0, 0)?);
+    let generalized = read_generalized("20240229120000.5+0130")?.moment();
+    assert!(rt; generalized == civil::DateTime::new(2024, 2, 29, 10, 30, 0, 500_000_000)?);
+    Ok(())
 }

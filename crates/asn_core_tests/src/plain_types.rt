@@ -1,4 +1,4 @@
-//! Tests the plain types of `asn_core`: printed texts, tags of alternatives, and looks at a text.
+//! Tests the plain types of `asn_core`: printed texts, tags, and looks at a text.
 use asn_core::{Bounded, Class, Codec, Scan, Tag, TagTree, Variants, WholeNumber};
 use std::test::Fail;
 
@@ -57,38 +57,25 @@ fn texts(rt: HostRuntime) -> Result<(), Fail> {
     Ok(())
 }
 
-/// Is the tag `[0]`.
-const CONTEXT_0: Tag = Tag {
-    class: Class::Context,
-    value: 0,
-};
-
-/// Is the tag `[1]`.
-const CONTEXT_1: Tag = Tag {
-    class: Class::Context,
-    value: 1,
-};
-
-/// Is the tag `[2]`.
-const CONTEXT_2: Tag = Tag {
-    class: Class::Context,
-    value: 2,
-};
-
-/// Is the tag `[7]`.
-const CONTEXT_7: Tag = Tag {
-    class: Class::Context,
-    value: 7,
-};
+/// A tag has the class and the number that it is made of.
+#[test]
+fn a_tag_is_made(rt: HostRuntime) {
+    let tag = Tag::new(Class::Private, 7);
+    assert_eq!(rt; tag.class, Class::Private);
+    assert_eq!(rt; tag.value, 7);
+}
 
 /// Lists the tags of two alternatives.
-const BASE: &'static [TagTree] = &[TagTree::Leaf(CONTEXT_0), TagTree::Leaf(CONTEXT_1)];
+const BASE: &'static [TagTree] = &[TagTree::Leaf(Tag::CONTEXT_0), TagTree::Leaf(Tag::CONTEXT_1)];
 
 /// Lists the tags of two extension additions. The first is a CHOICE without a tag of its own,
 /// whose smallest tag is not its first one.
 const ADDED: &'static [TagTree] = &[
-    TagTree::Choice(&[TagTree::Leaf(CONTEXT_7), TagTree::Leaf(Tag::UTF8_STRING)]),
-    TagTree::Leaf(CONTEXT_2),
+    TagTree::Choice(&[
+        TagTree::Leaf(Tag::CONTEXT_7),
+        TagTree::Leaf(Tag::UTF8_STRING),
+    ]),
+    TagTree::Leaf(Tag::CONTEXT_2),
 ];
 
 /// Each alternative counts by its smallest tag, and extension additions come after the root. The
@@ -97,11 +84,19 @@ const ADDED: &'static [TagTree] = &[
 fn tags_of_alternatives(rt: HostRuntime) -> Result<(), Fail> {
     // Without additions the tags are those of the root.
     let variants = Variants::from_parts(rt.alloc(), BASE, None)?;
-    assert_eq!(rt; variants.tags(), [CONTEXT_0, CONTEXT_1].as_slice());
+    assert_eq!(rt;
+        variants.tags(),
+        [Tag::CONTEXT_0, Tag::CONTEXT_1].as_slice()
+    );
 
     let variants = Variants::from_parts(rt.alloc(), BASE, Some(ADDED))?;
     // A universal tag is below a context tag.
-    let want = [CONTEXT_0, CONTEXT_1, Tag::UTF8_STRING, CONTEXT_2];
+    let want = [
+        Tag::CONTEXT_0,
+        Tag::CONTEXT_1,
+        Tag::UTF8_STRING,
+        Tag::CONTEXT_2,
+    ];
     assert_eq!(rt; variants.tags(), want.as_slice());
     Ok(())
 }

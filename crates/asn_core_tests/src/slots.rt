@@ -1,5 +1,5 @@
-//! Calls each function of the pending slots and the open frames once with ample memory, at a
-//! concrete type. The expected values follow from the contracts, which see both as lists.
+//! Calls each function of the pending slots and the open frames with ample memory, at a concrete
+//! type. The expected values follow from the contracts, which see both as lists.
 use asn_slots::{Frames, Pending};
 use std::test::Fail;
 
@@ -11,6 +11,14 @@ fn a_slot_is_taken(rt: HostRuntime) -> Result<(), Fail> {
     assert_eq!(rt; pending.take(), Some(Some(5)));
     assert_eq!(rt; pending.take(), None);
     Ok(())
+}
+
+/// A list that is made of one slot has that one alone.
+#[test]
+fn one_slot_is_taken(rt: HostRuntime) {
+    let mut pending: Pending<u8> = Pending::of(rt.alloc(), Some(6));
+    assert_eq!(rt; pending.take(), Some(Some(6)));
+    assert_eq!(rt; pending.take(), None);
 }
 
 /// Values that are put as a whole vector come one by one, in order.
@@ -72,6 +80,7 @@ fn a_frame_closes_as_its_first_value(rt: HostRuntime) -> Result<(), Fail> {
     let mut frames: Frames<u8> = Frames::new(rt.alloc());
     frames.open()?;
     frames.add(Some(3))?;
+    frames.add(Some(4))?;
     assert_eq!(rt; frames.close_first(), Some(3));
     Ok(())
 }

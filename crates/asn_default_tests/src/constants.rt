@@ -1,11 +1,12 @@
-//! Compares constants with the numbers that X.680 gives, and with what each type states.
+//! Compares constants with the numbers that X.680 gives, with their names, and with what each type
+//! and call states.
 use asn_core::{Any, Bits, Class, Identifier, ObjectIdentifier, OctetString, Tag, TagTree};
 use asn_strings::{
     BmpString, GeneralString, GraphicString, Ia5String, NumericString, PrintableString,
     UniversalString, VisibleString,
 };
 use asn_times::{Date, GeneralizedTime, UtcTime};
-use asn_traits::AsnType;
+use asn_traits::{AsnType, Field, Fields, Presence, optional, required, with_default};
 
 /// Lists the universal tags with their numbers (X.680, table 1).
 const UNIVERSAL: [(Tag, u32); 24] = [
@@ -47,6 +48,35 @@ fn universal_tags(rt: HostRuntime) {
                 value
             }
         );
+    }
+}
+
+/// Lists the context tags with their numbers, which their names have.
+const CONTEXT: [(Tag, u32); 16] = [
+    (Tag::CONTEXT_0, 0),
+    (Tag::CONTEXT_1, 1),
+    (Tag::CONTEXT_2, 2),
+    (Tag::CONTEXT_3, 3),
+    (Tag::CONTEXT_4, 4),
+    (Tag::CONTEXT_5, 5),
+    (Tag::CONTEXT_6, 6),
+    (Tag::CONTEXT_7, 7),
+    (Tag::CONTEXT_8, 8),
+    (Tag::CONTEXT_9, 9),
+    (Tag::CONTEXT_10, 10),
+    (Tag::CONTEXT_11, 11),
+    (Tag::CONTEXT_12, 12),
+    (Tag::CONTEXT_13, 13),
+    (Tag::CONTEXT_14, 14),
+    (Tag::CONTEXT_15, 15),
+];
+
+/// Each context constant of `Tag` has the number of its name.
+#[test]
+fn context_tags(rt: HostRuntime) {
+    for &(tag, value) in &CONTEXT {
+        // No other class is among them.
+        assert_eq!(rt; tag, Tag::new(Class::Context, value));
     }
 }
 
@@ -103,5 +133,47 @@ fn constants_are_what_calls_state(rt: HostRuntime) {
     for &same in strings.iter().chain(others.iter()) {
         // A row stands for a type.
         assert!(rt; same);
+    }
+}
+
+/// Lists a field of each presence, as the macros make them.
+const ROWS: &'static [Field] = &[
+    required!(0, Tag::CONTEXT_0, "a"),
+    optional!(1, Tag::CONTEXT_1, "b"),
+    with_default!(2, Tag::CONTEXT_2, "c"),
+];
+
+/// Returns whether both state the same presence.
+fn is_same_presence(one: Presence, other: Presence) -> bool {
+    match one {
+        Presence::Required => matches!(other, Presence::Required),
+        Presence::Optional => matches!(other, Presence::Optional),
+        Presence::Default => matches!(other, Presence::Default),
+    }
+}
+
+/// Returns whether the two fields are the same, each with one tag alone, which is its own.
+fn is_same_field(one: &Field, other: &Field) -> bool {
+    one.index == other.index
+        && one.tag == other.tag
+        && only_tag(&one.tag_tree) == Some(one.tag)
+        && only_tag(&other.tag_tree) == Some(other.tag)
+        && is_same_presence(one.presence, other.presence)
+        && one.name == other.name
+}
+
+/// The macros for constants make the fields that the calls make, and a table has its rows.
+#[test]
+fn fields_are_made_by_macros_and_calls(rt: HostRuntime) {
+    let (first, second, third) = (Tag::CONTEXT_0, Tag::CONTEXT_1, Tag::CONTEXT_2);
+    let made = [
+        Field::new_required(0, first, TagTree::Leaf(first), "a"),
+        Field::new_optional(1, second, TagTree::Leaf(second), "b"),
+        Field::new_default(2, third, TagTree::Leaf(third), "c"),
+    ];
+    let table = Fields::from_static(ROWS);
+    assert_eq!(rt; table.items.len(), made.len());
+    for (one, other) in made.iter().zip(table.items) {
+        assert!(rt; is_same_field(one, other), "{}", one.name);
     }
 }

@@ -1,5 +1,5 @@
 //! Prints the kinds that a single set of encoding rules has, each as an error of its codec.
-use crate::checks::assert_printed;
+use crate::checks::{assert_accepted, assert_printed, assert_refused};
 use asn_core::{Tag, WholeNumber};
 use asn_fault::{
     AvnDecodeErrorKind, AvnEncodeErrorKind, BerDecodeErrorKind, BerEncodeErrorKind,
@@ -81,6 +81,18 @@ fn kinds_of_rules_on_octets_have_their_texts(rt: HostRuntime) -> Result<(), Fail
         assert_printed(&rt, rt.alloc(), error, want)?;
     }
     Ok(())
+}
+
+/// A tag is refused exactly where it is another one than the expected one.
+#[test]
+fn tags_are_checked(rt: HostRuntime) -> Result<(), Fail> {
+    assert_accepted(&rt, BerDecodeErrorKind::assert_tag(Tag::BOOL, Tag::BOOL));
+    assert_refused(
+        &rt,
+        rt.alloc(),
+        BerDecodeErrorKind::assert_tag(Tag::INTEGER, Tag::BOOL),
+        "BER decoding error: Expected UNIVERSAL 2 tag, actual tag: UNIVERSAL 1 (Codec: BER)",
+    )
 }
 
 /// Lists the texts of the kinds of JER, AVN and XER for decoding, by their places.
@@ -210,7 +222,7 @@ const ENCODE_TEXTS: [&str; 16] = [
      (Codec: COER)",
     "BER encoding error: Cannot encode `ANY` types in `SET` fields (Codec: BER)",
     "BER encoding error: Invalid Object Identifier: must have at least two components and first \
-     octet must be 0, 1 or 2. Provided: [] (Codec: BER)",
+     octet must be 0, 1 or 2. Provided: [3, 5] (Codec: BER)",
 ];
 
 /// Returns the kind of JER's encoding at this place: the number is one below the least that JER
@@ -247,7 +259,11 @@ fn encode_error(alloc: Global, place: usize) -> Result<EncodeError, AllocError> 
         12 => CoerEncodeErrorKind::TooLongValue { length: 70 }.into(),
         13 => CoerEncodeErrorKind::InvalidConstrainedIntegerOctetSize.into(),
         14 => BerEncodeErrorKind::AnyInSet.into(),
-        _ => BerEncodeErrorKind::invalid_object_identifier(Vec::new(alloc)).into(),
+        _ => {
+            // The first arc is none of an object identifier.
+            let arcs = Vec::from_array(alloc, [3, 5])?;
+            BerEncodeErrorKind::invalid_object_identifier(arcs).into()
+        }
     })
 }
 
@@ -259,21 +275,6 @@ fn kinds_of_encoding_have_their_texts(rt: HostRuntime) -> Result<(), Fail> {
         let error = encode_error(rt.alloc(), place)?;
         assert_printed(&rt, rt.alloc(), error, want)?;
     }
-    Ok(())
-}
-
-/// The arcs that are no object identifier are printed as a list.
-#[test]
-fn arcs_are_printed_as_a_list(rt: HostRuntime) -> Result<(), Fail> {
-    let arcs = Vec::from_array(rt.alloc(), [3, 5])?;
-    let kind = BerEncodeErrorKind::invalid_object_identifier(arcs);
-    assert_printed(
-        &rt,
-        rt.alloc(),
-        kind,
-        "Invalid Object Identifier: must have at least two components and first octet must be \
-         0, 1 or 2. Provided: [3, 5]",
-    )?;
     Ok(())
 }
 

@@ -1,6 +1,6 @@
 //! Prints the error of decoding of each kind that every codec has, made by its constructor where it
 //! has one.
-use crate::checks::assert_printed;
+use crate::checks::{assert_accepted, assert_printed};
 use asn_core::{Bounded, Class, Codec, Tag, TagTree, Variants, WholeNumber};
 use asn_fault::{DecodeError, DecodeErrorKind, Needed, PermittedAlphabetError};
 use std::test::Fail;
@@ -103,13 +103,11 @@ fn octets_error(text: String, place: usize) -> DecodeError {
         26 => DecodeError::invalid_bit_string(9, Codec::Ber),
         27 => DecodeError::from_kind(DecodeErrorKind::InvalidBool { value: 7 }, Codec::Der),
         28 => DecodeError::from_kind(DecodeErrorKind::ZeroLengthOfLength, Codec::Oer),
-        29 => {
-            let kind = DecodeErrorKind::MismatchedLength {
-                expected: 2,
-                actual: 3,
-            };
-            DecodeError::from_kind(kind, Codec::Oer)
-        }
+        29 => match DecodeError::assert_length(2, 3, Codec::Oer) {
+            // The text of this kind is another one.
+            Ok(()) => DecodeError::unexpected_empty_input(Codec::Oer),
+            Err(error) => error,
+        },
         30 => {
             let class = Class::Context;
             DecodeError::missing_tag_class_or_value_in_sequence_or_set(class, 4, Codec::Ber)
@@ -142,6 +140,12 @@ fn each_kind_of_decoding_has_its_text(rt: HostRuntime) -> Result<(), Fail> {
     Ok(())
 }
 
+/// As many octets as are stated are accepted.
+#[test]
+fn a_length_that_is_stated(rt: HostRuntime) {
+    assert_accepted(&rt, DecodeError::assert_length(2, 2, Codec::Oer));
+}
+
 /// Lists the tags of a CHOICE with one alternative.
 const ALTERNATIVES: &[TagTree] = &[TagTree::Leaf(Tag::BOOL)];
 
@@ -161,16 +165,8 @@ fn an_index_of_no_alternative(rt: HostRuntime) -> Result<(), Fail> {
 
 /// An error within another is printed in full, with its own codec.
 #[test]
-fn errors_within_errors_are_printed_in_full(rt: HostRuntime) -> Result<(), Fail> {
+fn an_error_within_another_is_printed_in_full(rt: HostRuntime) -> Result<(), Fail> {
     let alloc = rt.alloc();
-    let eof = DecodeError::from_kind(DecodeErrorKind::Eof, Codec::Ber);
-    let error = DecodeError::field_error(alloc, "x", eof, Codec::Avn);
-    assert_printed(
-        &rt,
-        alloc,
-        error,
-        "Error when decoding field `x`: Unexpected EOF when decoding (Codec: BER) (Codec: AVN)",
-    )?;
     let eof = DecodeError::from_kind(DecodeErrorKind::Eof, Codec::Ber);
     let error = DecodeError::choice_index_exceeds_platform_width(alloc, 9, eof, Codec::Aper);
     assert_printed(

@@ -1,6 +1,6 @@
 //! Prints the error of encoding of each kind that every codec has, made by its constructor where it
 //! has one.
-use crate::checks::assert_printed;
+use crate::checks::{assert_accepted, assert_printed, assert_refused};
 use asn_core::{Bounded, Codec, Size, WholeNumber};
 use asn_fault::{EncodeError, EncodeErrorKind, PermittedAlphabetError};
 use std::test::Fail;
@@ -95,8 +95,13 @@ fn each_kind_of_encoding_has_its_text(rt: HostRuntime) -> Result<(), Fail> {
 
 /// A length is refused exactly where it is none of the sizes.
 #[test]
-fn lengths_are_checked(rt: HostRuntime) {
+fn lengths_are_checked(rt: HostRuntime) -> Result<(), Fail> {
     let size = SIZE;
-    assert!(rt; EncodeError::check_length(2, &size, Codec::Oer).is_ok());
-    assert!(rt; EncodeError::check_length(1, &size, Codec::Oer).is_err());
+    assert_accepted(&rt, EncodeError::check_length(2, &size, Codec::Oer));
+    assert_refused(
+        &rt,
+        rt.alloc(),
+        EncodeError::check_length(1, &size, Codec::Oer),
+        "Invalid length, expected: 2..MAX; actual: 1 (Codec: OER)",
+    )
 }

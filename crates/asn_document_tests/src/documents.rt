@@ -1,16 +1,24 @@
 //! Calls `Document` and `DocumentMap` directly.
+use asn_codec::CodecCalls;
+use asn_core::Codec;
 use asn_document::{Document, DocumentMap};
 use serde_json::Value;
+use std::process::Abort;
 use std::test::Fail;
+
+/// Returns the value of a JSON text.
+fn value(rt: &impl AllocGlobal, text: &str) -> Result<Value, Fail> {
+    match Value::from_str(rt.alloc(), text) {
+        Ok(value) => Ok(value),
+        Err(_) => Err(Fail::from("no JSON")),
+    }
+}
 
 /// Returns the document of a JSON text.
 pub(crate) fn document(rt: &impl AllocGlobal, text: &str) -> Result<Document, Fail> {
-    match Value::from_str(rt.alloc(), text) {
-        Ok(value) => match Document::from_value(value) {
-            Ok(document) => Ok(document),
-            Err(_) => Err(Fail::from("a float")),
-        },
-        Err(_) => Err(Fail::from("no JSON")),
+    match Document::from_value(value(rt, text)?) {
+        Ok(document) => Ok(document),
+        Err(_) => Err(Fail::from("a float")),
     }
 }
 
@@ -22,20 +30,40 @@ fn a_later_value_replaces_the_earlier(rt: HostRuntime) -> Result<(), Fail> {
     map.insert(String::from_str(rt.alloc(), "a")?, document(&rt, "1")?)?;
     map.insert(String::from_str(rt.alloc(), "a")?, document(&rt, "[2]")?)?;
     assert_eq!(rt; map.len(), 1);
+    assert_eq!(rt;
+        Codec::Jer.encode_to_string(rt.alloc(), &map)?.as_str(),
+        "[{\"key\":\"a\",\"value\":{\"array\":[{\"integer\":2}]}}]"
+    );
     Ok(())
 }
 
-/// A value with a float in it is given back, and one with the greatest `u64` is taken.
+/// Checks that the two are equal, and lets them go where their type is open.
+fn assert_same<T: PartialEq + Drop>(rt: &impl Abort, one: T, other: T) {
+    assert!(rt; one == other);
+}
+
+/// Lists JSON texts with a float.
+const FLOATS: [&str; 2] = ["1.5", "[0,{\"a\":1e3}]"];
+
+/// A value with a float in it is given back as it was.
 #[test]
 fn a_float_is_given_back(rt: HostRuntime) -> Result<(), Fail> {
-    for text in ["1.5", "[0,{\"a\":1e3}]"].iter() {
-        match Value::from_str(rt.alloc(), *text) {
-            Ok(value) => assert!(rt; Document::from_value(value).is_err()),
-            Err(_) => return Err(Fail::from("no JSON")),
+    for &text in &FLOATS {
+        match Document::from_value(value(&rt, text)?) {
+            Ok(_) => return Err(Fail::from("a float is taken")),
+            Err(back) => assert_same(&rt, back, value(&rt, text)?),
         }
     }
-    let whole = document(&rt, "[18446744073709551615]")?;
-    assert!(rt; whole.into_value().is_array());
+    Ok(())
+}
+
+/// A value with the greatest `u64` is taken, and is what the document shows and gives back.
+#[test]
+fn the_greatest_number_is_kept(rt: HostRuntime) -> Result<(), Fail> {
+    const GREATEST: &str = "[18446744073709551615]";
+    let whole = document(&rt, GREATEST)?;
+    assert_same(&rt, whole.value(), &value(&rt, GREATEST)?);
+    assert_same(&rt, whole.into_value(), value(&rt, GREATEST)?);
     Ok(())
 }
 

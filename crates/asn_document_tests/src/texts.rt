@@ -1,10 +1,11 @@
-//! Encodes and decodes `DocumentMap` in both notations. The program has no name for it, since it
-//! is the object of a document by itself: the list of entries alone.
+//! Encodes and decodes `DocumentMap` in both notations, and asks for shapes and tables. The program
+//! has no name for `DocumentMap`, since it is the object of a document by itself: the list of
+//! entries alone.
 use crate::documents::document;
 use asn_codec::CodecCalls;
-use asn_core::Codec;
+use asn_core::{Codec, Tag};
 use asn_document::{Document, DocumentMap};
-use asn_traits::{AsnType, is_readable};
+use asn_traits::{AsnType, Choice, TagTree, is_readable};
 use std::test::Fail;
 
 /// Lists the notations, each with its text of a map of two entries, in byte order of their keys.
@@ -54,4 +55,27 @@ fn the_shapes_are_made(rt: HostRuntime) -> Result<(), Fail> {
     assert!(rt; is_readable(&Document::shape(rt.alloc())?));
     assert!(rt; is_readable(&DocumentMap::shape(rt.alloc())?));
     Ok(())
+}
+
+/// Returns the tag of a tree that is one tag alone.
+fn only_tag(tree: &TagTree) -> Option<Tag> {
+    match tree {
+        TagTree::Leaf(tag) => Some(*tag),
+        TagTree::Choice(..) => None,
+    }
+}
+
+/// No contract names the tables of a CHOICE. Its calls return them, and tie them to its shape: here
+/// both are the same.
+#[test]
+fn tables_are_what_calls_return(rt: HostRuntime) {
+    let (listed, returned) = (Document::VARIANTS, Document::variant_table());
+    assert_eq!(rt; listed.len(), returned.len());
+    for (one, other) in listed.iter().zip(returned) {
+        // Each alternative has one tag.
+        assert!(rt; only_tag(one).is_some() && only_tag(one) == only_tag(other));
+    }
+    assert!(rt; Document::EXTENDED_VARIANTS.is_none());
+    assert!(rt; Document::extended_variant_table().is_none());
+    assert!(rt; Document::IDENTIFIERS == Document::identifier_table());
 }

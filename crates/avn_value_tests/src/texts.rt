@@ -156,13 +156,13 @@ const REFUSED_TEXTS: [(&str, &str); 19] = [
     // A whole value is read, and what follows it is more than white space.
     ("TRUE x", " x"),
     ("1 2", " 2"),
-    // A digit has to follow a minus, and a point.
+    // A digit has to follow a minus.
     ("-", "-"),
     ("- 1", "- 1"),
     // What comes before the fault is a whole value, so the error has what follows it.
     ("1.", "."),
     ("1.2.3", ".3"),
-    // A comma stands between two items, and fields don't mix with values.
+    // A comma stands between two items.
     ("{1,}", "{1,}"),
     ("{,1}", "{,1}"),
     // An item with a name and one without don't stand in one pair of braces.

@@ -145,7 +145,7 @@ fn bits_past_the_length_are_zero_in_a_normal_form(rt: HostRuntime) -> Result<(),
 /// Counts the values of `ill_formed`.
 const ILL_FORMED: usize = 7;
 
-/// Returns a value that no text gives: a number without digits, a real without a fraction, a
+/// Returns a value that no text gives: a number without digits, a real that ends with its point, a
 /// keyword as an item, more or fewer octets than the bits need, and names that are no identifiers.
 fn ill_formed(alloc: Global, place: usize) -> Result<AvnValue, AllocError> {
     match place {

@@ -3,7 +3,7 @@
 //! answer.
 use crate::pieces::{REFUSED, Share, take_pieces_before};
 use asn_base::{Bits, SetOf};
-use asn_codec::transcode;
+use asn_codec::{CodecCalls, transcode};
 use asn_core::{Codec, OutOfMemory};
 use asn_document::{Document, DocumentMap};
 use asn_sample_choices::TestTypeA;
@@ -98,10 +98,32 @@ fn a_document_later(rt: HostRuntime) -> Result<(), Fail> {
     assert_document_due(&rt, rt.alloc(), Share::Second)
 }
 
+/// Lists members as they are put into an object, each with the object's text in JER before. The
+/// first key comes again, with another value.
+const MEMBERS: [(&str, bool, &str); 4] = [
+    ("a", true, "[]"),
+    ("b", true, "[{\"key\":\"a\",\"value\":{\"bool\":true}}]"),
+    (
+        "a",
+        false,
+        "[{\"key\":\"a\",\"value\":{\"bool\":true}},{\"key\":\"b\",\"value\":{\"bool\":true}}]",
+    ),
+    (
+        "c",
+        true,
+        "[{\"key\":\"a\",\"value\":{\"bool\":false}},{\"key\":\"b\",\"value\":{\"bool\":true}}]",
+    ),
+];
+
 /// Puts a member into the object.
-fn put_member(alloc: Global, map: &mut DocumentMap, key: &str) -> Result<(), OutOfMemory> {
+fn put_member(
+    alloc: Global,
+    map: &mut DocumentMap,
+    key: &str,
+    flag: bool,
+) -> Result<(), OutOfMemory> {
     let key = String::from_str(alloc, key)?;
-    match Document::from_value(Value::Bool(true)) {
+    match Document::from_value(Value::Bool(flag)) {
         Ok(value) => map.insert(key, value),
         Err(refused) => {
             let_go(refused);
@@ -110,17 +132,34 @@ fn put_member(alloc: Global, map: &mut DocumentMap, key: &str) -> Result<(), Out
     }
 }
 
-/// Puts four members into the object, of which one comes again.
+/// Checks that the object has this text in JER, or that memory was refused.
+fn assert_object(rt: &impl Abort, alloc: Global, map: &DocumentMap, due: &str) -> Result<(), Fail> {
+    match Codec::Jer.encode_to_string(alloc, map) {
+        Ok(text) => {
+            assert_eq!(rt; text.as_str(), due);
+            Ok(())
+        }
+        Err(error) => {
+            let is_refused = error.is_out_of_memory();
+            let_go(error);
+            assert!(rt; is_refused);
+            Err(Fail::from(REFUSED))
+        }
+    }
+}
+
+/// Puts the members into the object, and checks its text at the end, or where memory is refused.
 fn put_members(rt: &impl Abort, alloc: Global, map: &mut DocumentMap) -> Result<(), Fail> {
-    for key in ["a", "b", "a", "c"] {
-        let before = map.len();
-        if put_member(alloc, map, key).is_err() {
-            assert!(rt; map.len() == before);
+    const DUE: &str = "[{\"key\":\"a\",\"value\":{\"bool\":false}},\
+                       {\"key\":\"b\",\"value\":{\"bool\":true}},\
+                       {\"key\":\"c\",\"value\":{\"bool\":true}}]";
+    for &(key, flag, before) in &MEMBERS {
+        if put_member(alloc, map, key, flag).is_err() {
+            assert_object(rt, alloc, map, before)?;
             return Err(Fail::from(REFUSED));
         }
     }
-    assert!(rt; map.len() == 3);
-    Ok(())
+    assert_object(rt, alloc, map, DUE)
 }
 
 /// An object has the members that it had where one more is refused memory, and a member that comes
@@ -134,21 +173,49 @@ fn an_object_after_a_refusal(rt: HostRuntime) -> Result<(), Fail> {
     checked
 }
 
+/// Lists numbers as they are inserted into a set, each with the elements before.
+const NUMBERS: [(u8, &[u8]); 4] = [(2, &[]), (10, &[2]), (1, &[2, 10]), (2, &[1, 2, 10])];
+
+/// Returns the set of the numbers.
+fn set_of(alloc: Global, numbers: &[u8]) -> Result<SetOf<u8>, OutOfMemory> {
+    SetOf::from_vec(alloc, numbers.to_vec(alloc)?)
+}
+
+/// Checks that the set has these elements, or that memory was refused.
+fn assert_elements(
+    rt: &impl Abort,
+    alloc: Global,
+    set: &SetOf<u8>,
+    due: &[u8],
+) -> Result<(), Fail> {
+    let Ok(other) = set_of(alloc, due) else {
+        return Err(Fail::from(REFUSED));
+    };
+    assert!(rt; *set == other, "{due:?}");
+    Ok(())
+}
+
 /// A set has the elements that it had where one more is refused memory.
 #[test]
 fn a_set_after_a_refusal(rt: HostRuntime) -> Result<(), Fail> {
     take_pieces_before(rt.alloc(), Share::First)?;
     let mut set = SetOf::new(rt.alloc());
-    for number in [2u8, 10, 1, 2] {
-        let before = set.len();
-        assert!(rt; before < 4);
+    for &(number, before) in &NUMBERS {
+        assert!(rt; set.len() < 4);
         if set.insert(number).is_err() {
-            assert_eq!(rt; set.len(), before);
+            assert_elements(&rt, rt.alloc(), &set, before)?;
             return Err(Fail::from(REFUSED));
         }
     }
-    assert_eq!(rt; set.len(), 4);
-    Ok(())
+    assert_elements(&rt, rt.alloc(), &set, &[1, 2, 2, 10])
+}
+
+/// Checks that there are as many bits, of which the first and each third after it are set.
+fn assert_thirds(rt: &impl Abort, bits: &Bits, count: usize) {
+    assert_eq!(rt; bits.len(), count);
+    for place in 0..count {
+        assert!(rt; bits.get(place) == Some(place % 3 == 0), "bit {place}");
+    }
 }
 
 /// A bit string has the bits that it had where one more is refused memory.
@@ -158,12 +225,13 @@ fn bits_after_a_refusal(rt: HostRuntime) -> Result<(), Fail> {
     let mut bits = Bits::new(rt.alloc());
     for place in 0..20 {
         assert!(rt; bits.len() < 20);
-        if bits.push(true).is_err() {
-            assert_eq!(rt; bits.len(), place);
+        if bits.push(place % 3 == 0).is_err() {
+            assert_thirds(&rt, &bits, place);
             return Err(Fail::from(REFUSED));
         }
     }
-    assert_eq!(rt; bits.len(), 20);
+    assert_thirds(&rt, &bits, 20);
+    assert_eq!(rt; bits.octets(), [0x92, 0x49, 0x20].as_slice());
     Ok(())
 }
 

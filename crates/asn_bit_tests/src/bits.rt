@@ -56,7 +56,7 @@ fn decoded<T: Decode>(alloc: Global, value: AvnValue) -> Result<T, DecodeError> 
     T::decode(&mut decoder)
 }
 
-/// Bits beyond the octets that there are count for none.
+/// Bits beyond the octets that there are count for none: eight bits are read.
 #[test]
 fn fewer_octets_than_the_bits_need(rt: HostRuntime) -> Result<(), Fail> {
     let bytes = Vec::from_slice(rt.alloc(), [0xA0].as_slice())?;
@@ -64,7 +64,9 @@ fn fewer_octets_than_the_bits_need(rt: HostRuntime) -> Result<(), Fail> {
         bytes,
         bit_length: 20,
     };
-    assert_eq!(rt; decoded::<Bits>(rt.alloc(), short)?.len(), 8);
+    let bits = decoded::<Bits>(rt.alloc(), short)?;
+    assert_eq!(rt; bits.len(), 8);
+    assert_eq!(rt; bits.octets(), [0xA0].as_slice());
     Ok(())
 }
 

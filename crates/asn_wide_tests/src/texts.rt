@@ -1,7 +1,9 @@
-//! Converts texts of a SEQUENCE of nine fields.
+//! Converts texts of a SEQUENCE of nine fields, and of a SET with an extension marker.
+use crate::growing_set::GrowingSet;
 use crate::wide::Wide;
 use asn_base::Codec;
 use asn_codec::{CodecCalls, transcode};
+use asn_traits::{Decode, Encode};
 use std::alloc::{AllocError, Global};
 use std::test::Fail;
 
@@ -51,19 +53,77 @@ const CONVERTED: [(Codec, Codec, &'static str, &'static str); 5] = [
     ),
 ];
 
-/// Returns what the text is converted to, or the text of the error.
-fn converted(alloc: Global, from: Codec, to: Codec, input: &str) -> Result<String, AllocError> {
-    match transcode::<Wide>(alloc, from, to, input) {
+/// Lists the same of a SET with an extension marker. Its fields and its addition stand in any order
+/// in a text, and a member of another name is dropped. AVN writes the fields as they are declared,
+/// and not by their tags, and the addition last.
+const GROWING: [(Codec, Codec, &'static str, &'static str); 6] = [
+    (
+        Codec::Jer,
+        Codec::Avn,
+        "{\"note\":\"n\",\"extra\":true,\"mark\":2}",
+        "{\n  mark 2,\n  note \"n\",\n  extra TRUE\n}",
+    ),
+    (
+        Codec::Avn,
+        Codec::Jer,
+        "{extra FALSE, note \"n\", mark -2}",
+        "{\"extra\":false,\"mark\":-2,\"note\":\"n\"}",
+    ),
+    // The addition is absent, as in a text of an older version.
+    (
+        Codec::Jer,
+        Codec::Avn,
+        "{\"mark\":2,\"note\":\"n\"}",
+        "{\n  mark 2,\n  note \"n\"\n}",
+    ),
+    // An addition that this version lacks is dropped, and the text has none after that.
+    (Codec::Avn, Codec::Jer, "{other 1, mark 2}", "{\"mark\":2}"),
+    // Of two fields that are refused the one with the smaller tag counts, whatever their order.
+    (
+        Codec::Jer,
+        Codec::Avn,
+        "{\"mark\":true,\"note\":3}",
+        "Error when decoding field `note`: JER decoding error: Found mismatching JSON value. \
+        Expected type: string. Found value: 3 (Codec: JER) (Codec: JER)",
+    ),
+    // The addition is refused under its name.
+    (
+        Codec::Jer,
+        Codec::Avn,
+        "{\"extra\":1,\"mark\":2}",
+        "Error when decoding field `extra`: JER decoding error: Found mismatching JSON value. \
+        Expected type: boolean. Found value: 1 (Codec: JER) (Codec: JER)",
+    ),
+];
+
+/// Returns what a text of the type is converted to, or the text of the error.
+fn converted<T: Encode + Decode>(
+    alloc: Global,
+    from: Codec,
+    to: Codec,
+    input: &str,
+) -> Result<String, AllocError> {
+    match transcode::<T>(alloc, from, to, input) {
         Ok(text) => Ok(text),
         Err(error) => error.to_string(alloc),
     }
 }
 
-/// Each text is converted, or refused.
+/// Each text of the SEQUENCE is converted, or refused.
 #[test]
 fn texts_are_converted(rt: HostRuntime) -> Result<(), Fail> {
     for &(from, to, input, want) in &CONVERTED {
-        let text = converted(rt.alloc(), from, to, input)?;
+        let text = converted::<Wide>(rt.alloc(), from, to, input)?;
+        assert_eq!(rt; text.as_str(), want);
+    }
+    Ok(())
+}
+
+/// Each text of the SET is converted, or refused.
+#[test]
+fn texts_of_a_growing_set_are_converted(rt: HostRuntime) -> Result<(), Fail> {
+    for &(from, to, input, want) in &GROWING {
+        let text = converted::<GrowingSet>(rt.alloc(), from, to, input)?;
         assert_eq!(rt; text.as_str(), want);
     }
     Ok(())
@@ -75,6 +135,12 @@ fn fields_are_in_their_groups(rt: HostRuntime) -> Result<(), Fail> {
     let wide: Wide = Codec::Jer.decode_from_str(rt.alloc(), ALL_IN_JER)?;
     assert_eq!(rt; wide.names.family.as_str(), "Roe");
     assert_eq!(rt; wide.names.given.as_str(), "Ann");
+    assert!(rt;
+        wide.names
+            .nick
+            .as_ref()
+            .is_some_and(|nick| nick.as_str() == "A")
+    );
     assert_eq!(rt; wide.rest.numbers.age, 41);
     assert_eq!(rt; wide.rest.numbers.code, -7);
     assert_eq!(rt; wide.rest.numbers.size, Some(3));

@@ -1,6 +1,7 @@
 //! Encodes values of each kind as the text that they have in the value notation, and decodes them
 //! from it. The texts are written by the rules of X.680, in the layout of the crate `rasn`.
 use crate::checks::{assert_text, avn_text, avn_value, is_refused};
+use asn_base::OctetString;
 use asn_traits::{Decode, Encode};
 use avn_rules::avn;
 use std::alloc::{AllocError, Global};
@@ -44,11 +45,18 @@ fn numbers_are_their_texts(rt: HostRuntime) -> Result<(), Fail> {
     )
 }
 
-/// A quote in a text is written twice.
+/// A quote in a text is written twice, beside a character of two bytes too. Two quotes at the end
+/// are one quote of the text, so that text isn't closed.
+/// The texts follow from the rule of doubled quotes (X.680, section 12).
 #[test]
 fn quotes_are_doubled(rt: HostRuntime) -> Result<(), Fail> {
-    let said = String::from_str(rt.alloc(), "say \"hi\"")?;
-    is_text_of(&rt, rt.alloc(), said, "\"say \"\"hi\"\"\"")
+    let alloc = rt.alloc();
+    let said = String::from_str(alloc, "say \"hi\"")?;
+    is_text_of(&rt, alloc, said, "\"say \"\"hi\"\"\"")?;
+    let accent = String::from_str(alloc, "a\"\u{e9}b\"")?;
+    is_text_of(&rt, alloc, accent, "\"a\"\"\u{e9}b\"\"\"")?;
+    assert!(rt; is_refused(avn::decode::<String>(alloc, "\"a\"\"")));
+    Ok(())
 }
 
 /// An empty list is written on one line, and others with a line for each element.
@@ -60,34 +68,38 @@ fn lists_are_their_texts(rt: HostRuntime) -> Result<(), Fail> {
     is_text_of(&rt, rt.alloc(), two, "{\n  1,\n  2\n}")
 }
 
-/// Returns a number of letters, with these texts before and after them.
-fn letters(alloc: Global, count: usize, before: &str, after: &str) -> Result<String, AllocError> {
-    let mut text = String::from_str(alloc, before)?;
-    for _ in 0..count {
-        text.push('a')?;
+/// Lists octets that come again and again in a long value, each with its digits. They are three, so
+/// that the octets before and after 256 of them differ.
+const CYCLE: [(u8, &'static str); 3] = [(0x01, "01"), (0x2F, "2F"), (0xA5, "A5")];
+
+/// Returns so many octets, in turn those of the list.
+fn long_octets(alloc: Global, count: usize) -> Result<OctetString, AllocError> {
+    let mut octets = Vec::new(alloc);
+    for (octet, _digits) in CYCLE.iter().cycle().take(count) {
+        octets.push(*octet)?;
     }
-    text.push_str(after)?;
+    Ok(OctetString::from_vec(octets))
+}
+
+/// Returns the text of so many octets: two digits for each, between apostrophes.
+fn long_digits(alloc: Global, count: usize) -> Result<String, AllocError> {
+    let mut text = String::from_str(alloc, "'")?;
+    for (_octet, digits) in CYCLE.iter().cycle().take(count) {
+        text.push_str(digits)?;
+    }
+    text.push_str("'H")?;
     Ok(text)
 }
 
-/// Checks a text of a number of letters before an open quote, and one of as many before a doubled
-/// quote and a character of two bytes.
-fn assert_long_text(rt: &impl Abort, alloc: Global, count: usize) -> Result<(), Fail> {
-    // Two quotes at the end are one quote of the text, so the text isn't closed.
-    let open = letters(alloc, count, "\"", "\"\"")?;
-    assert!(rt; is_refused(avn::decode::<String>(alloc, open.as_str())));
-    let text = letters(alloc, count, "\"", "\"\"\u{e9}b\"\"\"")?;
-    let value = letters(alloc, count, "", "\"\u{e9}b\"")?;
-    is_text_of(rt, alloc, value, text.as_str())
-}
-
-/// A text is read in pieces of 256 characters. Around that length, an open quote, a doubled one
-/// and a character of two bytes after 250 to 259 letters are read as in any other place.
-/// The texts follow from the rule of doubled quotes (X.680, section 12).
+/// Digits are read and printed for 256 octets together. Around that number, and after two times so
+/// many, octets have their texts as elsewhere, both ways.
+/// The texts follow from X.680, section 23.
 #[test]
-fn long_texts_are_read_whole(rt: HostRuntime) -> Result<(), Fail> {
-    for count in 250..260 {
-        assert_long_text(&rt, rt.alloc(), count)?;
+fn long_octets_are_their_texts(rt: HostRuntime) -> Result<(), Fail> {
+    let alloc = rt.alloc();
+    for &count in &[255, 256, 257, 513] {
+        let text = long_digits(alloc, count)?;
+        is_text_of(&rt, alloc, long_octets(alloc, count)?, text.as_str())?;
     }
     Ok(())
 }

@@ -3,9 +3,11 @@
 use crate::checks::{assert_refused, assert_text, kept, let_go};
 use asn_base::{Codec, Constraints, Identifier, Scan, Tag};
 use asn_codec::CodecCalls;
-use asn_traits::{Decoder, Encoder};
+use asn_traits::{Decoder, Encode, Encoder};
 use avn_rules::avn::{de, enc};
 use avn_value::{AvnValue, NodeTable};
+use std::alloc::{AllocError, Global};
+use std::fmt::Display;
 use std::test::Fail;
 
 /// Lists codecs, each with the error of encoding a value as text by it. The texts are those of the
@@ -52,16 +54,21 @@ fn other_codecs_decode_no_text(rt: HostRuntime) -> Result<(), Fail> {
     )
 }
 
-/// An encoder of AVN that was given nothing has no text.
-/// The error's text is that of the crate `rasn`.
+/// Is the error of an encoder of AVN that was given nothing, as that of the crate `rasn`.
+const NOTHING: &str = "AVN encoding error: No encoded AVN root value found (Codec: AVN)";
+
+/// An encoder of AVN that was given nothing has no text. The call consumes the encoder.
 #[test]
 fn nothing_stands_at_the_root_of_avn_at_first(rt: HostRuntime) -> Result<(), Fail> {
-    assert_refused(
-        &rt,
-        rt.alloc(),
-        enc::Encoder::new(rt.alloc()).to_string(),
-        "AVN encoding error: No encoded AVN root value found (Codec: AVN)",
-    )
+    let none = enc::Encoder::new(rt.alloc()).to_string();
+    assert_refused(&rt, rt.alloc(), none, NOTHING)
+}
+
+/// An encoder of AVN that was given nothing has no AVN value. The call consumes the encoder.
+#[test]
+fn no_value_stands_at_the_root_of_avn_at_first(rt: HostRuntime) -> Result<(), Fail> {
+    let none = enc::Encoder::new(rt.alloc()).to_avn();
+    assert_refused(&rt, rt.alloc(), none, NOTHING)
 }
 
 /// An encoder of AVN that was given a value has its text.
@@ -71,6 +78,23 @@ fn shows_what_stands_at_the_root_of_avn(rt: HostRuntime) -> Result<(), Fail> {
     let written = encoder.encode_bool(Tag::BOOL, true, Identifier::EMPTY);
     let text = kept(encoder, written)?.to_string()?;
     assert_text(&rt, text.as_str(), "TRUE");
+    Ok(())
+}
+
+/// Returns what the value prints, and lets it go.
+fn printed<T: Display + Drop>(alloc: Global, value: T) -> Result<String, AllocError> {
+    value.to_string(alloc)
+}
+
+/// An encoder of AVN that was given a list has its AVN value.
+#[test]
+fn has_the_value_at_the_root_of_avn(rt: HostRuntime) -> Result<(), Fail> {
+    let two = [1u8, 2].to_vec(rt.alloc())?;
+    let mut encoder = enc::Encoder::new(rt.alloc());
+    let written = two.encode(&mut encoder);
+    let value = kept(encoder, written)?.to_avn()?;
+    let text = printed(rt.alloc(), value)?;
+    assert_text(&rt, text.as_str(), "{\n  1,\n  2\n}");
     Ok(())
 }
 

@@ -24,6 +24,7 @@ fn numbers_through_a_type(rt: HostRuntime) {
     // -128 is the least number of `i8`, and 127 the greatest.
     assert_through::<i8>(&rt, true, 128, Some((true, 128)));
     assert_through::<i8>(&rt, true, 129, None);
+    assert_through::<i8>(&rt, false, 127, Some((false, 127)));
     assert_through::<i8>(&rt, false, 128, None);
     // A negative zero is zero.
     assert_through::<i8>(&rt, true, 0, Some((false, 0)));

@@ -1,7 +1,8 @@
 //! Calls JER directly: the edges of its numbers, shapes of types, and an encoder without a value.
 use crate::checks::{assert_refused, assert_text, jer_text, kept, let_go};
-use asn_base::{Identifier, Tag};
-use asn_traits::{AsnType, Encoder, Shape};
+use asn_base::{Bits, Identifier, Tag};
+use asn_fields::FieldShapes;
+use asn_traits::{AsnType, Encode, Encoder, Shape, is_readable};
 use jer_rules::jer::{enc, encode};
 use std::alloc::Global;
 use std::test::Fail;
@@ -64,6 +65,60 @@ fn gives_the_shape_of_a_list(rt: HostRuntime) -> Result<(), Fail> {
     Ok(())
 }
 
+/// Returns the fields of the root: one that has to be present.
+fn root_fields(alloc: Global) -> Result<FieldShapes, Fail> {
+    let mut root = FieldShapes::new(alloc);
+    let done = root.required::<u8>("id", Tag::CONTEXT_0);
+    kept(root, done)
+}
+
+/// Returns the fields after the marker. An addition's tag goes on from that of the last root field.
+fn added_fields(alloc: Global) -> Result<FieldShapes, Fail> {
+    let mut added = FieldShapes::new(alloc);
+    let done = added.optional::<String>("note", Tag::CONTEXT_1);
+    kept(added, done)
+}
+
+/// Returns the shape of a SEQUENCE that has an extension addition.
+fn extensible(alloc: Global) -> Result<Shape, Fail> {
+    let root = root_fields(alloc)?;
+    match added_fields(alloc) {
+        Ok(added) => Ok(root.extensible_sequence(added)),
+        Err(fail) => {
+            let_go(root);
+            Err(fail)
+        }
+    }
+}
+
+/// Returns whether the shape has one field of the root and one after the marker, of these names.
+fn has_fields(shape: &Shape, root: &str, added: &str) -> bool {
+    match shape {
+        Shape::Seq {
+            fields,
+            added: Some(additions),
+            ..
+        } => match (fields.as_slice(), additions.as_slice()) {
+            ([field], [addition]) => {
+                field.name.as_str() == root && addition.name.as_str() == added
+            }
+            _ => false,
+        },
+        _ => false,
+    }
+}
+
+/// A shape with an extension addition can be put together and read: it has the fields of the root
+/// and those after the marker apart.
+#[test]
+fn a_sequence_with_an_extension_addition(rt: HostRuntime) -> Result<(), Fail> {
+    let shape = extensible(rt.alloc())?;
+    let is_found = is_readable(&shape) && has_fields(&shape, "id", "note");
+    let_go(shape);
+    assert!(rt; is_found);
+    Ok(())
+}
+
 /// Is the error of an encoder of JER that was given nothing, as that of the crate `rasn`.
 const NOTHING: &str = "JER encoding error: No encoded JSON root value found (Codec: JER)";
 
@@ -97,5 +152,26 @@ fn shows_what_stands_at_the_root(rt: HostRuntime) -> Result<(), Fail> {
     let is_true = value.as_bool() == Some(true);
     let_go(value);
     assert!(rt; is_true);
+    Ok(())
+}
+
+/// Returns an encoder of JER that was given a list of one bit string, of three bits.
+fn encoder_of_bits(alloc: Global) -> Result<enc::Encoder, Fail> {
+    let octets = Vec::from_slice(alloc, [0xA0].as_slice())?;
+    let list = Vec::from_array(alloc, [Bits::from_first_bits(octets, 3)])?;
+    let mut encoder = enc::Encoder::new(alloc);
+    let written = list.encode(&mut encoder);
+    let_go(list);
+    kept(encoder, written)
+}
+
+/// The JSON value of a list of bit strings holds a list, an object, a number and a text.
+#[test]
+fn has_the_value_at_the_root(rt: HostRuntime) -> Result<(), Fail> {
+    let value = encoder_of_bits(rt.alloc())?.to_json()?;
+    let text = value.to_string(rt.alloc());
+    let_go(value);
+    // Bits are written as X.697 has them: their number, and their octets in hexadecimal digits.
+    assert_text(&rt, text?.as_str(), "[{\"length\":3,\"value\":\"A0\"}]");
     Ok(())
 }

@@ -18,6 +18,8 @@ mod integers;
 #[cfg(test)]
 mod json;
 #[cfg(test)]
+mod named_calls;
+#[cfg(test)]
 mod octets;
 #[cfg(test)]
 mod texts;

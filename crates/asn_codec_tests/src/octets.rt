@@ -1,10 +1,8 @@
-//! Encodes and decodes OCTET STRING in both notations, and makes the shape of a SEQUENCE that has
-//! an extension addition. The forms are those of X.697 and X.680, section 23.
-use crate::checks::{assert_refused, assert_text, avn_text, jer_text, kept, let_go};
-use asn_base::{OctetString, Tag};
+//! Encodes and decodes OCTET STRING in both notations. The forms are those of X.697 and X.680,
+//! section 23.
+use crate::checks::{assert_refused, assert_text, avn_text, jer_text};
+use asn_base::OctetString;
 use asn_fault::DecodeError;
-use asn_fields::FieldShapes;
-use asn_traits::{Shape, is_readable};
 use avn_rules::avn;
 use jer_rules::jer;
 use std::alloc::Global;
@@ -74,54 +72,5 @@ fn what_is_no_octets_is_refused(rt: HostRuntime) -> Result<(), Fail> {
         let read = read_octets(rt.alloc(), row.0, row.1);
         assert_refused(&rt, rt.alloc(), read, row.2)?;
     }
-    Ok(())
-}
-
-/// Returns the fields of the root: one that has to be present.
-fn root_fields(alloc: Global) -> Result<FieldShapes, Fail> {
-    let mut root = FieldShapes::new(alloc);
-    let done = root.required::<u8>("id", Tag::CONTEXT_0);
-    kept(root, done)
-}
-
-/// Returns the fields after the marker. An addition's tag goes on from that of the last root field.
-fn added_fields(alloc: Global) -> Result<FieldShapes, Fail> {
-    let mut added = FieldShapes::new(alloc);
-    let done = added.optional::<String>("note", Tag::CONTEXT_1);
-    kept(added, done)
-}
-
-/// Returns the shape of a SEQUENCE that has an extension addition.
-fn extensible(alloc: Global) -> Result<Shape, Fail> {
-    let root = root_fields(alloc)?;
-    match added_fields(alloc) {
-        Ok(added) => Ok(root.extensible_sequence(added)),
-        Err(fail) => {
-            let_go(root);
-            Err(fail)
-        }
-    }
-}
-
-/// Counts the fields of the root and those after the marker.
-fn count_fields(shape: &Shape) -> (usize, usize) {
-    match shape {
-        Shape::Seq {
-            fields,
-            added: Some(added),
-            ..
-        } => (fields.len(), added.len()),
-        _ => (0, 0),
-    }
-}
-
-/// A shape with an extension addition can be put together and read: it has the fields of the root
-/// and those after the marker apart.
-#[test]
-fn a_sequence_with_an_extension_addition(rt: HostRuntime) -> Result<(), Fail> {
-    let shape = extensible(rt.alloc())?;
-    let is_found = is_readable(&shape) && count_fields(&shape) == (1, 1);
-    let_go(shape);
-    assert!(rt; is_found);
     Ok(())
 }

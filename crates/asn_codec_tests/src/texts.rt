@@ -1,9 +1,9 @@
-//! Tests values that have no text in one of the notations, and calls that always refuse.
+//! Tests values that have a text in neither notation, and calls that always refuse.
 use crate::checks::{assert_refused, assert_text, avn_text, let_go};
 use asn_base::{Constraints, Identifier, Tag};
 use asn_fault::{DecodeError, EncodeError};
 use asn_strings::{BmpString, GeneralString, GraphicString, TeletexString};
-use asn_times::{Date, UtcTime};
+use asn_times::{Date, GeneralizedTime, UtcTime};
 use asn_traits::{Decoder, Encode, Encoder};
 use avn_rules::avn;
 use avn_value::AvnValue;
@@ -27,9 +27,11 @@ fn assert_unwritten<T: Encode>(
     assert_refused(rt, alloc, avn::encode(alloc, value), in_avn)
 }
 
+/// Is the error of AVN for what isn't Unicode, as that of the crate `rasn`.
 const NO_UTF8: &str = "AVN encoding error: Error in AVN encoder: Invalid UTF-8 (Codec: AVN)";
 
-// Octets that aren't UTF-8, and how many of them come before the first that begins no character.
+/// Lists octets that aren't UTF-8, each with the error of JER, which says how many of them come
+/// before the first that begins no character.
 const OCTETS: [(&'static [u8], &'static str); 3] = [
     (
         b"\xFF",
@@ -69,6 +71,7 @@ fn assert_graphic_unwritten(
     }
 }
 
+/// Strings of octets that aren't UTF-8 are written in neither notation.
 #[test]
 fn octets_that_are_not_utf8_are_not_written(rt: HostRuntime) -> Result<(), Fail> {
     for row in OCTETS.iter() {
@@ -78,6 +81,7 @@ fn octets_that_are_not_utf8_are_not_written(rt: HostRuntime) -> Result<(), Fail>
     Ok(())
 }
 
+/// A pair of surrogates is no character of a BMPString, and is written in neither notation.
 #[test]
 fn surrogates_are_not_written(rt: HostRuntime) -> Result<(), Fail> {
     let alloc = rt.alloc();
@@ -86,6 +90,7 @@ fn surrogates_are_not_written(rt: HostRuntime) -> Result<(), Fail> {
     assert_unwritten(&rt, alloc, &pair, after, NO_UTF8)
 }
 
+/// The units next to the surrogates, and the last one, are written.
 #[test]
 fn units_beside_the_surrogates_are_written(rt: HostRuntime) -> Result<(), Fail> {
     let alloc = rt.alloc();
@@ -95,18 +100,24 @@ fn units_beside_the_surrogates_are_written(rt: HostRuntime) -> Result<(), Fail> 
     Ok(())
 }
 
+/// Is the error of JER for a year that the text of a time has no room for.
 const YEARS_IN_JER: &str = "Custom error: time outside the years of its text (Codec: JER)";
 
+/// Is the error of AVN for such a year.
 const YEARS_IN_AVN: &str = "Custom error: time outside the years of its text (Codec: AVN)";
 
+/// A date before the year 0 is written in neither notation.
 #[test]
 fn dates_outside_the_years_of_their_text_are_not_written(rt: HostRuntime) -> Result<(), Fail> {
     let day = Date::new(civil::Date::new(-1, 12, 31)?);
     assert_unwritten(&rt, rt.alloc(), &day, YEARS_IN_JER, YEARS_IN_AVN)
 }
 
+/// A GeneralizedTime before the year 0, and a UTCTime before 1950, are written in neither notation.
 #[test]
 fn times_outside_the_years_of_their_text_are_not_written(rt: HostRuntime) -> Result<(), Fail> {
+    let moment = GeneralizedTime::new(civil::DateTime::new(-1, 12, 31, 23, 59, 59, 0)?);
+    assert_unwritten(&rt, rt.alloc(), &moment, YEARS_IN_JER, YEARS_IN_AVN)?;
     match UtcTime::new(civil::DateTime::new(1949, 12, 31, 23, 59, 59, 0)?) {
         Some(early) => assert_unwritten(&rt, rt.alloc(), &early, YEARS_IN_JER, YEARS_IN_AVN),
         None => Err(Fail::from("no UTCTime")),
@@ -143,7 +154,7 @@ fn read_refused<D: Decoder>(decoder: &mut D, real: bool) -> Result<(), DecodeErr
     }
 }
 
-// Whether it is a REAL, and the errors of writing and of reading it, without the codec.
+/// Lists whether it is a REAL, and the errors of writing and of reading it, without the codec.
 const REFUSED: [(bool, &'static str, &'static str); 2] = [
     (
         false,
@@ -193,6 +204,7 @@ fn assert_refused_by<E: Display + Drop>(
     assert_refused(rt, alloc, answer, want.as_str())
 }
 
+/// Neither notation writes a TeletexString or a REAL.
 #[test]
 fn teletex_strings_and_reals_are_never_written(rt: HostRuntime) -> Result<(), Fail> {
     let alloc = rt.alloc();
@@ -206,7 +218,7 @@ fn teletex_strings_and_reals_are_never_written(rt: HostRuntime) -> Result<(), Fa
     Ok(())
 }
 
-/// Checks that neither is read in JER.
+/// Checks that a TeletexString, or a REAL, isn't read in JER.
 fn assert_unread_in_jer(
     rt: &impl Abort,
     alloc: Global,
@@ -227,7 +239,7 @@ fn read_null_and_refused<D: Decoder>(decoder: &mut D, real: bool) -> Result<(), 
     }
 }
 
-/// Checks that neither is read in AVN, where a value was read before.
+/// Checks that a TeletexString, or a REAL, isn't read in AVN, where a value was read before.
 fn assert_unread_in_avn(
     rt: &impl Abort,
     alloc: Global,
@@ -240,6 +252,7 @@ fn assert_unread_in_avn(
     assert_refused_by(rt, alloc, read, text, "AVN")
 }
 
+/// Neither notation reads a TeletexString or a REAL.
 #[test]
 fn teletex_strings_and_reals_are_never_read(rt: HostRuntime) -> Result<(), Fail> {
     for row in REFUSED.iter() {

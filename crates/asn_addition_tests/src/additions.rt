@@ -1,20 +1,14 @@
 //! Calls both codecs directly by each call for an extension addition. Such a call gives what the
 //! plain call of the type gives, and a group is one field.
-use asn_base::{Class, Constraints, Identifier, Tag};
+use asn_base::{Constraints, Identifier, Tag};
 use asn_fault::{DecodeError, EncodeError};
 use asn_sample_fields::Struct;
-use asn_traits::{Decoder, Encoder};
+use asn_traits::{Decoder, Encoder, Field, SeqKind, optional};
 use avn_rules::avn;
 use avn_value::{AvnValue, parse_avn};
 use jer_rules::jer;
 use serde_json::Value;
 use std::test::Fail;
-
-/// Is the tag `[9]`, which no sample type has.
-const NINE: Tag = Tag {
-    class: Class::Context,
-    value: 9,
-};
 
 /// Lists what each call of `write_addition` puts at the root, in JER and in AVN. The last one
 /// leaves the group out, and an encoder without a value has the error of the crate `rasn`.
@@ -34,7 +28,7 @@ fn write_addition<E: Encoder>(encoder: &mut E, call: usize) -> Result<(), Encode
     match call {
         0 => encoder.encode_extension_addition_group::<Struct>(Some(&group), Identifier::EMPTY),
         1 => encoder.encode_extension_addition::<u8>(
-            NINE,
+            Tag::CONTEXT_9,
             &Constraints::NONE,
             &five,
             Identifier::EMPTY,
@@ -73,11 +67,11 @@ fn read_addition<D: Decoder>(decoder: &mut D, call: usize) -> Result<Option<u8>,
             Ok(group.and_then(|group| group.strct))
         }
         1 => decoder.decode_extension_addition_with_explicit_tag_and_constraints::<u8>(
-            NINE,
+            Tag::CONTEXT_9,
             &Constraints::NONE,
         ),
         _ => decoder.decode_extension_addition_with_tag_and_constraints::<u8>(
-            NINE,
+            Tag::CONTEXT_9,
             &Constraints::NONE,
         ),
     }
@@ -100,6 +94,31 @@ fn each_reading_call_takes_the_addition(rt: HostRuntime) -> Result<(), Fail> {
         let tree = parse_avn(rt.alloc(), *text)?;
         let mut decoder = avn::de::Decoder::from_value(rt.alloc(), tree)?;
         assert_eq!(rt; read_addition(&mut decoder, call)?, Some(*number));
+    }
+    Ok(())
+}
+
+/// Lists the one field of a SEQUENCE, which may be absent.
+const SLOT: &'static [Field] = &[optional!(0, Tag::CONTEXT_9, "a")];
+
+/// Decodes the field of a SEQUENCE by the call of that number.
+fn read_slot<D: Decoder>(decoder: &mut D, call: usize) -> Result<Option<u8>, DecodeError> {
+    match decoder.open_members(SeqKind::Sequence, SLOT, &[]) {
+        Ok(()) => read_addition(decoder, call),
+        Err(error) => Err(error),
+    }
+}
+
+/// Each call finds an absent addition absent, in both notations.
+#[test]
+fn each_reading_call_finds_no_addition(rt: HostRuntime) -> Result<(), Fail> {
+    for call in 0..READ.len() {
+        let tree = Value::from_str(rt.alloc(), "{}")?;
+        let mut decoder = jer::de::Decoder::from_value(rt.alloc(), tree)?;
+        assert_eq!(rt; read_slot(&mut decoder, call)?, None);
+        let tree = parse_avn(rt.alloc(), "{}")?;
+        let mut decoder = avn::de::Decoder::from_value(rt.alloc(), tree)?;
+        assert_eq!(rt; read_slot(&mut decoder, call)?, None);
     }
     Ok(())
 }

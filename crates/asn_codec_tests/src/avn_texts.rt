@@ -68,8 +68,8 @@ fn lists_are_their_texts(rt: HostRuntime) -> Result<(), Fail> {
     is_text_of(&rt, rt.alloc(), two, "{\n  1,\n  2\n}")
 }
 
-/// Lists octets that come again and again in a long value, each with its digits. They are three, so
-/// that the octets before and after 256 of them differ.
+/// Lists octets that come again and again in a long value, each with its digits. They are three,
+/// so that the octets before and after 256 of them differ.
 const CYCLE: [(u8, &'static str); 3] = [(0x01, "01"), (0x2F, "2F"), (0xA5, "A5")];
 
 /// Returns so many octets, in turn those of the list.

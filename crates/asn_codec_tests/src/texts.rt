@@ -113,7 +113,7 @@ fn dates_outside_the_years_of_their_text_are_not_written(rt: HostRuntime) -> Res
     assert_unwritten(&rt, rt.alloc(), &day, YEARS_IN_JER, YEARS_IN_AVN)
 }
 
-/// A GeneralizedTime before the year 0, and a UTCTime before 1950, are written in neither notation.
+/// A GeneralizedTime before the year 0, or a UTCTime before 1950, is written in neither notation.
 #[test]
 fn times_outside_the_years_of_their_text_are_not_written(rt: HostRuntime) -> Result<(), Fail> {
     let moment = GeneralizedTime::new(civil::DateTime::new(-1, 12, 31, 23, 59, 59, 0)?);

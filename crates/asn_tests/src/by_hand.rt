@@ -52,7 +52,13 @@ fn a_set_is_read_field_by_field(rt: HostRuntime) -> Result<(), Fail> {
 #[test]
 fn the_member_with_the_smaller_tag_is_named(rt: HostRuntime) -> Result<(), Fail> {
     let set = set_of_jer(rt.alloc(), "{\"mark\":true,\"note\":3}");
-    assert_refused(&rt, rt.alloc(), set, "Error when decoding field `note`")
+    assert_refused(
+        &rt,
+        rt.alloc(),
+        set,
+        "Error when decoding field `note`: JER decoding error: Found mismatching JSON value. \
+        Expected type: string. Found value: 3 (Codec: JER) (Codec: JER)",
+    )
 }
 
 /// Decodes a sequence from JER by hand.

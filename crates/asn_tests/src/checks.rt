@@ -15,8 +15,25 @@ pub fn kept<T: Drop, E: Debug + Drop>(value: T, done: Result<(), E>) -> Result<T
     Ok(value)
 }
 
-/// Checks that there is an error, whose text begins with this one.
+/// Checks that there is an error, which prints this text.
 pub fn assert_refused<T: Drop, E: Display + Drop>(
+    rt: &impl Abort,
+    alloc: Global,
+    answer: Result<T, E>,
+    want: &str,
+) -> Result<(), Fail> {
+    match answer {
+        Ok(_) => Err(Fail::from("no error")),
+        Err(error) => {
+            let text = error.to_string(alloc)?;
+            assert_eq!(rt; text.as_str(), want);
+            Ok(())
+        }
+    }
+}
+
+/// Checks that there is an error, whose text begins with this one.
+pub fn assert_refused_with<T: Drop, E: Display + Drop>(
     rt: &impl Abort,
     alloc: Global,
     answer: Result<T, E>,

@@ -119,8 +119,8 @@ fn assert_sample(rt: &impl Abort, alloc: Global, name: &str, tag: Tag) -> Result
     }
 }
 
-/// A name leads to its own type: the visitor finds the tag of that type, whose shape can be read.
-/// The tags are the universal ones of X.680, section 8.
+/// A name leads to a type of its tag, whose shape can be read; that it is the type of the sample's
+/// shape is the contract of `accept`. The tags are the universal ones of X.680, section 8.
 #[test]
 fn a_visitor_is_run_at_the_type_of_the_name(rt: HostRuntime) -> Result<(), Fail> {
     for row in TAGS.iter() {

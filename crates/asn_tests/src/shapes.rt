@@ -64,6 +64,25 @@ fn identifiers_alike(alloc: Global) -> Result<Shape, Fail> {
     Ok(choice(Vec::from_array(alloc, both)?))
 }
 
+/// Returns the CHOICE of two alternatives of one tag.
+fn tag_twice(alloc: Global) -> Result<Shape, Fail> {
+    let first = String::from_str(alloc, "a")?;
+    let second = String::from_str(alloc, "b")?;
+    let both = [
+        alternative(first, Class::Context, 0),
+        alternative(second, Class::Context, 0),
+    ];
+    Ok(choice(Vec::from_array(alloc, both)?))
+}
+
+/// Returns the ENUMERATED type in which an item comes twice.
+fn item_twice(alloc: Global) -> Result<Shape, Fail> {
+    let first = String::from_str(alloc, "a")?;
+    let second = String::from_str(alloc, "a")?;
+    let items = Vec::from_array(alloc, [first, second])?;
+    Ok(Shape::Enum { items, added: None })
+}
+
 /// Returns the SEQUENCE of two fields of one name.
 fn name_twice(alloc: Global) -> Result<Shape, Fail> {
     let first = String::from_str(alloc, "a")?;
@@ -87,7 +106,7 @@ fn sequence_of(alloc: Global, name: &str, presence: PresenceShape) -> Result<Sha
 }
 
 /// Counts the shapes of `unreadable`.
-const UNREADABLE: usize = 9;
+const UNREADABLE: usize = 11;
 
 /// Returns a shape that can't be read. Each breaks one of the conditions that `is_readable` lists.
 fn unreadable(alloc: Global, case: usize) -> Result<Shape, Fail> {
@@ -106,12 +125,14 @@ fn unreadable(alloc: Global, case: usize) -> Result<Shape, Fail> {
         6 => name_twice(alloc),
         // A BOOLEAN whose default is a number.
         7 => sequence_of(alloc, "a", PresenceShape::Default(Plain::Int(1))),
+        8 => tag_twice(alloc),
+        9 => item_twice(alloc),
         // A name that AVN cannot spell.
         _ => sequence_of(alloc, "1a", PresenceShape::Required),
     }
 }
 
-/// A shape of each kind that can't be read is found: by its loops, its tags or its names.
+/// A shape that breaks one of these conditions is found.
 #[test]
 fn shapes_that_cannot_be_read(rt: HostRuntime) -> Result<(), Fail> {
     for case in 0..UNREADABLE {

@@ -53,9 +53,9 @@ const CONVERTED: [(Codec, Codec, &'static str, &'static str); 5] = [
     ),
 ];
 
-/// Lists the same of a SET with an extension marker. Its fields and its addition stand in any order
-/// in a text, and a member of another name is dropped. AVN writes the fields as they are declared,
-/// and not by their tags, and the addition last.
+/// Lists the same of a SET with an extension marker. Its fields and its addition stand in any
+/// order in a text, and a member of another name is dropped. AVN writes the fields as they are
+/// declared, and not by their tags, and the addition last.
 const GROWING: [(Codec, Codec, &'static str, &'static str); 6] = [
     (
         Codec::Jer,

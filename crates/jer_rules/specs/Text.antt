@@ -28,7 +28,7 @@ pub data NoTree (text : List ℕ) (failure : Failure) : Type 0 where
   has_real : (d : Data) → read text ≡ Some d → has_float d ≡ true → failure ≡ at_root Cause.real_not_supported Jer → NoTree text failure
   no_memory : failure ≡ at_root Cause.out_of_memory Jer → NoTree text failure
 
--- The text is no JSON value, or it is one that decodes to no value of the shape, and the error says why.
+-- The text is no JSON without floats, or its value decodes to none of the shape, and the error says why, or memory ran out.
 pub data RefusesText (s : Shape) (text : List ℕ) (failure : Failure) : Type 0 where
   no_tree : NoTree text failure → RefusesText s text failure
   no_value : (d : Data) → IsJer text d → Refuses Notation.jer (FailsWith Notation.jer s (Some (Tree.json d))) failure → RefusesText s text failure

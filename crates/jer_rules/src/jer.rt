@@ -34,14 +34,14 @@ use std::alloc::Global;
 ///
 /// `OutOfMemory`; else the kind of the first part that JER cannot encode.
 pub fn encode<T: Encode>(alloc: Global, value: &T) -> Result<String, EncodeError>
-    // The text is the canonical one of the value, of the type's shape, and decodes to the value
-    // again unless it nests deeper than JSON is read.
+    // The text is the canonical one of the value, of the type's shape. It is read as the JSON value
+    // that is written for the value, unless that nests deeper than JSON is read.
     ensures text { IfOk result (λ s. string_bytes s ≡ canonical_text Notation.jer
         (T.value_of value.now)) }
     ensures reads_back { IfOk result (λ s. ReadsBack (T.value_of value.now) (string_bytes s)) }
     ensures fits { OnOk result (Fits T.shape_of (T.value_of value.now)) }
     ensures writable { OnOk result (Writable Notation.jer (T.value_of value.now)) }
-    // An error is that of the first part that can't be encoded.
+    // An error is that of the first part that can't be encoded, or that memory ran out.
     ensures refused { IfErr result (FailsToEncode Notation.jer (T.value_of value.now)) }
     // What can be encoded is encoded, unless memory runs out.
     ensures complete { Writable Notation.jer (T.value_of value.now) → IfErr result
@@ -64,8 +64,8 @@ pub fn decode<T: Decode>(alloc: Global, input: &str) -> Result<T, DecodeError>
     ensures value { IfOk result (λ x. (d : Data) × IsJer input.now d × DecodesTo Notation.jer
         T.shape_of
         (Some (Tree.json d)) (T.value_of x)) }
-    // An error is why the text is no JSON value of the kind, or where and why its value decodes to
-    // none of the type.
+    // An error is why the text isn't read as JSON without floats, or where and why its value
+    // decodes to none of the type, or that memory ran out.
     ensures refused { IfErr result (λ e. RefusesText T.shape_of input.now (failure_of e)) }
     // A text that decodes to a value is read as that value, unless memory runs out.
     ensures complete { (d : Data) (v : Value) → IsJer input.now d → DecodesTo Notation.jer

@@ -70,7 +70,11 @@ fn text_of_bits(alloc: Global, bits: &Bits, size: usize) -> Result<JerValue, Enc
     }
 }
 
-/// Returns the object of bits of any number. Its one error is `OutOfMemory`.
+/// Returns the object of bits of any number.
+///
+/// # Errors
+///
+/// `OutOfMemory` alone.
 fn object_of_bits(alloc: Global, bits: &Bits) -> Result<JerValue, EncodeError>
     ensures json { IfOk result (λ v. data_of v ≡ bits_data None bits.now) }
     ensures writable { length bits.now < 2 ^ 64 }
@@ -83,8 +87,11 @@ fn object_of_bits(alloc: Global, bits: &Bits) -> Result<JerValue, EncodeError>
     }
 }
 
-/// Returns the members of the object of bits, by their octets and how many they are. Its one error
-/// is lack of memory.
+/// Returns the members of the object of bits, by their octets and how many they are.
+///
+/// # Errors
+///
+/// `OutOfMemory` alone.
 fn members_of_bits(
     alloc: Global,
     octets: &[u8],
@@ -110,7 +117,12 @@ pub enum NoBits {
     OutOfMemory,
 }
 
-/// Returns the first bits of the octets that the digits say, or why there are none.
+/// Returns so many bits, the first ones of the octets that the digits say.
+///
+/// # Errors
+///
+/// `Digits` where the digits are no hexadecimal of whole octets; `Count` where there are not as
+/// many octets as so many bits take; `OutOfMemory`.
 fn bits_of_digits(alloc: Global, digits: &str, size: usize) -> Result<Bits, NoBits>
     ensures { ReadsBits digits.now size result }
 {
@@ -126,7 +138,12 @@ fn bits_of_digits(alloc: Global, digits: &str, size: usize) -> Result<Bits, NoBi
     }
 }
 
-/// Returns the bits of a fixed size that a JSON value is, or why it is none.
+/// Returns the bits of a fixed size that a JSON value is.
+///
+/// # Errors
+///
+/// `Kind` where the value is no string; `Octets` where its text is no hexadecimal of whole octets;
+/// `Count` where these are not as many as the size takes; `OutOfMemory`.
 pub fn fixed_bits(alloc: Global, value: Value, size: usize) -> Result<OwnedLeaf, NoLeaf>
     ensures { MatchResult result
         (IsTaken Notation.jer (BitsKind (Some size)) (tree_of value))
@@ -144,7 +161,13 @@ pub fn fixed_bits(alloc: Global, value: Value, size: usize) -> Result<OwnedLeaf,
     }
 }
 
-/// Returns the bits of any number that a JSON value is, or why it is none.
+/// Returns the bits of any number that a JSON value is.
+///
+/// # Errors
+///
+/// `Object` where the value is no object; `Kind` where it lacks a text `value` or a `u64` `length`;
+/// `Digits` where that text is no hexadecimal of whole octets; `Count` where these are not as many
+/// as the length takes; `OutOfMemory`.
 pub fn counted_bits(alloc: Global, value: Value) -> Result<OwnedLeaf, NoLeaf>
     ensures { MatchResult result (IsTaken Notation.jer (BitsKind None) (tree_of value))
         (IsNoLeaf (BitsKind None) value) }
@@ -162,7 +185,8 @@ pub fn counted_bits(alloc: Global, value: Value) -> Result<OwnedLeaf, NoLeaf>
 }
 
 /// Returns the length that the member `length` tells, and the bits of the digits in the member
-/// `value`. None exactly where the value doesn't have both.
+/// `value`, or why there are none. None exactly where the value lacks a text `value` or a `u64`
+/// `length`.
 fn declared_bits(alloc: Global, value: &Value) -> Option<(usize, Result<Bits, NoBits>)>
     ensures { IsDeclared (view value.now) result }
 {

@@ -16,7 +16,12 @@ use asn_traits::OwnedLeaf;
 use serde_json::Value;
 use std::alloc::{AllocError, Global};
 
-/// Returns the object identifier that a JSON value is, or why it is none.
+/// Returns the object identifier that a JSON value is.
+///
+/// # Errors
+///
+/// `Kind` where the value is no string; `Arcs` where its text is no object identifier;
+/// `OutOfMemory`.
 pub fn identifier_of_json(alloc: Global, value: Value) -> Result<OwnedLeaf, NoLeaf>
     ensures { MatchResult result (IsTaken Notation.jer Oid (tree_of value))
         (IsNoLeaf Oid value) }
@@ -37,7 +42,7 @@ pub fn identifier_of_json(alloc: Global, value: Value) -> Result<OwnedLeaf, NoLe
 ///
 /// # Errors
 ///
-/// Lack of memory alone.
+/// `OutOfMemory` alone.
 fn identifier_of(alloc: Global, text: &str) -> Result<Option<ObjectIdentifier>, OutOfMemory>
     ensures { IfOk result (IsDotted text.now) }
 {
@@ -47,8 +52,11 @@ fn identifier_of(alloc: Global, text: &str) -> Result<Option<ObjectIdentifier>, 
     }
 }
 
-/// Returns the arcs that stand between the dots of a text. None exactly where a part is no arc. Its
-/// one error is lack of memory.
+/// Returns the arcs that stand between the dots of a text. None exactly where a part is no arc.
+///
+/// # Errors
+///
+/// `OutOfMemory` alone.
 fn arcs_of(alloc: Global, text: &str) -> Result<Option<Vec<u32>>, OutOfMemory>
     ensures { IfOk result (λ arcs. option_map (λ v. v.items) arcs
         ≡ arc_numbers (slice_split (λ c. c == 46) text.now)) }
@@ -64,7 +72,11 @@ fn arcs_of(alloc: Global, text: &str) -> Result<Option<Vec<u32>>, OutOfMemory>
     Ok(Some(arcs))
 }
 
-/// Returns the parts of a text between its dots. Its one error is `OutOfMemory`.
+/// Returns the parts of a text between its dots.
+///
+/// # Errors
+///
+/// `AllocError` alone.
 fn parts_of(alloc: Global, text: &str) -> Result<Vec<&str>, AllocError>
     ensures { IfOk result (λ v. map (λ x. x.now) v.items
         ≡ slice_split (λ c. c == 46) text.now) }

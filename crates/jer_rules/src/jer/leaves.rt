@@ -99,7 +99,11 @@ pub enum NoLeaf {
     OutOfMemory,
 }
 
-/// Returns the value without parts that a JSON value is, or why it is none of this kind.
+/// Returns the value of this kind, without parts, that a JSON value is.
+///
+/// # Errors
+///
+/// Why the JSON value is none of this kind; `OutOfMemory`.
 #[inline(always)]
 pub fn leaf_of_json(alloc: Global, value: Value, kind: LeafKind) -> Result<OwnedLeaf, NoLeaf>
     ensures { MatchResult result (IsTaken Notation.jer kind (tree_of value))

@@ -29,7 +29,7 @@ pub record ReadsBack (v : Value) (text : List ℕ) : Type 0 where
 abbrev pub NoTree : List ℕ → Failure → Type 0
 NoTree text failure = Explains LEVEL_LIMIT (chars text) failure
 
--- The text is no value of the notation, or it is one that decodes to no value of the shape, and the error says why.
+-- The text is no value of the notation, or too deep, or its value decodes to none of the shape, and the error says why, or memory ran out.
 pub data RefusesText (s : Shape) (text : List ℕ) (failure : Failure) : Type 0 where
   no_tree : NoTree text failure → RefusesText s text failure
   no_value : (t : AvnTree) → IsAvn text t → Refuses Notation.avn (FailsWith Notation.avn s (Some (Tree.avn t))) failure → RefusesText s text failure

@@ -35,14 +35,14 @@ use std::alloc::Global;
 ///
 /// `OutOfMemory`; else the kind of the first part that AVN cannot encode.
 pub fn encode<T: Encode>(alloc: Global, value: &T) -> Result<String, EncodeError>
-    // The text is the canonical one of the value, of the type's shape, and decodes to the value
-    // again unless it nests beyond the limit.
+    // The text is the canonical one of the value, of the type's shape. It is read as the tree that
+    // is written for the value, in normal form, unless that nests deeper than 64 levels.
     ensures text { IfOk result (λ s. string_bytes s
         ≡ canonical_text Notation.avn (T.value_of value.now)) }
     ensures reads_back { IfOk result (λ s. ReadsBack (T.value_of value.now) (string_bytes s)) }
     ensures fits { OnOk result (Fits T.shape_of (T.value_of value.now)) }
     ensures writable { OnOk result (Writable Notation.avn (T.value_of value.now)) }
-    // An error is that of the first part that can't be encoded.
+    // An error is that of the first part that can't be encoded, or that memory ran out.
     ensures refused { IfErr result (FailsToEncode Notation.avn (T.value_of value.now)) }
     // What can be encoded is encoded, unless memory runs out.
     ensures complete { Writable Notation.avn (T.value_of value.now)
@@ -64,8 +64,8 @@ pub fn decode<T: Decode>(alloc: Global, input: &str) -> Result<T, DecodeError>
     // The text is a value of the notation that decodes to the value of the result.
     ensures value { IfOk result (λ x. (t : AvnTree) × IsAvn input.now t
         × DecodesTo Notation.avn T.shape_of (Some (Tree.avn t)) (T.value_of x)) }
-    // An error is why the text is no value of the notation, or where and why its value decodes to
-    // none of the type.
+    // An error is why the text is no value of the notation, or that it is too deep, or where and
+    // why its value decodes to none of the type, or that memory ran out.
     ensures refused { IfErr result (λ e. RefusesText T.shape_of input.now (failure_of e)) }
     // A text that decodes to a value is read as that value, unless memory runs out.
     ensures complete { (t : AvnTree) (v : Value) → IsAvn input.now t

@@ -169,7 +169,7 @@ impl Decoder {
     }
 }
 
-/// Takes nodes apart, and leaves out of them.
+/// Opens nodes, and takes leaves out of them.
 impl asn_traits::Decoder for Decoder {
     ghost use Rattle.avn_rules.specs.Pending.{pending_of};
 

@@ -92,6 +92,10 @@ impl Encoder {
 }
 
 /// Returns an answer with the want of memory as an error of this codec.
+///
+/// # Errors
+///
+/// `OutOfMemory` alone.
 #[inline(always)]
 fn in_avn<T: Drop>(answer: Result<T, OutOfMemory>) -> Result<T, EncodeError>
     ensures same { IfOk result (λ x. answer ≡ Ok x) }

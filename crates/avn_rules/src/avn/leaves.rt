@@ -19,8 +19,8 @@ fn is_text(text: &str)
     ensures { is_utf8 text.now ≡ true }
 {}
 
-/// Adds a whole number to the last frame: its sign and decimal digits, of which the text is made
-/// anew. AVN has numbers of any size, so each is one.
+/// Adds a whole number to the last frame; its text is made in `digits`. AVN has numbers of any
+/// size, so every one can be written.
 ///
 /// # Errors
 ///

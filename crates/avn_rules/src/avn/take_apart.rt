@@ -29,8 +29,8 @@ pub fn is_list(table: &NodeTable, node: usize) -> bool
     }
 }
 
-/// Tells whether a node has fields. A SEQUENCE OF without elements is a SEQUENCE without fields,
-/// since the text `{}` stands for both.
+/// Tells whether a node is a SEQUENCE. A SEQUENCE OF without elements is one without fields, since
+/// the text `{}` stands for both.
 pub fn has_members(table: &NodeTable, node: usize) -> bool
     requires { IsPresent table.now node }
     ensures { result ≡ is_some (as_members Notation.avn (value_at table.now node)) }

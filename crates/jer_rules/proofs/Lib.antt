@@ -7,3 +7,4 @@ pub mod Floats
 pub mod Roots
 pub mod Sets
 pub mod ArcsTaken
+pub mod Told

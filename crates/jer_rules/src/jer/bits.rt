@@ -18,6 +18,7 @@ ghost use Rattle.serde_json.specs.View.{view};
 ghost use Rattle.std.specs.Prelude.{◌≡◌, ◌^◌, ◌<◌, Some, None, OnOk, IfOk, IfErr, MatchResult};
 ghost use Rattle.std.specs.Prelude.{length};
 
+use super::faults::in_jer;
 use super::leaves::NoLeaf;
 use asn_core::{Bits, Bounded, Codec, OutOfMemory, Size};
 use asn_fault::EncodeError;
@@ -64,10 +65,7 @@ fn text_of_bits(alloc: Global, bits: &Bits, size: usize) -> Result<JerValue, Enc
         };
         return Err(EncodeError::size_constraint_not_satisfied(bits.len(), &fixed, Codec::Jer));
     }
-    match hex::encode_upper(alloc, bits.octets()) {
-        Ok(digits) => Ok(JerValue::Text(digits)),
-        Err(_) => Err(EncodeError::out_of_memory(Codec::Jer)),
-    }
+    Ok(JerValue::Text(in_jer(hex::encode_upper(alloc, bits.octets()))?))
 }
 
 /// Returns the object of bits of any number.
@@ -81,10 +79,8 @@ fn object_of_bits(alloc: Global, bits: &Bits) -> Result<JerValue, EncodeError>
     ensures refused { IfErr result (IsOutOfMemory Notation.jer) }
 {
     let size = bits.len();
-    match members_of_bits(alloc, bits.octets(), size) {
-        Ok(members) => Ok(JerValue::Members(members)),
-        Err(_) => Err(EncodeError::out_of_memory(Codec::Jer)),
-    }
+    let members = in_jer(members_of_bits(alloc, bits.octets(), size))?;
+    Ok(JerValue::Members(members))
 }
 
 /// Returns the members of the object of bits, by their octets and how many they are.

@@ -15,7 +15,7 @@ ghost use Rattle.std.specs.Prelude.{◌≡◌, ◌⊎◌, ◌∷◌, [], List, O
 ghost use Rattle.std.specs.Prelude.{IfErr, IfSome, option_map, string_bytes};
 
 use super::build::{in_text_order, members_of};
-use super::faults::encode_error;
+use super::faults::{encode_error, in_jer};
 use super::leaves::value_of_leaf;
 use asn_core::Codec;
 use asn_fault::{EncodeError, JerEncodeErrorKind, Utf8Fault};
@@ -66,10 +66,7 @@ impl Encoder {
         ensures codec { IfErr result (λ e. e.codec ≡ Jer) }
     {
         let alloc = self.alloc;
-        match self.into_last()?.to_json(alloc) {
-            Ok(value) => Ok(value),
-            Err(_) => Err(EncodeError::out_of_memory(Codec::Jer)),
-        }
+        in_jer(self.into_last()?.to_json(alloc))
     }
 
     /// Returns the last value that is present in the last frame. It takes no memory.
@@ -110,10 +107,7 @@ impl Encoder {
         ensures codec { IfErr result (λ e. e.codec ≡ Jer) }
     {
         let alloc = self.alloc;
-        match self.into_last()?.to_text(alloc) {
-            Ok(text) => Ok(text),
-            Err(_) => Err(EncodeError::out_of_memory(Codec::Jer)),
-        }
+        in_jer(self.into_last()?.to_text(alloc))
     }
 
     /// Puts a slot into the last frame.
@@ -125,10 +119,7 @@ impl Encoder {
         ensures added { OnOk result (self.new.frames ≡ push slot self.old.frames) }
         ensures refused { IfErr result (IsOutOfMemory Notation.jer) }
     {
-        match self.frames.add(slot) {
-            Ok(()) => Ok(()),
-            Err(_) => Err(EncodeError::out_of_memory(Codec::Jer)),
-        }
+        in_jer(self.frames.add(slot))
     }
 }
 
@@ -165,40 +156,27 @@ impl asn_traits::Encoder for Encoder {
     }
 
     fn open_frame(&mut self) -> Result<(), EncodeError> {
-        match self.frames.open() {
-            Ok(()) => Ok(()),
-            Err(_) => Err(EncodeError::out_of_memory(Codec::Jer)),
-        }
+        in_jer(self.frames.open())
     }
 
     // The values are moved into the array, which keeps the vector.
     fn close_list(&mut self) -> Result<(), EncodeError> {
-        match self.frames.close_list() {
-            Ok(items) => self.put(Some(JerValue::List(items))),
-            Err(_) => Err(EncodeError::out_of_memory(Codec::Jer)),
-        }
+        let items = in_jer(self.frames.close_list())?;
+        self.put(Some(JerValue::List(items)))
     }
 
     // The elements go into the array in byte order of their texts.
     fn close_set(&mut self) -> Result<(), EncodeError> {
-        let Ok(items) = self.frames.close_list() else {
-            return Err(EncodeError::out_of_memory(Codec::Jer));
-        };
-        match in_text_order(self.alloc, items) {
-            Ok(sorted) => self.put(Some(JerValue::List(sorted))),
-            Err(_) => Err(EncodeError::out_of_memory(Codec::Jer)),
-        }
+        let items = in_jer(self.frames.close_list())?;
+        let sorted = in_jer(in_text_order(self.alloc, items))?;
+        self.put(Some(JerValue::List(sorted)))
     }
 
     // The slots get their names from the fields' table, in order; absent ones are left out.
     fn close_members(&mut self, root: &[Field], additions: &[Field]) -> Result<(), EncodeError> {
-        let Ok(slots) = self.frames.close() else {
-            return Err(EncodeError::out_of_memory(Codec::Jer));
-        };
-        match members_of(self.alloc, slots, root, additions) {
-            Ok(members) => self.put(Some(JerValue::Members(members))),
-            Err(_) => Err(EncodeError::out_of_memory(Codec::Jer)),
-        }
+        let slots = in_jer(self.frames.close())?;
+        let members = in_jer(members_of(self.alloc, slots, root, additions))?;
+        self.put(Some(JerValue::Members(members)))
     }
 
     // A frame without a payload leaves an absent slot, as a scope that added nothing does.
@@ -206,9 +184,7 @@ impl asn_traits::Encoder for Encoder {
         let Some(payload) = self.frames.close_first() else {
             return self.put(None);
         };
-        match one_member(self.alloc, identifier, payload) {
-            Ok(choice) => self.put(Some(choice)),
-            Err(_) => Err(EncodeError::out_of_memory(Codec::Jer)),
-        }
+        let choice = in_jer(one_member(self.alloc, identifier, payload))?;
+        self.put(Some(choice))
     }
 }

@@ -1,14 +1,15 @@
-//! Makes the refusals of the reader of JSON.
+//! Makes the refusals of the reader and the writer of JSON.
 ghost use Rattle.asn_core.specs.declared.codec.Codec.TheVariants.{Jer};
 ghost use Rattle.asn_fault.specs.Failure.{Cause, failure_of, at_root, codec_cause};
 ghost use Rattle.asn_coding.specs.Answer.{RefusesLeaf};
+ghost use Rattle.asn_coding.specs.Writing.{IsOutOfMemory};
 ghost use Rattle.asn_traits.specs.BitLeaves.{another_length, held_bits, no_bits};
 ghost use Rattle.asn_traits.specs.Leaf.{LeafFailure};
 ghost use Rattle.asn_traits.specs.Notation.{Notation};
 ghost use Rattle.asn_traits.specs.Tree.{Tree};
 ghost use Rattle.jer_rules.specs.Identifiers.{no_identifier};
 ghost use Rattle.serde_json.specs.View.{view};
-ghost use Rattle.std.specs.Prelude.{◌≡◌, ◌⊎◌, string_bytes};
+ghost use Rattle.std.specs.Prelude.{◌≡◌, ◌⊎◌, Ok, IfOk, IfErr, string_bytes};
 ghost use Rattle.asn_model.specs.declared.words.TheConstants.{JER_NO_JSON, JER_OBJECT, JER_UNKNOWN};
 
 use asn_core::Codec;
@@ -159,4 +160,20 @@ pub fn encode_error(kind: JerEncodeErrorKind) -> EncodeError
         },
         Codec::Jer,
     )
+}
+
+/// Returns an answer with the want of memory as an error of this codec.
+///
+/// # Errors
+///
+/// `OutOfMemory` alone.
+#[inline(always)]
+pub fn in_jer<T: Drop, E: Drop>(answer: Result<T, E>) -> Result<T, EncodeError>
+    ensures same { IfOk result (λ x. answer ≡ Ok x) }
+    ensures refused { IfErr result (IsOutOfMemory Notation.jer) }
+{
+    match answer {
+        Ok(value) => Ok(value),
+        Err(_) => Err(EncodeError::out_of_memory(Codec::Jer)),
+    }
 }

@@ -1,4 +1,6 @@
 //! Writes and reads values without parts as JSON values.
+ghost use Rattle.asn_model.specs.declared.leaves.LeafKind.TheVariants.{Any, Octets};
+ghost use Rattle.asn_model.specs.declared.leaves.OwnedLeaf.{OwnedLeaf};
 ghost use Rattle.asn_traits.specs.Canonical.{jer_data};
 ghost use Rattle.asn_traits.specs.Leaf.{leaf_value};
 ghost use Rattle.asn_traits.specs.Notation.{Notation};
@@ -14,10 +16,9 @@ ghost use Rattle.std.specs.Prelude.{◌≡◌, true, OnOk, IfOk, IfErr, MatchRes
 
 use super::bits::{counted_bits, fixed_bits, value_of_bits};
 use super::build::integer_of;
-use super::faults::encode_error;
+use super::faults::{encode_error, in_jer};
 use super::identifiers::identifier_of_json;
 use super::take_apart::whole_number;
-use asn_core::Codec;
 use asn_fault::{EncodeError, JerEncodeErrorKind};
 use asn_model::joined_arcs;
 use asn_traits::{Leaf, LeafKind, OwnedLeaf};
@@ -47,14 +48,8 @@ pub fn value_of_leaf(alloc: Global, leaf: Leaf<'_>) -> Result<JerValue, EncodeEr
         Leaf::Text(text) => value_of_text(alloc, text),
         Leaf::OwnedText(text) => Ok(JerValue::Text(text)),
         Leaf::Item(name) => value_of_text(alloc, name),
-        Leaf::Octets(octets) => match hex::encode_upper(alloc, octets) {
-            Ok(text) => Ok(JerValue::Text(text)),
-            Err(_) => Err(EncodeError::out_of_memory(Codec::Jer)),
-        },
-        Leaf::Arcs(arcs) => match joined_arcs(alloc, arcs, ".") {
-            Ok(text) => Ok(JerValue::Text(text)),
-            Err(_) => Err(EncodeError::out_of_memory(Codec::Jer)),
-        },
+        Leaf::Octets(octets) => Ok(JerValue::Text(in_jer(hex::encode_upper(alloc, octets))?)),
+        Leaf::Arcs(arcs) => Ok(JerValue::Text(in_jer(joined_arcs(alloc, arcs, "."))?)),
         Leaf::Bits(bits, size) => value_of_bits(alloc, bits, size),
     }
 }
@@ -69,10 +64,7 @@ fn value_of_text(alloc: Global, text: &str) -> Result<JerValue, EncodeError>
     ensures text { is_utf8 text.now ≡ true }
     ensures refused { IfErr result (IsOutOfMemory Notation.jer) }
 {
-    match String::from_str(alloc, text) {
-        Ok(text) => Ok(JerValue::Text(text)),
-        Err(_) => Err(EncodeError::out_of_memory(Codec::Jer)),
-    }
+    Ok(JerValue::Text(in_jer(String::from_str(alloc, text))?))
 }
 
 /// Why a JSON value is no value of a kind.
@@ -133,24 +125,35 @@ pub fn leaf_of_json(alloc: Global, value: Value, kind: LeafKind) -> Result<Owned
             Value::String(text) => Ok(OwnedLeaf::Item(text)),
             other => Err(NoLeaf::Kind(other)),
         },
-        LeafKind::Octets => match value {
-            Value::String(text) => match hex::decode(alloc, text.as_bytes()) {
-                Ok(octets) => Ok(OwnedLeaf::Octets(octets)),
-                Err(hex::FromHexError::OutOfMemory) => Err(NoLeaf::OutOfMemory),
-                Err(_error) => Err(NoLeaf::Octets),
-            },
-            other => Err(NoLeaf::Kind(other)),
-        },
-        LeafKind::Any => match value {
-            Value::String(text) => match hex::decode(alloc, text.as_bytes()) {
-                Ok(octets) => Ok(OwnedLeaf::Any(octets)),
-                Err(hex::FromHexError::OutOfMemory) => Err(NoLeaf::OutOfMemory),
-                Err(_error) => Err(NoLeaf::Octets),
-            },
-            other => Err(NoLeaf::Kind(other)),
-        },
+        LeafKind::Octets => Ok(OwnedLeaf::Octets(octets_of_json(alloc, value)?)),
+        LeafKind::Any => Ok(OwnedLeaf::Any(octets_of_json(alloc, value)?)),
         LeafKind::Oid => identifier_of_json(alloc, value),
         LeafKind::Bits(Some(size)) => fixed_bits(alloc, value, size),
         LeafKind::Bits(None) => counted_bits(alloc, value),
+    }
+}
+
+/// Returns the octets that a JSON value is: those that its digits say.
+///
+/// # Errors
+///
+/// `Kind` where the value is no string; `Octets` where its text is no hexadecimal of whole octets;
+/// `OutOfMemory`.
+fn octets_of_json(alloc: Global, value: Value) -> Result<Vec<u8>, NoLeaf>
+    // They are the octets of an octet string, and those of a value of any type.
+    ensures octets { MatchResult result
+        (λ octets. IsTaken Notation.jer Octets (tree_of value) (OwnedLeaf.Octets octets))
+        (IsNoLeaf Octets value) }
+    ensures any { MatchResult result
+        (λ octets. IsTaken Notation.jer Any (tree_of value) (OwnedLeaf.Any octets))
+        (IsNoLeaf Any value) }
+{
+    match value {
+        Value::String(text) => match hex::decode(alloc, text.as_bytes()) {
+            Ok(octets) => Ok(octets),
+            Err(hex::FromHexError::OutOfMemory) => Err(NoLeaf::OutOfMemory),
+            Err(_error) => Err(NoLeaf::Octets),
+        },
+        other => Err(NoLeaf::Kind(other)),
     }
 }

@@ -69,11 +69,9 @@ pub fn whole_number(number: &Number) -> Option<WholeNumber>
         });
     }
     // What is no `u64` may be a number below 0.
-    match number.as_i64() {
-        Some(number) => Some(WholeNumber {
-            negative: number < 0,
-            magnitude: number.unsigned_abs() as u128,
-        }),
-        None => None,
-    }
+    let number = number.as_i64()?;
+    Some(WholeNumber {
+        negative: number < 0,
+        magnitude: number.unsigned_abs() as u128,
+    })
 }

@@ -1,6 +1,6 @@
 use Rattle.std.proofs.Common.{ap, Some, None, ◌∙◌}
 use Rattle.std.specs.Prelude.{option_map}
-use Rattle.std.proofs.lemmas.Result.{on_ok_weaker}
+use Rattle.std.proofs.lemmas.Result.{IfOk-at_ok, on_ok_weaker}
 use Rattle.jer_values.specs.Views.{data_of}
 use Rattle.asn_slots.proofs.Trees.{frame_closed}
 use Rattle.asn_traits.specs.Canonical.{jer_data}
@@ -15,8 +15,8 @@ returns-in_default-clause-closed c =
     let built = choice_built None _ id (ap (λ o. option_map (one_member id) (option_map data_of o)) c.in_default.ensures.2) in
     on_ok_weaker c.put.result (λ a. frame_closed jer_data data_of (as_choice id) _ _ _ _ _ c.in_default.ensures.1 built a) c.put.ensures.added
 
-pub returns-in-Ok-clause-closed : goal.returns-in-Ok-clause-closed
-returns-in-Ok-clause-closed c =
+pub returns-clause-closed : goal.returns-clause-closed
+returns-clause-closed c =
     let id = c.args.identifier.now in
-    let built = choice_built (Some c.in-Ok.choice) _ id (ap Some c.in-Ok.ensures ∙ ap (λ o. option_map (one_member id) (option_map data_of o)) c.in-Some.ensures.2) in
-    on_ok_weaker c.put-in-Ok.result (λ a. frame_closed jer_data data_of (as_choice id) _ _ _ _ _ c.in-Some.ensures.1 built a) c.put-in-Ok.ensures.added
+    let built = choice_built (Some c.in_ok-choice.choice) _ id (ap Some (IfOk-at_ok _ c.in_ok-choice.ensures.same c.one_member.ensures) ∙ ap (λ o. option_map (one_member id) (option_map data_of o)) c.in-Some.ensures.2) in
+    on_ok_weaker c.put-2.result (λ a. frame_closed jer_data data_of (as_choice id) _ _ _ _ _ c.in-Some.ensures.1 built a) c.put-2.ensures.added

@@ -1,6 +1,7 @@
 -- Values without parts, by what stands at a node.
-use Rattle.std.proofs.Common.{◌≡◌, ◌≢◌, refl, ap, sym, ◌∙◌, ℕ, List, [], ◌∷◌, Bool, false, if◌then◌else◌, Option, Some, None, Result, Ok, Err, inl, inr}
-use Rattle.std.specs.Str.{is_utf8}
+use Rattle.std.proofs.Common.{◌≡◌, ◌≢◌, refl, ap, sym, ◌∙◌, subst, ℕ, List, [], ◌∷◌, Bool, true, false, if◌then◌else◌, Option, Some, None, Result, Ok, Err, inl, inr, String, Global, string_bytes}
+use Rattle.std.specs.Str.{is_utf8, IsUtf8}
+use Rattle.std.proofs.lemmas.Str.{is_utf8-from_IsUtf8}
 use Rattle.asn_core.specs.declared.codec.Codec.TheVariants.{Avn}
 use Rattle.asn_core.specs.declared.whole_number.WholeNumber.{WholeNumber}
 use Rattle.asn_fault.specs.Failure.{Cause, Failure, at_root}
@@ -68,6 +69,14 @@ octets_as_text k o b a e is =
 
 pub no_utf8_text : (k : LeafKind) (o : Option AvnTree) (octets : List ℕ) → answer_kind k ≡ Text → kind_of o ≡ kind.OctetString → octets ≡ octets_of o → is_utf8 octets ≡ false → as_leaf Notation.avn k (seen o) ≡ Err (LeafFailure.because (Cause.custom AVN_NO_UTF8.now))
 no_utf8_text k o octets a e is h = octets_as_text k o false a e (ap is_utf8 (sym is) ∙ h)
+
+pub utf8_text_taken : (k : LeafKind) (o : Option AvnTree) (octets : List ℕ) (text : String Global) → answer_kind k ≡ Text → kind_of o ≡ kind.OctetString → octets ≡ octets_of o → IsUtf8 octets → string_bytes text ≡ octets → IsTaken Notation.avn k (seen o) (got.Text text)
+utf8_text_taken k o octets text a e is utf8 same = record {
+  value = Value.text (octets_of o);
+  reads = octets_as_text k o true a e (is_utf8-from_IsUtf8 _ (subst IsUtf8 is utf8));
+  is = ap Value.text (sym (same ∙ is));
+  kind = sym a;
+}
 
 pub elements_read : (o : Option AvnTree) → kind_of o ≡ kind.SequenceOf → as_leaf Notation.avn Oid (seen o) ≡ or_blame (checked_identifier (braced_arcs (elements_of o)))
 elements_read (Some (sequence_of ts)) e = refl

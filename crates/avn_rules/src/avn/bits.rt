@@ -5,7 +5,7 @@ ghost use Rattle.avn_rules.specs.LeafAnswer.{LeafAnswer};
 ghost use Rattle.avn_rules.specs.Pending.{IsPresent, value_at};
 ghost use Rattle.std.specs.Prelude.{◌≡◌, IfSome};
 
-use super::leaf_nodes::other_kind;
+use super::leaf_nodes::{octets_at, other_kind};
 use asn_core::{Bits, Codec};
 use asn_fault::DecodeError;
 use asn_traits::{LeafKind, OwnedLeaf};
@@ -28,13 +28,11 @@ pub fn bits_of_node(
     ensures { LeafAnswer (BitsKind size) (value_at table.now node) result }
 {
     match table.kind(node) {
-        NodeKind::BitString => match Vec::from_slice(alloc, table.octets(node)) {
-            Ok(octets) => {
-                let bits = Bits::from_first_bits(octets, table.bit_length(node));
-                Ok(OwnedLeaf::Bits(bits, size))
-            }
-            Err(_) => Err(DecodeError::out_of_memory(Codec::Avn)),
-        },
+        NodeKind::BitString => {
+            let octets = octets_at(alloc, table, node)?;
+            let bits = Bits::from_first_bits(octets, table.bit_length(node));
+            Ok(OwnedLeaf::Bits(bits, size))
+        }
         NodeKind::OctetString => match whole_bits(alloc, table.octets(node)) {
             Some(bits) => Ok(OwnedLeaf::Bits(bits, size)),
             None => Err(DecodeError::out_of_memory(Codec::Avn)),

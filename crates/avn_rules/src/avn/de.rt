@@ -66,10 +66,7 @@ impl Decoder {
         ensures refused { IfErr result (λ e. NoTree input.now (failure_of e)) }
     {
         let mut scan = Scan::new(input);
-        match NodeTable::parse(alloc, &mut scan) {
-            Ok(table) => Ok(Decoder::from_table(alloc, table)),
-            Err(error) => Err(error),
-        }
+        Ok(Decoder::from_table(alloc, NodeTable::parse(alloc, &mut scan)?))
     }
 
     /// Makes a decoder of an AVN value.

@@ -1,13 +1,15 @@
 //! Reads values without parts from nodes.
+ghost use Rattle.asn_core.specs.declared.codec.Codec.TheVariants.{Avn};
+ghost use Rattle.asn_fault.specs.Failure.{Cause, at_root, failure_of};
 ghost use Rattle.asn_model.specs.declared.leaves.LeafKind.TheVariants.{Any, Item, Number, Octets};
 ghost use Rattle.asn_model.specs.declared.leaves.LeafKind.TheVariants.{Text};
 ghost use Rattle.asn_traits.specs.Leaf.{LeafFailure, answer_kind, as_leaf, needed};
 ghost use Rattle.asn_traits.specs.Notation.{Notation};
 ghost use Rattle.avn_rules.specs.LeafAnswer.{LeafAnswer, RefusesKind};
 ghost use Rattle.avn_rules.specs.Pending.{IsPresent, value_at};
-ghost use Rattle.std.specs.Prelude.{◌≡◌, true, false, Err, MatchOption, string_bytes};
-ghost use Rattle.std.specs.Str.{is_utf8};
-ghost use Rattle.asn_fault.specs.Failure.{failure_of};
+ghost use Rattle.avn_nodes.specs.NodeViews.{octets_of};
+ghost use Rattle.avn_nodes.specs.Preorder.{node_count, tree_at};
+ghost use Rattle.std.specs.Prelude.{◌≡◌, ◌<◌, Err, IfErr, IfOk, string_bytes};
 
 use super::bits::bits_of_node;
 use super::faults::{mismatch, no_number, no_utf8};
@@ -100,31 +102,27 @@ fn text_of_node(
     ensures { LeafAnswer kind (value_at table.now node) result }
 {
     match table.kind(node) {
-        NodeKind::CharString => match String::from_str(alloc, table.text(node)) {
-            Ok(text) => Ok(OwnedLeaf::Text(text)),
-            Err(_) => Err(DecodeError::out_of_memory(Codec::Avn)),
+        NodeKind::CharString => Ok(OwnedLeaf::Text(owned_text(alloc, table.text(node))?)),
+        NodeKind::OctetString => match str::from_utf8(table.octets(node)) {
+            Ok(text) => Ok(OwnedLeaf::Text(owned_text(alloc, text)?)),
+            Err(_) => Err(no_utf8(alloc)),
         },
-        NodeKind::OctetString => {
-            let Ok(octets) = Vec::from_slice(alloc, table.octets(node)) else {
-                return Err(DecodeError::out_of_memory(Codec::Avn));
-            };
-            match text_of(octets) {
-                Some(text) => Ok(OwnedLeaf::Text(text)),
-                None => Err(no_utf8(alloc)),
-            }
-        }
         _ => Err(other_kind(alloc, table, node, kind)),
     }
 }
 
-/// Returns the octets as text, or `None` exactly where they are no UTF-8.
-fn text_of(octets: Vec<u8>) -> Option<String>
-    ensures { MatchOption result (is_utf8 octets.items ≡ false)
-        (λ s. (string_bytes s ≡ octets.items) × (is_utf8 octets.items ≡ true)) }
+/// Returns a copy of a text.
+///
+/// # Errors
+///
+/// `OutOfMemory` alone.
+fn owned_text(alloc: Global, text: &str) -> Result<String, DecodeError>
+    ensures same { IfOk result (λ s. string_bytes s ≡ text.now) }
+    ensures refused { IfErr result (λ e. failure_of e ≡ at_root Cause.out_of_memory Avn) }
 {
-    match String::from_utf8(octets) {
-        Ok(text) => Some(text),
-        Err(_) => None,
+    match String::from_str(alloc, text) {
+        Ok(text) => Ok(text),
+        Err(_) => Err(DecodeError::out_of_memory(Codec::Avn)),
     }
 }
 
@@ -140,10 +138,7 @@ fn item_of_node(alloc: Global, table: &NodeTable, node: usize) -> Result<OwnedLe
     let NodeKind::Enumerated = table.kind(node) else {
         return Err(other_kind(alloc, table, node, LeafKind::Item));
     };
-    match String::from_str(alloc, table.text(node)) {
-        Ok(name) => Ok(OwnedLeaf::Item(name)),
-        Err(_) => Err(DecodeError::out_of_memory(Codec::Avn)),
-    }
+    Ok(OwnedLeaf::Item(owned_text(alloc, table.text(node))?))
 }
 
 /// Returns the octets that stand at a node.
@@ -158,8 +153,21 @@ fn octets_of_node(alloc: Global, table: &NodeTable, node: usize) -> Result<Owned
     let NodeKind::OctetString = table.kind(node) else {
         return Err(other_kind(alloc, table, node, LeafKind::Octets));
     };
+    Ok(OwnedLeaf::Octets(octets_at(alloc, table, node)?))
+}
+
+/// Returns a copy of the octets of the octet string or the bit string at a node.
+///
+/// # Errors
+///
+/// `OutOfMemory` alone.
+pub fn octets_at(alloc: Global, table: &NodeTable, node: usize) -> Result<Vec<u8>, DecodeError>
+    requires { node < node_count table.now }
+    ensures same { IfOk result (λ octets. octets.items ≡ octets_of (tree_at table.now node)) }
+    ensures refused { IfErr result (λ e. failure_of e ≡ at_root Cause.out_of_memory Avn) }
+{
     match Vec::from_slice(alloc, table.octets(node)) {
-        Ok(octets) => Ok(OwnedLeaf::Octets(octets)),
+        Ok(octets) => Ok(octets),
         Err(_) => Err(DecodeError::out_of_memory(Codec::Avn)),
     }
 }
@@ -175,10 +183,7 @@ fn any_of_node(alloc: Global, table: &NodeTable, node: usize) -> Result<OwnedLea
     ensures { LeafAnswer Any (value_at table.now node) result }
 {
     match table.kind(node) {
-        NodeKind::OctetString => match Vec::from_slice(alloc, table.octets(node)) {
-            Ok(octets) => Ok(OwnedLeaf::Any(octets)),
-            Err(_) => Err(DecodeError::out_of_memory(Codec::Avn)),
-        },
+        NodeKind::OctetString => Ok(OwnedLeaf::Any(octets_at(alloc, table, node)?)),
         _ => match table.print(alloc, node) {
             Ok(text) => Ok(OwnedLeaf::Any(text.into_bytes())),
             Err(_) => Err(DecodeError::out_of_memory(Codec::Avn)),

@@ -70,6 +70,7 @@ octets_as_text k o b a e is =
 pub no_utf8_text : (k : LeafKind) (o : Option AvnTree) (octets : List ℕ) → answer_kind k ≡ Text → kind_of o ≡ kind.OctetString → octets ≡ octets_of o → is_utf8 octets ≡ false → as_leaf Notation.avn k (seen o) ≡ Err (LeafFailure.because (Cause.custom AVN_NO_UTF8.now))
 no_utf8_text k o octets a e is h = octets_as_text k o false a e (ap is_utf8 (sym is) ∙ h)
 
+-- Octets of UTF-8 are a text, and their copy is that text.
 pub utf8_text_taken : (k : LeafKind) (o : Option AvnTree) (octets : List ℕ) (text : String Global) → answer_kind k ≡ Text → kind_of o ≡ kind.OctetString → octets ≡ octets_of o → IsUtf8 octets → string_bytes text ≡ octets → IsTaken Notation.avn k (seen o) (got.Text text)
 utf8_text_taken k o octets text a e is utf8 same = record {
   value = Value.text (octets_of o);

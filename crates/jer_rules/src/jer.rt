@@ -34,8 +34,8 @@ use std::alloc::Global;
 ///
 /// `OutOfMemory`; else the kind of the first part that JER cannot encode.
 pub fn encode<T: Encode>(alloc: Global, value: &T) -> Result<String, EncodeError>
-    // The text is the canonical one of the value, of the type's shape. It is read as the JSON value
-    // that is written for the value, unless that nests deeper than JSON is read.
+    // The text is the canonical one of the value, of the type's shape. It is read as the JSON
+    // value that is written for the value, unless that nests deeper than JSON is read.
     ensures text { IfOk result (λ s. string_bytes s ≡ canonical_text Notation.jer
         (T.value_of value.now)) }
     ensures reads_back { IfOk result (λ s. ReadsBack (T.value_of value.now) (string_bytes s)) }

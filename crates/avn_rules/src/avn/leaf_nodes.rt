@@ -116,6 +116,7 @@ fn text_of_node(
 /// # Errors
 ///
 /// `OutOfMemory` alone.
+#[inline(always)]
 fn owned_text(alloc: Global, text: &str) -> Result<String, DecodeError>
     ensures same { IfOk result (λ s. string_bytes s ≡ text.now) }
     ensures refused { IfErr result (λ e. failure_of e ≡ at_root Cause.out_of_memory Avn) }
@@ -161,6 +162,7 @@ fn octets_of_node(alloc: Global, table: &NodeTable, node: usize) -> Result<Owned
 /// # Errors
 ///
 /// `OutOfMemory` alone.
+#[inline(always)]
 pub fn octets_at(alloc: Global, table: &NodeTable, node: usize) -> Result<Vec<u8>, DecodeError>
     requires { node < node_count table.now }
     ensures same { IfOk result (λ octets. octets.items ≡ octets_of (tree_at table.now node)) }

@@ -161,9 +161,9 @@ pub fn fixed_bits(alloc: Global, value: Value, size: usize) -> Result<OwnedLeaf,
 ///
 /// # Errors
 ///
-/// `Object` where the value is no object; `Kind` where it lacks a text `value` or a `u64` `length`;
-/// `Digits` where that text is no hexadecimal of whole octets; `Count` where these are not as many
-/// as the length takes; `OutOfMemory`.
+/// `Object` where the value is no object; `Kind` where it lacks a text `value` or a `u64`
+/// `length`; `Digits` where that text is no hexadecimal of whole octets; `Count` where these are
+/// not as many as the length takes; `OutOfMemory`.
 pub fn counted_bits(alloc: Global, value: Value) -> Result<OwnedLeaf, NoLeaf>
     ensures { MatchResult result (IsTaken Notation.jer (BitsKind None) (tree_of value))
         (IsNoLeaf (BitsKind None) value) }

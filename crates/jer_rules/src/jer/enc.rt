@@ -95,8 +95,8 @@ impl Encoder {
     ///
     /// `NoRootValueFound` where there is none; `OutOfMemory`.
     pub fn to_string(self) -> Result<String, EncodeError>
-        // The text is the canonical one of that value. It is read as the JSON value that is written
-        // for it, unless that nests deeper than JSON is read.
+        // The text is the canonical one of that value. It is read as the JSON value that is
+        // written for it, unless that nests deeper than JSON is read.
         ensures text { IfOk result (λ s. (f : Frame) (fs : List Frame) → Holds self (f ∷ fs)
             → option_map (canonical_text Notation.jer) (last_present f) ≡ Some (string_bytes s)) }
         ensures reads_back { IfOk result (λ s. (f : Frame) (fs : List Frame) → Holds self (f ∷ fs)

@@ -1,4 +1,4 @@
-use Rattle.std.proofs.Common.{◌≡◌, None, ap, sym, ◌∙◌, inr, subst, string_bytes}
+use Rattle.std.proofs.Common.{ap, ◌∙◌, inr, string_bytes}
 use Rattle.std.proofs.lemmas.Result.{IfOk-at_ok}
 use Rattle.std.specs.Prelude.{option_map}
 use Rattle.asn_slots.specs.Slots.{last_present}

@@ -111,9 +111,20 @@ fn a_sequence_without_its_flag_is_read(rt: HostRuntime) -> Result<(), Fail> {
 /// Of two members that are of another kind the one that is declared first is named.
 #[test]
 fn the_member_that_is_declared_first_is_named(rt: HostRuntime) -> Result<(), Fail> {
-    let start = "Error when decoding field `name`";
     let sequence = sequence_of_jer(rt.alloc(), "{\"flag\":3,\"name\":true}");
-    assert_refused(&rt, rt.alloc(), sequence, start)?;
+    assert_refused(
+        &rt,
+        rt.alloc(),
+        sequence,
+        "Error when decoding field `name`: JER decoding error: Found mismatching JSON value. \
+        Expected type: string. Found value: true (Codec: JER) (Codec: JER)",
+    )?;
     let sequence = sequence_of_avn(rt.alloc(), "{ flag 3, name TRUE }");
-    assert_refused(&rt, rt.alloc(), sequence, start)
+    assert_refused(
+        &rt,
+        rt.alloc(),
+        sequence,
+        "Error when decoding field `name`: AVN decoding error: AVN type mismatch: expected \
+        character string, found TRUE (Codec: AVN) (Codec: AVN)",
+    )
 }

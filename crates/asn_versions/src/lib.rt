@@ -61,8 +61,8 @@ pub fn versions_of_part()
 ///
 /// # Errors
 ///
-/// Those of `decode_from_str`. Where a `NewPart` decodes the text, `OutOfMemory`, or `NoValidChoice`
-/// for the alternative that `OldPart` lacks.
+/// Those of `decode_from_str`. Where a `NewPart` decodes the text, `OutOfMemory`, or
+/// `NoValidChoice` for the alternative that `OldPart` lacks.
 pub fn decode_part(alloc: Global, codec: Codec, input: &str) -> Result<OldPart, DecodeError>
     ensures value { IfOk result (λ x. TextDecodesTo (notation_of codec) old_part_shape input.now
         (old_part_value x)) }

@@ -1,4 +1,4 @@
--- SET { mark [1] INTEGER, note [0] UTF8String OPTIONAL, ..., extra [2] BOOLEAN OPTIONAL }
+-- SET { mark [1] INTEGER (-2^63..2^63-1), note [0] UTF8String OPTIONAL, ..., extra [2] BOOLEAN OPTIONAL }
 use Rattle.std.specs.Prelude.{[], ◌∷◌, Some, option_map, string_bytes, codes}
 use Rattle.asn_traits.specs.Shape.{Shape, Fields, FieldAdditions, Presence}
 use Rattle.asn_traits.specs.Value.{Value}

@@ -8,6 +8,7 @@ use avn_rules::avn;
 use avn_value::{AvnValue, parse_avn};
 use jer_rules::jer;
 use serde_json::Value;
+use std::alloc::Global;
 use std::test::Fail;
 
 /// Lists what each call of `write_addition` puts at the root, in JER and in AVN. The last one
@@ -109,16 +110,31 @@ fn read_slot<D: Decoder>(decoder: &mut D, call: usize) -> Result<Option<u8>, Dec
     }
 }
 
+/// Lets the value go where its type is open: where it is known, a proof goes through each part.
+fn let_go<T: Drop>(_value: T) {}
+
+/// Decodes the absent field of a SEQUENCE from a text in JER.
+fn absent_in_jer(alloc: Global, call: usize) -> Result<Option<u8>, Fail> {
+    let mut decoder = jer::de::Decoder::new(alloc, "{}")?;
+    let number = read_slot(&mut decoder, call);
+    let_go(decoder);
+    Ok(number?)
+}
+
+/// Decodes the absent field of a SEQUENCE from a text in AVN.
+fn absent_in_avn(alloc: Global, call: usize) -> Result<Option<u8>, Fail> {
+    let mut decoder = avn::de::Decoder::new(alloc, "{}")?;
+    let number = read_slot(&mut decoder, call);
+    let_go(decoder);
+    Ok(number?)
+}
+
 /// Each call finds an absent addition absent, in both notations.
 #[test]
 fn each_reading_call_finds_no_addition(rt: HostRuntime) -> Result<(), Fail> {
     for call in 0..READ.len() {
-        let tree = Value::from_str(rt.alloc(), "{}")?;
-        let mut decoder = jer::de::Decoder::from_value(rt.alloc(), tree)?;
-        assert_eq!(rt; read_slot(&mut decoder, call)?, None);
-        let tree = parse_avn(rt.alloc(), "{}")?;
-        let mut decoder = avn::de::Decoder::from_value(rt.alloc(), tree)?;
-        assert_eq!(rt; read_slot(&mut decoder, call)?, None);
+        assert_eq!(rt; absent_in_jer(rt.alloc(), call)?, None);
+        assert_eq!(rt; absent_in_avn(rt.alloc(), call)?, None);
     }
     Ok(())
 }

@@ -161,7 +161,7 @@ impl asn_traits::Encoder for Encoder {
 
     // The values are moved into the array, which keeps the vector.
     fn close_list(&mut self) -> Result<(), EncodeError> {
-        // By a `match` and not by `in_jer`: a list of empty lists is written in a twelfth less time.
+        // By a `match` and not by `in_jer`: so empty lists are written in a twelfth less time.
         match self.frames.close_list() {
             Ok(items) => self.put(Some(JerValue::List(items))),
             Err(_) => Err(EncodeError::out_of_memory(Codec::Jer)),

@@ -334,7 +334,7 @@ pub struct Extensible<T> {
 }
 
 /// One constraint of a type.
-#[derive(Clone, Copy)]
+#[derive(Clone, Copy, Debug)]
 pub enum Constraint {
     /// The numbers that an INTEGER may be.
     Value(Extensible<Bounded<i128>>),
@@ -358,7 +358,7 @@ impl Constraint {
 }
 
 /// The constraints of a type, in the order in which they are written.
-#[derive(Clone, Copy)]
+#[derive(Clone, Copy, Debug)]
 pub struct Constraints {
     /// The constraints.
     pub items: &'static [Constraint],

@@ -9,6 +9,7 @@ ghost use Rattle.std.specs.Prelude.{map};
 use asn_core::OutOfMemory;
 use indexmap::IndexMap;
 use std::alloc::Global;
+use std::fmt;
 use std::hash::Hash;
 use std::marker::Model;
 
@@ -111,6 +112,19 @@ impl<D: Eq + Hash + Drop> SetOf<D> {
             }
         }
         Ok(elements)
+    }
+}
+
+/// Shows the elements, each as often as it is there.
+impl<D: Eq + Hash + Drop + fmt::Debug> fmt::Debug for SetOf<D> {
+    fn fmt<W: fmt::Write>(&self, f: &mut fmt::Formatter<W>) -> fmt::Result {
+        let mut shown = f.debug_set();
+        for (element, count) in &self.counts {
+            for _ in 0..*count {
+                shown.entry(element);
+            }
+        }
+        shown.finish()
     }
 }
 

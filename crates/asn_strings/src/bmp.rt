@@ -19,7 +19,7 @@ const PIECE_LEN: usize = 4096;
 
 /// Holds a BMPString. Contracts see its 16-bit units. A unit needn't be a character: binary
 /// encodings may have surrogates.
-#[derive(Drop)]
+#[derive(Debug, Drop)]
 pub struct BmpString {
     /// Holds the units, in order.
     units: Vec<u16>,

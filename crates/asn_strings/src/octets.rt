@@ -11,6 +11,7 @@ ghost use Rattle.std.specs.Prelude.{bytes_eq, chars, refl, string_bytes, true};
 use crate::character_sets::{General, Graphic, Teletex, are_within, first_outside};
 use crate::{CharacterSet, StringFault};
 use std::alloc::Global;
+use std::fmt;
 use std::marker::{Model, PhantomData};
 
 /// Is a character set that has every octet past ASCII, and so the UTF-8 octets of its characters.
@@ -174,6 +175,13 @@ impl RestrictedOctets<Graphic> {
             octets,
             character_set: PhantomData,
         })
+    }
+}
+
+/// Shows the octets as a list of numbers.
+impl<C: OctetSet> fmt::Debug for RestrictedOctets<C> {
+    fn fmt<W: fmt::Write>(&self, f: &mut fmt::Formatter<W>) -> fmt::Result {
+        fmt::Debug::fmt(&self.octets, f)
     }
 }
 

@@ -10,6 +10,7 @@ ghost use Rattle.std.specs.Prelude.{bytes_eq, chars, string_bytes};
 use crate::character_sets::{Ia5, Numeric, Printable, Universal, Visible, first_outside};
 use crate::{CharacterSet, StringFault};
 use std::alloc::Global;
+use std::fmt;
 use std::marker::{Model, PhantomData};
 
 /// Is a UTF8String, which every text is.
@@ -102,6 +103,13 @@ impl<C: CharacterSet> RestrictedString<C> {
         ensures within { IsTrue (all_within C.alphabet (chars self.now)) }
     {
         self.text.as_str()
+    }
+}
+
+/// Shows the text, in quotes.
+impl<C: CharacterSet> fmt::Debug for RestrictedString<C> {
+    fn fmt<W: fmt::Write>(&self, f: &mut fmt::Formatter<W>) -> fmt::Result {
+        fmt::Debug::fmt(&self.text, f)
     }
 }
 

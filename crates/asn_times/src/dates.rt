@@ -17,7 +17,7 @@ use std::alloc::Global;
 use std::marker::Model;
 
 /// Holds a day. Contracts see the number of days since 1970-01-01.
-#[derive(Drop)]
+#[derive(Debug, Drop)]
 pub struct Date {
     /// Holds the day as the calendar has it.
     day: civil::Date,

@@ -26,7 +26,7 @@ use std::alloc::Global;
 use std::marker::Model;
 
 /// Holds a moment. Contracts see the nanoseconds since 1970-01-01T00:00:00 in UTC.
-#[derive(Drop)]
+#[derive(Debug, Drop)]
 pub struct GeneralizedTime {
     /// Holds the date and the time of day in UTC.
     moment: DateTime,

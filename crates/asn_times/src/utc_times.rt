@@ -23,7 +23,7 @@ use std::alloc::Global;
 use std::marker::Model;
 
 /// Holds a moment of whole seconds. Contracts see the seconds since 1970-01-01T00:00:00 in UTC.
-#[derive(Drop)]
+#[derive(Debug, Drop)]
 pub struct UtcTime {
     /// Holds the date and the time of day in UTC, without a fraction of a second.
     moment: DateTime,

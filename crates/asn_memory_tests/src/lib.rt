@@ -1,9 +1,12 @@
-//! Tests what is answered, and what is left, where memory is refused. There is nothing here but
-//! tests; a script refuses one allocation after the other (`tools/refused_memory.sh`).
+//! Tests the program over a source and a sink that never fail, and what is answered, and what is
+//! left, where memory is refused. There is nothing here but tests; a script refuses one allocation
+//! after the other (`tools/refused_memory.sh`).
 #![tactic(auto)]
 
 #[cfg(test)]
 mod pieces;
+#[cfg(test)]
+mod program;
 #[cfg(test)]
 mod requests;
 #[cfg(test)]

@@ -1,0 +1,12 @@
+//! The front door: what a program calls to read, write and convert the values of its types, and the
+//! types of ASN.1 that a value holds, under one name. It has no code of its own.
+#![tactic(auto)]
+
+pub use asn_base::{
+    Any, BitString, Bits, BmpString, Codec, Date, GeneralString, GeneralizedTime, GraphicString,
+    Ia5String, Integer, NumericString, ObjectIdentifier, OctetString, Oid, OutOfMemory,
+    PrintableString, SetOf, UniversalString, UtcTime, Utf8String, VisibleString,
+};
+pub use asn_codec::{BinaryRules, CodecCalls, NoRules, TranscodeError, transcode};
+pub use asn_fault::{DecodeError, DecodeErrorKind, EncodeError, EncodeErrorKind};
+pub use asn_traits::{AsnType, Decode, Encode};

@@ -1,0 +1,4 @@
+pub mod Severity
+pub mod Origin
+pub mod Setting
+pub mod Alarm

@@ -1,8 +1,6 @@
 //! Shows the calls that a program makes first, as README does.
 use crate::checks::{assert_refused, assert_text};
-use asn_base::Codec;
-use asn_codec::{CodecCalls, TranscodeError, transcode};
-use asn_traits::{Decode, Encode};
+use asn::{Codec, CodecCalls, Decode, Encode, TranscodeError, transcode};
 use std::alloc::Global;
 use std::test::Fail;
 

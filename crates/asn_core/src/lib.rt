@@ -1,6 +1,6 @@
-//! The plain types that ASN.1 types and both notations share: codecs, tags, constraints, whole
-//! numbers, bit strings, octet strings and object identifiers. `asn_base` passes them on, with the
-//! character strings and the times.
+//! Defines the plain types that ASN.1 types and both notations share: codecs, tags, constraints,
+//! whole numbers, bit strings, octet strings and object identifiers. `asn_base` passes them on,
+//! with the character strings and the times.
 #![tactic(auto)]
 
 mod bits;

@@ -37,7 +37,9 @@ PYTHON = (
 )
 NATIVE = [os.path.join(OUT, "native_peer")]
 OCTETS = [os.path.join(OUT, "octets_peer")]
-PROGRAM = [os.path.join(TOP, "asn_convert")]
+# The program is run itself, since the launcher looks at the sources first.
+PROGRAM = [os.path.join(TOP, "crates", "asn_convert_main", "out", "asn_convert_main")]
+PROVE = [os.path.join(TOP, "asn_convert"), "--prove"]
 AVN_PEER = os.path.join(OUT, "avn_peer")
 AVN_CRATE = os.path.join(TOP, "crates", "avn_bench")
 AVN_BENCH = os.path.join(AVN_CRATE, "out", "avn_bench")
@@ -228,7 +230,7 @@ def compare_avn(name, runs):
 
 def run_peer(program, folder, part, runs):
     """The table beside a program that takes the same requests."""
-    subprocess.run(PROGRAM, input=b"", capture_output=True)  # builds it where needed
+    subprocess.run(PROVE, stdout=subprocess.DEVNULL, check=True)
     columns = f"{'ours':>7} {'peer':>7} {'ratio':>6}"
     print(f"{'beside ' + os.path.basename(program):24} {'MB':>5}  | {'seconds':^22}  | {'peak MB':^22}")
     print(f"{'':30}  | {columns}  | {columns}")
@@ -257,7 +259,7 @@ def main():
     if not os.path.exists(AVN_PEER):
         subprocess.run([os.path.join(TOP, "bench", "native", "build.sh")], check=True)
     if program_inputs:
-        subprocess.run(PROGRAM, input=b"", capture_output=True)  # builds it where needed
+        subprocess.run(PROVE, stdout=subprocess.DEVNULL, check=True)
         print(f"{'program':32} {'MB':>5} {'ours s':>7} {'peer s':>7} {'speed':>6} {'ours MB':>8} {'peer MB':>8}  peer")
     for name in program_inputs:
         compare_program(name, *INPUTS[name], runs)

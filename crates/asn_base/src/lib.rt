@@ -1,6 +1,6 @@
-//! The plain types that ASN.1 types and both notations share, under one name: what `asn_core` has,
-//! the multisets of `asn_sets`, the character strings of `asn_strings` and the times of
-//! `asn_times`.
+//! Passes on the plain types that ASN.1 types and both notations share, under one name: what
+//! `asn_core` has, the multisets of `asn_sets`, the character strings of `asn_strings` and the
+//! times of `asn_times`.
 #![tactic(auto)]
 
 pub use asn_core::{

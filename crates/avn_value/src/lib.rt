@@ -1,4 +1,5 @@
-//! Values of the ASN.1 value notation (X.680): printing them, reading them, and their normal form.
+//! Reads and prints values of the ASN.1 value notation (X.680), as owned values (`AvnValue`) and as
+//! tables of nodes (`NodeTable`), and gives their normal form.
 #![tactic(auto)]
 
 mod brace_items;

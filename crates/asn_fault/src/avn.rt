@@ -6,6 +6,7 @@ ghost use Rattle.asn_fault.specs.Texts.{avn_decode_text, avn_encode_text};
 ghost use Rattle.asn_core.specs.declared.codec.Codec.TheVariants.{Avn};
 
 use crate::CodecDecodeError;
+use crate::print::{write_before, write_two};
 use std::error::Error;
 use std::fmt;
 
@@ -49,24 +50,26 @@ impl fmt::Display for AvnDecodeErrorKind {
 
     fn fmt<W: fmt::Write>(&self, f: &mut fmt::Formatter<W>) -> fmt::Result {
         match self {
-            AvnDecodeErrorKind::AvnEndOfInput {} => write!(f, "Unexpected end of AVN input"),
+            AvnDecodeErrorKind::AvnEndOfInput {} => f.write_str("Unexpected end of AVN input"),
             AvnDecodeErrorKind::AvnTypeMismatch { needed, found } => {
-                write!(f, "AVN type mismatch: expected {needed}, found {found}")
+                write_two(f, "AVN type mismatch: expected ", needed, ", found ", found)
             }
-            AvnDecodeErrorKind::InvalidHexString => write!(f, "Invalid hex string in AVN"),
-            AvnDecodeErrorKind::InvalidBinString => write!(f, "Invalid binary string in AVN"),
-            AvnDecodeErrorKind::InvalidOid { value } => { write!(f, "Invalid OID in AVN: {value}") }
+            AvnDecodeErrorKind::InvalidHexString => f.write_str("Invalid hex string in AVN"),
+            AvnDecodeErrorKind::InvalidBinString => f.write_str("Invalid binary string in AVN"),
+            AvnDecodeErrorKind::InvalidOid { value } => {
+                write_before(f, "Invalid OID in AVN: ", value)
+            }
             AvnDecodeErrorKind::AvnInvalidEnumDiscriminant { discriminant } => {
-                write!(f, "Invalid enumerated discriminant in AVN: {discriminant}")
+                write_before(f, "Invalid enumerated discriminant in AVN: ", discriminant)
             }
             AvnDecodeErrorKind::UnexpectedToken { found } => {
-                write!(f, "Unexpected token in AVN: {found}")
+                write_before(f, "Unexpected token in AVN: ", found)
             }
             AvnDecodeErrorKind::UnterminatedString => {
-                write!(f, "Unterminated string literal in AVN")
+                f.write_str("Unterminated string literal in AVN")
             }
             AvnDecodeErrorKind::IntegerParseError { msg } => {
-                write!(f, "Integer parse error in AVN: {msg}")
+                write_before(f, "Integer parse error in AVN: ", msg)
             }
         }
     }
@@ -93,11 +96,13 @@ impl fmt::Display for AvnEncodeErrorKind {
     fn fmt<W: fmt::Write>(&self, f: &mut fmt::Formatter<W>) -> fmt::Result {
         match self {
             AvnEncodeErrorKind::AvnNoRootValueFound => {
-                write!(f, "No encoded AVN root value found")
+                f.write_str("No encoded AVN root value found")
             }
-            AvnEncodeErrorKind::AvnEncoder { msg } => { write!(f, "Error in AVN encoder: {msg}") }
+            AvnEncodeErrorKind::AvnEncoder { msg } => {
+                write_before(f, "Error in AVN encoder: ", msg)
+            }
             AvnEncodeErrorKind::AvnExceedsSupportedRealRange => {
-                write!(f, "Exceeds supported real value range for AVN encoding")
+                f.write_str("Exceeds supported real value range for AVN encoding")
             }
         }
     }

@@ -7,6 +7,7 @@ ghost use Rattle.asn_fault.specs.Texts.{ber_decode_text, ber_encode_text, der_de
 ghost use Rattle.asn_fault.specs.declared.codec_specific.CodecDecodeError.TheVariants.{Ber};
 
 use crate::joined::write_joined;
+use crate::print::{write_before, write_two};
 use crate::{CodecDecodeError, DecodeError};
 use asn_core::Tag;
 use std::error::Error;
@@ -78,44 +79,36 @@ impl fmt::Display for BerDecodeErrorKind {
     fn fmt<W: fmt::Write>(&self, f: &mut fmt::Formatter<W>) -> fmt::Result {
         match self {
             BerDecodeErrorKind::IndefiniteLengthNotAllowed => {
-                write!(f, "Indefinite length encountered but not allowed")
+                f.write_str("Indefinite length encountered but not allowed")
             }
             BerDecodeErrorKind::InvalidConstructedIdentifier => {
-                write!(
-                    f,
-                    "Invalid constructed identifier for ASN.1 value: not primitive"
-                )
+                f.write_str("Invalid constructed identifier for ASN.1 value: not primitive")
             }
-            BerDecodeErrorKind::InvalidDate { msg } => write!(f, "Invalid date string: {msg}"),
+            BerDecodeErrorKind::InvalidDate { msg } => write_before(
+                f,
+                "Invalid date string: ",
+                msg,
+            ),
             BerDecodeErrorKind::InvalidObjectIdentifier => {
-                write!(
-                    f,
-                    "Invalid object identifier with missing or corrupt root nodes"
-                )
+                f.write_str("Invalid object identifier with missing or corrupt root nodes")
             }
             BerDecodeErrorKind::MismatchedTag { expected, actual } => {
-                write!(f, "Expected {expected} tag, actual tag: {actual}")
+                write_two(f, "Expected ", expected, " tag, actual tag: ", actual)
             }
             BerDecodeErrorKind::MissingEndOfContents => {
-                write!(
-                    f,
-                    "Missing end-of-contents octets after indefinite length contents"
-                )
+                f.write_str("Missing end-of-contents octets after indefinite length contents")
             }
             BerDecodeErrorKind::ReservedLengthOctet => {
-                write!(f, "Reserved length octet 0xFF encountered")
+                f.write_str("Reserved length octet 0xFF encountered")
             }
             BerDecodeErrorKind::UnexpectedEndOfContents => {
-                write!(
-                    f,
-                    "End-of-contents octets encountered where a value was expected"
-                )
+                f.write_str("End-of-contents octets encountered where a value was expected")
             }
             BerDecodeErrorKind::UnsupportedObjectIdentifierArc => {
-                write!(f, "Object identifier arc exceeds the supported 32 bits")
+                f.write_str("Object identifier arc exceeds the supported 32 bits")
             }
             BerDecodeErrorKind::UnsupportedTagNumber => {
-                write!(f, "Tag number exceeds the supported 32 bits")
+                f.write_str("Tag number exceeds the supported 32 bits")
             }
         }
     }
@@ -142,7 +135,7 @@ impl fmt::Display for DerDecodeErrorKind {
     fn fmt<W: fmt::Write>(&self, f: &mut fmt::Formatter<W>) -> fmt::Result {
         match self {
             DerDecodeErrorKind::ConstructedEncodingNotAllowed => {
-                write!(f, "Constructed encoding encountered but not allowed")
+                f.write_str("Constructed encoding encountered but not allowed")
             }
         }
     }
@@ -177,7 +170,7 @@ impl fmt::Display for BerEncodeErrorKind {
     fn fmt<W: fmt::Write>(&self, f: &mut fmt::Formatter<W>) -> fmt::Result {
         match self {
             BerEncodeErrorKind::AnyInSet => {
-                write!(f, "Cannot encode `ANY` types in `SET` fields")
+                f.write_str("Cannot encode `ANY` types in `SET` fields")
             }
             BerEncodeErrorKind::InvalidObjectIdentifier { oid } => {
                 write!(

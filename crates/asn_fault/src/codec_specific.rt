@@ -7,6 +7,7 @@ ghost use Rattle.asn_fault.specs.EncodeCause.{codec_refusal};
 ghost use Rattle.asn_fault.specs.declared.codec_specific.CodecDecodeError.TheVariants as decoding;
 ghost use Rattle.asn_fault.specs.declared.codec_specific.CodecEncodeError.TheVariants as encoding;
 
+use crate::print::{write_before, write_variant};
 use crate::{
     AperDecodeErrorKind, AperEncodeErrorKind, AvnDecodeErrorKind, AvnEncodeErrorKind,
     BerDecodeErrorKind, BerEncodeErrorKind, CerDecodeErrorKind, CerEncodeErrorKind,
@@ -49,16 +50,16 @@ impl fmt::Display for CodecDecodeError {
 
     fn fmt<W: fmt::Write>(&self, f: &mut fmt::Formatter<W>) -> fmt::Result {
         match self {
-            CodecDecodeError::Ber(kind) => write!(f, "BER decoding error: {kind}"),
+            CodecDecodeError::Ber(kind) => write_before(f, "BER decoding error: ", kind),
             CodecDecodeError::Cer(kind) => match *kind {},
-            CodecDecodeError::Der(kind) => write!(f, "DER decoding error: {kind}"),
+            CodecDecodeError::Der(kind) => write_before(f, "DER decoding error: ", kind),
             CodecDecodeError::Uper(kind) => match *kind {},
             CodecDecodeError::Aper(kind) => match *kind {},
-            CodecDecodeError::Jer(kind) => write!(f, "JER decoding error: {kind}"),
-            CodecDecodeError::Oer(kind) => write!(f, "OER decoding error: {kind}"),
-            CodecDecodeError::Coer(kind) => write!(f, "COER decoding error: {kind}"),
-            CodecDecodeError::Xer(kind) => write!(f, "XER decoding error: {kind}"),
-            CodecDecodeError::Avn(kind) => write!(f, "AVN decoding error: {kind}"),
+            CodecDecodeError::Jer(kind) => write_before(f, "JER decoding error: ", kind),
+            CodecDecodeError::Oer(kind) => write_before(f, "OER decoding error: ", kind),
+            CodecDecodeError::Coer(kind) => write_before(f, "COER decoding error: ", kind),
+            CodecDecodeError::Xer(kind) => write_before(f, "XER decoding error: ", kind),
+            CodecDecodeError::Avn(kind) => write_before(f, "AVN decoding error: ", kind),
         }
     }
 }
@@ -68,16 +69,16 @@ impl fmt::Display for CodecDecodeError {
 impl fmt::Debug for CodecDecodeError {
     fn fmt<W: fmt::Write>(&self, f: &mut fmt::Formatter<W>) -> fmt::Result {
         match self {
-            CodecDecodeError::Ber(kind) => write!(f, "Ber({kind:?})"),
+            CodecDecodeError::Ber(kind) => write_variant(f, "Ber", kind),
             CodecDecodeError::Cer(kind) => match *kind {},
-            CodecDecodeError::Der(kind) => write!(f, "Der({kind:?})"),
+            CodecDecodeError::Der(kind) => write_variant(f, "Der", kind),
             CodecDecodeError::Uper(kind) => match *kind {},
             CodecDecodeError::Aper(kind) => match *kind {},
-            CodecDecodeError::Jer(kind) => write!(f, "Jer({kind:?})"),
-            CodecDecodeError::Oer(kind) => write!(f, "Oer({kind:?})"),
-            CodecDecodeError::Coer(kind) => write!(f, "Coer({kind:?})"),
-            CodecDecodeError::Xer(kind) => write!(f, "Xer({kind:?})"),
-            CodecDecodeError::Avn(kind) => write!(f, "Avn({kind:?})"),
+            CodecDecodeError::Jer(kind) => write_variant(f, "Jer", kind),
+            CodecDecodeError::Oer(kind) => write_variant(f, "Oer", kind),
+            CodecDecodeError::Coer(kind) => write_variant(f, "Coer", kind),
+            CodecDecodeError::Xer(kind) => write_variant(f, "Xer", kind),
+            CodecDecodeError::Avn(kind) => write_variant(f, "Avn", kind),
         }
     }
 }
@@ -111,15 +112,15 @@ impl fmt::Display for CodecEncodeError {
 
     fn fmt<W: fmt::Write>(&self, f: &mut fmt::Formatter<W>) -> fmt::Result {
         match self {
-            CodecEncodeError::Ber(kind) => write!(f, "BER encoding error: {kind}"),
+            CodecEncodeError::Ber(kind) => write_before(f, "BER encoding error: ", kind),
             CodecEncodeError::Cer(kind) => match *kind {},
             CodecEncodeError::Der(kind) => match *kind {},
             CodecEncodeError::Uper(kind) => match *kind {},
             CodecEncodeError::Aper(kind) => match *kind {},
-            CodecEncodeError::Jer(kind) => write!(f, "JER encoding error: {kind}"),
-            CodecEncodeError::Coer(kind) => write!(f, "COER encoding error: {kind}"),
-            CodecEncodeError::Xer(kind) => write!(f, "XER encoding error: {kind}"),
-            CodecEncodeError::Avn(kind) => write!(f, "AVN encoding error: {kind}"),
+            CodecEncodeError::Jer(kind) => write_before(f, "JER encoding error: ", kind),
+            CodecEncodeError::Coer(kind) => write_before(f, "COER encoding error: ", kind),
+            CodecEncodeError::Xer(kind) => write_before(f, "XER encoding error: ", kind),
+            CodecEncodeError::Avn(kind) => write_before(f, "AVN encoding error: ", kind),
         }
     }
 }
@@ -129,15 +130,15 @@ impl fmt::Display for CodecEncodeError {
 impl fmt::Debug for CodecEncodeError {
     fn fmt<W: fmt::Write>(&self, f: &mut fmt::Formatter<W>) -> fmt::Result {
         match self {
-            CodecEncodeError::Ber(kind) => write!(f, "Ber({kind:?})"),
+            CodecEncodeError::Ber(kind) => write_variant(f, "Ber", kind),
             CodecEncodeError::Cer(kind) => match *kind {},
             CodecEncodeError::Der(kind) => match *kind {},
             CodecEncodeError::Uper(kind) => match *kind {},
             CodecEncodeError::Aper(kind) => match *kind {},
-            CodecEncodeError::Jer(kind) => write!(f, "Jer({kind:?})"),
-            CodecEncodeError::Coer(kind) => write!(f, "Coer({kind:?})"),
-            CodecEncodeError::Xer(kind) => write!(f, "Xer({kind:?})"),
-            CodecEncodeError::Avn(kind) => write!(f, "Avn({kind:?})"),
+            CodecEncodeError::Jer(kind) => write_variant(f, "Jer", kind),
+            CodecEncodeError::Coer(kind) => write_variant(f, "Coer", kind),
+            CodecEncodeError::Xer(kind) => write_variant(f, "Xer", kind),
+            CodecEncodeError::Avn(kind) => write_variant(f, "Avn", kind),
         }
     }
 }

@@ -7,6 +7,7 @@ ghost use Rattle.asn_fault.specs.Texts.{permitted_alphabet_text};
 
 use crate::DecodeError;
 use crate::joined::write_joined;
+use crate::print::{write_around, write_three, write_two};
 use std::error::Error;
 use std::fmt;
 
@@ -24,7 +25,12 @@ impl fmt::Display for PermittedAlphabetError {
     fn fmt<W: fmt::Write>(&self, f: &mut fmt::Formatter<W>) -> fmt::Result {
         match self {
             PermittedAlphabetError::CharacterNotFound { character } => {
-                write!(f, "Character {character} not found from the permitted list")
+                write_around(
+                    f,
+                    "Character ",
+                    character,
+                    " not found from the permitted list",
+                )
             }
         }
     }
@@ -113,14 +119,20 @@ impl fmt::Display for InnerSubtypeConstraintError {
             InnerSubtypeConstraintError::SubtypeConstraintViolation {
                 component_path,
                 details,
-            } => write!(
+            } => write_two(
                 f,
-                "Invalid component combination in {component_path}: {details}"
+                "Invalid component combination in ",
+                component_path,
+                ": ",
+                details,
             ),
-            InnerSubtypeConstraintError::MissingRequiredComponent { component_path, .. } => write!(
-                f,
-                "Missing required components in {component_path}: the following must be present:"
-            ),
+            InnerSubtypeConstraintError::MissingRequiredComponent { component_path, .. } =>
+                write_around(
+                    f,
+                    "Missing required components in ",
+                    component_path,
+                    ": the following must be present:",
+                ),
             InnerSubtypeConstraintError::MutuallyExclusiveViolation {
                 component_path,
                 components,
@@ -134,9 +146,12 @@ impl fmt::Display for InnerSubtypeConstraintError {
             InnerSubtypeConstraintError::UnexpectedComponentPresent {
                 component_path,
                 component_name,
-            } => write!(
+            } => write_two(
                 f,
-                "Component that should be absent is present in {component_path}: {component_name}"
+                "Component that should be absent is present in ",
+                component_path,
+                ": ",
+                component_name,
             ),
             InnerSubtypeConstraintError::InvalidInnerContaining { expected, err } => {
                 let err = &**err;
@@ -161,26 +176,40 @@ impl InnerSubtypeConstraintError {
                 component_path,
                 component_name,
                 details,
-            } => write!(
+            } => write_three(
                 f,
-                "Invalid value for component {component_path} in {component_name}: {details}"
+                "Invalid value for component ",
+                component_path,
+                " in ",
+                component_name,
+                ": ",
+                details,
             ),
             InnerSubtypeConstraintError::InvalidComponentVariant {
                 component_path,
                 component_type,
                 details,
-            } => write!(
+            } => write_three(
                 f,
-                "Invalid variant for component {component_type} in {component_path}: {details}"
+                "Invalid variant for component ",
+                component_type,
+                " in ",
+                component_path,
+                ": ",
+                details,
             ),
             InnerSubtypeConstraintError::InvalidComponentSize {
                 component_path,
                 component_name,
                 details,
-            } => write!(
+            } => write_three(
                 f,
-                "Invalid size constraint for component {component_name} in {component_path}: \
-                 {details}"
+                "Invalid size constraint for component ",
+                component_name,
+                " in ",
+                component_path,
+                ": ",
+                details,
             ),
             _ => Ok(()),
         }

@@ -233,7 +233,7 @@ pub struct DecodeError {
 
 /// Makes errors, one constructor for each kind, and finds the cause within fields.
 impl DecodeError {
-    /// Returns the error of this kind. All other constructors go through it.
+    /// Returns the error of this kind.
     pub fn from_kind(kind: DecodeErrorKind, codec: Codec) -> DecodeError
         ensures { result ≡ decode_error kind codec }
     {
@@ -244,21 +244,24 @@ impl DecodeError {
     pub fn integer_overflow(max_width: u32, codec: Codec) -> DecodeError
         ensures { failure_of result ≡ at_root (Cause.integer_overflow max_width) codec }
     {
-        DecodeError::from_kind(DecodeErrorKind::IntegerOverflow { max_width }, codec)
+        let kind = DecodeErrorKind::IntegerOverflow { max_width };
+        DecodeError { kind, codec }
     }
 
     /// Returns the error that a text is no JSON. `msg` is what the JSON parser states.
     pub fn parser_fail(msg: String, codec: Codec) -> DecodeError
         ensures { failure_of result ≡ at_root (Cause.parser (string_bytes msg)) codec }
     {
-        DecodeError::from_kind(DecodeErrorKind::Parser { msg }, codec)
+        let kind = DecodeErrorKind::Parser { msg };
+        DecodeError { kind, codec }
     }
 
     /// Returns the error that a REAL is expected, or that the value holds one.
     pub fn real_not_supported(codec: Codec) -> DecodeError
         ensures { failure_of result ≡ at_root Cause.real_not_supported codec }
     {
-        DecodeError::from_kind(DecodeErrorKind::RealNotSupported, codec)
+        let kind = DecodeErrorKind::RealNotSupported;
+        DecodeError { kind, codec }
     }
 
     /// Returns the error that a string has a character that its type lacks. `tag` is the type's
@@ -267,35 +270,40 @@ impl DecodeError {
         ensures { failure_of result
             ≡ at_root (Cause.string_conversion_failed tag (string_bytes msg)) codec }
     {
-        DecodeError::from_kind(DecodeErrorKind::StringConversionFailed { tag, msg }, codec)
+        let kind = DecodeErrorKind::StringConversionFailed { tag, msg };
+        DecodeError { kind, codec }
     }
 
     /// Returns an error in words of its own.
     pub fn custom(msg: String, codec: Codec) -> DecodeError
         ensures { failure_of result ≡ at_root (Cause.custom (string_bytes msg)) codec }
     {
-        DecodeError::from_kind(DecodeErrorKind::Custom { msg }, codec)
+        let kind = DecodeErrorKind::Custom { msg };
+        DecodeError { kind, codec }
     }
 
     /// Returns the error that the required extension addition of this name is absent.
     pub fn missing_field(name: &'static str, codec: Codec) -> DecodeError
         ensures { failure_of result ≡ at_root (Cause.missing_field name.now) codec }
     {
-        DecodeError::from_kind(DecodeErrorKind::MissingField { name }, codec)
+        let kind = DecodeErrorKind::MissingField { name };
+        DecodeError { kind, codec }
     }
 
     /// Returns the error that a value names no alternative of the CHOICE type of this name.
     pub fn no_valid_choice(name: &'static str, codec: Codec) -> DecodeError
         ensures { failure_of result ≡ at_root (Cause.no_valid_choice name.now) codec }
     {
-        DecodeError::from_kind(DecodeErrorKind::NoValidChoice { name }, codec)
+        let kind = DecodeErrorKind::NoValidChoice { name };
+        DecodeError { kind, codec }
     }
 
     /// Returns the error that memory ran out.
     pub fn out_of_memory(codec: Codec) -> DecodeError
         ensures { failure_of result ≡ at_root Cause.out_of_memory codec }
     {
-        DecodeError::from_kind(DecodeErrorKind::OutOfMemory, codec)
+        let kind = DecodeErrorKind::OutOfMemory;
+        DecodeError { kind, codec }
     }
 
     /// Returns what the predicate returns for the kind at the end of the chain of `FieldError`s.
@@ -342,16 +350,25 @@ impl DecodeError {
             ⊎ (failure_of result ≡ at_root Cause.out_of_memory codec) }
     {
         if nested.is_out_of_memory() {
+            let_go(nested);
             return DecodeError::out_of_memory(codec);
         }
-        match Box::new(alloc, nested) {
+        let boxed: Result<_, _> = Box::new(alloc, nested);
+        match boxed {
             Ok(nested) => {
-                DecodeError::from_kind(DecodeErrorKind::FieldError { name, nested }, codec)
+                let kind = DecodeErrorKind::FieldError { name, nested };
+                DecodeError { kind, codec }
             }
-            Err(_) => DecodeError::out_of_memory(codec),
+            Err(_) => {
+                let_go(boxed);
+                DecodeError::out_of_memory(codec)
+            }
         }
     }
 }
+
+/// Drops the value. Since its type is open, the proof goes through no kinds of errors.
+pub(crate) fn let_go<T: Drop>(_value: T) {}
 
 /// Prints why the value is not decoded. Nested errors are printed in full, each with its codec.
 impl fmt::Display for DecodeErrorKind {

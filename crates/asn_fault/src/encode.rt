@@ -5,6 +5,7 @@ ghost use Rattle.asn_core.specs.Bounds.{is_admitted};
 ghost use Rattle.asn_fault.specs.Texts.{encode_kind_text, encode_error_text};
 ghost use Rattle.asn_fault.specs.EncodeCause.{encode_cause, encode_error, is_encode_out_of_memory};
 
+use crate::print::{write_before, write_two};
 use crate::{CodecEncodeError, PermittedAlphabetError};
 use asn_core::{Bounded, Codec, Size, WholeNumber};
 use std::error::Error;
@@ -92,7 +93,7 @@ pub struct EncodeError {
 
 /// Makes errors, one constructor for each kind.
 impl EncodeError {
-    /// Returns the error of this kind. All other constructors go through it.
+    /// Returns the error of this kind.
     pub fn from_kind(kind: EncodeErrorKind, codec: Codec) -> EncodeError
         ensures { result ≡ encode_error kind codec }
     {
@@ -109,7 +110,7 @@ impl EncodeError {
             (EncodeErrorKind.AlphabetConstraintNotSatisfied reason) codec }
     {
         let kind = EncodeErrorKind::AlphabetConstraintNotSatisfied { reason };
-        EncodeError::from_kind(kind, codec)
+        EncodeError { kind, codec }
     }
 
     /// Returns the error that the size of a value is none of `expected`, of which the bounds are
@@ -118,13 +119,11 @@ impl EncodeError {
         ensures { result ≡ encode_error
             (EncodeErrorKind.SizeConstraintNotSatisfied size expected.now.bounds) codec }
     {
-        EncodeError::from_kind(
-            EncodeErrorKind::SizeConstraintNotSatisfied {
-                size,
-                expected: expected.bounds,
-            },
-            codec,
-        )
+        let kind = EncodeErrorKind::SizeConstraintNotSatisfied {
+            size,
+            expected: expected.bounds,
+        };
+        EncodeError { kind, codec }
     }
 
     /// Returns the error that a number is outside `expected`, the bounds of its type.
@@ -136,13 +135,11 @@ impl EncodeError {
         ensures { result ≡ encode_error
             (EncodeErrorKind.ValueConstraintNotSatisfied value expected.now) codec }
     {
-        EncodeError::from_kind(
-            EncodeErrorKind::ValueConstraintNotSatisfied {
-                value,
-                expected: *expected,
-            },
-            codec,
-        )
+        let kind = EncodeErrorKind::ValueConstraintNotSatisfied {
+            value,
+            expected: *expected,
+        };
+        EncodeError { kind, codec }
     }
 
     /// Checks that the length of a value is one that its type has.
@@ -164,14 +161,15 @@ impl EncodeError {
             length,
             expected: expected.bounds,
         };
-        Err(EncodeError::from_kind(kind, codec))
+        Err(EncodeError { kind, codec })
     }
 
     /// Returns the error that the length of a value is greater than the platform can count.
     pub fn length_exceeds_platform_size(codec: Codec) -> EncodeError
         ensures { result ≡ encode_error EncodeErrorKind.LengthExceedsPlatformSize codec }
     {
-        EncodeError::from_kind(EncodeErrorKind::LengthExceedsPlatformSize, codec)
+        let kind = EncodeErrorKind::LengthExceedsPlatformSize;
+        EncodeError { kind, codec }
     }
 
     /// Returns the error that a number is not one of another integer type, for the reason in
@@ -179,42 +177,48 @@ impl EncodeError {
     pub fn integer_type_conversion_failed(msg: String, codec: Codec) -> EncodeError
         ensures { result ≡ encode_error (EncodeErrorKind.IntegerTypeConversionFailed msg) codec }
     {
-        EncodeError::from_kind(EncodeErrorKind::IntegerTypeConversionFailed { msg }, codec)
+        let kind = EncodeErrorKind::IntegerTypeConversionFailed { msg };
+        EncodeError { kind, codec }
     }
 
     /// Returns the error that the value of an open type is not encoded, for the reason in `msg`.
     pub fn opaque_conversion_failed(msg: String, codec: Codec) -> EncodeError
         ensures { result ≡ encode_error (EncodeErrorKind.OpaqueConversionFailed msg) codec }
     {
-        EncodeError::from_kind(EncodeErrorKind::OpaqueConversionFailed { msg }, codec)
+        let kind = EncodeErrorKind::OpaqueConversionFailed { msg };
+        EncodeError { kind, codec }
     }
 
     /// Returns the error that the tag of a value is that of no alternative of its CHOICE type.
     pub fn variant_not_in_choice(codec: Codec) -> EncodeError
         ensures { result ≡ encode_error EncodeErrorKind.VariantNotInChoice codec }
     {
-        EncodeError::from_kind(EncodeErrorKind::VariantNotInChoice, codec)
+        let kind = EncodeErrorKind::VariantNotInChoice;
+        EncodeError { kind, codec }
     }
 
     /// Returns the error that a REAL is to be encoded.
     pub fn real_not_supported(codec: Codec) -> EncodeError
         ensures { result ≡ encode_error EncodeErrorKind.RealNotSuppored codec }
     {
-        EncodeError::from_kind(EncodeErrorKind::RealNotSuppored, codec)
+        let kind = EncodeErrorKind::RealNotSuppored;
+        EncodeError { kind, codec }
     }
 
     /// Returns an error in words of its own.
     pub fn custom(msg: String, codec: Codec) -> EncodeError
         ensures { result ≡ encode_error (EncodeErrorKind.Custom msg) codec }
     {
-        EncodeError::from_kind(EncodeErrorKind::Custom { msg }, codec)
+        let kind = EncodeErrorKind::Custom { msg };
+        EncodeError { kind, codec }
     }
 
     /// Returns the error that memory ran out.
     pub fn out_of_memory(codec: Codec) -> EncodeError
         ensures { result ≡ encode_error EncodeErrorKind.OutOfMemory codec }
     {
-        EncodeError::from_kind(EncodeErrorKind::OutOfMemory, codec)
+        let kind = EncodeErrorKind::OutOfMemory;
+        EncodeError { kind, codec }
     }
 
     /// Returns whether memory ran out.
@@ -235,46 +239,57 @@ impl fmt::Display for EncodeErrorKind {
     fn fmt<W: fmt::Write>(&self, f: &mut fmt::Formatter<W>) -> fmt::Result {
         match self {
             EncodeErrorKind::FailedBitStringUnusedBitsToU8 { bits } => {
-                write!(f, "Failed to convert BIT STRING unused bits to u8: {bits}")
+                write_before(f, "Failed to convert BIT STRING unused bits to u8: ", bits)
             }
             EncodeErrorKind::InvalidLength { length, expected } => {
-                write!(f, "Invalid length, expected: {expected}; actual: {length}")
-            }
-            EncodeErrorKind::LengthExceedsPlatformSize => {
-                write!(
+                write_two(
                     f,
-                    "Invalid length, exceeds platform maximum size usize::MAX"
+                    "Invalid length, expected: ",
+                    expected,
+                    "; actual: ",
+                    length,
                 )
             }
-            EncodeErrorKind::MoreBytesThanExpected { value, expected } => write!(
+            EncodeErrorKind::LengthExceedsPlatformSize => {
+                f.write_str("Invalid length, exceeds platform maximum size usize::MAX")
+            }
+            EncodeErrorKind::MoreBytesThanExpected { value, expected } => write_two(
                 f,
-                "The provided value does not fit in the reserved octets {expected}; \
-                 actual: {value}"
+                "The provided value does not fit in the reserved octets ",
+                expected,
+                "; actual: ",
+                value,
             ),
-            EncodeErrorKind::Custom { msg } => write!(f, "Custom error: {msg}"),
+            EncodeErrorKind::Custom { msg } => write_before(f, "Custom error: ", msg),
             EncodeErrorKind::CodecSpecific { inner } => inner.fmt(f),
             EncodeErrorKind::AlphabetConstraintNotSatisfied { reason } => {
-                write!(f, "Alphabet constraint not satisfied: {reason}")
+                write_before(f, "Alphabet constraint not satisfied: ", reason)
             }
-            EncodeErrorKind::SizeConstraintNotSatisfied { size, expected } => write!(
+            EncodeErrorKind::SizeConstraintNotSatisfied { size, expected } => write_two(
                 f,
-                "Size constraint not satisfied: expected: {expected}; actual: {size}"
+                "Size constraint not satisfied: expected: ",
+                expected,
+                "; actual: ",
+                size,
             ),
-            EncodeErrorKind::ValueConstraintNotSatisfied { value, expected } => write!(
+            EncodeErrorKind::ValueConstraintNotSatisfied { value, expected } => write_two(
                 f,
-                "Value constraint not satisfied: expected: {expected}; actual: {value}"
+                "Value constraint not satisfied: expected: ",
+                expected,
+                "; actual: ",
+                value,
             ),
             EncodeErrorKind::IntegerTypeConversionFailed { msg } => {
-                write!(f, "Failed to cast integer to another integer type: {msg}")
+                write_before(f, "Failed to cast integer to another integer type: ", msg)
             }
             EncodeErrorKind::OpaqueConversionFailed { msg } => {
-                write!(f, "Conversion to opaque type failed: {msg}")
+                write_before(f, "Conversion to opaque type failed: ", msg)
             }
             EncodeErrorKind::VariantNotInChoice => {
-                write!(f, "Selected Variant not found in Choice")
+                f.write_str("Selected Variant not found in Choice")
             }
-            EncodeErrorKind::RealNotSuppored => write!(f, "Encoder doesn't support `REAL` type"),
-            EncodeErrorKind::OutOfMemory => write!(f, "Out of memory"),
+            EncodeErrorKind::RealNotSuppored => f.write_str("Encoder doesn't support `REAL` type"),
+            EncodeErrorKind::OutOfMemory => f.write_str("Out of memory"),
         }
     }
 }

@@ -5,6 +5,7 @@ ghost use Rattle.asn_fault.specs.Failure.{Cause, codec_cause};
 ghost use Rattle.asn_fault.specs.Texts.{jer_decode_text, jer_encode_text};
 ghost use Rattle.asn_core.specs.declared.codec.Codec.TheVariants.{Jer};
 
+use crate::print::{write_around, write_before, write_two};
 use crate::{CodecDecodeError, DigitFault, Utf8Fault};
 use asn_core::WholeNumber;
 use std::error::Error;
@@ -55,23 +56,26 @@ impl fmt::Display for JerDecodeErrorKind {
     fn fmt<W: fmt::Write>(&self, f: &mut fmt::Formatter<W>) -> fmt::Result {
         match self {
             JerDecodeErrorKind::EndOfInput {} => {
-                write!(f, "Unexpected end of input while decoding JER")
+                f.write_str("Unexpected end of input while decoding JER")
             }
-            JerDecodeErrorKind::TypeMismatch { needed, found } => write!(
+            JerDecodeErrorKind::TypeMismatch { needed, found } => write_two(
                 f,
-                "Found mismatching JSON value. Expected type: {needed}. Found value: {found}"
+                "Found mismatching JSON value. Expected type: ",
+                needed,
+                ". Found value: ",
+                found,
             ),
             JerDecodeErrorKind::InvalidJerBitstring { parse_int_err } => {
-                write!(f, "Found invalid byte in bit string: {parse_int_err}")
+                write_before(f, "Found invalid byte in bit string: ", parse_int_err)
             }
             JerDecodeErrorKind::InvalidJerOctetString {} => {
-                write!(f, "Found invalid character in octet string")
+                f.write_str("Found invalid character in octet string")
             }
             JerDecodeErrorKind::InvalidOIDString { value } => {
-                write!(f, "Failed to construct OID from value {value}")
+                write_before(f, "Failed to construct OID from value ", value)
             }
             JerDecodeErrorKind::InvalidEnumDiscriminant { discriminant } => {
-                write!(f, "Found invalid enumerated discriminant {discriminant}")
+                write_before(f, "Found invalid enumerated discriminant ", discriminant)
             }
         }
     }
@@ -114,19 +118,28 @@ impl fmt::Display for JerEncodeErrorKind {
 
     fn fmt<W: fmt::Write>(&self, f: &mut fmt::Formatter<W>) -> fmt::Result {
         match self {
-            JerEncodeErrorKind::JsonEncodingError { .. } => write!(f, "JsonEncodingError"),
+            JerEncodeErrorKind::JsonEncodingError { .. } => f.write_str("JsonEncodingError"),
             JerEncodeErrorKind::NoRootValueFound => {
-                write!(f, "No encoded JSON root value found")
+                f.write_str("No encoded JSON root value found")
             }
-            JerEncodeErrorKind::JsonEncoder { msg } => write!(f, "Error in JSON encoder: {msg}"),
+            JerEncodeErrorKind::JsonEncoder { msg } => write_before(
+                f,
+                "Error in JSON encoder: ",
+                msg,
+            ),
             JerEncodeErrorKind::ExceedsSupportedIntSize { value } => {
-                write!(f, "Exceeds supported integer range -2^63..2^64 ({value})")
+                write_around(
+                    f,
+                    "Exceeds supported integer range -2^63..2^64 (",
+                    value,
+                    ")",
+                )
             }
             JerEncodeErrorKind::ExceedsSupportedRealRange => {
-                write!(f, "Exceeds supported real value range")
+                f.write_str("Exceeds supported real value range")
             }
             JerEncodeErrorKind::InvalidCharacter { error } => {
-                write!(f, "Invalid character: after {error}")
+                write_before(f, "Invalid character: after ", error)
             }
         }
     }

@@ -15,6 +15,7 @@ mod jer;
 mod joined;
 mod oer;
 mod per;
+mod print;
 mod refusal;
 mod text_fault;
 mod xer;

@@ -6,6 +6,7 @@ ghost use Rattle.asn_fault.specs.Failure.{codec_failure, failure_of};
 ghost use Rattle.asn_fault.specs.declared.codec_specific.CodecDecodeError.TheVariants.{Oer};
 
 use crate::DecodeError;
+use crate::print::{write_before, write_two};
 use asn_core::Tag;
 use std::error::Error;
 use std::fmt;
@@ -96,26 +97,32 @@ impl fmt::Display for OerDecodeErrorKind {
     fn fmt<W: fmt::Write>(&self, f: &mut fmt::Formatter<W>) -> fmt::Result {
         match self {
             OerDecodeErrorKind::InvalidTagClassOnChoice { class } => {
-                write!(f, "Invalid tag class when decoding choice: actual {class}")
+                write_before(f, "Invalid tag class when decoding choice: actual ", class)
             }
             OerDecodeErrorKind::InvalidTagNumberOnChoice { value } => {
-                write!(f, "Invalid tag number when decoding Choice: {value}")
+                write_before(f, "Invalid tag number when decoding Choice: ", value)
             }
             OerDecodeErrorKind::InvalidTagVariantOnChoice {
                 value,
                 is_extensible,
-            } => write!(
+            } => write_two(
                 f,
-                "Tag not found from the variants of the platform when decoding Choice. \
-                 Tag: {value}, extensible status: {is_extensible}"
+                "Tag not found from the variants of the platform when decoding Choice. Tag: ",
+                value,
+                ", extensible status: ",
+                is_extensible,
             ),
             OerDecodeErrorKind::InvalidExtensionHeader { .. } => {
-                write!(f, "InvalidExtensionHeader")
+                f.write_str("InvalidExtensionHeader")
             }
             OerDecodeErrorKind::InvalidOerBitString { msg } => {
-                write!(f, "Invalid BitString: {msg}")
+                write_before(f, "Invalid BitString: ", msg)
             }
-            OerDecodeErrorKind::InvalidPreamble { msg } => write!(f, "Invalid preamble: {msg}"),
+            OerDecodeErrorKind::InvalidPreamble { msg } => write_before(
+                f,
+                "Invalid preamble: ",
+                msg,
+            ),
         }
     }
 }
@@ -136,10 +143,10 @@ impl fmt::Display for CoerDecodeErrorKind {
 
     fn fmt<W: fmt::Write>(&self, f: &mut fmt::Formatter<W>) -> fmt::Result {
         match self {
-            CoerDecodeErrorKind::NotValidCanonicalEncoding { msg } => write!(
+            CoerDecodeErrorKind::NotValidCanonicalEncoding { msg } => write_before(
                 f,
-                "Invalid Canonical Octet Encoding, not encoded as the smallest possible number of \
-                 octets: {msg}"
+                "Invalid Canonical Octet Encoding, not encoded as the smallest possible number of octets: ",
+                msg,
             ),
         }
     }
@@ -164,13 +171,10 @@ impl fmt::Display for CoerEncodeErrorKind {
     fn fmt<W: fmt::Write>(&self, f: &mut fmt::Formatter<W>) -> fmt::Result {
         match self {
             CoerEncodeErrorKind::TooLongValue { length: _ } => {
-                write!(f, "Provided data is too long to be encoded with COER")
+                f.write_str("Provided data is too long to be encoded with COER")
             }
             CoerEncodeErrorKind::InvalidConstrainedIntegerOctetSize => {
-                write!(
-                    f,
-                    "Provided integer exceeds limits of the constrained word sizes"
-                )
+                f.write_str("Provided integer exceeds limits of the constrained word sizes")
             }
         }
     }

@@ -4,6 +4,7 @@ ghost use Rattle.std.specs.Prelude.{Some};
 ghost use Rattle.asn_fault.specs.Texts.{xer_decode_text, xer_encode_text};
 
 use crate::DigitFault;
+use crate::print::{write_around_two, write_before, write_two};
 use std::error::Error;
 use std::fmt;
 
@@ -56,30 +57,41 @@ impl fmt::Display for XerDecodeErrorKind {
     fn fmt<W: fmt::Write>(&self, f: &mut fmt::Formatter<W>) -> fmt::Result {
         match self {
             XerDecodeErrorKind::EndOfXmlInput {} => {
-                write!(f, "Unexpected end of input while decoding XER")
+                f.write_str("Unexpected end of input while decoding XER")
             }
-            XerDecodeErrorKind::XmlTypeMismatch { needed, found } => write!(
+            XerDecodeErrorKind::XmlTypeMismatch { needed, found } => write_around_two(
                 f,
-                "Found mismatching XML value. Expected type: {needed}. Found value: {found}."
+                "Found mismatching XML value. Expected type: ",
+                needed,
+                ". Found value: ",
+                found,
+                ".",
             ),
             XerDecodeErrorKind::InvalidXerOctetstring { .. } => {
-                write!(f, "Found invalid character in octet string")
+                f.write_str("Found invalid character in octet string")
             }
             XerDecodeErrorKind::InvalidInput { details } => {
-                write!(f, "Encountered invalid value: {details}")
+                write_before(f, "Encountered invalid value: ", details)
             }
             XerDecodeErrorKind::InvalidOpenType { details } => {
-                write!(f, "Found invalid open type encoding: {details}")
+                write_before(f, "Found invalid open type encoding: ", details)
             }
-            XerDecodeErrorKind::XmlParser { details } => write!(f, "XML parser error: {details}"),
+            XerDecodeErrorKind::XmlParser { details } => write_before(
+                f,
+                "XML parser error: ",
+                details,
+            ),
             XerDecodeErrorKind::XmlTag { needed, found } => {
-                write!(
+                write_two(
                     f,
-                    "Error matching tag names: expected {needed}, found {found}"
+                    "Error matching tag names: expected ",
+                    needed,
+                    ", found ",
+                    found,
                 )
             }
             XerDecodeErrorKind::SpecViolation { details } => {
-                write!(f, "Encoding violates ITU-T X.693 (02/2021): {details}")
+                write_before(f, "Encoding violates ITU-T X.693 (02/2021): ", details)
             }
         }
     }
@@ -105,10 +117,10 @@ impl fmt::Display for XerEncodeErrorKind {
 
     fn fmt<W: fmt::Write>(&self, f: &mut fmt::Formatter<W>) -> fmt::Result {
         match self {
-            XerEncodeErrorKind::XmlEncodingError { .. } => write!(f, "XmlEncodingError"),
-            XerEncodeErrorKind::UnsupportedIntegerValue => write!(f, "Failed to encode integer"),
+            XerEncodeErrorKind::XmlEncodingError { .. } => f.write_str("XmlEncodingError"),
+            XerEncodeErrorKind::UnsupportedIntegerValue => f.write_str("Failed to encode integer"),
             XerEncodeErrorKind::MissingIdentifier => {
-                write!(f, "Missing identifier for ASN.1 type")
+                f.write_str("Missing identifier for ASN.1 type")
             }
         }
     }

@@ -3,6 +3,7 @@
 ghost use Rattle.std.specs.Prelude.{◌≡◌, ◌≢◌, ◌⊎◌, MatchResult};
 ghost use Rattle.asn_fault.specs.Failure.{ExceedsWidth, decode_error};
 
+use super::let_go;
 use crate::{
     DecodeError, DecodeErrorKind, InnerSubtypeConstraintError, Needed, PermittedAlphabetError,
 };
@@ -16,7 +17,8 @@ impl DecodeError {
     pub fn permitted_alphabet_error(reason: PermittedAlphabetError, codec: Codec) -> DecodeError
         ensures { result ≡ decode_error (DecodeErrorKind.PermittedAlphabetError reason) codec }
     {
-        DecodeError::from_kind(DecodeErrorKind::PermittedAlphabetError { reason }, codec)
+        let kind = DecodeErrorKind::PermittedAlphabetError { reason };
+        DecodeError { kind, codec }
     }
 
     /// Returns the error that the size of a value, where it is known, is none of those that
@@ -30,7 +32,7 @@ impl DecodeError {
             (DecodeErrorKind.SizeConstraintNotSatisfied size expected) codec }
     {
         let kind = DecodeErrorKind::SizeConstraintNotSatisfied { size, expected };
-        DecodeError::from_kind(kind, codec)
+        DecodeError { kind, codec }
     }
 
     /// Returns the error that a number is outside the bounds of its type.
@@ -43,7 +45,7 @@ impl DecodeError {
             (DecodeErrorKind.ValueConstraintNotSatisfied value expected) codec }
     {
         let kind = DecodeErrorKind::ValueConstraintNotSatisfied { value, expected };
-        DecodeError::from_kind(kind, codec)
+        DecodeError { kind, codec }
     }
 
     /// Returns the error that the components of a value break an inner subtype constraint.
@@ -55,7 +57,7 @@ impl DecodeError {
             (DecodeErrorKind.InnerSubtypeConstraintNotSatisfied reason) codec }
     {
         let kind = DecodeErrorKind::InnerSubtypeConstraintNotSatisfied { reason };
-        DecodeError::from_kind(kind, codec)
+        DecodeError { kind, codec }
     }
 
     /// Returns the error that a number is that of no item of the ENUMERATED type.
@@ -63,10 +65,8 @@ impl DecodeError {
         ensures { result ≡ decode_error
             (DecodeErrorKind.DiscriminantValueNotFound discriminant) codec }
     {
-        DecodeError::from_kind(
-            DecodeErrorKind::DiscriminantValueNotFound { discriminant },
-            codec,
-        )
+        let kind = DecodeErrorKind::DiscriminantValueNotFound { discriminant };
+        DecodeError { kind, codec }
     }
 
     /// Returns the error that the range of an INTEGER needs more bits than the platform has.
@@ -75,7 +75,7 @@ impl DecodeError {
             (DecodeErrorKind.RangeExceedsPlatformWidth needed present) codec }
     {
         let kind = DecodeErrorKind::RangeExceedsPlatformWidth { needed, present };
-        DecodeError::from_kind(kind, codec)
+        DecodeError { kind, codec }
     }
 
     /// Returns the error that a string of fixed size has another size. `tag` is the type's
@@ -94,7 +94,7 @@ impl DecodeError {
             expected,
             actual,
         };
-        DecodeError::from_kind(kind, codec)
+        DecodeError { kind, codec }
     }
 
     /// Returns the error that a SEQUENCE has another number of components than its type.
@@ -107,7 +107,7 @@ impl DecodeError {
             (DecodeErrorKind.IncorrectItemNumberInSequence expected actual) codec }
     {
         let kind = DecodeErrorKind::IncorrectItemNumberInSequence { expected, actual };
-        DecodeError::from_kind(kind, codec)
+        DecodeError { kind, codec }
     }
 
     /// Returns the error that a number is not one of another integer type, for the reason in
@@ -115,7 +115,8 @@ impl DecodeError {
     pub fn integer_type_conversion_failed(msg: String, codec: Codec) -> DecodeError
         ensures { result ≡ decode_error (DecodeErrorKind.IntegerTypeConversionFailed msg) codec }
     {
-        DecodeError::from_kind(DecodeErrorKind::IntegerTypeConversionFailed { msg }, codec)
+        let kind = DecodeErrorKind::IntegerTypeConversionFailed { msg };
+        DecodeError { kind, codec }
     }
 
     /// Returns the error that the last octet of a bit string has this many unused bits, which is
@@ -123,7 +124,8 @@ impl DecodeError {
     pub fn invalid_bit_string(bits: u8, codec: Codec) -> DecodeError
         ensures { result ≡ decode_error (DecodeErrorKind.InvalidBitString bits) codec }
     {
-        DecodeError::from_kind(DecodeErrorKind::InvalidBitString { bits }, codec)
+        let kind = DecodeErrorKind::InvalidBitString { bits };
+        DecodeError { kind, codec }
     }
 
     /// Returns the error that the component of this tag is absent from a SEQUENCE or SET, or has
@@ -137,7 +139,7 @@ impl DecodeError {
             (DecodeErrorKind.MissingTagClassOrValueInSequenceOrSet class value) codec }
     {
         let kind = DecodeErrorKind::MissingTagClassOrValueInSequenceOrSet { class, value };
-        DecodeError::from_kind(kind, codec)
+        DecodeError { kind, codec }
     }
 
     /// Returns the error that an extension addition is there, and the type has no extension
@@ -145,14 +147,16 @@ impl DecodeError {
     pub fn type_not_extensible(codec: Codec) -> DecodeError
         ensures { result ≡ decode_error DecodeErrorKind.TypeNotExtensible codec }
     {
-        DecodeError::from_kind(DecodeErrorKind::TypeNotExtensible, codec)
+        let kind = DecodeErrorKind::TypeNotExtensible;
+        DecodeError { kind, codec }
     }
 
     /// Returns the error that the extension addition of this tag has to be there and is absent.
     pub fn required_extension_not_present(tag: Tag, codec: Codec) -> DecodeError
         ensures { result ≡ decode_error (DecodeErrorKind.RequiredExtensionNotPresent tag) codec }
     {
-        DecodeError::from_kind(DecodeErrorKind::RequiredExtensionNotPresent { tag }, codec)
+        let kind = DecodeErrorKind::RequiredExtensionNotPresent { tag };
+        DecodeError { kind, codec }
     }
 
     /// Returns the error that an index is that of no item of the ENUMERATED type. `extended_list`
@@ -169,7 +173,7 @@ impl DecodeError {
             index,
             extended_list,
         };
-        DecodeError::from_kind(kind, codec)
+        DecodeError { kind, codec }
     }
 
     /// Returns the error that the index of an alternative, of `needed` octets, is greater than the
@@ -186,12 +190,16 @@ impl DecodeError {
             ⊎ (result.kind ≡ DecodeErrorKind.OutOfMemory) }
         ensures codec { result.codec ≡ codec }
     {
-        match Box::new(alloc, present) {
+        let boxed: Result<_, _> = Box::new(alloc, present);
+        match boxed {
             Ok(present) => {
                 let kind = DecodeErrorKind::ChoiceIndexExceedsPlatformWidth { needed, present };
-                DecodeError::from_kind(kind, codec)
+                DecodeError { kind, codec }
             }
-            Err(_) => DecodeError::out_of_memory(codec),
+            Err(_) => {
+                let_go(boxed);
+                DecodeError::out_of_memory(codec)
+            }
         }
     }
 
@@ -199,7 +207,8 @@ impl DecodeError {
     pub fn length_exceeds_platform_width(msg: String, codec: Codec) -> DecodeError
         ensures { result ≡ decode_error (DecodeErrorKind.LengthExceedsPlatformWidth msg) codec }
     {
-        DecodeError::from_kind(DecodeErrorKind::LengthExceedsPlatformWidth { msg }, codec)
+        let kind = DecodeErrorKind::LengthExceedsPlatformWidth { msg };
+        DecodeError { kind, codec }
     }
 
     /// Returns the error that an index is that of no alternative of the CHOICE type, whose tags
@@ -207,45 +216,48 @@ impl DecodeError {
     pub fn choice_index_not_found(index: usize, variants: Variants, codec: Codec) -> DecodeError
         ensures { result ≡ decode_error (DecodeErrorKind.ChoiceIndexNotFound index variants) codec }
     {
-        DecodeError::from_kind(
-            DecodeErrorKind::ChoiceIndexNotFound { index, variants },
-            codec,
-        )
+        let kind = DecodeErrorKind::ChoiceIndexNotFound { index, variants };
+        DecodeError { kind, codec }
     }
 
     /// Returns the error that this many octets follow the value.
     pub fn unexpected_extra_data(length: usize, codec: Codec) -> DecodeError
         ensures { result ≡ decode_error (DecodeErrorKind.UnexpectedExtraData length) codec }
     {
-        DecodeError::from_kind(DecodeErrorKind::UnexpectedExtraData { length }, codec)
+        let kind = DecodeErrorKind::UnexpectedExtraData { length };
+        DecodeError { kind, codec }
     }
 
     /// Returns the error that the input is empty where a SEQUENCE or an INTEGER is expected.
     pub fn unexpected_empty_input(codec: Codec) -> DecodeError
         ensures { result ≡ decode_error DecodeErrorKind.UnexpectedEmptyInput codec }
     {
-        DecodeError::from_kind(DecodeErrorKind::UnexpectedEmptyInput, codec)
+        let kind = DecodeErrorKind::UnexpectedEmptyInput;
+        DecodeError { kind, codec }
     }
 
     /// Returns the error that the input ends within a value, which needs this much more of it.
     pub fn incomplete(needed: Needed, codec: Codec) -> DecodeError
         ensures { result ≡ decode_error (DecodeErrorKind.Incomplete needed) codec }
     {
-        DecodeError::from_kind(DecodeErrorKind::Incomplete { needed }, codec)
+        let kind = DecodeErrorKind::Incomplete { needed };
+        DecodeError { kind, codec }
     }
 
     /// Returns the error that a value has more elements than this number, which are read at most.
     pub fn exceeds_max_length(length: u128, codec: Codec) -> DecodeError
         ensures { result ≡ decode_error (DecodeErrorKind.ExceedsMaxLength length) codec }
     {
-        DecodeError::from_kind(DecodeErrorKind::ExceedsMaxLength { length }, codec)
+        let kind = DecodeErrorKind::ExceedsMaxLength { length };
+        DecodeError { kind, codec }
     }
 
     /// Returns the error that the field of this name is there twice.
     pub fn duplicate_field(name: &'static str, codec: Codec) -> DecodeError
         ensures { result ≡ decode_error (DecodeErrorKind.DuplicateField name.entry) codec }
     {
-        DecodeError::from_kind(DecodeErrorKind::DuplicateField { name }, codec)
+        let kind = DecodeErrorKind::DuplicateField { name };
+        DecodeError { kind, codec }
     }
 
     /// Returns the error that the component at this place, of this tag, is one that the type
@@ -253,7 +265,8 @@ impl DecodeError {
     pub fn unknown_field(index: usize, tag: Tag, codec: Codec) -> DecodeError
         ensures { result ≡ decode_error (DecodeErrorKind.UnknownField index tag) codec }
     {
-        DecodeError::from_kind(DecodeErrorKind::UnknownField { index, tag }, codec)
+        let kind = DecodeErrorKind::UnknownField { index, tag };
+        DecodeError { kind, codec }
     }
 
     /// Checks that the number of octets is the one that is stated.
@@ -269,7 +282,7 @@ impl DecodeError {
             Ok(())
         } else {
             let kind = DecodeErrorKind::MismatchedLength { expected, actual };
-            Err(DecodeError::from_kind(kind, codec))
+            Err(DecodeError { kind, codec })
         }
     }
 }

@@ -5,6 +5,7 @@ ghost use Rattle.asn_fault.specs.Texts.{number_text, string_text, variant_text};
 ghost use Rattle.std.specs.Fmt.{WritesOnOk};
 
 use super::DecodeErrorKind;
+use crate::print::{write_around, write_around_two, write_before, write_three, write_two};
 use asn_core::Tag;
 use std::fmt;
 
@@ -15,28 +16,44 @@ impl DecodeErrorKind {
         ensures { WritesOnOk W.write_str_gives f.old result (component_text self.now) f.new }
     {
         match self {
-            DecodeErrorKind::DuplicateField { name } => write!(f, "Duplicate field for `{name}`"),
-            DecodeErrorKind::MissingField { name } => write!(f, "Missing field `{name}`"),
+            DecodeErrorKind::DuplicateField { name } => write_around(
+                f,
+                "Duplicate field for `",
+                name,
+                "`",
+            ),
+            DecodeErrorKind::MissingField { name } => write_around(f, "Missing field `", name, "`"),
             DecodeErrorKind::UnknownField { index, tag } => {
-                write!(f, "Unknown field with index {index} and tag {tag}")
+                write_two(f, "Unknown field with index ", index, " and tag ", tag)
             }
-            DecodeErrorKind::IncorrectItemNumberInSequence { expected, actual } => write!(
+            DecodeErrorKind::IncorrectItemNumberInSequence { expected, actual } => write_two(
                 f,
-                "Invalid item number in Sequence: expected: {expected}; actual: {actual}"
+                "Invalid item number in Sequence: expected: ",
+                expected,
+                "; actual: ",
+                actual,
             ),
-            DecodeErrorKind::MissingTagClassOrValueInSequenceOrSet { class, value } => write!(
-                f,
-                "Expected class: {class}, value: {value} in sequence or set \
-                 Missing tag class or value in sequence or set"
-            ),
+            DecodeErrorKind::MissingTagClassOrValueInSequenceOrSet { class, value } =>
+                write_around_two(
+                    f,
+                    "Expected class: ",
+                    class,
+                    ", value: ",
+                    value,
+                    " in sequence or set Missing tag class or value in sequence or set",
+                ),
             DecodeErrorKind::RequiredExtensionNotPresent {
                 tag: Tag { class, value },
-            } => write!(
+            } => write_around_two(
                 f,
-                "Extension with class `{class}` and tag `{value}` required, but not present"
+                "Extension with class `",
+                class,
+                "` and tag `",
+                value,
+                "` required, but not present",
             ),
             DecodeErrorKind::TypeNotExtensible => {
-                write!(f, "Attempted to decode extension on non-extensible type")
+                f.write_str("Attempted to decode extension on non-extensible type")
             }
             kind => kind.write_variant(f),
         }
@@ -50,19 +67,28 @@ impl DecodeErrorKind {
             DecodeErrorKind::EnumerationIndexNotFound {
                 index,
                 extended_list,
-            } => write!(
+            } => write_two(
                 f,
-                "Enumeration index {index} did not match any variant. \
-                 Extended list checked: {extended_list}"
+                "Enumeration index ",
+                index,
+                " did not match any variant. Extended list checked: ",
+                extended_list,
             ),
             DecodeErrorKind::ChoiceIndexNotFound { index, .. } => {
-                write!(f, "Choice index {index} did not match any variant")
+                write_around(f, "Choice index ", index, " did not match any variant")
             }
-            DecodeErrorKind::DiscriminantValueNotFound { discriminant } => write!(
+            DecodeErrorKind::DiscriminantValueNotFound { discriminant } => write_around(
                 f,
-                "Discriminant value {discriminant} did not match any variant"
+                "Discriminant value ",
+                discriminant,
+                " did not match any variant",
             ),
-            DecodeErrorKind::NoValidChoice { name } => write!(f, "No valid choice for `{name}`"),
+            DecodeErrorKind::NoValidChoice { name } => write_around(
+                f,
+                "No valid choice for `",
+                name,
+                "`",
+            ),
             kind => kind.write_number(f),
         }
     }
@@ -72,29 +98,40 @@ impl DecodeErrorKind {
         ensures { WritesOnOk W.write_str_gives f.old result (number_text self.now) f.new }
     {
         match self {
-            DecodeErrorKind::ValueConstraintNotSatisfied { value, expected } => write!(
+            DecodeErrorKind::ValueConstraintNotSatisfied { value, expected } => write_two(
                 f,
-                "Value constraint not satisfied: expected: {expected}; actual: {value}"
+                "Value constraint not satisfied: expected: ",
+                expected,
+                "; actual: ",
+                value,
             ),
-            DecodeErrorKind::IntegerOverflow { max_width } => write!(
+            DecodeErrorKind::IntegerOverflow { max_width } => write_around(
                 f,
-                "Actual integer larger than expected {max_width} bits"
+                "Actual integer larger than expected ",
+                max_width,
+                " bits",
             ),
             DecodeErrorKind::IntegerTypeConversionFailed { msg } => {
-                write!(f, "Failed to cast integer to another integer type: {msg} ")
+                write_around(
+                    f,
+                    "Failed to cast integer to another integer type: ",
+                    msg,
+                    " ",
+                )
             }
             DecodeErrorKind::RangeExceedsPlatformWidth { needed, present } => write!(
                 f,
                 "Integer range larger than possible to address on this platform. \
                  needed: {needed} present: {present}"
             ),
-            DecodeErrorKind::InvalidRealEncoding => write!(f, "Invalid real encoding"),
+            DecodeErrorKind::InvalidRealEncoding => f.write_str("Invalid real encoding"),
             DecodeErrorKind::RealNotSupported => {
-                write!(f, "Decoder doesn't support `REAL` type")
+                f.write_str("Decoder doesn't support `REAL` type")
             }
-            DecodeErrorKind::InvalidBool { value } => write!(
+            DecodeErrorKind::InvalidBool { value } => write_before(
                 f,
-                "Bool value is not `0` or `0xFF` as canonical requires. Actual: {value}"
+                "Bool value is not `0` or `0xFF` as canonical requires. Actual: ",
+                value,
             ),
             kind => kind.write_string(f),
         }
@@ -106,29 +143,36 @@ impl DecodeErrorKind {
     {
         match self {
             DecodeErrorKind::PermittedAlphabetError { reason } => {
-                write!(f, "Alphabet constraint not satisfied {reason}")
+                write_before(f, "Alphabet constraint not satisfied ", reason)
             }
             DecodeErrorKind::SizeConstraintNotSatisfied { size, expected } => write!(
                 f,
                 "Size constraint not satisfied: expected: {expected}; actual: {size:?}"
             ),
-            DecodeErrorKind::StringConversionFailed { tag, msg } => write!(
+            DecodeErrorKind::StringConversionFailed { tag, msg } => write_two(
                 f,
-                "Failed to convert byte array into valid ASN.1 string. \
-                 String type as tag: {tag} Error: {msg}"
+                "Failed to convert byte array into valid ASN.1 string. String type as tag: ",
+                tag,
+                " Error: ",
+                msg,
             ),
             DecodeErrorKind::FixedStringConversionFailed {
                 tag,
                 expected,
                 actual,
-            } => write!(
+            } => write_three(
                 f,
-                "Failed to convert byte array into valid fixed-sized ASN.1 string. \
-                 String type as tag: {tag}, actual: {actual}, expected: {expected}"
+                "Failed to convert byte array into valid fixed-sized ASN.1 string. String type as tag: ",
+                tag,
+                ", actual: ",
+                actual,
+                ", expected: ",
+                expected,
             ),
-            DecodeErrorKind::InvalidBitString { bits } => write!(
+            DecodeErrorKind::InvalidBitString { bits } => write_before(
                 f,
-                "BitString contains an invalid amount of unused bits: {bits}"
+                "BitString contains an invalid amount of unused bits: ",
+                bits,
             ),
             kind => kind.write_length(f),
         }
@@ -140,18 +184,23 @@ impl DecodeErrorKind {
     {
         match self {
             DecodeErrorKind::ExceedsMaxLength { length } => {
-                write!(f, "Expected maximum of {length} items")
+                write_around(f, "Expected maximum of ", length, " items")
             }
             DecodeErrorKind::LengthExceedsPlatformWidth { msg } => {
-                write!(
+                write_before(
                     f,
-                    "Length of the data exceeds platform address width: {msg}"
+                    "Length of the data exceeds platform address width: ",
+                    msg,
                 )
             }
-            DecodeErrorKind::ZeroLengthOfLength => write!(f, "Length of Length cannot be zero"),
-            DecodeErrorKind::MismatchedLength { expected, actual } => write!(
+            DecodeErrorKind::ZeroLengthOfLength => f.write_str("Length of Length cannot be zero"),
+            DecodeErrorKind::MismatchedLength { expected, actual } => write_around_two(
                 f,
-                "Expected {expected} bytes, actual length was {actual} bytes"
+                "Expected ",
+                expected,
+                " bytes, actual length was ",
+                actual,
+                " bytes",
             ),
             kind => kind.write_input(f),
         }
@@ -162,21 +211,25 @@ impl DecodeErrorKind {
         ensures { WritesOnOk W.write_str_gives f.old result (input_text self.now) f.new }
     {
         match self {
-            DecodeErrorKind::Custom { msg } => write!(f, "Custom error: {msg}"),
+            DecodeErrorKind::Custom { msg } => write_before(f, "Custom error: ", msg),
             DecodeErrorKind::Incomplete { needed } => {
-                write!(f, "Need more data to continue: {needed}")
+                write_before(f, "Need more data to continue: ", needed)
             }
-            DecodeErrorKind::Eof => write!(f, "Unexpected EOF when decoding"),
-            DecodeErrorKind::Parser { msg } => write!(f, "Error in Parser: {msg}"),
+            DecodeErrorKind::Eof => f.write_str("Unexpected EOF when decoding"),
+            DecodeErrorKind::Parser { msg } => write_before(f, "Error in Parser: ", msg),
             DecodeErrorKind::UnexpectedExtraData { length } => {
-                write!(f, "Unexpected extra data found: length `{length}` bytes")
+                write_around(
+                    f,
+                    "Unexpected extra data found: length `",
+                    length,
+                    "` bytes",
+                )
             }
-            DecodeErrorKind::UnexpectedEmptyInput => write!(
-                f,
-                "No input was provided where expected in the given SEQUENCE or INTEGER type"
+            DecodeErrorKind::UnexpectedEmptyInput => f.write_str(
+                "No input was provided where expected in the given SEQUENCE or INTEGER type",
             ),
-            DecodeErrorKind::ExceedsMaxParseDepth => write!(f, "Exceeded maximum parse depth"),
-            DecodeErrorKind::OutOfMemory => write!(f, "Out of memory"),
+            DecodeErrorKind::ExceedsMaxParseDepth => f.write_str("Exceeded maximum parse depth"),
+            DecodeErrorKind::OutOfMemory => f.write_str("Out of memory"),
             _ => Ok(()),
         }
     }

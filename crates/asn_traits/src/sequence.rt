@@ -121,9 +121,10 @@ where
         (members_value (all_fields T.fields T.added) (T.slots value.now))) }
 {
     // A SET is encoded as a SEQUENCE is: its slots stand as the type lists its fields.
+    let additions = listed(T::listed_added());
     encoder.open_frame()?;
     value.write_fields(encoder)?;
-    encoder.close_members(T::listed(), listed(T::listed_added()))
+    encoder.close_members(T::listed(), additions)
 }
 
 /// Decodes a SEQUENCE or SET: puts a slot for each field, whatever their order in the text, and

@@ -3,7 +3,7 @@
 ghost use Rattle.asn_model.specs.Shape.{Shape as AbstractShape};
 ghost use Rattle.asn_model.specs.Value.{Value, bag_of, values};
 ghost use Rattle.asn_integers.specs.SetElements.{flags_alike, numbers_alike, texts_alike};
-ghost use Rattle.std.specs.Prelude.{◌≡◌, ◌↔◌, true};
+ghost use Rattle.std.specs.Prelude.{◌≡◌, ◌↔◌, refl, true};
 
 use crate::{AsnType, DescribeKind, IntegerKind, OfKind, PlainKind};
 use asn_core::{OutOfMemory, Tag, TagTree};

@@ -10,7 +10,7 @@ ghost use Rattle.std.specs.Prelude.{◌≡◌, ◌≤◌, ◌<◌, ◌^◌, ◌�
 use asn_core::{Codec, Tag, TagTree};
 use asn_fault::{DecodeError, EncodeError};
 use asn_model::words::NO_DECIMAL;
-use asn_traits::{Encoder, Leaf, LeafKind, OfKind, Shape, TextKind, TextType};
+use asn_traits::{EncodeText, Encoder, Leaf, LeafKind, OfKind, Shape, TextKind, TextType};
 use std::alloc::Global;
 use std::marker::Model;
 
@@ -109,6 +109,14 @@ impl TextType for Decimal {
         }
     }
 
+    ghost any_size = { λ n. refl };
+
+    ghost any_value = { λ n x. refl };
+
+    ghost readable = { refl };
+}
+
+impl EncodeText for Decimal {
     fn put_text<E: Encoder>(&self, encoder: &mut E) -> Result<(), EncodeError> {
         let number = self.number();
         match format!(in encoder.allocator(); "{number}") {
@@ -116,10 +124,4 @@ impl TextType for Decimal {
             Err(_) => Err(EncodeError::out_of_memory(encoder.codec())),
         }
     }
-
-    ghost any_size = { λ n. refl };
-
-    ghost any_value = { λ n x. refl };
-
-    ghost readable = { refl };
 }

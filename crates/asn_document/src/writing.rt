@@ -17,7 +17,7 @@ ghost use Rattle.std.specs.Prelude.{◌≡◌, ◌^◌, ◌≤◌, IfErr, OnOk, 
 use crate::decimal::Decimal;
 use asn_core::{Class, Constraints, Identifier, Tag, TagTree};
 use asn_fault::EncodeError;
-use asn_traits::{Encoder, Field, Presence, TextType, required};
+use asn_traits::{EncodeText, Encoder, Field, Presence, required};
 use serde_json::{Map, Number, Value};
 
 /// Is the tag of the alternative `decimal`.

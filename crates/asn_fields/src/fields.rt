@@ -16,8 +16,9 @@ ghost use Rattle.std.specs.Prelude.{if◌then◌else◌};
 
 use asn_coding::FieldNames;
 use asn_core::Identifier;
+use asn_decode::{Decode, Decoder};
+use asn_encode::{Encode, Encoder};
 use asn_fault::{DecodeError, EncodeError};
-use asn_traits::{Decode, Decoder, Encode, Encoder};
 
 /// Returns the error within `FieldError` with the field's name, and by the decoder's codec. Want of
 /// memory stays as it is, and is returned where memory runs out here.

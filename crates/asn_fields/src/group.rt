@@ -9,8 +9,9 @@ ghost use Rattle.asn_coding.specs.Writing.{Frame};
 ghost use Rattle.std.specs.Prelude.{◌++◌, IfErr, IfOk, OnOk};
 
 use asn_coding::FieldNames;
+use asn_decode::Decoder;
+use asn_encode::Encoder;
 use asn_fault::{DecodeError, EncodeError};
-use asn_traits::{Decoder, Encoder};
 
 /// Describes fields that stand one after another in a SEQUENCE, as COMPONENTS OF puts them
 /// there.

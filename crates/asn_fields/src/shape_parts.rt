@@ -11,7 +11,8 @@ ghost use Rattle.asn_model.specs.ShapeView.{presence_view};
 ghost use Rattle.std.specs.Prelude.{◌≡◌, IfOk, OnOk, map, option_map, string_bytes};
 
 use asn_core::{OutOfMemory, Tag};
-use asn_traits::{AlternativeShape, AsnType, FieldShape, Plain, PresenceShape, SeqKind, Shape};
+use asn_model::{AlternativeShape, FieldShape, Plain, PresenceShape, SeqKind, Shape};
+use asn_types::AsnType;
 use std::alloc::Global;
 
 /// Collects the fields of a SEQUENCE or SET, in order.

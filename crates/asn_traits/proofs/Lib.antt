@@ -18,7 +18,7 @@ pub use Rattle.asn_model.proofs.Decimals
 pub use Rattle.asn_coding.proofs.Steps
 pub use Rattle.asn_coding.proofs.Refusing
 pub use Rattle.asn_coding.proofs.LeafValues
-pub mod TextLeaves
+pub use Rattle.asn_types.proofs.TextLeaves
 pub use Rattle.asn_coding.proofs.ReadingOrder
 pub use Rattle.asn_coding.proofs.Taking
 pub use Rattle.asn_coding.proofs.Reading
@@ -31,7 +31,8 @@ pub use Rattle.asn_coding.proofs.FieldSteps
 pub use Rattle.asn_coding.proofs.Passing
 pub use Rattle.asn_coding.proofs.TagOrder
 pub use Rattle.asn_coding.proofs.Members
-pub mod Multisets
+pub use Rattle.asn_decode.proofs.Multisets
 pub use Rattle.asn_coding.proofs.SetWriting
 pub use Rattle.asn_coding.proofs.SetReading
 pub use Rattle.asn_coding.proofs.Grouping
+pub mod Framed

@@ -32,6 +32,6 @@ pub use Rattle.asn_coding.specs.Chosen
 pub use Rattle.asn_coding.specs.Passing
 pub use Rattle.asn_coding.specs.ReadingSlots
 pub use Rattle.asn_coding.specs.SetFields
-pub mod TextTypes
+pub use Rattle.asn_types.specs.TextTypes
 pub use Rattle.asn_coding.specs.Terms
-pub mod SetElements
+pub use Rattle.asn_integers.specs.SetElements

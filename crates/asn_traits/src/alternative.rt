@@ -1,6 +1,6 @@
 //! Describes a CHOICE by its alternatives (X.680, section 29). A type implements `ChoicePayload`,
 //! which encodes and decodes the payload of each alternative by the payload's own type; what every
-//! CHOICE has (`Choice`, `DecodeChoice`, and by `kinds` the traits of a type) is given here once.
+//! CHOICE has is given by `kinds` once.
 ghost use Rattle.asn_coding.specs.Chosen.{Chosen, IsChosen, chosen_value};
 ghost use Rattle.asn_model.specs.Readable.{is_readable};
 ghost use Rattle.asn_coding.specs.Scopes.{TagAnswer};
@@ -9,15 +9,20 @@ ghost use Rattle.asn_model.specs.Shape.{all_alternatives, identifiers};
 ghost use Rattle.asn_model.specs.ShapeView.{shape_view};
 ghost use Rattle.asn_coding.specs.Tables.{added_tags, root_tags, smallest_tags};
 ghost use Rattle.asn_coding.specs.Writing.{FailsToEncode, Written};
-ghost use Rattle.std.specs.Prelude.{◌≡◌, IfErr, IfOk, OnOk, map, option_map, refl, true};
+ghost use Rattle.std.specs.Prelude.{◌≡◌, ◌↔◌, IfErr, IfOk, OnOk, map, option_map, true};
 
-use crate::{Choice, ChoiceKind, DecodeChoice, Decoder, Encoder, OfKind, Shape};
+use crate::ChoiceKind;
 use asn_core::{Constraints, Identifier, OutOfMemory, Tag, TagTree};
+use asn_decode::Decoder;
+use asn_encode::Encoder;
 use asn_fault::{DecodeError, EncodeError};
+use asn_model::Shape;
+use asn_types::{ElementKind, OfKind};
 use std::alloc::Global;
+use std::hash::Hash;
 
 /// Describes a CHOICE that is encoded by the type of its alternative.
-pub trait ChoicePayload: OfKind<Kind = ChoiceKind> {
+pub trait ChoicePayload: OfKind<Kind = ChoiceKind> + Drop {
     /// Lists the tags that the alternatives of the root may begin with, in their order.
     const ROOT: &'static [TagTree];
 
@@ -125,36 +130,15 @@ pub fn write_choice<T: ChoicePayload, E: Encoder>(
     )
 }
 
-/// Takes the tables of a CHOICE from `ChoicePayload`.
-impl<T: ChoicePayload> Choice for T {
-    const VARIANTS: &'static [TagTree] = T::ROOT;
-
-    const EXTENDED_VARIANTS: Option<&'static [TagTree]> = T::ADDED;
-
-    const IDENTIFIERS: &'static [&'static str] = T::NAMES;
-
-    ghost alternatives = { T.alternatives };
-
-    ghost added = { T.additions };
-
-    fn variant_table() -> &'static [TagTree] {
-        T::listed_root()
-    }
-
-    fn extended_variant_table() -> Option<&'static [TagTree]> {
-        T::listed_added()
-    }
-
-    fn identifier_table() -> &'static [&'static str] {
-        T::listed_names()
-    }
-
-    ghost of_alternatives = { refl };
+/// Is a CHOICE whose values may be the elements of a SET OF.
+pub trait ChoiceElement: ChoicePayload + Eq + Hash {
+    // Two are equal exactly where the values that they stand for are.
+    ghost alike: { (a b : Self) → (Self.PartialEq.eq a b ≡ true)
+        ↔ (chosen_value (Self.ChoicePayload.chosen a)
+        ≡ chosen_value (Self.ChoicePayload.chosen b)) };
 }
 
-/// Decodes a payload by the tag of its alternative.
-impl<T: ChoicePayload> DecodeChoice for T {
-    fn from_tag<D: Decoder>(decoder: &mut D, tag: Tag) -> Result<T, DecodeError> {
-        T::read_alternative(decoder, tag)
-    }
+/// Lets values of such a CHOICE be elements.
+impl<T: ChoiceElement> ElementKind<T> for ChoiceKind {
+    ghost same = { T.alike };
 }

@@ -9,21 +9,25 @@ ghost use Rattle.asn_model.specs.Components.{component_names, reading_order};
 ghost use Rattle.asn_model.specs.Readable.{is_readable};
 ghost use Rattle.asn_coding.specs.ReadingSlots.{slots_read};
 ghost use Rattle.asn_model.specs.Shape.{Shape as AbstractShape, Fields as AbstractFields};
-ghost use Rattle.asn_model.specs.Shape.{FieldAdditions, all_fields, field_names};
+ghost use Rattle.asn_model.specs.Shape.{FieldAdditions, all_fields};
 ghost use Rattle.asn_model.specs.ShapeView.{shape_view};
 ghost use Rattle.asn_coding.specs.Tables.{added_rows, field_rows, names_of, rows_of};
-ghost use Rattle.asn_coding.specs.Writing.{FailsToFill, FailsToEncode, Filled, Frame, Written};
+ghost use Rattle.asn_coding.specs.Writing.{FailsToEncode, Frame, Written};
 ghost use Rattle.asn_coding.specs.Writing.{members_value};
-ghost use Rattle.std.specs.Prelude.{◌≡◌, ◌++◌, IfErr, IfOk, OnOk, option_map, refl, true};
+ghost use Rattle.std.specs.Prelude.{◌≡◌, ◌++◌, IfErr, IfOk, OnOk, option_map, true};
 
-use crate::{Constructed, Decoder, Encoder, FieldsKind, OfKind, SeqKind, Shape};
-use asn_coding::{Field, FieldNames, Fields, fields_by_tag, listed};
+use crate::FieldsKind;
+use asn_coding::{Field, FieldNames, fields_by_tag, listed};
 use asn_core::{Identifier, OutOfMemory, Tag};
+use asn_decode::Decoder;
+use asn_encode::Encoder;
 use asn_fault::{DecodeError, EncodeError};
+use asn_model::{SeqKind, Shape};
+use asn_types::OfKind;
 use std::alloc::Global;
 
 /// Describes a SEQUENCE or SET, by its kind, that is encoded and decoded field by field.
-pub trait SequenceFields: OfKind
+pub trait SequenceFields: OfKind + Drop
 where
     Self::Kind: FieldsKind,
 {
@@ -116,22 +120,11 @@ where
     ensures refused { IfErr result (FailsToEncode E.notation
         (members_value (all_fields T.fields T.added) (T.slots value.now))) }
 {
-    // A SET is encoded by the same call: tags change nothing.
-    encoder.encode_sequence::<T, _>(
-        tag,
-        |encoder: &mut E| -> Result<(), EncodeError>
-            ensures written { OnOk result (Filled E.holds E.notation (all_fields T.fields T.added)
-                (field_names (all_fields T.fields T.added)) (T.slots value.entry.now)
-                encoder.entry.now encoder.exit.now) }
-            ensures refused { IfErr result (FailsToFill E.notation (T.slots value.entry.now)) }
-        {
-            match value.write_fields(encoder) {
-                Ok(()) => Ok(()),
-                Err(error) => Err(error),
-            }
-        },
-        identifier,
-    )
+    // A SET is encoded as a SEQUENCE is: its slots stand as the type lists its fields.
+    let additions = listed(T::listed_added());
+    encoder.open_frame()?;
+    value.write_fields(encoder)?;
+    encoder.close_members(T::listed(), additions)
 }
 
 /// Decodes a SEQUENCE or SET: puts a slot for each field, whatever their order in the text, and
@@ -185,33 +178,4 @@ where
         Ok(value) => Ok(value),
         Err(error) => Err(error),
     }
-}
-
-/// Takes the tables of a SEQUENCE or SET from `SequenceFields`.
-impl<T: SequenceFields> Constructed for T
-where
-    T::Kind: FieldsKind,
-{
-    const FIELDS: Fields = Fields { items: T::ROWS };
-
-    const EXTENDED_FIELDS: Option<Fields> = match T::ADDED {
-        Some(items) => Some(Fields { items }),
-        None => None,
-    };
-
-    ghost kind = { T.Kind.seq_kind };
-
-    ghost fields = { T.fields };
-
-    ghost added = { T.added };
-
-    fn field_table() -> Fields {
-        Fields { items: T::listed() }
-    }
-
-    fn extended_field_table() -> Option<Fields> {
-        T::listed_added().map(|items| Fields { items })
-    }
-
-    ghost of_fields = { refl };
 }

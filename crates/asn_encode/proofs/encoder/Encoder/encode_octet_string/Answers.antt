@@ -1,0 +1,8 @@
+use Rattle.std.proofs.Common.{refl}
+use Rattle.std.proofs.lemmas.Result.{on_ok_weaker}
+use Rattle.asn_model.specs.Shape.{Shape}
+use Rattle.asn_coding.proofs.LeafValues.{leaf_written}
+use Rattle.asn_encode.proofs.encoder.Encoder.encode_octet_string.Goals as goal
+
+pub returns-clause-written : goal.returns-clause-written
+returns-clause-written g c = on_ok_weaker c.put_leaf.result (leaf_written Shape.octets _ _ refl c.are_octets.ensures) c.put_leaf.ensures.put

@@ -1,8 +1,0 @@
-use Rattle.std.proofs.Common.{refl}
-use Rattle.std.proofs.lemmas.Result.{on_ok_weaker}
-use Rattle.asn_model.specs.Shape.{Shape}
-use Rattle.asn_coding.proofs.LeafValues.{leaf_written}
-use Rattle.asn_traits.proofs.encoder.Encoder.encode_bool.Goals as goal
-
-pub returns-clause-written : goal.returns-clause-written
-returns-clause-written g c = on_ok_weaker c.put_leaf.result (leaf_written Shape.boolean _ _ refl refl) c.put_leaf.ensures.put

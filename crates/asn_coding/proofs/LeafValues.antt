@@ -34,11 +34,11 @@ pub taken : {n : Notation} {k : LeafKind} (t : Tree) (x : OwnedLeaf) (before aft
 taken t x before after was r = (Some t, was, r.kind, IsLeaf.is_leaf t x r)
 
 -- A value that was taken and is one of the shape is said.
-pub leaf_said : {n : Notation} (s : Shape) (k : LeafKind) (w : Value) (slot : Slot) (x y : OwnedLeaf) → kind_of s ≡ Some k → x ≡ y → IsLeaf n k slot x
+pub leaf_decodes : {n : Notation} (s : Shape) (k : LeafKind) (w : Value) (slot : Slot) (x y : OwnedLeaf) → kind_of s ≡ Some k → x ≡ y → IsLeaf n k slot x
     → ((v : Value) → IsOwned v y → refine (codec_of n) s v ≡ Ok w) → DecodesTo n s slot w
-leaf_said {n} s k w slot x y is same (IsLeaf.is_leaf t x2 r) f =
+leaf_decodes {n} s k w slot x y is same (IsLeaf.is_leaf t x2 r) f =
     DecodesTo.decodes_leaf s t w (by_kind n s k t is r.reads ∙ ap Some (f r.value (subst (IsOwned r.value) same r.is)))
-leaf_said s k w slot x y is same (IsLeaf.leaf_free slot2 x2 o) f = DecodesTo.decodes_free s slot w o
+leaf_decodes s k w slot x y is same (IsLeaf.leaf_free slot2 x2 o) f = DecodesTo.decodes_free s slot w o
 
 -- A value that was taken and is none of the shape stops.
 leaf_fails : {n : Notation} (s : Shape) (k : LeafKind) (cause : Cause) (slot : Slot) (x y : OwnedLeaf) → kind_of s ≡ Some k → x ≡ y → IsLeaf n k slot x
@@ -61,16 +61,16 @@ leaf_refused {n} s k cause c slot before after x y e is same was taken f tells (
 leaf_refused {n} s k cause c slot before after x y e is same was taken f tells (inr o) = Refuses.refuses_free o
 
 -- A number of the type.
-pub number_said : (c : Codec) (l g k m : ℤ) (w : ℕ) (v : Value) → v ≡ Value.int k → m ≡ k → l ≤ℤ k → k ≤ℤ g → refine c (Shape.int l g w) v ≡ Ok (Value.int m)
-number_said c l g k m w v e same low high = rw (e, same) (ap (λ b. if b then Ok (Value.int k) else Err (LeafFailure.because (Cause.integer_overflow w))) (between l g k low high))
+pub number_decodes : (c : Codec) (l g k m : ℤ) (w : ℕ) (v : Value) → v ≡ Value.int k → m ≡ k → l ≤ℤ k → k ≤ℤ g → refine c (Shape.int l g w) v ≡ Ok (Value.int m)
+number_decodes c l g k m w v e same low high = rw (e, same) (ap (λ b. if b then Ok (Value.int k) else Err (LeafFailure.because (Cause.integer_overflow w))) (between l g k low high))
 
 -- A number that is none of the type.
 pub number_refused : (c : Codec) (l g k : ℤ) (w : ℕ) (v : Value) → v ≡ Value.int k → (k <ℤ l) ⊎ (g <ℤ k) → refine c (Shape.int l g w) v ≡ Err (LeafFailure.because (Cause.integer_overflow w))
 number_refused c l g k w v e out = rw e (ap (λ b. if b then Ok (Value.int k) else Err (LeafFailure.because (Cause.integer_overflow w))) (outside l g k out))
 
 -- An item of the type.
-pub item_said : (c : Codec) (items : List (List ℕ)) (added : Option (List (List ℕ))) (i j : List ℕ) (v : Value) → v ≡ Value.item i → j ≡ i → is_item (all_items items added) i ≡ true → refine c (Shape.enum items added) v ≡ Ok (Value.item j)
-item_said c items added i j v e same h = rw (e, same) (ap (λ b. if b then Ok (Value.item i) else Err (LeafFailure.because (Cause.invalid_enum_discriminant c i))) h)
+pub item_decodes : (c : Codec) (items : List (List ℕ)) (added : Option (List (List ℕ))) (i j : List ℕ) (v : Value) → v ≡ Value.item i → j ≡ i → is_item (all_items items added) i ≡ true → refine c (Shape.enum items added) v ≡ Ok (Value.item j)
+item_decodes c items added i j v e same h = rw (e, same) (ap (λ b. if b then Ok (Value.item i) else Err (LeafFailure.because (Cause.invalid_enum_discriminant c i))) h)
 
 -- A text that names none.
 pub item_refused : (c : Codec) (items : List (List ℕ)) (added : Option (List (List ℕ))) (i : List ℕ) (v : Value) → v ≡ Value.item i → is_item (all_items items added) i ≡ false → refine c (Shape.enum items added) v ≡ Err (LeafFailure.because (Cause.invalid_enum_discriminant c i))

@@ -13,7 +13,7 @@ ghost use Rattle.asn_fault.specs.EncodeCause.{EncodeCause};
 ghost use Rattle.asn_model.specs.Writable.{no_unicode};
 ghost use Rattle.asn_coding.specs.FieldAnswer.{AddsSlot};
 ghost use Rattle.asn_coding.specs.Tables.{names_of};
-ghost use Rattle.asn_types.specs.TextTypes.{TellsUnwritten, no_teletex};
+ghost use Rattle.asn_types.specs.TextTypes.{IsEncodeFailure, no_teletex};
 ghost use Rattle.asn_model.specs.Value.{Value, bag_of, values};
 ghost use Rattle.asn_coding.specs.Writing.{Frame, push, close, as_list, as_members, as_choice};
 ghost use Rattle.asn_coding.specs.Writing.{ClosesSet, Written, WrittenUnder, FailsToEncode};
@@ -73,7 +73,7 @@ pub trait Encoder {
     /// Returns the refusal of a text that stops being Unicode after so many octets or 16-bit units.
     /// Memory may run out.
     fn no_unicode(&self, place: usize) -> EncodeError
-        ensures { TellsUnwritten notation (no_unicode notation place) result };
+        ensures { IsEncodeFailure notation (no_unicode notation place) result };
 
     /// Puts an absent slot into the last frame.
     ///
@@ -428,7 +428,7 @@ pub trait Encoder {
         identifier: Identifier,
     ) -> Result<(), EncodeError>
         ensures never { IsErr result }
-        ensures refused { IfErr result (TellsUnwritten notation
+        ensures refused { IfErr result (IsEncodeFailure notation
             (EncodeCause.custom no_teletex)) }
     {
         match String::from_str(self.allocator(), NO_TELETEX) {

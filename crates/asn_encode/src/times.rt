@@ -1,7 +1,7 @@
 //! Writes the values of the time types (X.680, sections 38, 46 and 47).
 ghost use Rattle.asn_model.specs.Notation.{notation_of};
 ghost use Rattle.asn_model.specs.Writable.{outside_years};
-ghost use Rattle.asn_types.specs.TextTypes.{IsPutTime, TellsUnwritten};
+ghost use Rattle.asn_types.specs.TextTypes.{IsPutTime, IsEncodeFailure};
 
 use crate::{EncodeText, Encoder};
 use asn_core::Codec;
@@ -16,7 +16,7 @@ use std::alloc::Global;
 
 /// Returns the refusal of a time whose year has no place in its text. Memory may run out.
 fn outside_years(alloc: Global, codec: Codec) -> EncodeError
-    ensures { TellsUnwritten (notation_of codec) outside_years result }
+    ensures { IsEncodeFailure (notation_of codec) outside_years result }
 {
     match String::from_str(alloc, OUTSIDE_YEARS) {
         Ok(msg) => EncodeError::custom(msg, codec),

@@ -30,16 +30,16 @@ use Rattle.asn_model.specs.declared.leaves.LeafKind.{LeafKind}
 use Rattle.asn_model.specs.declared.leaves.OwnedLeaf.{OwnedLeaf}
 use Rattle.asn_coding.specs.Answer.{Answer, OfPlace}
 use Rattle.asn_coding.specs.Opening.{IsLeaf}
-use Rattle.asn_types.specs.TextTypes.{IsNoText, IsPutTime, IsStringRefusal, IsTimeOf, MakesOfText, TellsUnwritten}
+use Rattle.asn_types.specs.TextTypes.{IsNoText, IsPutTime, IsStringRefusal, IsTimeOf, MakesOfText, IsEncodeFailure}
 use Rattle.asn_coding.specs.Writing.{FailsToEncode, Frame, Puts, Written}
-use Rattle.asn_coding.proofs.LeafValues.{leaf_refused, leaf_said}
+use Rattle.asn_coding.proofs.LeafValues.{leaf_refused, leaf_decodes}
 use Rattle.asn_coding.proofs.Refusing.{out_of_memory}
 
 -- What a type makes of the text that was taken is what its reader answers.
 pub text_taken : {A : Type 0} {n : Notation} (s : Shape) (k : LeafKind) (value : A → Value) (codec : Codec) (slot : Slot) (before after : List Slot) (x y : OwnedLeaf) (text : List ℕ) (r : Result A DecodeError)
     → kind_of s ≡ Some k → x ≡ y → before ≡ slot ∷ after → IsLeaf n k slot x → ((v : Value) → IsOwned v y → v ≡ Value.text text) → notation_of codec ≡ n → MakesOfText s value codec text r → Answer n s value before r after
 text_taken {A} {n} s k value codec slot before after x y text (Ok a) is same was leaf owned of made =
-    (slot, was, leaf_said s k (value a) slot x y is same leaf (λ v o. ap (refine (codec_of n) s) (owned v o) ∙ made (codec_of n)))
+    (slot, was, leaf_decodes s k (value a) slot x y is same leaf (λ v o. ap (refine (codec_of n) s) (owned v o) ∙ made (codec_of n)))
 text_taken {A} {n} s k value codec slot before after x y text (Err e) is same was leaf owned of (inl none) =
     leaf_refused s k none.cause none.place slot before after x y (failure_of e) is same was leaf (λ v o. ap (refine (codec_of n) s) (owned v o) ∙ none.refused (codec_of n)) none.is (inl (subst (λ m. OfPlace m none.cause none.place) of none.of))
 text_taken s k value codec slot before after x y text (Err e) is same was leaf owned of (inr memory) = out_of_memory codec (failure_of e) memory of
@@ -102,7 +102,7 @@ text_unwritten v text e utf8 (FailsToEncode.blocked blocks of) = no_such utf8 bl
 text_unwritten v text e utf8 (FailsToEncode.write_free other) = FailsToEncode.write_free other
 
 -- An error that says why a value is blocked.
-pub told_unwritten : {n : Notation} (v : Value) (cause : EncodeCause) (e : EncodeError) → FirstUnencodable n v cause → TellsUnwritten n cause e → FailsToEncode n v e
+pub told_unwritten : {n : Notation} (v : Value) (cause : EncodeCause) (e : EncodeError) → FirstUnencodable n v cause → IsEncodeFailure n cause e → FailsToEncode n v e
 told_unwritten v cause e blocks (inl memory) = FailsToEncode.no_memory memory
 told_unwritten {n} v cause e blocks (inr told) = FailsToEncode.blocked (subst (FirstUnencodable n v) (sym told.0) blocks) told.1
 

@@ -48,8 +48,8 @@ IsTimeOf (Err fault) text (Ok time) = ⊥
 IsTimeOf (Err fault) text (Err e) = failure_of e ≡ at_root (Cause.invalid_date text) Ber
 
 -- The error says why a value isn't written, or memory ran out.
-abbrev pub TellsUnwritten : Notation → EncodeCause → EncodeError → Type 0
-TellsUnwritten n cause e = IsOutOfMemory n e ⊎ ((encode_cause e.kind ≡ cause) × (notation_of e.codec ≡ n))
+abbrev pub IsEncodeFailure : Notation → EncodeCause → EncodeError → Type 0
+IsEncodeFailure n cause e = IsOutOfMemory n e ⊎ ((encode_cause e.kind ≡ cause) × (notation_of e.codec ≡ n))
 
 -- The text that was written for a time is put, or the error says why it has none, or why it isn't put.
 abbrev pub IsPutTime : {S : Type 0} → (S → List Frame → Type 0) → Notation → Result (String Global) TimeFault → S → Result (Unit {0}) EncodeError → S → Type 0
@@ -57,7 +57,7 @@ IsPutTime holds n (Ok text) old (Ok u) new = Puts holds n (Value.text (string_by
 IsPutTime holds n (Ok text) old (Err e) new = FailsToEncode n (Value.text (string_bytes text)) e
 IsPutTime holds n (Err fault) old (Ok u) new = ⊥
 IsPutTime holds n (Err time.OutOfMemory) old (Err e) new = IsOutOfMemory n e
-IsPutTime holds n (Err fault) old (Err e) new = TellsUnwritten n outside_years e
+IsPutTime holds n (Err fault) old (Err e) new = IsEncodeFailure n outside_years e
 
 -- Why no TeletexString is written or read.
 abbrev pub no_teletex : List ℕ

@@ -6,7 +6,7 @@ ghost use Rattle.asn_coding.specs.Answer.{RefusesLeaf};
 ghost use Rattle.asn_traits.specs.Leaf.{LeafFailure, members_mismatch};
 ghost use Rattle.asn_traits.specs.Notation.{Notation};
 ghost use Rattle.asn_traits.specs.ShapeView.{kind_view};
-ghost use Rattle.asn_traits.specs.TextTypes.{TellsUnwritten};
+ghost use Rattle.asn_traits.specs.TextTypes.{IsEncodeFailure};
 ghost use Rattle.asn_traits.specs.Arcs.{listed_text};
 ghost use Rattle.avn_grammar.specs.Print.{print};
 ghost use Rattle.avn_rules.specs.LeafAnswer.{IsCause};
@@ -108,7 +108,7 @@ pub fn no_utf8(alloc: Global) -> DecodeError
 /// Returns the refusal to write a text that isn't Unicode. Where memory runs out, the refusal says
 /// that.
 pub fn no_unicode(alloc: Global) -> EncodeError
-    ensures { TellsUnwritten Notation.avn (EncodeCause.avn_encoder AVN_NO_UNICODE.now)
+    ensures { IsEncodeFailure Notation.avn (EncodeCause.avn_encoder AVN_NO_UNICODE.now)
         result }
 {
     let Ok(msg) = String::from_str(alloc, AVN_NO_UNICODE) else {

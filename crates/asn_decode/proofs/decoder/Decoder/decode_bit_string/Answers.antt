@@ -4,7 +4,7 @@ use Rattle.asn_model.specs.DecodesTo.{DecodesTo}
 use Rattle.asn_model.specs.Shape.{Shape}
 use Rattle.asn_model.specs.Value.{Value}
 use Rattle.asn_model.specs.declared.leaves.LeafKind.TheVariants.{Bits}
-use Rattle.asn_coding.proofs.LeafValues.{leaf_said}
+use Rattle.asn_coding.proofs.LeafValues.{leaf_decodes}
 use Rattle.asn_decode.proofs.decoder.Decoder.decode_bit_string.Goals as goal
 
 same_size : {m n : Option ℕ} → Bits m ≡ Bits n → m ≡ n
@@ -17,5 +17,5 @@ returns g c =
     let size = c.fixed_size.result in
     let h = c.in_ok-bits.ensures in
     let same = same_size (subst (λ x. kind_of_owned x ≡ Bits size) c.in-Bits.is h.2) in
-    let said = leaf_said (Shape.bits size) (Bits size) (Value.bits bits size) h.0 _ _ refl c.in-Bits.is h.3 (λ v e. ap Ok (e ∙ ap (Value.bits bits) same)) in
+    let said = leaf_decodes (Shape.bits size) (Bits size) (Value.bits bits size) h.0 _ _ refl c.in-Bits.is h.3 (λ v e. ap Ok (e ∙ ap (Value.bits bits) same)) in
     (h.0, h.1, subst (λ m. DecodesTo n (Shape.bits m) h.0 (Value.bits bits m)) c.fixed_size.ensures said)

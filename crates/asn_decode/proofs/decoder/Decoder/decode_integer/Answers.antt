@@ -5,7 +5,7 @@ use Rattle.asn_model.specs.Shape.{Shape}
 use Rattle.asn_model.specs.Value.{Value}
 use Rattle.asn_model.specs.declared.leaves.LeafKind.TheVariants.{Number}
 use Rattle.asn_model.specs.declared.leaves.OwnedLeaf.TheVariants as got
-use Rattle.asn_coding.proofs.LeafValues.{leaf_said, leaf_refused, number_said, number_refused}
+use Rattle.asn_coding.proofs.LeafValues.{leaf_decodes, leaf_refused, number_decodes, number_refused}
 use Rattle.asn_decode.proofs.decoder.Decoder.decode_integer.Goals as goal
 
 pub returns-in-Some : goal.returns-in-Some
@@ -14,7 +14,7 @@ returns-in-Some g c =
     let h = c.in_ok-number.ensures in
     let n = c.in-Number-Some in
     let p = c.in-Some.ensures in
-    (h.0, h.1, leaf_said (Shape.int i.LEAST (pos i.GREATEST) i.WIDTH) Number (Value.int (i.number c.in-Some.value)) h.0 _ _ refl (n.is ∙ ap got.Number n.field-0-is) h.3 (λ v e. number_said (codec_of g.Self.Decoder.notation) _ _ _ _ _ v e p.0 p.1 p.2))
+    (h.0, h.1, leaf_decodes (Shape.int i.LEAST (pos i.GREATEST) i.WIDTH) Number (Value.int (i.number c.in-Some.value)) h.0 _ _ refl (n.is ∙ ap got.Number n.field-0-is) h.3 (λ v e. number_decodes (codec_of g.Self.Decoder.notation) _ _ _ _ _ v e p.0 p.1 p.2))
 
 pub returns-in-None : goal.returns-in-None
 returns-in-None g c =

@@ -2,10 +2,10 @@ use Rattle.std.proofs.Common.{ap, refl, Ok}
 use Rattle.asn_model.specs.Shape.{Shape}
 use Rattle.asn_model.specs.Value.{Value}
 use Rattle.asn_model.specs.declared.leaves.LeafKind.TheVariants.{Null}
-use Rattle.asn_coding.proofs.LeafValues.{leaf_said}
+use Rattle.asn_coding.proofs.LeafValues.{leaf_decodes}
 use Rattle.asn_decode.proofs.decoder.Decoder.decode_null.Goals as goal
 
 pub returns : goal.returns
 returns g c =
     let h = c.in_ok-take_leaf.ensures in
-    (h.0, h.1, leaf_said Shape.null Null Value.null h.0 _ _ refl c.in-Null.is h.3 (λ v e. ap Ok e))
+    (h.0, h.1, leaf_decodes Shape.null Null Value.null h.0 _ _ refl c.in-Null.is h.3 (λ v e. ap Ok e))

@@ -1,7 +1,7 @@
-//! Has the traits of ASN.1 types and of codecs under one name: those that describe types, encode and
-//! decode come from `asn_types`, `asn_encode` and `asn_decode`, what contracts cite of them from
-//! `asn_model` and `asn_coding`. A type of one's own implements `AsnType`, `Encode` and `Decode`, or
-//! the trait of its kind, from which it has them (`sequence`, `alternative`, `kinds`).
+//! Has the traits of ASN.1 types and of codecs under one name. Those that describe, encode and
+//! decode types come from `asn_types`, `asn_encode` and `asn_decode`, and what contracts cite of
+//! them from `asn_model` and `asn_coding`. A type of one's own implements `AsnType`, `Encode` and
+//! `Decode`, or the trait of its kind, from which it has them (`sequence`, `alternative`, `kinds`).
 #![tactic(auto)]
 
 mod alternative;

@@ -1,7 +1,7 @@
 //! Describes the types of a kind alike. A type states its kind once (`OfKind`) and implements the
-//! trait of that kind; the impls here go over the kind, since blanket impls for the types of each of
-//! these traits would overlap. So what a kind has of its types is stated by traits of the kind, of
-//! which a crate above gives its own kinds theirs.
+//! trait of that kind; the impls here go over the kind, since blanket impls for the types of each
+//! of these traits would overlap. So what a kind has of its types is stated by traits of the kind,
+//! of which a crate above gives its own kinds theirs.
 ghost use Rattle.asn_coding.specs.OwnTag.{HasTags};
 ghost use Rattle.asn_coding.specs.Tables.{added_rows, added_tags, field_rows, root_tags, rows_of};
 ghost use Rattle.asn_coding.specs.Tables.{smallest_tags};

@@ -1,4 +1,4 @@
-//! Describes SET OF (X.680, section 28), by the multisets of `asn_sets`, for elements that are equal
+//! Describes SET OF (X.680, section 28) by the multisets of `asn_sets`, for elements that are equal
 //! exactly where their values are.
 ghost use Rattle.asn_model.specs.Shape.{Shape as AbstractShape};
 ghost use Rattle.asn_model.specs.Value.{Value, bag_of, values};

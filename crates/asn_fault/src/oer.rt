@@ -145,7 +145,8 @@ impl fmt::Display for CoerDecodeErrorKind {
         match self {
             CoerDecodeErrorKind::NotValidCanonicalEncoding { msg } => write_before(
                 f,
-                "Invalid Canonical Octet Encoding, not encoded as the smallest possible number of octets: ",
+                "Invalid Canonical Octet Encoding, not encoded as the smallest possible number \
+                 of octets: ",
                 msg,
             ),
         }

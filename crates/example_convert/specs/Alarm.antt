@@ -1,6 +1,6 @@
 -- SEQUENCE { id INTEGER (0..4294967295), raised GeneralizedTime, origin Origin, setting Setting, ..., note UTF8String OPTIONAL }
 use Rattle.std.specs.Prelude.{[], ◌∷◌, Some, codes, option_map, pos, string_bytes}
-use Rattle.asn_traits.specs.Shape.{Shape, SeqKind, Fields, FieldAdditions, Presence}
+use Rattle.asn_traits.specs.Shape.{Shape, Fields, FieldAdditions, Presence}
 use Rattle.asn_traits.specs.Value.{Value}
 use Rattle.asn_coding.specs.Writing.{Frame}
 use Rattle.asn_coding.specs.Terms.{context, unsigned, utf8_string}
@@ -21,10 +21,6 @@ alarm_fields =
 abbrev pub alarm_added : FieldAdditions
 alarm_added = FieldAdditions.extended_fields
     (Fields.field (codes "note") (context 4) Presence.optional utf8_string Fields.no_fields)
-
--- The shape of Alarm.
-abbrev pub alarm_shape : Shape
-alarm_shape = Shape.seq SeqKind.sequence alarm_fields alarm_added
 
 -- The values of the fields of an Alarm, the extension addition last.
 abbrev pub alarm_slots : Alarm → Frame

@@ -12,7 +12,8 @@ use asn_traits::{
 };
 use std::alloc::Global;
 
-/// Is `Setting ::= SEQUENCE { name UTF8String, severity Severity DEFAULT warning, enabled BOOLEAN }`.
+/// Is `Setting ::= SEQUENCE { name UTF8String, severity Severity DEFAULT warning,
+/// enabled BOOLEAN }`.
 #[derive(Debug, PartialEq, Eq, Drop)]
 pub struct Setting {
     /// Holds the name of what is watched.

@@ -162,7 +162,8 @@ impl DecodeErrorKind {
                 actual,
             } => write_three(
                 f,
-                "Failed to convert byte array into valid fixed-sized ASN.1 string. String type as tag: ",
+                "Failed to convert byte array into valid fixed-sized ASN.1 string. \
+                 String type as tag: ",
                 tag,
                 ", actual: ",
                 actual,

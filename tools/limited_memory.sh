@@ -12,6 +12,7 @@ program=$top/crates/asn_convert_main/out/asn_convert_main
 "$top/asn_convert" --prove >/dev/null || exit 1
 work=$(mktemp -d) || exit 1
 trap 'rm -rf "$work"' EXIT
+trap 'exit 130' INT TERM
 python3 - "$work" <<'P'
 import sys
 work = sys.argv[1]

@@ -35,7 +35,7 @@ sed 's/:.*//' "$1/crates.txt" | while read -r name; do
         tar -xf - -C "$1/crates" || exit 1
 done || exit 1
 cp "$top/HANDLES" "$top/.gitignore" "$1" || exit 1
-(cd "$1" && git init -q) || exit 1
+git init -q "$1" || exit 1
 cat <<END
 $1 is ready. Go on in $1/crates/example_convert:
     rt try -- jer data/alarm.json       runs the program from its sources, in about two minutes

@@ -17,7 +17,9 @@ ends="a_sequence_later a_document_later a_set_of a_set_after_a_refusal bits_afte
 a_normal_form an_object_after_a_refusal eighth_share"
 work=$(mktemp -d) || exit 1
 trap 'rm -rf "$work"' EXIT
-seq "$first" "$last" | xargs -P "$jobs" -I {} sh -c "rt try --test --fail-alloc {} >$work/{}.said 2>&1"
+trap 'exit 130' INT TERM
+seq "$first" "$last" |
+    xargs -P "$jobs" -I {} sh -c 'rt try --test --fail-alloc "$2" >"$1/$2.said" 2>&1' run "$work" {}
 number=$first
 refused=0
 while [ "$number" -le "$last" ]; do

@@ -28,5 +28,6 @@ given=$(find "$copy/crates" -name '*.edit' | wc -l)
 status=$?
 grep -E 'must-fail|BAD EDIT|NOT (REFUSED|TRIED|PROVED)' "$copy/said"
 refused=$(grep -c ': refused, as it must be' "$copy/said")
+[ "$status" -eq 0 ] || tail -n 3 "$copy/said"
 echo "$refused of $given wrong bodies are refused"
 [ "$status" -eq 0 ] && [ "$refused" -eq "$given" ]

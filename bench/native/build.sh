@@ -6,6 +6,7 @@ here=$(CDPATH= cd -- "$(dirname -- "$0")" && pwd)
 out=${1:-$here/../out}
 registry=$(dpkg -L librust-serde-json-dev | grep -m1 'registry$')
 mkdir -p "$out/native/.cargo"
+out=$(CDPATH= cd -- "$out" && pwd)
 cp -r "$here/Cargo.toml" "$here/src" "$out/native/"
 cat >"$out/native/.cargo/config.toml" <<TOML
 [source.crates-io]

@@ -41,5 +41,6 @@ $1 is ready. Go on in $1/crates/example_convert:
     rt try -- jer data/alarm.json       runs the program from its sources, in about two minutes
     rt fmt                              lays out what you changed
 and in $1:
-    rt ci example_convert               proves it; what is proved on this machine isn't proved again
+    rt ci example_convert               proves it, and leaves the program in its out/; what is
+                                        proved on this machine isn't proved again
 END

@@ -14,3 +14,4 @@ pub mod Walking
 pub mod Steps
 pub mod Viewed
 pub mod Ordered
+pub mod Prefixes

@@ -20,13 +20,15 @@ pub fn same_items(old: &[String], new: &[String]) -> bool
 pub fn items_begin(old: &[String], new: &[String]) -> bool
     ensures { result ≡ begins bytes_eq (map string_bytes old.now) (map string_bytes new.now) }
 {
-    match (old.split_first(), new.split_first()) {
-        (None, _) => true,
-        (Some(_), None) => false,
-        (Some((older, old)), Some((newer, new))) => {
-            older.as_str() == newer.as_str() && items_begin(old, new)
+    if old.len() > new.len() {
+        return false;
+    }
+    for (index, older) in old.iter().enumerate() {
+        if older.as_str() != new[index].as_str() {
+            return false;
         }
     }
+    true
 }
 
 /// Returns whether both lists have the same names.
@@ -40,13 +42,15 @@ pub fn same_field_names(old: &[FieldShape], new: &[FieldShape]) -> bool
 pub fn field_names_begin(old: &[FieldShape], new: &[FieldShape]) -> bool
     ensures { result ≡ begins bytes_eq (field_names (field_views old.now)) (field_names (field_views new.now)) }
 {
-    match (old.split_first(), new.split_first()) {
-        (None, _) => true,
-        (Some(_), None) => false,
-        (Some((older, old)), Some((newer, new))) => {
-            older.name.as_str() == newer.name.as_str() && field_names_begin(old, new)
+    if old.len() > new.len() {
+        return false;
+    }
+    for (index, older) in old.iter().enumerate() {
+        if older.name.as_str() != new[index].name.as_str() {
+            return false;
         }
     }
+    true
 }
 
 /// Returns whether both lists have the same identifiers.
@@ -60,13 +64,15 @@ pub fn same_identifiers(old: &[AlternativeShape], new: &[AlternativeShape]) -> b
 pub fn identifiers_begin(old: &[AlternativeShape], new: &[AlternativeShape]) -> bool
     ensures { result ≡ begins bytes_eq (identifiers (alternative_views old.now)) (identifiers (alternative_views new.now)) }
 {
-    match (old.split_first(), new.split_first()) {
-        (None, _) => true,
-        (Some(_), None) => false,
-        (Some((older, old)), Some((newer, new))) => {
-            older.identifier.as_str() == newer.identifier.as_str() && identifiers_begin(old, new)
+    if old.len() > new.len() {
+        return false;
+    }
+    for (index, older) in old.iter().enumerate() {
+        if older.identifier.as_str() != new[index].identifier.as_str() {
+            return false;
         }
     }
+    true
 }
 
 /// Returns whether both lists have the same tags.
@@ -80,13 +86,15 @@ pub fn same_field_tags(old: &[FieldShape], new: &[FieldShape]) -> bool
 pub fn field_tags_begin(old: &[FieldShape], new: &[FieldShape]) -> bool
     ensures { result ≡ begins tag_eq (field_tags (field_views old.now)) (field_tags (field_views new.now)) }
 {
-    match (old.split_first(), new.split_first()) {
-        (None, _) => true,
-        (Some(_), None) => false,
-        (Some((older, old)), Some((newer, new))) => {
-            same_tag(older.tag, newer.tag) && field_tags_begin(old, new)
+    if old.len() > new.len() {
+        return false;
+    }
+    for (index, older) in old.iter().enumerate() {
+        if !same_tag(older.tag, new[index].tag) {
+            return false;
         }
     }
+    true
 }
 
 /// Returns whether both lists have the same tags.
@@ -100,13 +108,15 @@ pub fn same_alternative_tags(old: &[AlternativeShape], new: &[AlternativeShape])
 pub fn alternative_tags_begin(old: &[AlternativeShape], new: &[AlternativeShape]) -> bool
     ensures { result ≡ begins tag_eq (tags (alternative_views old.now)) (tags (alternative_views new.now)) }
 {
-    match (old.split_first(), new.split_first()) {
-        (None, _) => true,
-        (Some(_), None) => false,
-        (Some((older, old)), Some((newer, new))) => {
-            same_tag(older.tag, newer.tag) && alternative_tags_begin(old, new)
+    if old.len() > new.len() {
+        return false;
+    }
+    for (index, older) in old.iter().enumerate() {
+        if !same_tag(older.tag, new[index].tag) {
+            return false;
         }
     }
+    true
 }
 
 /// Returns whether both lists have the same presences.
@@ -120,13 +130,15 @@ pub fn same_presences(old: &[FieldShape], new: &[FieldShape]) -> bool
 pub fn presences_begin(old: &[FieldShape], new: &[FieldShape]) -> bool
     ensures { result ≡ begins same_presence (presences (field_views old.now)) (presences (field_views new.now)) }
 {
-    match (old.split_first(), new.split_first()) {
-        (None, _) => true,
-        (Some(_), None) => false,
-        (Some((older, old)), Some((newer, new))) => {
-            same_presence(&older.presence, &newer.presence) && presences_begin(old, new)
+    if old.len() > new.len() {
+        return false;
+    }
+    for (index, older) in old.iter().enumerate() {
+        if !same_presence(&older.presence, &new[index].presence) {
+            return false;
         }
     }
+    true
 }
 
 /// Returns whether both have to be present, or both may be absent and the same stands for them.

@@ -141,8 +141,8 @@ pub fn step_at(shape: &Shape, index: usize) -> Option<&str>
 {
     match shape {
         Shape::Seq { .. } => {
-            let field = at(root_fields(shape), added_fields(shape), index);
-            Some(field.name.as_str())
+            let named = at(root_fields(shape), added_fields(shape), index);
+            Some(named.name.as_str())
         }
         Shape::Choice { .. } => {
             let alternative = at(root_alternatives(shape), added_alternatives(shape), index);

@@ -6,8 +6,8 @@ use Rattle.asn_model.specs.declared.shape_type.FieldShape.{FieldShape}
 use Rattle.asn_growth.proofs.Viewed.{choice_parts_viewed, choice_steps_viewed, seq_parts_viewed, seq_steps_viewed}
 use Rattle.asn_growth.proofs.parts.step_at.Goals as goal
 
-pub at-field-requires : goal.at-field-requires
-at-field-requires c =
+pub at-named-requires : goal.at-named-requires
+at-named-requires c =
     let all = c.root_fields.result.now ++ c.added_fields.result.now in
     omega (arith, c.requires, ap length (seq_parts_viewed c.args.shape.now c.in-Seq.kind c.in-Seq.fields c.in-Seq.added c.root_fields.result.now c.added_fields.result.now c.in-Seq.is c.root_fields.ensures c.added_fields.ensures), length-map all (λ (f : FieldShape). shape_view f.shape))
 
@@ -20,8 +20,8 @@ pub returns-in-Seq : goal.returns-in-Seq
 returns-in-Seq c =
     let all = c.root_fields.result.now ++ c.added_fields.result.now in
     let within : c.args.index < length all = omega (arith, c.requires, ap length (seq_parts_viewed c.args.shape.now c.in-Seq.kind c.in-Seq.fields c.in-Seq.added c.root_fields.result.now c.added_fields.result.now c.in-Seq.is c.root_fields.ensures c.added_fields.ensures), length-map all (λ (f : FieldShape). shape_view f.shape)) in
-    ap (λ l. get_or l c.args.index []) (seq_steps_viewed c.args.shape.now c.in-Seq.kind c.in-Seq.fields c.in-Seq.added c.root_fields.result.now c.added_fields.result.now c.in-Seq.is c.root_fields.ensures c.added_fields.ensures) ∙ get_or-map (λ (f : FieldShape). string_bytes f.name ∷ []) all c.args.index c.at-field.result.now [] within
-    ∙ ap (λ (f : FieldShape). string_bytes f.name ∷ []) (sym c.at-field.ensures) ∙ ap (λ n. n ∷ []) (sym c.as_str.ensures.value)
+    ap (λ l. get_or l c.args.index []) (seq_steps_viewed c.args.shape.now c.in-Seq.kind c.in-Seq.fields c.in-Seq.added c.root_fields.result.now c.added_fields.result.now c.in-Seq.is c.root_fields.ensures c.added_fields.ensures) ∙ get_or-map (λ (f : FieldShape). string_bytes f.name ∷ []) all c.args.index c.at-named.result.now [] within
+    ∙ ap (λ (f : FieldShape). string_bytes f.name ∷ []) (sym c.at-named.ensures) ∙ ap (λ n. n ∷ []) (sym c.as_str.ensures.value)
 
 pub returns-in-Choice : goal.returns-in-Choice
 returns-in-Choice c =

@@ -1,6 +1,6 @@
 //! Defines when a type is a later version of another, states what texts of one version are to
-//! readers of the other, and tests whether the shape of one type is a later version of another's.
-//! The definitions are in `specs/`, the laws in `laws`.
+//! readers of the other, and tests at run time whether a shape is a later version of another. The
+//! definitions are in `specs/`, the laws in `laws`.
 #![tactic(auto)]
 
 mod check;

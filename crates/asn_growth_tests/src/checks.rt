@@ -6,12 +6,7 @@ use std::process::Abort;
 use std::test::Fail;
 
 /// Asserts that the newer shape is a later version of the older one.
-pub fn assert_grows(
-    rt: &impl Abort,
-    alloc: Global,
-    old: &Shape,
-    new: &Shape,
-) -> Result<(), Fail> {
+pub fn assert_grows(rt: &impl Abort, alloc: Global, old: &Shape, new: &Shape) -> Result<(), Fail> {
     if !few_nodes(old) {
         return Err(Fail::from("too many nodes"));
     }

@@ -1,8 +1,6 @@
 //! Compares pairs of shapes that differ below the root, for each reason and in each kind of part,
 //! and finds the way to the place.
-use crate::builders::{
-    alternative, choice, enumerated, extended, field_of, number, one, sequence,
-};
+use crate::builders::{alternative, choice, enumerated, extended, field_of, number, one, sequence};
 use crate::checks::{assert_differs, assert_way};
 use asn_core::{OutOfMemory, Tag};
 use asn_growth::Reason;
@@ -70,7 +68,13 @@ fn required(alloc: Global, name: &str, tag: Tag, shape: Shape) -> Result<Shape, 
 
 /// Returns SEQUENCE of one field that is optional.
 fn optional(alloc: Global) -> Result<Shape, OutOfMemory> {
-    let field = field_of(alloc, "b", Tag::CONTEXT_1, PresenceShape::Optional, Shape::Null)?;
+    let field = field_of(
+        alloc,
+        "b",
+        Tag::CONTEXT_1,
+        PresenceShape::Optional,
+        Shape::Null,
+    )?;
     Ok(sequence(one(alloc, field)?))
 }
 
@@ -91,8 +95,13 @@ fn older(alloc: Global, reason: Reason) -> Result<Shape, OutOfMemory> {
 fn newer(alloc: Global, reason: Reason) -> Result<Shape, OutOfMemory> {
     match reason {
         Reason::Kind => {
-            let field =
-                field_of(alloc, "b", Tag::CONTEXT_1, PresenceShape::Required, Shape::Null)?;
+            let field = field_of(
+                alloc,
+                "b",
+                Tag::CONTEXT_1,
+                PresenceShape::Required,
+                Shape::Null,
+            )?;
             Ok(Shape::Seq {
                 kind: SeqKind::Set,
                 fields: one(alloc, field)?,
@@ -138,8 +147,16 @@ fn differs_in_a_part(rt: HostRuntime) -> Result<(), Fail> {
 #[test]
 fn differs_in_a_part_of_a_part(rt: HostRuntime) -> Result<(), Fail> {
     for part in PARTS.iter() {
-        let old = around(rt.alloc(), part.0, around(rt.alloc(), Part::Field, number(9))?)?;
-        let new = around(rt.alloc(), part.0, around(rt.alloc(), Part::Field, number(8))?)?;
+        let old = around(
+            rt.alloc(),
+            part.0,
+            around(rt.alloc(), Part::Field, number(9))?,
+        )?;
+        let new = around(
+            rt.alloc(),
+            part.0,
+            around(rt.alloc(), Part::Field, number(8))?,
+        )?;
         let expected = [(2, Reason::Numbers)];
         assert_differs(&rt, rt.alloc(), &old, &new, expected.as_slice())?;
     }

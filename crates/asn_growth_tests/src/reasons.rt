@@ -19,7 +19,13 @@ fn equal_shapes_grow(rt: HostRuntime) -> Result<(), Fail> {
 #[test]
 fn kinds_differ(rt: HostRuntime) -> Result<(), Fail> {
     let expected = [(0, Reason::Kind)];
-    assert_differs(&rt, rt.alloc(), &Shape::Null, &Shape::Bool, expected.as_slice())
+    assert_differs(
+        &rt,
+        rt.alloc(),
+        &Shape::Null,
+        &Shape::Bool,
+        expected.as_slice(),
+    )
 }
 
 /// A SEQUENCE and a SET of the same fields differ in kind.
@@ -43,7 +49,13 @@ fn numbers_differ(rt: HostRuntime) -> Result<(), Fail> {
     let numbers = expected.as_slice();
     assert_differs(&rt, rt.alloc(), &number(9), &number(8), numbers)?;
     let eight = Shape::Bits { fixed: Some(8) };
-    assert_differs(&rt, rt.alloc(), &eight, &Shape::Bits { fixed: None }, numbers)?;
+    assert_differs(
+        &rt,
+        rt.alloc(),
+        &eight,
+        &Shape::Bits { fixed: None },
+        numbers,
+    )?;
     let utf8 = Shape::Str {
         alphabet: Alphabet::Utf8,
     };
@@ -78,10 +90,7 @@ fn names_differ(rt: HostRuntime) -> Result<(), Fail> {
 
 /// Returns SEQUENCE { a NULL } whose field has this tag and presence.
 fn with_field(alloc: Global, tag: Tag, presence: PresenceShape) -> Result<Shape, OutOfMemory> {
-    Ok(sequence(one(
-        alloc,
-        field_of(alloc, "a", tag, presence, Shape::Null)?,
-    )?))
+    Ok(sequence(one(alloc, field_of(alloc, "a", tag, presence, Shape::Null)?)?))
 }
 
 /// The tags of two fields differ, and those of two alternatives.

@@ -15,9 +15,11 @@ use asn_model::Shape;
 /// the older one that differs, and the reason. It takes no memory.
 pub fn grows_check(old: &Shape, new: &Shape) -> Growth
     requires { node_count (shape_view old.now) < 2 ^ 32 }
-    ensures grows { result ≡ Growth.Grows ↔ relation.Grows (shape_view old.now) (shape_view new.now) }
+    ensures grows { result ≡ Growth.Grows
+        ↔ relation.Grows (shape_view old.now) (shape_view new.now) }
     ensures within { IsPlaceBelow (node_count (shape_view old.now)) result }
-    ensures first { result ≡ growth_of (differences_of (shape_view old.now) (shape_view new.now) 0) }
+    ensures first { result
+        ≡ growth_of (differences_of (shape_view old.now) (shape_view new.now) 0) }
 {
     match first_difference(old, new, 0) {
         Ok(_) => Growth::Grows,

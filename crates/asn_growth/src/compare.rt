@@ -206,7 +206,8 @@ fn additions_begin(old: &Shape, new: &Shape) -> bool
             && alternatives_begin(added_alternatives(old), added_alternatives(new)))
 }
 
-/// Returns whether the newer fields begin with the older ones, each with its name, tag and presence.
+/// Returns whether the newer fields begin with the older ones, each with its name, tag and
+/// presence.
 fn fields_begin(old: &[FieldShape], new: &[FieldShape]) -> bool
     ensures { result ≡ begins_fields (field_views old.now) (field_views new.now) }
 {

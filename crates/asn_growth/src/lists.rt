@@ -33,14 +33,16 @@ pub fn items_begin(old: &[String], new: &[String]) -> bool
 
 /// Returns whether both lists have the same names.
 pub fn same_field_names(old: &[FieldShape], new: &[FieldShape]) -> bool
-    ensures { result ≡ alike bytes_eq (field_names (field_views old.now)) (field_names (field_views new.now)) }
+    ensures { result ≡ alike bytes_eq (field_names (field_views old.now))
+        (field_names (field_views new.now)) }
 {
     old.len() == new.len() && field_names_begin(old, new)
 }
 
 /// Returns whether the names of the second list begin with those of the first.
 pub fn field_names_begin(old: &[FieldShape], new: &[FieldShape]) -> bool
-    ensures { result ≡ begins bytes_eq (field_names (field_views old.now)) (field_names (field_views new.now)) }
+    ensures { result ≡ begins bytes_eq (field_names (field_views old.now))
+        (field_names (field_views new.now)) }
 {
     if old.len() > new.len() {
         return false;
@@ -55,14 +57,16 @@ pub fn field_names_begin(old: &[FieldShape], new: &[FieldShape]) -> bool
 
 /// Returns whether both lists have the same identifiers.
 pub fn same_identifiers(old: &[AlternativeShape], new: &[AlternativeShape]) -> bool
-    ensures { result ≡ alike bytes_eq (identifiers (alternative_views old.now)) (identifiers (alternative_views new.now)) }
+    ensures { result ≡ alike bytes_eq (identifiers (alternative_views old.now))
+        (identifiers (alternative_views new.now)) }
 {
     old.len() == new.len() && identifiers_begin(old, new)
 }
 
 /// Returns whether the identifiers of the second list begin with those of the first.
 pub fn identifiers_begin(old: &[AlternativeShape], new: &[AlternativeShape]) -> bool
-    ensures { result ≡ begins bytes_eq (identifiers (alternative_views old.now)) (identifiers (alternative_views new.now)) }
+    ensures { result ≡ begins bytes_eq (identifiers (alternative_views old.now))
+        (identifiers (alternative_views new.now)) }
 {
     if old.len() > new.len() {
         return false;
@@ -77,14 +81,16 @@ pub fn identifiers_begin(old: &[AlternativeShape], new: &[AlternativeShape]) -> 
 
 /// Returns whether both lists have the same tags.
 pub fn same_field_tags(old: &[FieldShape], new: &[FieldShape]) -> bool
-    ensures { result ≡ alike tag_eq (field_tags (field_views old.now)) (field_tags (field_views new.now)) }
+    ensures { result ≡ alike tag_eq (field_tags (field_views old.now))
+        (field_tags (field_views new.now)) }
 {
     old.len() == new.len() && field_tags_begin(old, new)
 }
 
 /// Returns whether the tags of the second list begin with those of the first.
 pub fn field_tags_begin(old: &[FieldShape], new: &[FieldShape]) -> bool
-    ensures { result ≡ begins tag_eq (field_tags (field_views old.now)) (field_tags (field_views new.now)) }
+    ensures { result ≡ begins tag_eq (field_tags (field_views old.now))
+        (field_tags (field_views new.now)) }
 {
     if old.len() > new.len() {
         return false;
@@ -99,14 +105,16 @@ pub fn field_tags_begin(old: &[FieldShape], new: &[FieldShape]) -> bool
 
 /// Returns whether both lists have the same tags.
 pub fn same_alternative_tags(old: &[AlternativeShape], new: &[AlternativeShape]) -> bool
-    ensures { result ≡ alike tag_eq (tags (alternative_views old.now)) (tags (alternative_views new.now)) }
+    ensures { result ≡ alike tag_eq (tags (alternative_views old.now))
+        (tags (alternative_views new.now)) }
 {
     old.len() == new.len() && alternative_tags_begin(old, new)
 }
 
 /// Returns whether the tags of the second list begin with those of the first.
 pub fn alternative_tags_begin(old: &[AlternativeShape], new: &[AlternativeShape]) -> bool
-    ensures { result ≡ begins tag_eq (tags (alternative_views old.now)) (tags (alternative_views new.now)) }
+    ensures { result ≡ begins tag_eq (tags (alternative_views old.now))
+        (tags (alternative_views new.now)) }
 {
     if old.len() > new.len() {
         return false;
@@ -121,14 +129,16 @@ pub fn alternative_tags_begin(old: &[AlternativeShape], new: &[AlternativeShape]
 
 /// Returns whether both lists have the same presences.
 pub fn same_presences(old: &[FieldShape], new: &[FieldShape]) -> bool
-    ensures { result ≡ alike same_presence (presences (field_views old.now)) (presences (field_views new.now)) }
+    ensures { result ≡ alike same_presence (presences (field_views old.now))
+        (presences (field_views new.now)) }
 {
     old.len() == new.len() && presences_begin(old, new)
 }
 
 /// Returns whether the presences of the second list begin with those of the first.
 pub fn presences_begin(old: &[FieldShape], new: &[FieldShape]) -> bool
-    ensures { result ≡ begins same_presence (presences (field_views old.now)) (presences (field_views new.now)) }
+    ensures { result ≡ begins same_presence (presences (field_views old.now))
+        (presences (field_views new.now)) }
 {
     if old.len() > new.len() {
         return false;

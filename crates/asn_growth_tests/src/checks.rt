@@ -37,7 +37,8 @@ pub fn assert_differs(
     }
 }
 
-/// Asserts that the way to the first place that differs is this one step, or none where it is empty.
+/// Asserts that the way to the first place that differs is this one step, or none where it is
+/// empty.
 pub fn assert_way(
     rt: &impl Abort,
     alloc: Global,

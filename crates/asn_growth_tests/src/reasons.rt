@@ -41,8 +41,8 @@ fn a_set_is_no_sequence(rt: HostRuntime) -> Result<(), Fail> {
     assert_differs(&rt, rt.alloc(), &old, &new, [(0, Reason::Kind)].as_slice())
 }
 
-/// The bounds of two INTEGERs, the sizes of two BIT STRINGs, two alphabets and two numbers of `Back`
-/// differ.
+/// The bounds of two INTEGERs, the sizes of two BIT STRINGs, two alphabets and two numbers of
+/// `Back` differ.
 #[test]
 fn numbers_differ(rt: HostRuntime) -> Result<(), Fail> {
     let expected = [(0, Reason::Numbers)];

@@ -6,11 +6,14 @@ use Rattle.serde_json.specs.Data.{Data}
 use Rattle.asn_fault.specs.Failure.{Cause}
 use Rattle.asn_model.specs.Notation.{Notation}
 use Rattle.asn_model.specs.Readable.{is_readable}
-use Rattle.asn_model.specs.Shape.{Alphabet, Shape, SeqKind, Fields, FieldAdditions, Presence, end_tag}
+use Rattle.asn_model.specs.Shape.{Alphabet, Shape, SeqKind, Fields, FieldAdditions, Presence, closed_seq, end_tag}
 use Rattle.asn_model.specs.Tree.{Tree}
 use Rattle.asn_model.specs.Value.{Value, Values, Slots, value_cmp}
 use Rattle.asn_growth.specs.Adapted.{lift, project}
 use Rattle.asn_growth.specs.ComesUpon.{ComesUpon}
+use Rattle.asn_growth.specs.Differences.{differences_of}
+use Rattle.asn_growth.specs.Paths.{paths}
+use Rattle.asn_growth.specs.declared.reasons.Reason.TheVariants as reason
 use Rattle.asn_growth.specs.Grows.{Grows, GrowsFields, BeginsFields}
 
 -- OldTree ::= SEQUENCE { kids SEQUENCE OF OldTree, ... }
@@ -95,3 +98,28 @@ unknown = ComesUpon.unknown_item (codes "low" ∷ []) (Some []) (Tree.json (Data
 -- Without an extension marker nothing may be added.
 no_marker : Grows (Shape.enum (codes "low" ∷ []) None) new_mode → ⊥
 no_marker g = elim g [ ]
+
+-- No place of the older tree differs in the newer one.
+no_difference : differences_of old_tree new_tree 0 ≡ []
+unfolding old_tree new_tree
+no_difference = refl
+
+-- The other way round the addition is missing. The loop is node 0 and its body node 1, which isn't gone into.
+addition_missing : differences_of new_tree old_tree 0 ≡ (1, reason.Additions) ∷ []
+unfolding old_tree new_tree
+addition_missing = refl
+
+-- Without an extension marker the items may not be extended.
+marker_missing : differences_of (Shape.enum (codes "low" ∷ []) None) old_mode 0 ≡ (0, reason.Extensible) ∷ []
+marker_missing = refl
+
+-- Both fields of an element differ. The list is node 0, its element node 1, and `p` and `c` are 2 and 3.
+both_fields : differences_of (Shape.list_of (closed_seq (Fields.field (codes "p") end_tag Presence.required number (Fields.field (codes "c") end_tag Presence.required Shape.null Fields.no_fields))))
+    (Shape.list_of (closed_seq (Fields.field (codes "p") end_tag Presence.required Shape.octets (Fields.field (codes "c") end_tag Presence.required Shape.boolean Fields.no_fields)))) 0
+    ≡ (2, reason.Kind) ∷ (3, reason.Kind) ∷ []
+both_fields = refl
+
+-- The ways to the loop, its body, `kids`, the element that is the loop again, and `label`.
+ways : paths new_tree ≡ [] ∷ [] ∷ (codes "kids" ∷ []) ∷ (codes "kids" ∷ codes "*" ∷ []) ∷ (codes "label" ∷ []) ∷ []
+unfolding new_tree
+ways = refl

@@ -7,3 +7,11 @@ pub mod Unknowns
 pub mod Relaying
 pub mod Backward
 mod Examples
+pub mod Tests
+pub mod Matching
+pub mod Growing
+pub mod Walking
+pub mod Steps
+pub mod Viewed
+pub mod Ordered
+pub mod Prefixes

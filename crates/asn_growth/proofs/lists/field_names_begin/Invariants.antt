@@ -1,0 +1,10 @@
+use Rattle.std.proofs.Common.{◌≡◌, drop}
+use Rattle.std.specs.Str.{bytes_eq}
+use Rattle.asn_model.specs.Shape.{field_names}
+use Rattle.asn_model.specs.ShapeView.{field_views}
+use Rattle.asn_growth.specs.Reasons.{begins}
+use Rattle.asn_growth.proofs.lists.field_names_begin.Given as goal
+
+-- The rest of the newer list begins with that of the older one where the lists do.
+abbrev pub invariant-loop-index : goal.invariant-loop-index
+invariant-loop-index l = begins bytes_eq (field_names (field_views (drop l.index l.old))) (field_names (field_views (drop l.index l.new))) ≡ begins bytes_eq (field_names (field_views (l.old))) (field_names (field_views (l.new)))

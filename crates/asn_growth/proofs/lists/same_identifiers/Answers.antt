@@ -1,0 +1,13 @@
+use Rattle.std.proofs.Common.{◌∙◌}
+use Rattle.std.proofs.lemmas.Bool.{ne_eqb}
+use Rattle.std.specs.Str.{bytes_eq}
+use Rattle.asn_model.specs.Shape.{identifiers}
+use Rattle.asn_model.specs.ShapeView.{alternative_views}
+use Rattle.asn_growth.proofs.Viewed.{as_long, identifiers_counted, not_as_long}
+use Rattle.asn_growth.proofs.lists.same_identifiers.Goals as goal
+
+pub returns-then-old-new : goal.returns-then-old-new
+returns-then-old-new c = c.identifiers_begin.ensures ∙ as_long bytes_eq (identifiers (alternative_views c.args.old.now)) (identifiers (alternative_views c.args.new.now)) (identifiers_counted c.args.old.now) (identifiers_counted c.args.new.now) c.if-old-new.true
+
+pub returns-else-old-new : goal.returns-else-old-new
+returns-else-old-new c = ne_eqb _ _ c.if-old-new.false ∙ not_as_long bytes_eq (identifiers (alternative_views c.args.old.now)) (identifiers (alternative_views c.args.new.now)) (identifiers_counted c.args.old.now) (identifiers_counted c.args.new.now) c.if-old-new.false

@@ -1,0 +1,31 @@
+use Rattle.std.proofs.Common.{◌<◌, ◌∷◌, [], ◌++◌, ap, sym, ◌∙◌, arith, length, string_bytes, get_or}
+use Rattle.std.proofs.lemmas.List.{get_or-map, length-map}
+use Rattle.asn_model.specs.ShapeView.{shape_view}
+use Rattle.asn_model.specs.declared.shape_type.AlternativeShape.{AlternativeShape}
+use Rattle.asn_model.specs.declared.shape_type.FieldShape.{FieldShape}
+use Rattle.asn_growth.proofs.Viewed.{choice_parts_viewed, choice_steps_viewed, seq_parts_viewed, seq_steps_viewed}
+use Rattle.asn_growth.proofs.parts.step_at.Goals as goal
+
+pub at-named-requires : goal.at-named-requires
+at-named-requires c =
+    let all = c.root_fields.result.now ++ c.added_fields.result.now in
+    omega (arith, c.requires, ap length (seq_parts_viewed c.args.shape.now c.in-Seq.kind c.in-Seq.fields c.in-Seq.added c.root_fields.result.now c.added_fields.result.now c.in-Seq.is c.root_fields.ensures c.added_fields.ensures), length-map all (λ (f : FieldShape). shape_view f.shape))
+
+pub at-alternative-requires : goal.at-alternative-requires
+at-alternative-requires c =
+    let all = c.root_alternatives.result.now ++ c.added_alternatives.result.now in
+    omega (arith, c.requires, ap length (choice_parts_viewed c.args.shape.now c.in-Choice.alternatives c.in-Choice.added c.root_alternatives.result.now c.added_alternatives.result.now c.in-Choice.is c.root_alternatives.ensures c.added_alternatives.ensures), length-map all (λ (a : AlternativeShape). shape_view a.shape))
+
+pub returns-in-Seq : goal.returns-in-Seq
+returns-in-Seq c =
+    let all = c.root_fields.result.now ++ c.added_fields.result.now in
+    let within : c.args.index < length all = omega (arith, c.requires, ap length (seq_parts_viewed c.args.shape.now c.in-Seq.kind c.in-Seq.fields c.in-Seq.added c.root_fields.result.now c.added_fields.result.now c.in-Seq.is c.root_fields.ensures c.added_fields.ensures), length-map all (λ (f : FieldShape). shape_view f.shape)) in
+    ap (λ l. get_or l c.args.index []) (seq_steps_viewed c.args.shape.now c.in-Seq.kind c.in-Seq.fields c.in-Seq.added c.root_fields.result.now c.added_fields.result.now c.in-Seq.is c.root_fields.ensures c.added_fields.ensures) ∙ get_or-map (λ (f : FieldShape). string_bytes f.name ∷ []) all c.args.index c.at-named.result.now [] within
+    ∙ ap (λ (f : FieldShape). string_bytes f.name ∷ []) (sym c.at-named.ensures) ∙ ap (λ n. n ∷ []) (sym c.as_str.ensures.value)
+
+pub returns-in-Choice : goal.returns-in-Choice
+returns-in-Choice c =
+    let all = c.root_alternatives.result.now ++ c.added_alternatives.result.now in
+    let within : c.args.index < length all = omega (arith, c.requires, ap length (choice_parts_viewed c.args.shape.now c.in-Choice.alternatives c.in-Choice.added c.root_alternatives.result.now c.added_alternatives.result.now c.in-Choice.is c.root_alternatives.ensures c.added_alternatives.ensures), length-map all (λ (a : AlternativeShape). shape_view a.shape)) in
+    ap (λ l. get_or l c.args.index []) (choice_steps_viewed c.args.shape.now c.in-Choice.alternatives c.in-Choice.added c.root_alternatives.result.now c.added_alternatives.result.now c.in-Choice.is c.root_alternatives.ensures c.added_alternatives.ensures) ∙ get_or-map (λ (a : AlternativeShape). string_bytes a.identifier ∷ []) all c.args.index c.at-alternative.result.now [] within
+    ∙ ap (λ (a : AlternativeShape). string_bytes a.identifier ∷ []) (sym c.at-alternative.ensures) ∙ ap (λ n. n ∷ []) (sym c.as_str-in-Choice.ensures.value)

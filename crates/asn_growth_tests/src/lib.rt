@@ -1,0 +1,14 @@
+//! Compares pairs of shapes that differ in one thing, and shows what no contract states: that the
+//! calls succeed where there is memory.
+#![tactic(auto)]
+
+#[cfg(test)]
+mod builders;
+#[cfg(test)]
+mod checks;
+#[cfg(test)]
+mod large;
+#[cfg(test)]
+mod nested;
+#[cfg(test)]
+mod reasons;

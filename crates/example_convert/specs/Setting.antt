@@ -1,9 +1,9 @@
 -- SEQUENCE { name UTF8String, severity Severity DEFAULT warning, enabled BOOLEAN }
 use Rattle.std.specs.Prelude.{[], ◌∷◌, Some, codes, string_bytes}
 use Rattle.asn_traits.specs.Shape.{Shape, Fields, Plain, Presence, closed_seq}
-use Rattle.asn_traits.specs.Value.{Value, members_value}
+use Rattle.asn_traits.specs.Value.{Value}
 use Rattle.asn_coding.specs.Passing.{default_slot}
-use Rattle.asn_coding.specs.Writing.{Frame}
+use Rattle.asn_coding.specs.Writing.{Frame, members_value}
 use Rattle.asn_coding.specs.Terms.{context, utf8_string}
 use Rattle.example_convert.specs.Severity.{severity_shape, severity_item}
 use Rattle.example_convert.specs.declared.setting.Setting.{Setting}

@@ -10,7 +10,7 @@ pub returns-clause-read : goal.returns-clause-read
 returns-clause-read g c =
     let severity = c.in_ok-read_default_field.field-0 in
     TakesFields.takes_next c.in_ok-read_field.ensures.read
-        (TakesFields.takes_default {d = default_severity} {v = Value.item (severity_item severity)} c.in_ok-read_default_field.ensures.read
-            (TakesFields.takes_next c.in_ok-read_field-2.ensures.read TakesFields.takes_none refl)
-            refl refl)
-        refl
+    (TakesFields.takes_default {d = default_severity} {v = Value.item (severity_item severity)} c.in_ok-read_default_field.ensures.read
+    (TakesFields.takes_next c.in_ok-read_field-2.ensures.read TakesFields.takes_none refl)
+    refl refl)
+    refl

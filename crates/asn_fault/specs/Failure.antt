@@ -9,7 +9,7 @@ use Rattle.asn_fault.specs.declared.ber.BerDecodeErrorKind.TheVariants.{InvalidD
 use Rattle.asn_fault.specs.declared.jer.JerDecodeErrorKind.TheVariants.{EndOfInput, TypeMismatch, InvalidJerOctetString, InvalidOIDString, InvalidEnumDiscriminant}
 use Rattle.asn_fault.specs.declared.avn.AvnDecodeErrorKind.TheVariants.{AvnEndOfInput, AvnTypeMismatch, InvalidOid, AvnInvalidEnumDiscriminant, UnexpectedToken, IntegerParseError}
 use Rattle.asn_fault.specs.declared.decode.DecodeErrorKind.{DecodeErrorKind}
-use Rattle.asn_fault.specs.declared.decode.DecodeErrorKind.TheVariants.{CodecSpecific, Custom, FieldError', ChoiceIndexExceedsPlatformWidth', IntegerOverflow, MissingField, RealNotSupported, Parser, StringConversionFailed, NoValidChoice, ExceedsMaxParseDepth, OutOfMemory}
+use Rattle.asn_fault.specs.declared.decode.DecodeErrorKind.TheVariants.{CodecSpecific, Custom, DuplicateField, FieldError', ChoiceIndexExceedsPlatformWidth', IntegerOverflow, MissingField, RealNotSupported, Parser, StringConversionFailed, NoValidChoice, ExceedsMaxParseDepth, OutOfMemory}
 use Rattle.asn_fault.specs.declared.decode.DecodeError.{DecodeError}
 
 -- What is wrong at the place itself: a kind of refusal other than `FieldError`. Those of the text notations have every text as its bytes, and the codec where JER and AVN share the kind.
@@ -21,6 +21,7 @@ pub data Cause : Type 0 where
   type_mismatch : Codec → List ℕ → List ℕ → Cause
   end_of_input : Codec → Cause
   missing_field : List ℕ → Cause
+  duplicate_field : List ℕ → Cause
   integer_overflow : ℕ → Cause
   invalid_jer_octet_string : Cause
   invalid_oid_string : List ℕ → Cause
@@ -94,6 +95,7 @@ kind_failure (Custom msg) c = at_root (Cause.custom (string_bytes msg)) c
 kind_failure (FieldError' name p kind codec) c = within name.now c (kind_failure kind codec)
 kind_failure (IntegerOverflow width) c = at_root (Cause.integer_overflow width) c
 kind_failure (MissingField name) c = at_root (Cause.missing_field name.now) c
+kind_failure (DuplicateField name) c = at_root (Cause.duplicate_field name.now) c
 kind_failure RealNotSupported c = at_root Cause.real_not_supported c
 kind_failure (Parser msg) c = at_root (Cause.parser (string_bytes msg)) c
 kind_failure (StringConversionFailed tag msg) c = at_root (Cause.string_conversion_failed tag (string_bytes msg)) c

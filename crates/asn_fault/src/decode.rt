@@ -80,7 +80,7 @@ pub enum DecodeErrorKind {
         /// Holds the number.
         discriminant: isize,
     },
-    /// A field is there twice.
+    /// A field is there twice. In AVN, two present entries have its name.
     DuplicateField {
         /// Names the field.
         name: &'static str,

@@ -16,8 +16,9 @@ use std::fmt;
 pub enum JerDecodeErrorKind {
     /// A value is expected where none is: the slot is absent.
     EndOfInput {},
-    /// The JSON value is of another kind than the type. `needed` names the kind of the type, as
-    /// `hex string`, and `found` is the value as compact JSON.
+    /// The JSON value is of another kind than the type, or it is the object of a CHOICE and has
+    /// two members or more. `needed` names the kind of the type, as `hex string`, and `found` is
+    /// the value as compact JSON.
     TypeMismatch {
         needed: &'static str,
         found: String,

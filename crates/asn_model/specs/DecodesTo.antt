@@ -3,16 +3,16 @@ use Rattle.std.specs.Prelude.{◌≡◌, ℕ, List, [], ◌∷◌, map, Some, No
 use Rattle.asn_core.specs.declared.tag.Tag.{Tag}
 use Rattle.asn_model.specs.Notation.{Notation}
 use Rattle.asn_model.specs.Shape.{Shape, SeqKind, Fields, FieldAdditions, Alternatives, AlternativeAdditions, Presence, all_fields, all_alternatives, unfold_loop, alternative_named, field_names}
-use Rattle.asn_model.specs.Tree.{Tree, Slot, as_list, as_members, as_choice, same_identifier}
+use Rattle.asn_model.specs.Tree.{Tree, Slot, as_list, as_members, as_choice, first_repeated, same_identifier}
 use Rattle.asn_model.specs.Leaf.{leaf}
 use Rattle.asn_model.specs.Value.{Value, Values, Slots, bag_of, may_lack, table_of, with_field}
 
 mutual
-  -- The slot decodes to the value by the shape.
+  -- The slot decodes to the value by the shape. In AVN no field's name stands at two present entries; names that the type lacks may.
   pub data DecodesTo (n : Notation) : Shape → Slot → Value → Type 0 where
     decodes_leaf : (s : Shape) (t : Tree) (v : Value) → leaf n s t ≡ Some (Ok v) → DecodesTo n s (Some t) v
     decodes_seq : (kind : SeqKind) (fs : Fields) (added : FieldAdditions) (t : Tree) (look : List ℕ → Slot) (vs : Slots)
-        → as_members n t ≡ Some look → FieldsDecodeTo n (all_fields fs added) (map look (field_names (all_fields fs added))) vs → DecodesTo n (Shape.seq kind fs added) (Some t) (Value.members vs)
+        → as_members n t ≡ Some look → first_repeated n t (field_names (all_fields fs added)) ≡ None → FieldsDecodeTo n (all_fields fs added) (map look (field_names (all_fields fs added))) vs → DecodesTo n (Shape.seq kind fs added) (Some t) (Value.members vs)
     decodes_list : (s : Shape) (t : Tree) (slots : List Slot) (vs : Values) → as_list n t ≡ Some slots → EachDecodesTo n s slots vs → DecodesTo n (Shape.list_of s) (Some t) (Value.list vs)
     decodes_set : (s : Shape) (t : Tree) (slots : List Slot) (vs : Values) → as_list n t ≡ Some slots → EachDecodesTo n s slots vs → DecodesTo n (Shape.set_of s) (Some t) (bag_of vs)
     decodes_table : (s : Shape) (t : Tree) (vs : Values) → DecodesTo n (Shape.list_of s) (Some t) (Value.list vs) → DecodesTo n (Shape.table s) (Some t) (Value.list (table_of vs))

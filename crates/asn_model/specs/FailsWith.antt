@@ -4,8 +4,8 @@ use Rattle.asn_core.specs.declared.codec.Codec.{Codec}
 use Rattle.asn_fault.specs.Failure.{Cause}
 use Rattle.asn_model.specs.Components.{Component, Standing, component_names, reading_order}
 use Rattle.asn_model.specs.Notation.{Notation, notation_of}
-use Rattle.asn_model.specs.Shape.{Shape, SeqKind, Fields, FieldAdditions, Alternatives, AlternativeAdditions, all_alternatives, unfold_loop, alternative_named}
-use Rattle.asn_model.specs.Tree.{Tree, Slot, as_list, as_members, as_choice, same_identifier}
+use Rattle.asn_model.specs.Shape.{Shape, SeqKind, Fields, FieldAdditions, Alternatives, AlternativeAdditions, all_alternatives, all_fields, field_names, unfold_loop, alternative_named}
+use Rattle.asn_model.specs.Tree.{Tree, Slot, as_list, as_members, as_choice, first_repeated, same_identifier}
 use Rattle.asn_model.specs.Leaf.{LeafFailure, IsFailureOf, leaf, members_mismatch, list_mismatch, set_mismatch, choice_mismatch}
 use Rattle.asn_model.specs.Value.{Value, may_lack}
 use Rattle.asn_model.specs.DecodesTo.{DecodesTo}
@@ -20,14 +20,16 @@ mutual
     fails_absent : (s : Shape) (c : Codec) → notation_of c ≡ n → FailsWith n s None [] (Cause.end_of_input c)
     fails_leaf : (s : Shape) (t : Tree) (b : LeafFailure) (w : Cause) → leaf n s t ≡ Some (Err b) → IsFailureOf n t b w → FailsWith n s (Some t) [] w
     fails_no_members : (kind : SeqKind) (fs : Fields) (added : FieldAdditions) (t : Tree) (w : Cause) → as_members n t ≡ None → IsFailureOf n t (members_mismatch n kind) w → FailsWith n (Shape.seq kind fs added) (Some t) [] w
+    fails_repeated : (kind : SeqKind) (fs : Fields) (added : FieldAdditions) (t : Tree) (look : List ℕ → Slot) (name : List ℕ)
+        → as_members n t ≡ Some look → first_repeated n t (field_names (all_fields fs added)) ≡ Some name → FailsWith n (Shape.seq kind fs added) (Some t) [] (Cause.duplicate_field name)
     fails_seq : (kind : SeqKind) (fs : Fields) (added : FieldAdditions) (t : Tree) (look : List ℕ → Slot) (p : Path) (w : Cause)
-        → as_members n t ≡ Some look → FieldsFailWith n (reading_order kind fs added) (map look (component_names (reading_order kind fs added))) p w → FailsWith n (Shape.seq kind fs added) (Some t) p w
+        → as_members n t ≡ Some look → first_repeated n t (field_names (all_fields fs added)) ≡ None → FieldsFailWith n (reading_order kind fs added) (map look (component_names (reading_order kind fs added))) p w → FailsWith n (Shape.seq kind fs added) (Some t) p w
     fails_no_list : (s : Shape) (t : Tree) (w : Cause) → as_list n t ≡ None → IsFailureOf n t (list_mismatch n) w → FailsWith n (Shape.list_of s) (Some t) [] w
     fails_list : (s : Shape) (t : Tree) (slots : List Slot) (p : Path) (w : Cause) → as_list n t ≡ Some slots → EachFailsWith n s slots p w → FailsWith n (Shape.list_of s) (Some t) p w
     fails_no_set : (s : Shape) (t : Tree) (w : Cause) → as_list n t ≡ None → IsFailureOf n t (set_mismatch n) w → FailsWith n (Shape.set_of s) (Some t) [] w
     fails_set : (s : Shape) (t : Tree) (slots : List Slot) (p : Path) (w : Cause) → as_list n t ≡ Some slots → EachFailsWith n s slots p w → FailsWith n (Shape.set_of s) (Some t) p w
     fails_table : (s : Shape) (t : Tree) (p : Path) (w : Cause) → FailsWith n (Shape.list_of s) (Some t) p w → FailsWith n (Shape.table s) (Some t) p w
-    fails_no_choice : (alts : Alternatives) (added : AlternativeAdditions) (t : Tree) (w : Cause) → as_choice n t ≡ None → IsFailureOf n t (choice_mismatch n) w → FailsWith n (Shape.choice alts added) (Some t) [] w
+    fails_no_choice : (alts : Alternatives) (added : AlternativeAdditions) (t : Tree) (w : Cause) → as_choice n t ≡ None → IsFailureOf n t (choice_mismatch n t) w → FailsWith n (Shape.choice alts added) (Some t) [] w
     fails_no_member : (alts : Alternatives) (added : AlternativeAdditions) (t : Tree) (type_name : List ℕ) → as_choice n t ≡ Some None → FailsWith n (Shape.choice alts added) (Some t) [] (Cause.no_valid_choice type_name)
     fails_unnamed : (alts : Alternatives) (added : AlternativeAdditions) (t : Tree) (name : List ℕ) (u : Tree) (type_name : List ℕ) → as_choice n t ≡ Some (Some (name, u)) → alternative_named same_identifier (all_alternatives alts added) name ≡ None
         → FailsWith n (Shape.choice alts added) (Some t) [] (Cause.no_valid_choice type_name)

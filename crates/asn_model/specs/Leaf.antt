@@ -32,7 +32,7 @@ use Rattle.asn_model.specs.declared.leaves.Leaf.{Leaf}
 use Rattle.asn_model.specs.declared.leaves.Leaf.TheVariants as put
 use Rattle.asn_model.specs.declared.leaves.OwnedLeaf.{OwnedLeaf}
 use Rattle.asn_model.specs.declared.leaves.OwnedLeaf.TheVariants as got
-use Rattle.asn_model.specs.declared.words.TheConstants.{AVN_ARCS, AVN_BITS, AVN_CHOICE, AVN_ITEM, AVN_LIST, AVN_MEMBERS, AVN_NO_UTF8, AVN_NUMBER, AVN_OCTETS, AVN_SET, AVN_SET_OF, AVN_STRING, BOOLEAN, JER_ARCS, JER_ARRAY, JER_BITS, JER_DATE, JER_DIGITS, JER_ITEM, JER_NUMBER, JER_OBJECT, JER_STRING, JER_TIME, JER_UNKNOWN, NO_DECIMAL, NULL}
+use Rattle.asn_model.specs.declared.words.TheConstants.{AVN_ARCS, AVN_BITS, AVN_CHOICE, AVN_ITEM, AVN_LIST, AVN_MEMBERS, AVN_NO_UTF8, AVN_NUMBER, AVN_OCTETS, AVN_SET, AVN_SET_OF, AVN_STRING, BOOLEAN, JER_ARCS, JER_ARRAY, JER_BITS, JER_DATE, JER_DIGITS, JER_ITEM, JER_NUMBER, JER_OBJECT, JER_ONE_MEMBER, JER_STRING, JER_TIME, JER_UNKNOWN, NO_DECIMAL, NULL}
 
 -- Why a tree decodes to no value: it is of another kind than what is needed, or as told.
 pub data LeafFailure : Type 0 where
@@ -77,9 +77,10 @@ list_mismatch n = mismatch_of n JER_ARRAY.now AVN_LIST.now
 abbrev pub set_mismatch : Notation → LeafFailure
 set_mismatch n = mismatch_of n JER_ARRAY.now AVN_SET_OF.now
 
--- The failure of a tree that is no choice.
-abbrev pub choice_mismatch : Notation → LeafFailure
-choice_mismatch n = mismatch_of n JER_OBJECT.now AVN_CHOICE.now
+-- The failure of a tree that is no choice, as an object of two members or more.
+abbrev pub choice_mismatch : Notation → Tree → LeafFailure
+choice_mismatch Notation.jer (Tree.json (Data.object ms)) = LeafFailure.mismatch JER_ONE_MEMBER.now
+choice_mismatch n t = mismatch_of n JER_OBJECT.now AVN_CHOICE.now
 
 -- The words by which a mismatch names the kind that is needed.
 abbrev pub needed : Notation → LeafKind → List ℕ

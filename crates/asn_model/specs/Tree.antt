@@ -1,5 +1,5 @@
 -- What a text decodes to before any type looks at it, and how each notation looks at it.
-use Rattle.std.specs.Prelude.{ℕ, suc, List, [], ◌∷◌, Bool, Option, Some, None, ◌+◌, if◌then◌else◌, option_map, map}
+use Rattle.std.specs.Prelude.{ℕ, suc, List, [], ◌∷◌, Bool, Option, Some, None, ◌+◌, if◌then◌else◌, nat_le, false, option_map, map}
 use Rattle.std.specs.Str.{bytes_eq}
 use Rattle.std.specs.Char.{to_ascii_lowercase}
 use Rattle.serde_json.specs.Data.{Data, Items, Members}
@@ -108,6 +108,22 @@ field_slot AvnFields.no_fields name = None
 field_slot (AvnFields.field n t fs) name = or_else (field_slot fs name) (if bytes_eq name n then Some (Tree.avn t) else None)
 field_slot (AvnFields.absent n fs) name = field_slot fs name
 
+-- How many present fields have that name.
+abbrev pub times_present : AvnFields → List ℕ → ℕ
+times_present AvnFields.no_fields name = 0
+times_present (AvnFields.field n t fs) name = (if bytes_eq name n then 1 else 0) + times_present fs name
+times_present (AvnFields.absent n fs) name = times_present fs name
+
+-- Whether two or more present fields have that name. No object has a member twice once JSON is read.
+abbrev pub is_repeated : Notation → Tree → List ℕ → Bool
+is_repeated Notation.avn (Tree.avn (AvnTree.sequence fs)) name = nat_le 2 (times_present fs name)
+is_repeated _ _ name = false
+
+-- The first of the names that is repeated, if any is.
+abbrev pub first_repeated : Notation → Tree → List (List ℕ) → Option (List ℕ)
+first_repeated n t [] = None
+first_repeated n t (name ∷ names) = if is_repeated n t name then Some name else first_repeated n t names
+
 -- The elements of a tree that is a list.
 abbrev pub as_list : Notation → Tree → Option (List Slot)
 as_list Notation.jer (Tree.json (Data.array ds)) = Some (item_slots ds)
@@ -122,10 +138,10 @@ as_members Notation.avn (Tree.avn (AvnTree.sequence fs)) = Some (field_slot fs)
 as_members Notation.avn (Tree.avn (AvnTree.sequence_of AvnTrees.no_trees)) = Some (λ n. None)
 as_members _ _ = None
 
--- The identifier and the payload of a tree that is a choice, which in JSON is an object's first member, if it has one.
+-- The identifier and the payload of a tree that is a choice, which in JSON are those of an object's only member, if it has one.
 abbrev pub as_choice : Notation → Tree → Option (Option (List ℕ × Tree))
 as_choice Notation.jer (Tree.json (Data.object Members.no_members)) = Some None
-as_choice Notation.jer (Tree.json (Data.object (Members.member n d ms))) = Some (Some (n, Tree.json d))
+as_choice Notation.jer (Tree.json (Data.object (Members.member n d Members.no_members))) = Some (Some (n, Tree.json d))
 as_choice Notation.avn (Tree.avn (AvnTree.choice n t)) = Some (Some (n, Tree.avn t))
 as_choice _ _ = None
 

@@ -6,7 +6,7 @@ use Rattle.asn_model.specs.Notation.{Notation}
 use Rattle.asn_model.specs.Readable.{is_readable}
 use Rattle.asn_model.specs.Shape.{Shape, are_distinct}
 use Rattle.asn_model.specs.Sorting.{by_text}
-use Rattle.asn_model.specs.Tree.{Tree, Slot, as_list, as_members, as_choice}
+use Rattle.asn_model.specs.Tree.{Tree, Slot, as_list, as_members, as_choice, first_repeated}
 use Rattle.asn_model.specs.Value.{Value, Values, Slots, is_leaf_of, ordered_by}
 use Rattle.asn_model.specs.Writable.{Writable}
 
@@ -32,5 +32,5 @@ pub record Writes (n : Notation) (tree : Value → Tree) : Type 0 where
   pub leaf : (s : Shape) (v : Value) → is_readable s ≡ true → is_leaf_of s v ≡ true → Writable n v → leaf n s (tree v) ≡ Some (Ok v)
   pub list : (vs : Values) → as_list n (tree (Value.list vs)) ≡ Some (value_slots tree vs)
   pub set : (vs : Values) → as_list n (tree (Value.bag vs)) ≡ Some (value_slots tree (ordered_by (by_text (canonical_text n)) vs))
-  pub members : (ms : Slots) → are_distinct (slot_names ms) ≡ true → (look : List ℕ → Slot) × (as_members n (tree (Value.members ms)) ≡ Some look) × Finds tree look ms
+  pub members : (ms : Slots) → are_distinct (slot_names ms) ≡ true → (look : List ℕ → Slot) × (as_members n (tree (Value.members ms)) ≡ Some look) × ((names : List (List ℕ)) → first_repeated n (tree (Value.members ms)) names ≡ None) × Finds tree look ms
   pub choice : (i : List ℕ) (v : Value) → as_choice n (tree (Value.choice i v)) ≡ Some (Some (i, tree v))

@@ -31,6 +31,9 @@ pub const NO_TELETEX: &str = "TeletexString is not supported";
 /// What JER needs for SEQUENCE, for SET and for CHOICE.
 pub const JER_OBJECT: &str = "object";
 
+/// What JER needs for CHOICE where an object has two members or more.
+pub const JER_ONE_MEMBER: &str = "object with one member";
+
 /// What JER needs for SEQUENCE OF and for SET OF.
 pub const JER_ARRAY: &str = "array";
 

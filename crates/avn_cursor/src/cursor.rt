@@ -241,7 +241,7 @@ impl<'a> Cursor<'a> {
     /// Returns what is ahead past blanks, and stays before them.
     #[inline(always)]
     #[tactic(auto, using(crate::proofs::Looking::twice))]
-    pub fn lead_past_blanks(&mut self) -> CharClass
+    pub fn class_after_blanks(&mut self) -> CharClass
         ensures advances { Advances 1 self.old self.new }
         ensures stays { self.new.rest ≡ self.old.rest }
         ensures skip_while { self.new.ahead ≡ skip self.old.rest }
@@ -428,7 +428,7 @@ impl<'a> Cursor<'a> {
         }
         let start = self.mark;
         self.pass_run(CharSet::Name);
-        match self.lead_past_blanks() {
+        match self.class_after_blanks() {
             CharClass::Colon => {
                 self.skip();
                 let _colon = self.take();

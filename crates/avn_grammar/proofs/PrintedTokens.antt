@@ -102,10 +102,10 @@ module _ (sign m u : List ℕ) (digits : all is_digit m ≡ true) (ends : After 
   pub past_number-integer : past_number (m ++ u) ≡ u
   past_number-integer = cond-false (has_fraction (skip_while is_digit (m ++ u))) _ _ no_fraction ∙ past-digits
 
-pub number_said : (n u : List ℕ) → Number n → After u → Token (n ++ u) (integer n) u
+pub number_is_token : (n u : List ℕ) → Number n → After u → Token (n ++ u) (integer n) u
 unfolding class_of_char
-number_said n u (plain m a b) f = token_as (number_token (lead-digit m u a)) (number_tree-integer [] m u b f) (past_number-integer [] m u b f)
-number_said n u (minus m a b) f = token_as (negative_token refl (lead-digit m u a)) (number_tree-integer (45 ∷ []) m u b f) (past_number-integer (45 ∷ []) m u b f)
+number_is_token n u (plain m a b) f = token_as (number_token (lead-digit m u a)) (number_tree-integer [] m u b f) (past_number-integer [] m u b f)
+number_is_token n u (minus m a b) f = token_as (negative_token refl (lead-digit m u a)) (number_tree-integer (45 ∷ []) m u b f) (past_number-integer (45 ∷ []) m u b f)
 
 -- Numbers with a point.
 pub data Decimal : List ℕ → Type 0 where
@@ -175,26 +175,26 @@ module _ (sign m f u : List ℕ) (digits : all is_digit m ≡ true) (starts : st
   pub past_number-real : past_number (m ++ (46 ∷ (f ++ u))) ≡ u
   past_number-real = cond-true (has_fraction (skip_while is_digit (m ++ (46 ∷ (f ++ u))))) _ _ fraction ∙ ap (λ x. skip_while is_digit (tail x)) past-whole ∙ past-run is_digit f u decimals ends.no_digit
 
-pub decimal_said : (n u : List ℕ) → Decimal n → After u → Token (n ++ u) (real n) u
+pub decimal_is_token : (n u : List ℕ) → Decimal n → After u → Token (n ++ u) (real n) u
 unfolding class_of_char
-decimal_said n u (point m f a b c d) g =
+decimal_is_token n u (point m f a b c d) g =
     subst (λ x. Token x (real (m ++ (46 ∷ f))) u) (sym (append_assoc m (46 ∷ f) u)) (token_as (number_token (lead-digit m (46 ∷ (f ++ u)) a)) (number_tree-real [] m f u b c d g) (past_number-real [] m f u b c d g))
-decimal_said n u (minus_point m f a b c d) g =
+decimal_is_token n u (minus_point m f a b c d) g =
     subst (λ x. Token (45 ∷ x) (real (45 ∷ (m ++ (46 ∷ f)))) u) (sym (append_assoc m (46 ∷ f) u))
     (token_as (negative_token {w = 45 ∷ (m ++ (46 ∷ (f ++ u)))} refl (lead-digit m (46 ∷ (f ++ u)) a)) (number_tree-real (45 ∷ []) m f u b c d g) (past_number-real (45 ∷ []) m f u b c d g))
 
 -- Octets and bits.
-pub octets_said : (octets u : List ℕ) → all is_octet octets ≡ true → Token (39 ∷ (hex_text octets ++ (39 ∷ 72 ∷ u))) (octet_string octets) u
+pub octets_is_token : (octets u : List ℕ) → all is_octet octets ≡ true → Token (39 ∷ (hex_text octets ++ (39 ∷ 72 ∷ u))) (octet_string octets) u
 unfolding class_of_char
-octets_said octets u h =
+octets_is_token octets u h =
     let x = hex_of octets h in
     let f : take_while is_not_apostrophe (hex_text octets ++ (39 ∷ 72 ∷ u)) ≡ hex_text octets = front-run is_not_apostrophe (hex_text octets) (39 ∷ 72 ∷ u) x.within refl in
     let s : without_whitespace (take_while is_not_apostrophe (hex_text octets ++ (39 ∷ 72 ∷ u))) ≡ hex_text octets = ap without_whitespace f ∙ x.whole in
     token_as (octets_token {w = 39 ∷ (hex_text octets ++ (39 ∷ 72 ∷ u))} {rest = u} refl (past-run is_not_apostrophe (hex_text octets) (39 ∷ 72 ∷ u) x.within refl) (ap are_pairs s ∙ x.pairs)) (ap (λ y. octet_string (octets_of y)) s ∙ ap octet_string x.says) refl
 
-pub bits_said : (bits u : List ℕ) → all is_bit bits ≡ true → Token (39 ∷ (bits ++ (39 ∷ 66 ∷ u))) (bit_string (packed bits) (length bits)) u
+pub bits_is_token : (bits u : List ℕ) → all is_bit bits ≡ true → Token (39 ∷ (bits ++ (39 ∷ 66 ∷ u))) (bit_string (packed bits) (length bits)) u
 unfolding class_of_char
-bits_said bits u h =
+bits_is_token bits u h =
     let x = bits_of bits h in
     let f : take_while is_not_apostrophe (bits ++ (39 ∷ 66 ∷ u)) ≡ bits = front-run is_not_apostrophe bits (39 ∷ 66 ∷ u) x.within refl in
     let s : without_whitespace (take_while is_not_apostrophe (bits ++ (39 ∷ 66 ∷ u))) ≡ bits = ap without_whitespace f ∙ x.whole in

@@ -18,12 +18,12 @@ use Rattle.std.specs.Fmt.{decimal}
 use Rattle.avn_grammar.proofs.Runs.{fraction-other}
 use Rattle.avn_grammar.proofs.Digits.{bit_text-bits, length-bit_text, every-take, digits-arc}
 use Rattle.avn_grammar.proofs.PrintedBefore.{put_arcs}
-use Rattle.avn_grammar.proofs.PrintedTokens.{plain, decimal_of, decimal_lead, decimal_said, octets_said, bits_said, bits_lead}
+use Rattle.avn_grammar.proofs.PrintedTokens.{plain, decimal_of, decimal_lead, decimal_is_token, octets_is_token, bits_is_token, bits_lead}
 use Rattle.avn_grammar.proofs.Runs.{past-past}
 use Rattle.avn_grammar.proofs.OneTree.{quote_first}
 use Rattle.avn_grammar.proofs.RunsBefore.{skip-indent, skip-lead, After, after_of, lead-letter, lead-digit}
 use Rattle.avn_grammar.proofs.PrintedBefore.{put, put_rows, put_fields, shown}
-use Rattle.avn_grammar.proofs.PrintedTokens.{value_space, value_colon, value_word, number_of, number_said, quoted_token, number_lead, real_word, word_enumerated, word-true, word-false, word-null, ident_of, plain_name, begins_value, brace, level_deepest, level_fields, level_items}
+use Rattle.avn_grammar.proofs.PrintedTokens.{value_space, value_colon, value_word, number_of, number_is_token, quoted_token, number_lead, real_word, word_enumerated, word-true, word-false, word-null, ident_of, plain_name, begins_value, brace, level_deepest, level_fields, level_items}
 
 -- The tree is read behind blanks, as a value and as an item.
 abbrev pub DecodesTo : ℕ → Tree → Type 0
@@ -286,7 +286,7 @@ fields_decode limit fs f = λ d level w u e l a. elim (cases_Bool (has_fields fs
 
 -- A number, as an integer and as a real without a point.
 number_parses : (limit : ℕ) (n : List ℕ) → is_number n ≡ true → (level : ℕ) (w u : List ℕ) → skip w ≡ n ++ u → level ≤ limit → ComesAfterValue (class_of_next (skip u)) → Parses limit level w (integer n) u
-number_parses limit n h level w u e l a = token_parses limit level w u (n ++ u) (integer n) e l (number_said n u (number_of n h) (after_of u a))
+number_parses limit n h level w u e l a = token_parses limit level w u (n ++ u) (integer n) e l (number_is_token n u (number_of n h) (after_of u a))
 
 pub number_letter : (n u : List ℕ) → is_number n ≡ true → class_of_next (n ++ u) ≢ is.Letter
 number_letter n u h k = elim (number_lead n u (number_of n h)) [ inl a ↦ let x : ⊥ = cc in x | inr a ↦ let x : ⊥ = cc in x ]
@@ -312,7 +312,7 @@ integer_decodes limit n h = ((λ d level w u e l a. number_parses limit n h leve
 
 -- Numbers with a point.
 decimal_parses : (limit : ℕ) (n : List ℕ) → is_decimal n ≡ true → (level : ℕ) (w u : List ℕ) → skip w ≡ n ++ u → level ≤ limit → ComesAfterValue (class_of_next (skip u)) → Parses limit level w (real n) u
-decimal_parses limit n h level w u e l a = token_parses limit level w u (n ++ u) (real n) e l (decimal_said n u (decimal_of n h) (after_of u a))
+decimal_parses limit n h level w u e l a = token_parses limit level w u (n ++ u) (real n) e l (decimal_is_token n u (decimal_of n h) (after_of u a))
 
 pub decimal_letter : (n u : List ℕ) → is_decimal n ≡ true → class_of_next (n ++ u) ≢ is.Letter
 decimal_letter n u h k = elim (decimal_lead n u (decimal_of n h)) [ inl a ↦ let x : ⊥ = cc in x | inr a ↦ let x : ⊥ = cc in x ]
@@ -358,7 +358,7 @@ real_decodes limit n (parted k m h) =
 -- Octets and bits.
 octets_decode : (limit : ℕ) (octets : List ℕ) → all is_octet octets ≡ true → DecodesTo limit (octet_string octets)
 unfolding put normal deepest
-octets_decode limit octets h = λ d level w u e l a. token_parses limit level w u (39 ∷ (hex_text octets ++ (39 ∷ 72 ∷ u))) (octet_string octets) e l (octets_said octets u h)
+octets_decode limit octets h = λ d level w u e l a. token_parses limit level w u (39 ∷ (hex_text octets ++ (39 ∷ 72 ∷ u))) (octet_string octets) e l (octets_is_token octets u h)
 
 bits_decode : (limit : ℕ) (octets : List ℕ) (n : ℕ) → all is_octet octets ≡ true → length octets ≡ (n + 7) / 8 → DecodesTo limit (bit_string octets n)
 unfolding put normal deepest
@@ -369,16 +369,16 @@ bits_decode limit octets n h r = λ d level w u e l a.
     elim (cases_Bool (n == 0)) [
       | inl k ↦
           parses_as (sym (cond-true (n == 0) (octet_string []) (cond (n % 8 == 0) (octet_string octets) (bit_string (packed b) n)) k))
-          (token_parses limit level w u (39 ∷ 39 ∷ 72 ∷ u) (octet_string []) (e ∙ cond-true (n == 0) (39 ∷ 39 ∷ 72 ∷ u) (cond (n % 8 == 0) x y) k) l (octets_said [] u refl))
+          (token_parses limit level w u (39 ∷ 39 ∷ 72 ∷ u) (octet_string []) (e ∙ cond-true (n == 0) (39 ∷ 39 ∷ 72 ∷ u) (cond (n % 8 == 0) x y) k) l (octets_is_token [] u refl))
       | inr k ↦
           let f = e ∙ cond-false (n == 0) (39 ∷ 39 ∷ 72 ∷ u) (cond (n % 8 == 0) x y) k in
           let g = sym (cond-false (n == 0) (octet_string []) (cond (n % 8 == 0) (octet_string octets) (bit_string (packed b) n)) k) in
           elim (cases_Bool (n % 8 == 0)) [
-            | inl q ↦ parses_as (sym (cond-true (n % 8 == 0) (octet_string octets) (bit_string (packed b) n) q) ∙ g) (token_parses limit level w u x (octet_string octets) (f ∙ cond-true (n % 8 == 0) x y q) l (octets_said octets u h))
+            | inl q ↦ parses_as (sym (cond-true (n % 8 == 0) (octet_string octets) (bit_string (packed b) n) q) ∙ g) (token_parses limit level w u x (octet_string octets) (f ∙ cond-true (n % 8 == 0) x y q) l (octets_is_token octets u h))
             | inr q ↦
                 let m : length b ≡ n = omega (arith, length-take-le n (bit_text octets), length-bit_text octets, r) in
                 parses_as (ap (bit_string (packed b)) m ∙ sym (cond-false (n % 8 == 0) (octet_string octets) (bit_string (packed b) n) q) ∙ g)
-                (token_parses limit level w u y (bit_string (packed b) (length b)) (f ∙ cond-false (n % 8 == 0) x y q) l (bits_said b u (every-take is_bit n (bit_text octets) (bit_text-bits octets))))
+                (token_parses limit level w u y (bit_string (packed b) (length b)) (f ∙ cond-false (n % 8 == 0) x y q) l (bits_is_token b u (every-take is_bit n (bit_text octets) (bit_text-bits octets))))
           ]
     ]
 
@@ -449,7 +449,7 @@ arc_parses limit level a w u h e l f =
     let k = and_parts (starts_with is_digit (decimal a)) (all is_digit (decimal a)) (digits-arc a h) in
     let g = arc_lead a u h in
     value_item (λ q. digit_letter _ g (sym (ap class_of_next e) ∙ q))
-    (token_parses limit (suc level) (skip w) u (decimal a ++ u) (integer (decimal a)) (past-past is_space w ∙ e) l (number_said (decimal a) u (plain (decimal a) k.0 k.1) f))
+    (token_parses limit (suc level) (skip w) u (decimal a ++ u) (integer (decimal a)) (past-past is_space w ∙ e) l (number_is_token (decimal a) u (plain (decimal a) k.0 k.1) f))
 
 close_lead : (u : List ℕ) → class_of_next (skip (32 ∷ 125 ∷ u)) ≡ is.CloseBrace
 unfolding class_of_char

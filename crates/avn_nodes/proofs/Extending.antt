@@ -153,15 +153,15 @@ over-items : (xs : List Item) → AllBare xs → IsOver (sequence_of (trees_of x
 unfolding descendants
 over-items xs a = record { within = nodes-items xs a; kind = refl; text = refl; octets = refl; bits = refl; arcs = refl }
 
-pub over-gathered : (xs : List Item) (t : Tree) (k : NodeKind) → AreBraceItems xs t → k ≡ kind_of (Some t) → IsOver t k (items_preorder xs)
-over-gathered xs t k (inl a) e =
+pub over-braces : (xs : List Item) (t : Tree) (k : NodeKind) → AreBraceItems xs t → k ≡ kind_of (Some t) → IsOver t k (items_preorder xs)
+over-braces xs t k (inl a) e =
     subst (λ j. IsOver t j (items_preorder xs)) (sym (e ∙ ap (λ x. kind_of (Some x)) a.1)) (subst (λ x. IsOver x kind.Sequence (items_preorder xs)) (sym a.1) (over-fields xs a.0))
-over-gathered xs t k (inr a) e =
+over-braces xs t k (inr a) e =
     subst (λ j. IsOver t j (items_preorder xs)) (sym (e ∙ ap (λ x. kind_of (Some x)) a.1)) (subst (λ x. IsOver x kind.SequenceOf (items_preorder xs)) (sym a.1) (over-items xs a.0))
 
-pub gathered-integer : (xs : List Item) (t : Tree) → AreBraceItems xs t → is_integer t ≡ false
-gathered-integer xs t (inl a) = ap is_integer a.1
-gathered-integer xs t (inr a) = ap is_integer a.1
+pub braces-integer : (xs : List Item) (t : Tree) → AreBraceItems xs t → is_integer t ≡ false
+braces-integer xs t (inl a) = ap is_integer a.1
+braces-integer xs t (inr a) = ap is_integer a.1
 
 pub items_preorder-push : (xs : List Item) (x : Item) → items_preorder (xs ++ (x ∷ [])) ≡ items_preorder xs ++ item_preorder x
 items_preorder-push [] x = append-nil (item_preorder x)

@@ -61,21 +61,21 @@ no e = let n : ⊥ = cc in absurd n
 named_entry : (x : Item) → entry.Named ≡ kind_of_item x → (id : List ℕ) × (t : Tree) × (x ≡ named id t)
 named_entry (named id t) e = (id, t, refl)
 named_entry (bare t) e = elim (cases_Bool (is_integer t)) [
-  | inl i ↦ let f : entry.Named ≡ entry.Integer = e ∙ ap (λ b. cond b entry.Integer entry.Bare) i in let n : ⊥ = cc in absurd n
-  | inr i ↦ let f : entry.Named ≡ entry.Bare = e ∙ ap (λ b. cond b entry.Integer entry.Bare) i in let n : ⊥ = cc in absurd n
+  | inl i ↦ let f : entry.Named ≡ entry.Integer = e ∙ ap (λ b. cond b entry.Integer entry.Value) i in let n : ⊥ = cc in absurd n
+  | inr i ↦ let f : entry.Named ≡ entry.Value = e ∙ ap (λ b. cond b entry.Integer entry.Value) i in let n : ⊥ = cc in absurd n
 ]
 
 integer_entry : (x : Item) → entry.Integer ≡ kind_of_item x → (t : Tree) × (x ≡ bare t) × (is_integer t ≡ true)
 integer_entry (named id t) e = let n : ⊥ = cc in absurd n
 integer_entry (bare t) e = elim (cases_Bool (is_integer t)) [
   | inl i ↦ (t, refl, i)
-  | inr i ↦ let f : entry.Integer ≡ entry.Bare = e ∙ ap (λ b. cond b entry.Integer entry.Bare) i in let n : ⊥ = cc in absurd n
+  | inr i ↦ let f : entry.Integer ≡ entry.Value = e ∙ ap (λ b. cond b entry.Integer entry.Value) i in let n : ⊥ = cc in absurd n
 ]
 
-bare_entry : (x : Item) → entry.Bare ≡ kind_of_item x → (t : Tree) × (x ≡ bare t) × (is_integer t ≡ false)
-bare_entry (named id t) e = let n : ⊥ = cc in absurd n
-bare_entry (bare t) e = elim (cases_Bool (is_integer t)) [
-  | inl i ↦ let f : entry.Bare ≡ entry.Integer = e ∙ ap (λ b. cond b entry.Integer entry.Bare) i in let n : ⊥ = cc in absurd n
+value_entry : (x : Item) → entry.Value ≡ kind_of_item x → (t : Tree) × (x ≡ bare t) × (is_integer t ≡ false)
+value_entry (named id t) e = let n : ⊥ = cc in absurd n
+value_entry (bare t) e = elim (cases_Bool (is_integer t)) [
+  | inl i ↦ let f : entry.Value ≡ entry.Integer = e ∙ ap (λ b. cond b entry.Integer entry.Value) i in let n : ⊥ = cc in absurd n
   | inr i ↦ (t, refl, i)
 ]
 
@@ -105,8 +105,8 @@ named_added g before x e k = let q = named_entry x e in rw q.2 (named_held g bef
 pub integer_added : (g : BraceItems) (before : List Item) (x : Item) → entry.Integer ≡ kind_of_item x → Holds g before → Holds (record g { bare = true }) (before ++ (x ∷ []))
 integer_added g before x e k = let q = integer_entry x e in rw q.1 (bare_held g before q.0 g.integers (λ i _. i) (λ i. (i, q.2)) k)
 
-pub bare_added : (g : BraceItems) (before : List Item) (x : Item) → entry.Bare ≡ kind_of_item x → Holds g before → Holds (record g { bare = true; integers = false }) (before ++ (x ∷ []))
-bare_added g before x e k = let q = bare_entry x e in rw q.1 (bare_held g before q.0 false (λ _ i. sym q.2 ∙ i) (λ i. no (sym i)) k)
+pub value_added : (g : BraceItems) (before : List Item) (x : Item) → entry.Value ≡ kind_of_item x → Holds g before → Holds (record g { bare = true; integers = false }) (before ++ (x ∷ []))
+value_added g before x e k = let q = value_entry x e in rw q.1 (bare_held g before q.0 false (λ _ i. sym q.2 ∙ i) (λ i. no (sym i)) k)
 
 pub list_kind : (g : BraceItems) (items : List Item) → g.named ≡ false → Holds g items → MakesKind items kind.SequenceOf
 list_kind g items e k = (sequence_of (trees_of items), inr (k.only_bare e, refl), refl)

@@ -9,7 +9,7 @@ use Rattle.avn_grammar.specs.Grammar.{BeginsNumber, Item, AreBraceItems, BracesP
 use Rattle.avn_grammar.specs.Tree.{Tree, choice}
 use Rattle.avn_value.proofs.NotDeep.{deep_comma_only, deep_number_only}
 use Rattle.avn_value.proofs.Going.{Going}
-use Rattle.avn_nodes.proofs.Extending.{Closes, extended-push, closing, over-gathered, gathered-integer, over-choice}
+use Rattle.avn_nodes.proofs.Extending.{Closes, extended-push, closing, over-braces, braces-integer, over-choice}
 use Rattle.avn_nodes.proofs.NodeForms.{worded}
 use Rattle.avn_value.specs.Gathering.{Holds, MakesKind}
 use Rattle.avn_value.specs.ReadNodes.{IsRead}
@@ -102,8 +102,8 @@ module _ (limit m : ℕ) (start now r : List ℕ) (g h : BraceItems) (opened s t
       let grew = extended-push opened s then going.before x going.grew more ∙ ap (λ y. extended y (items_preorder xs)) o in (
         made.0,
         (xs, subst (λ y. ItemsParse limit m [] start xs y) (sym e) (going.completes (x ∷ []) (tail (skip r)) (last_item stands c)), made.1),
-        sym (gathered-integer xs made.0 made.1),
-        closing old then last kind.SequenceOf k made.0 (items_preorder xs) place p grew (over-gathered xs made.0 k made.1 made.2) l,
+        sym (braces-integer xs made.0 made.1),
+        closing old then last kind.SequenceOf k made.0 (items_preorder xs) place p grew (over-braces xs made.0 k made.1 made.2) l,
       )
 
 -- A choice whose payload was read.

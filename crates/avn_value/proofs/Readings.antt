@@ -13,5 +13,5 @@ pub value_read : {E : Type 0} (limit level : ℕ) (u w n : List ℕ) → w ≡ s
 value_read limit level u w n at s then (Err e) le k = tt
 value_read limit level u w n at s then (Ok i) le k = (k.0, token le (subst (λ y. Token y k.0 n) at k.1), k.2, k.3)
 
-pub item_read : {P : Item → Type 0} (s then : NodeList) (e : ItemKind) (t : Tree) (i : Bool) → s.name ≡ [] → e ≡ cond i kind.Integer kind.Bare → i ≡ is_integer t → then ≡ extended s (preorder s.name t) → P (bare t) → IsItemRead P s then e
-item_read s then e t i n f g h p = (bare t, p, f ∙ ap (λ b. cond b kind.Integer kind.Bare) g, h ∙ ap (λ w. extended s (preorder w t)) n)
+pub item_read : {P : Item → Type 0} (s then : NodeList) (e : ItemKind) (t : Tree) (i : Bool) → s.name ≡ [] → e ≡ cond i kind.Integer kind.Value → i ≡ is_integer t → then ≡ extended s (preorder s.name t) → P (bare t) → IsItemRead P s then e
+item_read s then e t i n f g h p = (bare t, p, f ∙ ap (λ b. cond b kind.Integer kind.Value) g, h ∙ ap (λ w. extended s (preorder w t)) n)

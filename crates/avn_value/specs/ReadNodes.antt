@@ -14,7 +14,7 @@ IsRead P old new integer = (t : Tree) × P t × (integer ≡ is_integer t) × (n
 -- What the reader of items has to know of an item.
 abbrev pub kind_of_item : Item → ItemKind
 kind_of_item (named id t) = kind.Named
-kind_of_item (bare t) = cond (is_integer t) kind.Integer kind.Bare
+kind_of_item (bare t) = cond (is_integer t) kind.Integer kind.Value
 
 -- An item of which the fact holds is in the nodes now, and the answer is its kind.
 abbrev pub IsItemRead : (Item → Type 0) → NodeList → NodeList → ItemKind → Type 0

@@ -15,19 +15,19 @@ pub enum ItemKind {
     /// An Integer without a name.
     Integer,
     /// Any other value without a name.
-    Bare,
+    Value,
 }
 
 impl ItemKind {
     /// Returns the kind of a value without a name, which is an Integer or not.
     #[inline(always)]
     pub fn of(integer: bool) -> ItemKind
-        ensures { result ≡ cond integer ItemKind.Integer ItemKind.Bare }
+        ensures { result ≡ cond integer ItemKind.Integer ItemKind.Value }
     {
         if integer {
             ItemKind::Integer
         } else {
-            ItemKind::Bare
+            ItemKind::Value
         }
     }
 }
@@ -71,7 +71,7 @@ impl BraceItems {
             ItemKind::Integer => {
                 self.bare = true;
             }
-            ItemKind::Bare => {
+            ItemKind::Value => {
                 self.bare = true;
                 self.integers = false;
             }

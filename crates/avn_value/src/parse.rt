@@ -61,7 +61,7 @@ fn read_value(
     match cursor.class_of_next() {
         CharClass::Letter => {
             identifier(nodes, cursor)?;
-            match cursor.lead_past_blanks() {
+            match cursor.class_after_blanks() {
                 CharClass::Colon => {
                     cursor.skip();
                     let _colon = cursor.take();
@@ -79,7 +79,7 @@ fn read_value(
         }
         CharClass::OpenBrace => {
             let _open = cursor.take();
-            match cursor.lead_past_blanks() {
+            match cursor.class_after_blanks() {
                 CharClass::CloseBrace => {
                     cursor.skip();
                     let _close = cursor.take();
@@ -136,7 +136,7 @@ fn read_item(
         }
     }
     identifier(nodes, cursor)?;
-    match cursor.lead_past_blanks() {
+    match cursor.class_after_blanks() {
         CharClass::Colon => {
             cursor.skip();
             let _colon = cursor.take();
@@ -144,11 +144,11 @@ fn read_item(
             nodes.open(NodeKind::Choice)?;
             let _integer = read_value(alloc, nodes, cursor, limit, level)?;
             nodes.close(place, NodeKind::Choice);
-            Ok(ItemKind::Bare)
+            Ok(ItemKind::Value)
         }
         CharClass::Comma | CharClass::CloseBrace => {
             nodes.word_leaf()?;
-            Ok(ItemKind::Bare)
+            Ok(ItemKind::Value)
         }
         _ => {
             nodes.name_next();

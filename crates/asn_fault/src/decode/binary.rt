@@ -1,5 +1,5 @@
-//! Makes the errors of decoding that neither text notation returns. Binary rules that a caller
-//! hands in make them.
+//! Makes the errors of decoding that binary rules make, which a caller hands in. Of the text
+//! notations, AVN alone returns one of them: a duplicate field.
 ghost use Rattle.std.specs.Prelude.{◌≡◌, ◌≢◌, ◌⊎◌, MatchResult};
 ghost use Rattle.asn_fault.specs.Failure.{ExceedsWidth, decode_error};
 

@@ -46,13 +46,13 @@ read_item-returns-in_err-_integer-in-Colon-clause-deep t c = λ e.
     let z : c.take-colon.new.self.rest ≡ tail (skip c.identifier.new.cursor.rest) = cc in
     choice_deep c.args.limit c.args.level _ c.class_of_next.new.self.rest at i.0 c.identifier.new.cursor.rest c.take-colon.new.self.rest i.1 colon z (c.read_value-in-Colon.ensures.deep (grind (arith, common_steps)))
 
-pub read_item-returns-in_err-_integer-in_default-lead_past_blanks-clause-deep : goal.read_item-returns-in_err-_integer-in_default-lead_past_blanks-clause-deep
-read_item-returns-in_err-_integer-in_default-lead_past_blanks-clause-deep t c = λ e.
+pub read_item-returns-in_err-_integer-in_default-class_after_blanks-clause-deep : goal.read_item-returns-in_err-_integer-in_default-class_after_blanks-clause-deep
+read_item-returns-in_err-_integer-in_default-class_after_blanks-clause-deep t c = λ e.
     let at : c.class_of_next.new.self.rest ≡ skip c.args.cursor.now.rest = cc in
     let i = c.in_ok-identifier.ensures.ok in
-    let d = c.in_default-lead_past_blanks in
-    let f = c.lead_past_blanks.ensures in
-    field_deep c.args.limit c.args.level _ c.class_of_next.new.self.rest at i.0 c.identifier.new.cursor.rest c.lead_past_blanks.new.self.rest i.1 (λ h. d.not-Colon (f.found ∙ h)) (λ h. d.not-Comma (f.found ∙ h)) (λ h. d.not-CloseBrace (f.found ∙ h)) f.stays (c.read_value-in_default-lead_past_blanks.ensures.deep (grind (arith, common_steps)))
+    let d = c.in_default-class_after_blanks in
+    let f = c.class_after_blanks.ensures in
+    field_deep c.args.limit c.args.level _ c.class_of_next.new.self.rest at i.0 c.identifier.new.cursor.rest c.class_after_blanks.new.self.rest i.1 (λ h. d.not-Colon (f.found ∙ h)) (λ h. d.not-Comma (f.found ∙ h)) (λ h. d.not-CloseBrace (f.found ∙ h)) f.stays (c.read_value-in_default-class_after_blanks.ensures.deep (grind (arith, common_steps)))
 
 pub read_item-returns-in_ok-_integer-in-Colon-clause-ok : goal.read_item-returns-in_ok-_integer-in-Colon-clause-ok
 read_item-returns-in_ok-_integer-in-Colon-clause-ok t c =
@@ -68,35 +68,35 @@ pub read_item-returns-in_ok-word_leaf-in-Comma-clause-ok : goal.read_item-return
 read_item-returns-in_ok-word_leaf-in-Comma-clause-ok t c =
     let at : c.class_of_next.new.self.rest ≡ skip c.args.cursor.now.rest = cc in
     let i = c.in_ok-identifier.ensures.ok in
-    let follows : ComesAfterWord (class_of_next (skip c.identifier.new.cursor.rest)) = subst ComesAfterWord c.lead_past_blanks.ensures.found c.in-Comma.is in
-    item_read {P = λ x. ItemParses c.args.limit c.args.level c.args.cursor.now.rest x c.lead_past_blanks.new.self.rest} c.args.nodes.now c.word_leaf.new.self _ (word i.0) false c.requires.nameless refl (sym (word-integer (utf8_of i.0))) (word_closed c.args.nodes.now _ _ i.0 i.2 c.in_ok-word_leaf-in-Comma.ensures)
-    (item_word c.args.limit c.args.level _ c.class_of_next.new.self.rest at c.identifier.new.cursor.rest c.lead_past_blanks.new.self.rest i.0 _ _ i.1 follows c.lead_past_blanks.ensures.stays refl refl)
+    let follows : ComesAfterWord (class_of_next (skip c.identifier.new.cursor.rest)) = subst ComesAfterWord c.class_after_blanks.ensures.found c.in-Comma.is in
+    item_read {P = λ x. ItemParses c.args.limit c.args.level c.args.cursor.now.rest x c.class_after_blanks.new.self.rest} c.args.nodes.now c.word_leaf.new.self _ (word i.0) false c.requires.nameless refl (sym (word-integer (utf8_of i.0))) (word_closed c.args.nodes.now _ _ i.0 i.2 c.in_ok-word_leaf-in-Comma.ensures)
+    (item_word c.args.limit c.args.level _ c.class_of_next.new.self.rest at c.identifier.new.cursor.rest c.class_after_blanks.new.self.rest i.0 _ _ i.1 follows c.class_after_blanks.ensures.stays refl refl)
 
 pub read_item-returns-in_ok-word_leaf-in-Comma-clause-shorter : goal.read_item-returns-in_ok-word_leaf-in-Comma-clause-shorter
 read_item-returns-in_ok-word_leaf-in-Comma-clause-shorter t c =
     let at : c.class_of_next.new.self.rest ≡ skip c.args.cursor.now.rest = cc in
-    word_shorter _ c.class_of_next.new.self.rest _ _ _ at c.in_ok-identifier.ensures.ok.1 c.lead_past_blanks.ensures.stays
+    word_shorter _ c.class_of_next.new.self.rest _ _ _ at c.in_ok-identifier.ensures.ok.1 c.class_after_blanks.ensures.stays
 
-pub read_item-returns-in_ok-_integer-in_default-lead_past_blanks-clause-ok : goal.read_item-returns-in_ok-_integer-in_default-lead_past_blanks-clause-ok
-read_item-returns-in_ok-_integer-in_default-lead_past_blanks-clause-ok t c =
+pub read_item-returns-in_ok-_integer-in_default-class_after_blanks-clause-ok : goal.read_item-returns-in_ok-_integer-in_default-class_after_blanks-clause-ok
+read_item-returns-in_ok-_integer-in_default-class_after_blanks-clause-ok t c =
     let at : c.class_of_next.new.self.rest ≡ skip c.args.cursor.now.rest = cc in
     let i = c.in_ok-identifier.ensures.ok in
-    let d = c.in_default-lead_past_blanks in
-    let f = c.lead_past_blanks.ensures in
-    let k = c.in_ok-_integer-in_default-lead_past_blanks.ensures.ok in (
+    let d = c.in_default-class_after_blanks in
+    let f = c.class_after_blanks.ensures in
+    let k = c.in_ok-_integer-in_default-class_after_blanks.ensures.ok in (
       named (utf8_of i.0) k.0,
-      item_field c.args.limit c.args.level _ c.class_of_next.new.self.rest at c.identifier.new.cursor.rest c.lead_past_blanks.new.self.rest _ i.0 _ _ i.1 (λ h. d.not-Colon (f.found ∙ h)) (λ h. d.not-Comma (f.found ∙ h))
+      item_field c.args.limit c.args.level _ c.class_of_next.new.self.rest at c.identifier.new.cursor.rest c.class_after_blanks.new.self.rest _ i.0 _ _ i.1 (λ h. d.not-Colon (f.found ∙ h)) (λ h. d.not-Comma (f.found ∙ h))
           (λ h. d.not-CloseBrace (f.found ∙ h)) f.stays k.1 refl,
       refl,
       field_closed c.args.nodes.now _ _ _ i.0 k.0 i.2 c.name_next.ensures k.3,
     )
 
-pub read_item-returns-in_ok-_integer-in_default-lead_past_blanks-clause-shorter : goal.read_item-returns-in_ok-_integer-in_default-lead_past_blanks-clause-shorter
-read_item-returns-in_ok-_integer-in_default-lead_past_blanks-clause-shorter t c =
+pub read_item-returns-in_ok-_integer-in_default-class_after_blanks-clause-shorter : goal.read_item-returns-in_ok-_integer-in_default-class_after_blanks-clause-shorter
+read_item-returns-in_ok-_integer-in_default-class_after_blanks-clause-shorter t c =
     let at : c.class_of_next.new.self.rest ≡ skip c.args.cursor.now.rest = cc in
     let i = c.in_ok-identifier.ensures.ok in
-    let less = word_shorter c.args.cursor.now.rest c.class_of_next.new.self.rest i.0 c.identifier.new.cursor.rest c.lead_past_blanks.new.self.rest at i.1 c.lead_past_blanks.ensures.stays in
-    omega (arith, less, c.in_ok-_integer-in_default-lead_past_blanks.ensures.shorter)
+    let less = word_shorter c.args.cursor.now.rest c.class_of_next.new.self.rest i.0 c.identifier.new.cursor.rest c.class_after_blanks.new.self.rest at i.1 c.class_after_blanks.ensures.stays in
+    omega (arith, less, c.in_ok-_integer-in_default-class_after_blanks.ensures.shorter)
 
 pub read_items-returns-in_err-entry-clause-deep : goal.read_items-returns-in_err-entry-clause-deep
 read_items-returns-in_err-entry-clause-deep t c = λ e.
@@ -201,20 +201,20 @@ read_value-returns-in_err-_integer-in-Colon-clause-none t c = λ e.
     let z : c.take-colon.new.self.rest ≡ tail (skip c.identifier.new.cursor.rest) = cc in
     choice_none c.args.limit c.args.level _ c.class_of_next.new.self.rest at i.0 c.identifier.new.cursor.rest c.take-colon.new.self.rest i.1 colon z (c.read_value.ensures.none (grind (arith, common_steps)))
 
-pub read_value-returns-in_err-read_items-in_default-lead_past_blanks-2-clause-deep : goal.read_value-returns-in_err-read_items-in_default-lead_past_blanks-2-clause-deep
-read_value-returns-in_err-read_items-in_default-lead_past_blanks-2-clause-deep t c = λ e.
+pub read_value-returns-in_err-read_items-in_default-class_after_blanks-2-clause-deep : goal.read_value-returns-in_err-read_items-in_default-class_after_blanks-2-clause-deep
+read_value-returns-in_err-read_items-in_default-class_after_blanks-2-clause-deep t c = λ e.
     let at : c.class_of_next.new.self.rest ≡ skip c.args.cursor.now.rest = cc in
     let first : class_of_next c.class_of_next.new.self.rest ≡ is.OpenBrace = cc in
-    let f = c.lead_past_blanks-in-OpenBrace.ensures in
-    braces_deep c.args.limit c.args.level _ c.class_of_next.new.self.rest at c.take-open.new.self.rest (omega arith) first c.take-open.ensures.moves (λ h. c.in_default-lead_past_blanks-2.not-CloseBrace (f.found ∙ h))
+    let f = c.class_after_blanks-in-OpenBrace.ensures in
+    braces_deep c.args.limit c.args.level _ c.class_of_next.new.self.rest at c.take-open.new.self.rest (omega arith) first c.take-open.ensures.moves (λ h. c.in_default-class_after_blanks-2.not-CloseBrace (f.found ∙ h))
     (items_deep_along _ _ _ _ f.stays (c.read_items.ensures.deep (grind (arith, common_steps))))
 
-pub read_value-returns-in_err-read_items-in_default-lead_past_blanks-2-clause-none : goal.read_value-returns-in_err-read_items-in_default-lead_past_blanks-2-clause-none
-read_value-returns-in_err-read_items-in_default-lead_past_blanks-2-clause-none t c = λ e.
+pub read_value-returns-in_err-read_items-in_default-class_after_blanks-2-clause-none : goal.read_value-returns-in_err-read_items-in_default-class_after_blanks-2-clause-none
+read_value-returns-in_err-read_items-in_default-class_after_blanks-2-clause-none t c = λ e.
     let at : c.class_of_next.new.self.rest ≡ skip c.args.cursor.now.rest = cc in
     let first : class_of_next c.class_of_next.new.self.rest ≡ is.OpenBrace = cc in
-    let f = c.lead_past_blanks-in-OpenBrace.ensures in
-    braces_none c.args.limit c.args.level _ c.class_of_next.new.self.rest at c.take-open.new.self.rest first c.take-open.ensures.moves (λ h. c.in_default-lead_past_blanks-2.not-CloseBrace (f.found ∙ h))
+    let f = c.class_after_blanks-in-OpenBrace.ensures in
+    braces_none c.args.limit c.args.level _ c.class_of_next.new.self.rest at c.take-open.new.self.rest first c.take-open.ensures.moves (λ h. c.in_default-class_after_blanks-2.not-CloseBrace (f.found ∙ h))
     (λ t n b. c.read_items.ensures.none (grind (arith, common_steps)) t n (braces_along _ _ _ _ _ _ (sym f.stays) b))
 
 pub read_value-returns-in_ok-_integer-in-Colon-clause-ok : goal.read_value-returns-in_ok-_integer-in-Colon-clause-ok
@@ -230,21 +230,21 @@ read_value-returns-in_ok-_integer-in-Colon-clause-ok t c =
       choice_closed c.args.nodes.now _ _ _ _ i.0 k.0 _ i.2 c.len-place.ensures c.in_ok-open-in-Colon.ensures k.3 c.close.ensures,
     )
 
-pub read_value-returns-in_ok-word_leaf-in_default-lead_past_blanks-clause-ok : goal.read_value-returns-in_ok-word_leaf-in_default-lead_past_blanks-clause-ok
-read_value-returns-in_ok-word_leaf-in_default-lead_past_blanks-clause-ok t c =
+pub read_value-returns-in_ok-word_leaf-in_default-class_after_blanks-clause-ok : goal.read_value-returns-in_ok-word_leaf-in_default-class_after_blanks-clause-ok
+read_value-returns-in_ok-word_leaf-in_default-class_after_blanks-clause-ok t c =
     let at : c.class_of_next.new.self.rest ≡ skip c.args.cursor.now.rest = cc in
     let i = c.in_ok-identifier-in-Letter.ensures.ok in
-    let f = c.lead_past_blanks.ensures in (
+    let f = c.class_after_blanks.ensures in (
       word i.0,
-      value_word c.args.limit c.args.level _ c.class_of_next.new.self.rest at c.identifier.new.cursor.rest c.lead_past_blanks.new.self.rest i.0 _ _ (omega arith) i.1 (λ h. c.in_default-lead_past_blanks.not-Colon (f.found ∙ h)) f.stays refl refl,
+      value_word c.args.limit c.args.level _ c.class_of_next.new.self.rest at c.identifier.new.cursor.rest c.class_after_blanks.new.self.rest i.0 _ _ (omega arith) i.1 (λ h. c.in_default-class_after_blanks.not-Colon (f.found ∙ h)) f.stays refl refl,
       sym (word-integer (utf8_of i.0)),
-      word_closed c.args.nodes.now _ _ i.0 i.2 c.in_ok-word_leaf-in_default-lead_past_blanks.ensures,
+      word_closed c.args.nodes.now _ _ i.0 i.2 c.in_ok-word_leaf-in_default-class_after_blanks.ensures,
     )
 
-pub read_value-returns-in_ok-word_leaf-in_default-lead_past_blanks-clause-shorter : goal.read_value-returns-in_ok-word_leaf-in_default-lead_past_blanks-clause-shorter
-read_value-returns-in_ok-word_leaf-in_default-lead_past_blanks-clause-shorter t c =
+pub read_value-returns-in_ok-word_leaf-in_default-class_after_blanks-clause-shorter : goal.read_value-returns-in_ok-word_leaf-in_default-class_after_blanks-clause-shorter
+read_value-returns-in_ok-word_leaf-in_default-class_after_blanks-clause-shorter t c =
     let at : c.class_of_next.new.self.rest ≡ skip c.args.cursor.now.rest = cc in
-    word_shorter _ c.class_of_next.new.self.rest _ _ _ at c.in_ok-identifier-in-Letter.ensures.ok.1 c.lead_past_blanks.ensures.stays
+    word_shorter _ c.class_of_next.new.self.rest _ _ _ at c.in_ok-identifier-in-Letter.ensures.ok.1 c.class_after_blanks.ensures.stays
 
 pub read_value-returns-in_ok-leaf-in-CloseBrace-clause-ok : goal.read_value-returns-in_ok-leaf-in-CloseBrace-clause-ok
 read_value-returns-in_ok-leaf-in-CloseBrace-clause-ok t c =
@@ -258,23 +258,23 @@ read_value-returns-in_ok-leaf-in-CloseBrace-clause-ok t c =
       c.in_ok-leaf-in-CloseBrace.ensures ∙ extended-no_trees c.args.nodes.now,
     )
 
-pub read_value-returns-in_ok-read_items-in_default-lead_past_blanks-2-clause-ok : goal.read_value-returns-in_ok-read_items-in_default-lead_past_blanks-2-clause-ok
-read_value-returns-in_ok-read_items-in_default-lead_past_blanks-2-clause-ok t c =
+pub read_value-returns-in_ok-read_items-in_default-class_after_blanks-2-clause-ok : goal.read_value-returns-in_ok-read_items-in_default-class_after_blanks-2-clause-ok
+read_value-returns-in_ok-read_items-in_default-class_after_blanks-2-clause-ok t c =
     let at : c.class_of_next.new.self.rest ≡ skip c.args.cursor.now.rest = cc in
     let first : class_of_next c.class_of_next.new.self.rest ≡ is.OpenBrace = cc in
-    let f = c.lead_past_blanks-in-OpenBrace.ensures in
-    let k = c.in_ok-read_items-in_default-lead_past_blanks-2.ensures.ok in (
+    let f = c.class_after_blanks-in-OpenBrace.ensures in
+    let k = c.in_ok-read_items-in_default-class_after_blanks-2.ensures.ok in (
       k.0,
-      value_braces c.args.limit c.args.level _ c.class_of_next.new.self.rest at c.take-open.new.self.rest _ _ (omega arith) first c.take-open.ensures.moves (λ h. c.in_default-lead_past_blanks-2.not-CloseBrace (f.found ∙ h)) (braces_along _ _ _ _ _ _ f.stays k.1),
+      value_braces c.args.limit c.args.level _ c.class_of_next.new.self.rest at c.take-open.new.self.rest _ _ (omega arith) first c.take-open.ensures.moves (λ h. c.in_default-class_after_blanks-2.not-CloseBrace (f.found ∙ h)) (braces_along _ _ _ _ _ _ f.stays k.1),
       k.2,
       k.3,
     )
 
-pub read_value-returns-in_ok-read_items-in_default-lead_past_blanks-2-clause-shorter : goal.read_value-returns-in_ok-read_items-in_default-lead_past_blanks-2-clause-shorter
-read_value-returns-in_ok-read_items-in_default-lead_past_blanks-2-clause-shorter t c =
+pub read_value-returns-in_ok-read_items-in_default-class_after_blanks-2-clause-shorter : goal.read_value-returns-in_ok-read_items-in_default-class_after_blanks-2-clause-shorter
+read_value-returns-in_ok-read_items-in_default-class_after_blanks-2-clause-shorter t c =
     let at : c.class_of_next.new.self.rest ≡ skip c.args.cursor.now.rest = cc in
-    let f = c.lead_past_blanks-in-OpenBrace.ensures in
-    let k = c.in_ok-read_items-in_default-lead_past_blanks-2.ensures in
+    let f = c.class_after_blanks-in-OpenBrace.ensures in
+    let k = c.in_ok-read_items-in_default-class_after_blanks-2.ensures in
     omega (arith, k.shorter, tail-le c.class_of_next.new.self.rest, skip-le c.args.cursor.now.rest, ap (λ (x : List ℕ). length x) at, ap (λ (x : List ℕ). length x) f.stays, ap (λ (x : List ℕ). length x) c.take-open.ensures.moves)
 
 pub read_value-returns-in-Digit-clause-ok : goal.read_value-returns-in-Digit-clause-ok

@@ -5,6 +5,7 @@ pub mod Digits
 pub mod Packing
 pub mod PrintedTokens
 pub mod OneTree
+pub mod LargerLimits
 pub mod Refusals
 pub mod DeepParses
 pub mod ReadPrinted

@@ -30,6 +30,12 @@ pub fn one_tree()
         → ParsesWhole limit text tree → ParsesWhole limit text other → tree ≡ other }
 {}
 
+/// A whole text that is read within a limit is read within a larger one, as the same tree.
+pub fn larger_limit_reads()
+    ensures { (limit larger : ℕ) (text : List ℕ) (tree : Tree)
+        → limit ≤ larger → ParsesWhole limit text tree → ParsesWhole larger text tree }
+{}
+
 /// A whole text has at most one of three outcomes: it is read as a tree, it is not read and
 /// something else was found, or a value in it is nested beyond the limit. Each clause excludes
 /// two of them together.

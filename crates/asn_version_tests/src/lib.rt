@@ -3,6 +3,8 @@
 #![tactic(auto)]
 
 #[cfg(test)]
+mod growth;
+#[cfg(test)]
 mod newer;
 #[cfg(test)]
 mod older;

@@ -18,18 +18,20 @@ ghost use Rattle.asn_sample_choices.specs.NewReport.{new_report_shape};
 ghost use Rattle.asn_sample_trees.specs.NewTree.{new_tree_shape};
 ghost use Rattle.asn_sample_fields.specs.OldMode.{old_mode_shape};
 ghost use Rattle.asn_sample_choices.specs.OldPart.{old_part_shape, old_part_value};
-ghost use Rattle.asn_sample_choices.specs.OldReport.{old_report_shape};
+ghost use Rattle.asn_sample_choices.specs.OldReport.{old_report_shape, old_report_value};
 ghost use Rattle.asn_sample_trees.specs.OldTree.{old_tree_shape};
 ghost use Rattle.asn_sample_fields.specs.SimpleEnum.{simple_enum_shape};
 ghost use Rattle.asn_codec.specs.Texts.{HasTree, IsDecodeFailure, TextDecodesTo};
 ghost use Rattle.asn_coding.specs.Root.{Reads};
 ghost use Rattle.asn_fault.specs.Failure.{Cause, at_root, failure_of};
 ghost use Rattle.asn_upgrades.specs.Apart.{IsApart};
-ghost use Rattle.std.specs.Prelude.{◌≡◌, ◌⊎◌, Some, IfErr, IfOk};
+ghost use Rattle.std.specs.Prelude.{◌≡◌, ◌⊎◌, None, Ok, Some, IfErr, IfOk, IfSome};
 
 use asn_core::Codec;
 use asn_fault::DecodeError;
-use asn_sample_choices::{NewPart, OldPart};
+use asn_growth::{Growth, few_nodes, grows_check};
+use asn_sample_choices::{NewPart, NewReport, OldPart, OldReport};
+use asn_traits::AsnType;
 use asn_upgrades::decode_as_older;
 use std::alloc::Global;
 
@@ -81,4 +83,38 @@ pub fn decode_part(alloc: Global, codec: Codec, input: &str) -> Result<OldPart, 
         → Reads old_part_value (project old_part_shape v) result }
 {
     decode_as_older::<OldPart, NewPart>(alloc, codec, input)
+}
+
+/// Decodes a text as an `OldReport`, which may have been written for a `NewReport`. That this is a
+/// later version is found out at run time, where `decode_part` has a proof of it: `None` is
+/// returned where it is none.
+///
+/// # Errors
+///
+/// Those of `decode_from_str`. Where a `NewReport` decodes the text, `OutOfMemory`, or
+/// `NoValidChoice` for an alternative that `OldPart` lacks.
+pub fn decode_report(
+    alloc: Global,
+    codec: Codec,
+    input: &str,
+) -> Result<Option<OldReport>, DecodeError>
+    ensures none { result ≡ Ok None → Grows old_report_shape new_report_shape → ⊥ }
+    ensures value { IfOk result (λ o. IfSome o (λ x. TextDecodesTo (notation_of codec)
+        old_report_shape input.now (old_report_value x))) }
+    ensures projected { (t : Tree) (v : Value) → HasTree (notation_of codec) input.now t
+        → DecodesTo (notation_of codec) new_report_shape (Some t) v
+        → IfOk result (λ o. IfSome o (λ x. old_report_value x ≡ project old_report_shape v)) }
+    ensures unknown { (t : Tree) (v : Value) → HasTree (notation_of codec) input.now t
+        → DecodesTo (notation_of codec) new_report_shape (Some t) v
+        → IfErr result (λ e. (failure_of e ≡ at_root Cause.out_of_memory codec)
+        ⊎ IsApart (notation_of codec) old_report_shape t IsUnknown (failure_of e)) }
+{
+    let (Ok(old), Ok(new)) = (OldReport::shape(alloc), NewReport::shape(alloc)) else {
+        return Err(DecodeError::out_of_memory(codec));
+    };
+    if !few_nodes(&old) || grows_check(&old, &new) != Growth::Grows {
+        return Ok(None);
+    }
+    let report = decode_as_older::<OldReport, NewReport>(alloc, codec, input)?;
+    Ok(Some(report))
 }

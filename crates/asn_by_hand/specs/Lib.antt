@@ -1,2 +1,5 @@
+pub mod Groups
+pub mod GrowingSet
 pub mod MarkFields
+pub mod Wide
 pub mod WithNullOpt

@@ -23,3 +23,5 @@ mod named_calls;
 mod octets;
 #[cfg(test)]
 mod texts;
+#[cfg(test)]
+mod wide;

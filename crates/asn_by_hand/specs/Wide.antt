@@ -2,9 +2,9 @@
 use Rattle.std.specs.Prelude.{◌++◌}
 use Rattle.asn_traits.specs.Shape.{Fields, join_fields}
 use Rattle.asn_coding.specs.Writing.{Frame}
-use Rattle.asn_wide_tests.specs.Groups.{names_fields, names_slots, numbers_fields, numbers_slots, flags_fields, flags_slots}
-use Rattle.asn_wide_tests.specs.declared.wide.Rest.{Rest}
-use Rattle.asn_wide_tests.specs.declared.wide.Wide.{Wide}
+use Rattle.asn_by_hand.specs.Groups.{names_fields, names_slots, numbers_fields, numbers_slots, flags_fields, flags_slots}
+use Rattle.asn_by_hand.specs.declared.wide.Rest.{Rest}
+use Rattle.asn_by_hand.specs.declared.wide.Wide.{Wide}
 
 -- The fields of Rest, a group of two.
 abbrev pub rest_fields : Fields

@@ -1,6 +1,6 @@
 //! Describes the groups of fields of which `Wide` is made. A group has the trait `FieldGroup`
 //! alone: its table and its shape are parts of those of `Wide`.
-ghost use Rattle.asn_wide_tests.specs.Groups.{
+ghost use Rattle.asn_by_hand.specs.Groups.{
   flags_fields,
   flags_slots,
   names_fields,

@@ -1,6 +1,6 @@
 //! Describes a SET (X.680, section 27) with an extension marker: the sample to copy for one.
-ghost use Rattle.asn_wide_tests.specs.GrowingSet.{growing_set_added, growing_set_fields};
-ghost use Rattle.asn_wide_tests.specs.GrowingSet.{growing_set_slots};
+ghost use Rattle.asn_by_hand.specs.GrowingSet.{growing_set_added, growing_set_fields};
+ghost use Rattle.asn_by_hand.specs.GrowingSet.{growing_set_slots};
 ghost use Rattle.std.specs.Prelude.{refl};
 
 use asn_base::{OutOfMemory, Tag};

@@ -1,7 +1,6 @@
 //! Converts texts of a SEQUENCE of nine fields, and of a SET with an extension marker.
-use crate::growing_set::GrowingSet;
-use crate::wide::Wide;
 use asn_base::Codec;
+use asn_by_hand::{GrowingSet, Wide};
 use asn_codec::{CodecCalls, transcode};
 use asn_traits::{Decode, Encode};
 use std::alloc::{AllocError, Global};

@@ -1,6 +1,6 @@
 //! Describes a SEQUENCE (X.680, section 25) of nine fields: the sample to copy for one of more
 //! than eight.
-ghost use Rattle.asn_wide_tests.specs.Wide.{rest_fields, rest_slots, wide_fields, wide_slots};
+ghost use Rattle.asn_by_hand.specs.Wide.{rest_fields, rest_slots, wide_fields, wide_slots};
 ghost use Rattle.std.specs.Prelude.{refl};
 
 use crate::groups::{Flags, Names, Numbers};

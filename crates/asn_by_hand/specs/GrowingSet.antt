@@ -4,7 +4,7 @@ use Rattle.asn_traits.specs.Shape.{Shape, Fields, FieldAdditions, Presence}
 use Rattle.asn_traits.specs.Value.{Value}
 use Rattle.asn_coding.specs.Writing.{Frame}
 use Rattle.asn_coding.specs.Terms.{context, signed, utf8_string}
-use Rattle.asn_wide_tests.specs.declared.growing_set.GrowingSet.{GrowingSet}
+use Rattle.asn_by_hand.specs.declared.growing_set.GrowingSet.{GrowingSet}
 
 -- The fields of the root of GrowingSet, as it lists them.
 abbrev pub growing_set_fields : Fields

@@ -4,9 +4,9 @@ use Rattle.asn_traits.specs.Shape.{Shape, Fields, Presence}
 use Rattle.asn_traits.specs.Value.{Value}
 use Rattle.asn_coding.specs.Writing.{Frame}
 use Rattle.asn_coding.specs.Terms.{context, signed, unsigned, utf8_string}
-use Rattle.asn_wide_tests.specs.declared.groups.Names.{Names}
-use Rattle.asn_wide_tests.specs.declared.groups.Numbers.{Numbers}
-use Rattle.asn_wide_tests.specs.declared.groups.Flags.{Flags}
+use Rattle.asn_by_hand.specs.declared.groups.Names.{Names}
+use Rattle.asn_by_hand.specs.declared.groups.Numbers.{Numbers}
+use Rattle.asn_by_hand.specs.declared.groups.Flags.{Flags}
 
 -- The fields of Names.
 abbrev pub names_fields : Fields

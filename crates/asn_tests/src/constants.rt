@@ -88,15 +88,40 @@ fn only_tag(tree: &TagTree) -> Option<Tag> {
     }
 }
 
+/// Returns whether two trees have the same tags in the same order.
+pub fn is_same_tree(one: &TagTree, other: &TagTree) -> bool {
+    match (one, other) {
+        (TagTree::Leaf(tag), TagTree::Leaf(same)) => tag == same,
+        (TagTree::Choice(parts), TagTree::Choice(others)) => {
+            if parts.len() != others.len() {
+                return false;
+            }
+            for (part, same) in parts.iter().zip(*others) {
+                if !is_same_tree(part, same) {
+                    return false;
+                }
+            }
+            true
+        }
+        _ => false,
+    }
+}
+
+/// Returns whether the tags, the kind and the constraints of a type are those that its calls state
+/// of its shape.
+pub fn has_its_tags<T: AsnType>() -> bool {
+    let (tag, tree, choice) = T::tag_table();
+    T::TAG == tag
+        && is_same_tree(&T::TAG_TREE, &tree)
+        && T::IS_CHOICE == choice
+        && T::CONSTRAINTS.items.len() == T::constraint_table().items.len()
+}
+
 /// Returns whether the constants of a type are those that its calls state of its shape, and it has
 /// one tag, no identifier of its own and no type below it at the same tree.
 fn agree<T: AsnType>() -> bool {
-    let (tag, tree, choice) = T::tag_table();
-    only_tag(&tree) == Some(tag)
-        && only_tag(&T::TAG_TREE) == Some(tag)
-        && T::TAG == tag
-        && T::IS_CHOICE == choice
-        && T::CONSTRAINTS.items.len() == T::constraint_table().items.len()
+    only_tag(&T::TAG_TREE) == Some(T::TAG)
+        && has_its_tags::<T>()
         && T::IDENTIFIER == Identifier::EMPTY
         && T::RANK == 0
 }
@@ -152,12 +177,11 @@ fn is_same_presence(one: Presence, other: Presence) -> bool {
     }
 }
 
-/// Returns whether the two fields are the same, each with one tag alone, which is its own.
-fn is_same_field(one: &Field, other: &Field) -> bool {
+/// Returns whether the two fields are the same.
+pub fn is_same_field(one: &Field, other: &Field) -> bool {
     one.index == other.index
         && one.tag == other.tag
-        && only_tag(&one.tag_tree) == Some(one.tag)
-        && only_tag(&other.tag_tree) == Some(other.tag)
+        && is_same_tree(&one.tag_tree, &other.tag_tree)
         && is_same_presence(one.presence, other.presence)
         && one.name == other.name
 }

@@ -18,3 +18,5 @@ mod handed;
 mod samples;
 #[cfg(test)]
 mod shapes;
+#[cfg(test)]
+mod tables;

@@ -1,5 +1,6 @@
 //! Runs visitors at the sample types, and shows the shape of one.
 use crate::checks::let_go;
+use crate::constants::has_its_tags;
 use asn_base::{Identifier, Tag};
 use asn_samples::{Sample, SampleVisitor, is_sample_name};
 use asn_traits::{Decode, Encode, Shape, is_readable};
@@ -8,7 +9,8 @@ use std::process::Abort;
 use std::test::Fail;
 
 /// Gives the tag of the type that it is run at, and returns whether that is a CHOICE, and whether
-/// it has neither an identifier of its own nor a rank above another type.
+/// its constants are those that its calls state, with neither an identifier of its own nor a rank
+/// above another type.
 #[derive(Drop)]
 struct TagOf {}
 
@@ -24,7 +26,7 @@ impl SampleVisitor<Tag> for TagOf {
         *tag = T::TAG;
         (
             T::IS_CHOICE,
-            T::IDENTIFIER == Identifier::EMPTY && T::RANK == 0,
+            has_its_tags::<T>() && T::IDENTIFIER == Identifier::EMPTY && T::RANK == 0,
         )
     }
 }

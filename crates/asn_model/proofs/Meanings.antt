@@ -50,26 +50,26 @@ mutual
   pub one : {n : Notation} {s : Shape} {slot : Slot} {v : Value} → IsText n → DecodesTo n s slot v → {w : Value} → DecodesTo n s slot w → v ≡ w
   one {n} x (DecodesTo.decodes_free s slot v e) k = absurd (not_other n x e)
   one {n} x (DecodesTo.decodes_leaf s t v e) (DecodesTo.decodes_free s2 slot w f) = absurd (not_other n x f)
-  one {n} x (DecodesTo.decodes_seq kind fs more t look vs e h) (DecodesTo.decodes_free s2 slot v f) = absurd (not_other n x f)
+  one {n} x (DecodesTo.decodes_seq kind fs more t look vs e single h) (DecodesTo.decodes_free s2 slot v f) = absurd (not_other n x f)
   one {n} x (DecodesTo.decodes_list s t slots vs e h) (DecodesTo.decodes_free s2 slot v f) = absurd (not_other n x f)
   one {n} x (DecodesTo.decodes_set s t slots vs e h) (DecodesTo.decodes_free s2 slot v f) = absurd (not_other n x f)
   one {n} x (DecodesTo.decodes_table s t vs h) (DecodesTo.decodes_free s2 slot v f) = absurd (not_other n x f)
   one {n} x (DecodesTo.decodes_choice alts added t name u id s v e f h) (DecodesTo.decodes_free s2 slot w g) = absurd (not_other n x g)
   one {n} x (DecodesTo.decodes_loop body t v h) (DecodesTo.decodes_free s2 slot w f) = absurd (not_other n x f)
   one x (DecodesTo.decodes_leaf s t v e) (DecodesTo.decodes_leaf s2 t2 w f) = ok_same e f
-  one x (DecodesTo.decodes_leaf s t v e) (DecodesTo.decodes_seq kind fs more t2 look vs f h) = absurd (none_some refl e)
+  one x (DecodesTo.decodes_leaf s t v e) (DecodesTo.decodes_seq kind fs more t2 look vs f single h) = absurd (none_some refl e)
   one x (DecodesTo.decodes_leaf s t v e) (DecodesTo.decodes_list s2 t2 slots vs f h) = absurd (none_some refl e)
   one x (DecodesTo.decodes_leaf s t v e) (DecodesTo.decodes_set s2 t2 slots vs f h) = absurd (none_some refl e)
   one x (DecodesTo.decodes_leaf s t v e) (DecodesTo.decodes_table s2 t2 vs h) = absurd (none_some refl e)
   one x (DecodesTo.decodes_leaf s t v e) (DecodesTo.decodes_choice alts added t2 name u id s2 w f g h) = absurd (none_some refl e)
   one x (DecodesTo.decodes_leaf s t v e) (DecodesTo.decodes_loop body t2 w h) = absurd (none_some refl e)
-  one x (DecodesTo.decodes_seq kind fs more t look vs e h) (DecodesTo.decodes_leaf s2 t2 v f) = absurd (none_some refl f)
+  one x (DecodesTo.decodes_seq kind fs more t look vs e single h) (DecodesTo.decodes_leaf s2 t2 v f) = absurd (none_some refl f)
   one x (DecodesTo.decodes_list s t slots vs e h) (DecodesTo.decodes_leaf s2 t2 v f) = absurd (none_some refl f)
   one x (DecodesTo.decodes_set s t slots vs e h) (DecodesTo.decodes_leaf s2 t2 v f) = absurd (none_some refl f)
   one x (DecodesTo.decodes_table s t vs h) (DecodesTo.decodes_leaf s2 t2 v f) = absurd (none_some refl f)
   one x (DecodesTo.decodes_choice alts added t name u id s v e f h) (DecodesTo.decodes_leaf s2 t2 w g) = absurd (none_some refl g)
   one x (DecodesTo.decodes_loop body t v h) (DecodesTo.decodes_leaf s2 t2 w f) = absurd (none_some refl f)
-  one {n} x (DecodesTo.decodes_seq kind fs more t look vs e h) (DecodesTo.decodes_seq kind2 fs2 more2 t2 look2 ws f k) =
+  one {n} x (DecodesTo.decodes_seq kind fs more t look vs e single h) (DecodesTo.decodes_seq kind2 fs2 more2 t2 look2 ws f single2 k) =
       ap Value.members (one_fields x h (subst (λ m. FieldsDecodeTo n (all_fields fs2 more2) (map m (field_names (all_fields fs2 more2))) ws) (some_same f e) k))
   one {n} x (DecodesTo.decodes_list s t slots vs e h) (DecodesTo.decodes_list s2 t2 slots2 ws f k) =
       ap Value.list (one_each x h (subst (λ m. EachDecodesTo n s2 m ws) (some_same f e) k))
@@ -173,7 +173,7 @@ mutual
   pub apart : {n : Notation} {s : Shape} {slot : Slot} {v : Value} → IsText n → DecodesTo n s slot v → {p : Path} {w : Cause} → FailsWith n s slot p w → ⊥
   apart {n} x (DecodesTo.decodes_free s slot v e) k = not_other n x e
   apart {n} x (DecodesTo.decodes_leaf s t v e) (FailsWith.fails_free s2 slot p w f) = not_other n x f
-  apart {n} x (DecodesTo.decodes_seq kind fs more t look vs e h) (FailsWith.fails_free s2 slot p y f) = not_other n x f
+  apart {n} x (DecodesTo.decodes_seq kind fs more t look vs e single h) (FailsWith.fails_free s2 slot p y f) = not_other n x f
   apart {n} x (DecodesTo.decodes_list s t slots vs e h) (FailsWith.fails_free s2 slot p y f) = not_other n x f
   apart {n} x (DecodesTo.decodes_set s t slots vs e h) (FailsWith.fails_free s2 slot p y f) = not_other n x f
   apart {n} x (DecodesTo.decodes_table s t vs h) (FailsWith.fails_free s2 slot p y f) = not_other n x f
@@ -181,7 +181,8 @@ mutual
   apart {n} x (DecodesTo.decodes_loop body t v h) (FailsWith.fails_free s2 slot p y f) = not_other n x f
   apart x (DecodesTo.decodes_leaf s t v e) (FailsWith.fails_leaf s2 t2 blame w f blamed) = ok_err e f
   apart x (DecodesTo.decodes_leaf s t v e) (FailsWith.fails_no_members kind fs more t2 w f blamed) = none_some refl e
-  apart x (DecodesTo.decodes_leaf s t v e) (FailsWith.fails_seq kind fs more t2 look p w f h) = none_some refl e
+  apart x (DecodesTo.decodes_leaf s t v e) (FailsWith.fails_repeated kind fs more t2 look name f g) = none_some refl e
+  apart x (DecodesTo.decodes_leaf s t v e) (FailsWith.fails_seq kind fs more t2 look p w f single h) = none_some refl e
   apart x (DecodesTo.decodes_leaf s t v e) (FailsWith.fails_no_list s2 t2 w f blamed) = none_some refl e
   apart x (DecodesTo.decodes_leaf s t v e) (FailsWith.fails_list s2 t2 slots p w f h) = none_some refl e
   apart x (DecodesTo.decodes_leaf s t v e) (FailsWith.fails_no_set s2 t2 w f blamed) = none_some refl e
@@ -192,9 +193,10 @@ mutual
   apart x (DecodesTo.decodes_leaf s t v e) (FailsWith.fails_unnamed alts added t2 name u r f g) = none_some refl e
   apart x (DecodesTo.decodes_leaf s t v e) (FailsWith.fails_payload alts added t2 name u id s2 p w f g h) = none_some refl e
   apart x (DecodesTo.decodes_leaf s t v e) (FailsWith.fails_loop body t2 p w h) = none_some refl e
-  apart x (DecodesTo.decodes_seq kind fs more t look vs e h) (FailsWith.fails_leaf s2 t2 blame y f blamed) = none_some refl f
-  apart x (DecodesTo.decodes_seq kind fs more t look vs e h) (FailsWith.fails_no_members kind2 fs2 more2 t2 w f blamed) = none_some f e
-  apart {n} x (DecodesTo.decodes_seq kind fs more t look vs e h) (FailsWith.fails_seq kind2 fs2 more2 t2 look2 p w f k) = apart_fields x (members-fine n look2 kind fs more vs (subst (λ m. FieldsDecodeTo n (all_fields fs more) (map m (field_names (all_fields fs more))) vs) (some_same e f) h)) k
+  apart x (DecodesTo.decodes_seq kind fs more t look vs e single h) (FailsWith.fails_leaf s2 t2 blame y f blamed) = none_some refl f
+  apart x (DecodesTo.decodes_seq kind fs more t look vs e single h) (FailsWith.fails_no_members kind2 fs2 more2 t2 w f blamed) = none_some f e
+  apart x (DecodesTo.decodes_seq kind fs more t look vs e single h) (FailsWith.fails_repeated kind2 fs2 more2 t2 look2 name f g) = none_some single g
+  apart {n} x (DecodesTo.decodes_seq kind fs more t look vs e single h) (FailsWith.fails_seq kind2 fs2 more2 t2 look2 p w f single2 k) = apart_fields x (members-fine n look2 kind fs more vs (subst (λ m. FieldsDecodeTo n (all_fields fs more) (map m (field_names (all_fields fs more))) vs) (some_same e f) h)) k
   apart x (DecodesTo.decodes_list s t slots vs e h) (FailsWith.fails_leaf s2 t2 blame y f blamed) = none_some refl f
   apart x (DecodesTo.decodes_list s t slots vs e h) (FailsWith.fails_no_list s2 t2 w f blamed) = none_some f e
   apart {n} x (DecodesTo.decodes_list s t slots vs e h) (FailsWith.fails_list s2 t2 slots2 p w f k) = apart_each x (subst (λ m. EachDecodesTo n s m vs) (some_same e f) h) k

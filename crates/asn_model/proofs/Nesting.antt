@@ -196,7 +196,8 @@ same_first e = cc e
 
 choice-opened : (t : Tree) (name : List ℕ) (u : Tree) → as_choice Notation.jer t ≡ Some (Some (name, u)) → suc (tree_depth u) ≤ tree_depth t
 choice-opened (Tree.json (Data.object Members.no_members)) name u e = no_first e
-choice-opened (Tree.json (Data.object (Members.member n d ms))) name u e = subst (λ x. suc (tree_depth x) ≤ depth (Data.object (Members.member n d ms))) (ap (λ (p : List ℕ × Tree). p.1) (same_first e)) (omega arith)
+choice-opened (Tree.json (Data.object (Members.member n d Members.no_members))) name u e = subst (λ x. suc (tree_depth x) ≤ depth (Data.object (Members.member n d Members.no_members))) (ap (λ (p : List ℕ × Tree). p.1) (same_first e)) (omega arith)
+choice-opened (Tree.json (Data.object (Members.member n d (Members.member m f ms)))) name u e = no_list e
 choice-opened (Tree.json d) name u e = no_list e
 choice-opened (Tree.avn t) name u e = no_list e
 
@@ -229,7 +230,7 @@ mutual
   -- What JER writes for a value that a slot decodes to nests no deeper than the slot's tree.
   pub decodes-depth : {s : Shape} {slot : Slot} {v : Value} → DecodesTo Notation.jer s slot v → depth (jer_data v) ≤ slot_depth slot
   decodes-depth (DecodesTo.decodes_leaf s t v e) = subst (λ o. leaf_depth o ≤ tree_depth t) e (leaf-flat s t)
-  decodes-depth (DecodesTo.decodes_seq kind fs more t look vs e h) =
+  decodes-depth (DecodesTo.decodes_seq kind fs more t look vs e single h) =
       let o = members-opened t look e in
       let below = fields-depth o.inner h (looked-within look o.inner o.parts (field_names (all_fields fs more))) in omega (arith, below, o.outer)
   decodes-depth (DecodesTo.decodes_list s t slots vs e h) =

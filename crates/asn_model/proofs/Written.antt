@@ -31,9 +31,9 @@ use Rattle.asn_model.specs.Notation.{Notation}
 use Rattle.asn_model.specs.Readable.{is_entry, is_readable, are_fields_readable, are_alternatives_readable, are_added_alternatives_readable, suits, has_alternative, are_distinguishable, are_identifiers, differ_ignoring_case, has_identifier, has_128_bits}
 use Rattle.asn_model.specs.Range.{at_most}
 use Rattle.asn_model.specs.DecodesTo.{DecodesTo, EachDecodesTo, FieldsDecodeTo}
-use Rattle.asn_model.specs.Shape.{Shape, Fields, Alternatives, AlternativeAdditions, all_alternatives, join_alternatives, field_names, identifiers, tags, has_tag, tags_distinct, end_tag, are_distinct, is_item, alternative_named}
+use Rattle.asn_model.specs.Shape.{Shape, Fields, Alternatives, AlternativeAdditions, all_alternatives, all_fields, join_alternatives, field_names, identifiers, tags, has_tag, tags_distinct, end_tag, are_distinct, is_item, alternative_named}
 use Rattle.asn_model.specs.Sorting.{by_text}
-use Rattle.asn_model.specs.Tree.{Tree, Slot, item_slots, member_slot, same_identifier}
+use Rattle.asn_model.specs.Tree.{Tree, Slot, item_slots, member_slot, first_repeated, same_identifier}
 use Rattle.asn_model.specs.Value.{Value, Values, Slots, Fits, FitsEach, FitsFields, FitsAlternative, elements, is_leaf_of, ordered_by}
 use Rattle.asn_model.specs.Writable.{Writable, WritableEach, WritableSlots}
 use Rattle.asn_model.specs.Writes.{Writes, Finds, value_slots, slot_names}
@@ -107,7 +107,7 @@ module _ (n : Notation) (tree : Value → Tree) (w : Writes n tree) where
     decodes_written a (Fits.fits_members {kind} {fs} {added} {ms} fit) can =
         let read = fields_read kind fs added a in
         let m = w.members ms (ap are_distinct (slot_names-fields fit) ∙ read.distinct) in
-        DecodesTo.decodes_seq kind fs added _ m.0 ms m.1 (fields_written m.0 read.parts fit can m.2)
+        DecodesTo.decodes_seq kind fs added _ m.0 ms m.1 (m.2 (field_names (all_fields fs added))) (fields_written m.0 read.parts fit can m.3)
     decodes_written a (Fits.fits_list {s} {vs} fit) can = DecodesTo.decodes_list s _ _ vs (w.list vs) (each-decodes n tree s vs (each_written a fit can))
     decodes_written a (Fits.fits_set {s} {vs} fit sorted) can =
         let by = by_text (canonical_text n) in
@@ -242,12 +242,17 @@ finds-written (Slots.present n v ms) e = (
   finds-put n (jer_data v) (jer_members ms) ms (none_named (is_item (slot_names ms) n) (are_distinct (slot_names ms)) e) (finds-written ms (others_named (is_item (slot_names ms) n) (are_distinct (slot_names ms)) e)),
 )
 
+-- No object has a member twice.
+pub none_repeated : (t : Tree) (names : List (List ℕ)) → first_repeated Notation.jer t names ≡ None
+none_repeated t [] = refl
+none_repeated t (name ∷ names) = none_repeated t names
+
 -- JER writes what it reads.
 pub jer_writes : Writes Notation.jer jer_tree
 jer_writes = record {
   leaf = leaf-written;
   list = λ vs. ap Some (items-written vs);
   set = λ vs. ap (λ ds. Some (item_slots ds)) (jer_items-sorted vs) ∙ ap Some (items-written (ordered_by (by_text (canonical_text Notation.jer)) vs));
-  members = λ ms e. (member_slot (jer_members ms), refl, finds-written ms e);
+  members = λ ms e. (member_slot (jer_members ms), refl, none_repeated (jer_tree (Value.members ms)), finds-written ms e);
   choice = λ i v. refl;
 }

@@ -1,5 +1,5 @@
 -- What AVN writes is well formed, and is read as a tree that decodes to the value.
-use Rattle.std.proofs.Common.{◌≡◌, refl, ap, sym, ◌∙◌, subst, arith, ℕ, ◌+◌, ◌/◌, List, [], ◌∷◌, length, Bool, true, false, not, ◌&&◌, if◌then◌else◌, Option, Some, None, Ok, Err}
+use Rattle.std.proofs.Common.{◌≡◌, refl, ap, sym, ◌∙◌, subst, arith, ℕ, zero, suc, ◌+◌, ◌/◌, ◌≤◌, nat_le, List, [], ◌∷◌, length, Bool, true, false, not, ◌&&◌, if◌then◌else◌, Option, Some, None, Ok, Err}
 use Rattle.std.specs.Fmt.{signed_decimal}
 use Rattle.std.specs.List.{AllByRecursion}
 use Rattle.std.specs.Str.{bytes_eq}
@@ -20,7 +20,7 @@ use Rattle.asn_model.specs.Notation.{Notation}
 use Rattle.asn_model.specs.Readable.{is_entry, is_readable, are_fields_readable, are_alternatives_readable, are_added_alternatives_readable, suits, has_alternative, are_distinguishable, are_identifiers, are_no_keywords, differ_ignoring_case}
 use Rattle.asn_model.specs.Shape.{Shape, Fields, Alternatives, all_items, all_alternatives, field_names, identifiers, tags, has_tag, tags_distinct, end_tag, are_distinct, is_item}
 use Rattle.asn_model.specs.Sorting.{by_text}
-use Rattle.asn_model.specs.Tree.{Tree, Slot, or_else, as_members, tree_slots, field_slot}
+use Rattle.asn_model.specs.Tree.{Tree, Slot, or_else, as_members, tree_slots, field_slot, first_repeated, is_repeated, times_present}
 use Rattle.asn_model.specs.Value.{Value, Values, Slots, Fits, FitsEach, FitsFields, FitsAlternative, elements, is_leaf_of, is_same_size, ordered_by}
 use Rattle.asn_model.specs.Writable.{Writable, WritableEach, WritableSlots}
 use Rattle.asn_model.specs.Writes.{Writes, Finds, value_slots, slot_names}
@@ -120,6 +120,48 @@ finds-written (Slots.present n v ms) e =
       finds-field n (normal (avn_tree v)) (normal_fields (avn_fields ms)) ms new (finds-written ms (others_named (is_item (slot_names ms) n) (are_distinct (slot_names ms)) e)),
     )
 
+-- A name that no field has is never present.
+times-lost : (ms : Slots) (n : List ℕ) → is_item (slot_names ms) n ≡ false → times_present (normal_fields (avn_fields ms)) n ≡ 0
+unfolding normal
+times-lost Slots.no_slots n e = refl
+times-lost (Slots.absent m ms) n e = times-lost ms n (rest_apart (bytes_eq n m) (is_item (slot_names ms) n) e)
+times-lost (Slots.present m v ms) n e =
+    let later = times-lost ms n (rest_apart (bytes_eq n m) (is_item (slot_names ms) n) e) in
+    rw (first_apart (bytes_eq n m) (is_item (slot_names ms) n) e, later) refl
+
+-- A name that stands in front of fields without it is present once.
+times-first : (b : Bool) (rest : ℕ) → (b ≡ true → rest ≡ 0) → rest ≤ 1 → (if b then 1 else 0) + rest ≤ 1
+times-first true rest f h = omega (arith, f refl)
+times-first false rest f h = omega (arith, h)
+
+-- Of distinct names each is present once at most.
+present-once : (ms : Slots) (n : List ℕ) → are_distinct (slot_names ms) ≡ true → times_present (normal_fields (avn_fields ms)) n ≤ 1
+unfolding normal
+present-once Slots.no_slots n e = omega arith
+present-once (Slots.absent m ms) n e = present-once ms n (others_named (is_item (slot_names ms) m) (are_distinct (slot_names ms)) e)
+present-once (Slots.present m v ms) n e =
+    times-first (bytes_eq n m) (times_present (normal_fields (avn_fields ms)) n)
+    (λ f. ap (times_present (normal_fields (avn_fields ms))) ((bytes_eq-Decides n m).0 f) ∙ times-lost ms m (none_named (is_item (slot_names ms) m) (are_distinct (slot_names ms)) e))
+    (present-once ms n (others_named (is_item (slot_names ms) m) (are_distinct (slot_names ms)) e))
+
+twice-no : (n : ℕ) → n ≤ 1 → nat_le 2 n ≡ false
+twice-no zero h = refl
+twice-no (suc zero) h = refl
+twice-no (suc (suc n)) h = absurd (omega (arith, h))
+
+braced-single : (fs : AvnFields) (n : List ℕ) → times_present fs n ≤ 1 → is_repeated Notation.avn (Tree.avn (braced fs)) n ≡ false
+braced-single AvnFields.no_fields n h = refl
+braced-single (AvnFields.field m t fs) n h = twice-no _ h
+braced-single (AvnFields.absent m fs) n h = twice-no _ h
+
+-- What AVN writes repeats no name.
+none_repeated : (ms : Slots) → are_distinct (slot_names ms) ≡ true → (names : List (List ℕ)) → first_repeated Notation.avn (read_tree (Value.members ms)) names ≡ None
+unfolding normal
+none_repeated ms e [] = refl
+none_repeated ms e (n ∷ names) =
+    ap (λ b. if b then Some n else first_repeated Notation.avn (read_tree (Value.members ms)) names) (braced-single (normal_fields (avn_fields ms)) n (present-once ms n e))
+    ∙ none_repeated ms e names
+
 -- The members of fields in braces.
 braced-members : (fs : AvnFields) → as_members Notation.avn (Tree.avn (braced fs)) ≡ Some (field_slot fs)
 braced-members AvnFields.no_fields = refl
@@ -137,7 +179,7 @@ avn_writes = record {
   leaf = leaf-written;
   list = λ vs. ap Some (items-written vs);
   set = λ vs. ap (λ ts. Some (tree_slots (normal_trees ts))) (avn_trees-sorted vs) ∙ ap Some (items-written (ordered_by (by_text (canonical_text Notation.avn)) vs));
-  members = λ ms e. (field_slot (normal_fields (avn_fields ms)), members-written ms, finds-written ms e);
+  members = λ ms e. (field_slot (normal_fields (avn_fields ms)), members-written ms, none_repeated ms e, finds-written ms e);
   choice = λ i v. refl;
 }
 

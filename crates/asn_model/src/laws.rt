@@ -33,7 +33,7 @@ pub fn no_reason()
 /// What is written for a value of a shape that can be read, which the notation can write, decodes
 /// to that value: in JER the JSON value that is written, and in AVN the normal form of what is
 /// written, which its text is read as.
-pub fn written_is_said()
+pub fn written_decodes()
     ensures jer { (s : Shape) (v : Value) → is_readable s ≡ true → Fits s v
         → Writable Notation.jer v
         → DecodesTo Notation.jer s (Some (Tree.json (jer_data v))) v }

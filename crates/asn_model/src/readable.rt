@@ -1,5 +1,5 @@
 //! Tests whether a shape can be read. By such a shape, what is written for a value decodes to that
-//! value (`laws::written_is_said`), so every `AsnType` has one by a law of the trait.
+//! value (`laws::written_decodes`), so every `AsnType` has one by a law of the trait.
 ghost use Rattle.asn_model.specs.Enclosing.{loops_of, unguarded_of, entries_of};
 ghost use Rattle.asn_model.specs.CharacterStrings.{is_string_of};
 ghost use Rattle.asn_model.specs.Readable.{is_readable, is_readable_in, are_fields_readable};

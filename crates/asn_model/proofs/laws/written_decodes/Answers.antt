@@ -1,7 +1,7 @@
 use Rattle.asn_model.specs.Notation.{Notation}
 use Rattle.asn_model.proofs.Written.{decodes_written, jer_tree, jer_writes}
 use Rattle.asn_model.proofs.WrittenAvn.{read_tree, avn_writes}
-use Rattle.asn_model.proofs.laws.written_is_said.Goals as goal
+use Rattle.asn_model.proofs.laws.written_decodes.Goals as goal
 
 pub returns : goal.returns
 returns c = record {

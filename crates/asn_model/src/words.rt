@@ -1,5 +1,6 @@
 //! Gives the texts of refusals and the words of mismatches, each once: the codecs answer with
 //! them, and the definitions cite them. Words without a codec's name are the same in both.
+ghost use Rattle.std.specs.Prelude.{◌≡◌, codes};
 
 /// The refusal of a text that is no JSON.
 pub const JER_NO_JSON: &str = "Error parsing JER JSON";
@@ -102,3 +103,45 @@ pub const AVN_SET: &str = "set";
 
 /// What AVN needs for SET OF.
 pub const AVN_SET_OF: &str = "set of";
+
+/// The texts of refusals are these.
+pub fn stated_refusals()
+    ensures jer_no_json { JER_NO_JSON.now ≡ codes "Error parsing JER JSON" }
+    ensures jer_no_bits { JER_NO_BITS.now ≡ codes "Failed to create BitString from bytes" }
+    ensures jer_unknown { JER_UNKNOWN.now ≡ codes "unknown" }
+    ensures avn_no_utf8 { AVN_NO_UTF8.now ≡ codes "Invalid UTF-8 in AVN string" }
+    ensures avn_no_unicode { AVN_NO_UNICODE.now ≡ codes "Invalid UTF-8" }
+    ensures outside_alphabet { OUTSIDE_ALPHABET.now ≡ codes "character outside the alphabet at place" }
+    ensures outside_years { OUTSIDE_YEARS.now ≡ codes "time outside the years of its text" }
+    ensures no_decimal { NO_DECIMAL.now ≡ codes "Failed to parse decimal number: " }
+    ensures no_teletex { NO_TELETEX.now ≡ codes "TeletexString is not supported" }
+{}
+
+/// The words of mismatches are these.
+pub fn stated_words()
+    ensures jer_object { JER_OBJECT.now ≡ codes "object" }
+    ensures jer_one_member { JER_ONE_MEMBER.now ≡ codes "object with one member" }
+    ensures jer_array { JER_ARRAY.now ≡ codes "array" }
+    ensures jer_number { JER_NUMBER.now ≡ codes "number (supported range -2^63..2^64)" }
+    ensures jer_string { JER_STRING.now ≡ codes "string" }
+    ensures jer_time { JER_TIME.now ≡ codes "time string" }
+    ensures jer_date { JER_DATE.now ≡ codes "date string" }
+    ensures jer_item { JER_ITEM.now ≡ codes "enumerated item as string" }
+    ensures jer_digits { JER_DIGITS.now ≡ codes "hex string" }
+    ensures jer_arcs { JER_ARCS.now ≡ codes "number array" }
+    ensures jer_bits { JER_BITS.now ≡ codes "JSON object containing 'value' and 'length' properties." }
+    ensures null { NULL.now ≡ codes "null" }
+    ensures boolean { BOOLEAN.now ≡ codes "boolean" }
+    ensures avn_number { AVN_NUMBER.now ≡ codes "integer" }
+    ensures avn_string { AVN_STRING.now ≡ codes "character string" }
+    ensures avn_item { AVN_ITEM.now ≡ codes "enumerated identifier" }
+    ensures avn_octets { AVN_OCTETS.now ≡ codes "octet string ('...'H)" }
+    ensures avn_arcs { AVN_ARCS.now ≡ codes "OID as { arc... }" }
+    ensures avn_arc { AVN_ARC.now ≡ codes "OID arc (integer)" }
+    ensures avn_bits { AVN_BITS.now ≡ codes "bit string ('...'H or '...'B)" }
+    ensures avn_members { AVN_MEMBERS.now ≡ codes "sequence" }
+    ensures avn_list { AVN_LIST.now ≡ codes "sequence of" }
+    ensures avn_choice { AVN_CHOICE.now ≡ codes "choice (identifier : value)" }
+    ensures avn_set { AVN_SET.now ≡ codes "set" }
+    ensures avn_set_of { AVN_SET_OF.now ≡ codes "set of" }
+{}

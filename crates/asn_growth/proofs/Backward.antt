@@ -14,7 +14,7 @@ use Rattle.asn_model.specs.Notation.{Notation, IsText}
 use Rattle.asn_model.specs.Readable.{are_alternatives_readable, are_added_alternatives_readable, are_distinguishable, are_fields_readable, are_identifiers, differ_ignoring_case, has_alternative, has_identifier, is_entry, is_readable, suits}
 use Rattle.asn_model.specs.Shape.{Shape, SeqKind, Fields, FieldAdditions, Alternatives, AlternativeAdditions, Presence, all_alternatives, all_fields, alternative_named, are_distinct, end_tag, field_names, has_tag, identifiers, is_item, join_fields, tags, tags_distinct, unfold_loop}
 use Rattle.asn_model.specs.Sorting.{by_text}
-use Rattle.asn_model.specs.Tree.{Slot, as_list, as_members, same_identifier}
+use Rattle.asn_model.specs.Tree.{Slot, as_list, as_members, first_repeated, same_identifier}
 use Rattle.asn_model.specs.Value.{Value, Values, Slots, Fits, FitsAlternative, FitsEach, FitsFields, bag_of, elements, is_kept, is_leaf_of, keys_rise, may_lack, ordered_by, sort_values}
 use Rattle.asn_model.specs.Writable.{Writable, WritableEach, WritableSlots}
 use Rattle.asn_model.specs.Writes.{Finds, slot_names, value_slots}
@@ -265,15 +265,15 @@ module _ (n : Notation) (look : List ℕ → Slot) where
   joined-outcome Fields.no_fields (Fields.field name t p r gs) added more many h f = elim many [ ]
   joined-outcome (Fields.field name t p s fs) Fields.no_fields added more many h f = elim many [ ]
 
-  members-back : (kind : SeqKind) (gs : Fields) (more : FieldAdditions) (ms : Slots) → as_members n (tree_of n (Value.members ms)) ≡ Some look → Outcome (with_additions (components Standing.root gs) more) (all_fields gs more) (adapted_slots (all_fields gs more) ms)
+  members-back : (kind : SeqKind) (gs : Fields) (more : FieldAdditions) (ms : Slots) → as_members n (tree_of n (Value.members ms)) ≡ Some look → first_repeated n (tree_of n (Value.members ms)) (field_names (all_fields gs more)) ≡ None → Outcome (with_additions (components Standing.root gs) more) (all_fields gs more) (adapted_slots (all_fields gs more) ms)
       → Back n (Shape.seq kind gs more) (Value.members ms)
-  members-back kind gs more ms e o = by o.1
+  members-back kind gs more ms e single o = by o.1
     where
       by : FieldsDecodeTo n (all_fields gs more) (map look (field_names (all_fields gs more))) (adapted_slots (all_fields gs more) ms) ⊎ SomeComponent is_stop (with_additions (components Standing.root gs) more) → Back n (Shape.seq kind gs more) (Value.members ms)
-      by (inl ds) = inl (DecodesTo.decodes_seq kind gs more (tree_of n (Value.members ms)) look (adapted_slots (all_fields gs more) ms) e ds)
+      by (inl ds) = inl (DecodesTo.decodes_seq kind gs more (tree_of n (Value.members ms)) look (adapted_slots (all_fields gs more) ms) e single ds)
       by (inr h) =
           let r = first-stop IsMissing n look (reading_order kind gs more) (all-read is_read kind gs more o.0) (some-read is_stop kind gs more h) in
-          inr (r.0, r.1, ComesUpon.in_field kind gs more (tree_of n (Value.members ms)) look r.0 r.1 e r.2, r.3)
+          inr (r.0, r.1, ComesUpon.in_field kind gs more (tree_of n (Value.members ms)) look r.0 r.1 e single r.2, r.3)
 
 members-taken : (n : Notation) (kind : SeqKind) (fs : Fields) (added : FieldAdditions) (gs : Fields) (more : FieldAdditions) (ms : Slots) → IsText n → are_distinct (field_names (all_fields gs more)) ≡ true → FieldsTaken n (all_fields fs added) (all_fields gs more) ms
     → ((look : List ℕ → Slot) → Finds (tree_of n) look (padded (all_fields gs more) ms) → Outcome n look (with_additions (components Standing.root gs) more) (all_fields gs more) (adapted_slots (all_fields gs more) ms))
@@ -286,7 +286,8 @@ members-taken n kind fs added gs more ms x distinct h outcome =
     record {
       alike = members-alike n (slots-alike h);
       again = ap Value.members (slots-again h);
-      read = members-back n found.0 kind gs more ms (subst (λ t. as_members n t ≡ Some found.0) same found.1) (outcome found.0 found.2);
+      read = members-back n found.0 kind gs more ms (subst (λ t. as_members n t ≡ Some found.0) same found.1)
+          (subst (λ t. first_repeated n t (field_names (all_fields gs more)) ≡ None) same (found.2 (field_names (all_fields gs more)))) (outcome found.0 found.3);
     }
 
 item-more : (items more : List (List ℕ)) (i : List ℕ) → is_item items i ≡ true → is_item (items ++ more) i ≡ true

@@ -12,7 +12,7 @@ use Rattle.asn_model.specs.Leaf.{LeafFailure, as_leaf, codec_of, leaf, refined}
 use Rattle.asn_model.specs.Notation.{Notation, IsText}
 use Rattle.asn_model.specs.Readable.{is_entry, is_readable, are_fields_readable, suits}
 use Rattle.asn_model.specs.Shape.{Shape, SeqKind, Fields, FieldAdditions, Alternatives, AlternativeAdditions, Presence, all_alternatives, all_fields, all_items, field_names, is_item, join_fields, unfold_loop, alternative_named}
-use Rattle.asn_model.specs.Tree.{Tree, Slot, as_choice, as_list, as_members, same_identifier}
+use Rattle.asn_model.specs.Tree.{Tree, Slot, as_choice, as_list, as_members, first_repeated, same_identifier}
 use Rattle.asn_model.specs.Value.{Value, Values, Slots, bag_of, may_lack, table_of, with_field}
 use Rattle.asn_model.specs.declared.leaves.LeafKind.TheVariants.{Item}
 use Rattle.asn_model.proofs.Meanings.{not_other}
@@ -23,7 +23,7 @@ use Rattle.asn_growth.specs.ComesUpon.{ComesUpon, EachComesUpon, IsUnknown}
 use Rattle.asn_growth.proofs.Adapting.{adapted-loop, adapted-same, field-adapted, no-slots, set-adapted, table-adapted}
 use Rattle.asn_growth.proofs.Stopping.{IsRead, SomeComponent, Stops, Upon, all-read, first-stop, some-read}
 use Rattle.asn_growth.proofs.Unfolding.{grows-unfolded}
-use Rattle.asn_growth.proofs.Versions.{alternatives-begin, alternatives-joined, Found, choice-adapted, fields-begin, find, found-again, joined-begin, none_some, readable-alternatives, readable-named}
+use Rattle.asn_growth.proofs.Versions.{alternatives-begin, alternatives-joined, Found, choice-adapted, fields-begin, find, found-again, joined-begin, none_some, readable-alternatives, readable-named, single-begin}
 
 -- The slot decodes to the adapted value, or a reader comes upon an unknown name in it.
 abbrev pub Met : Notation → Shape → Slot → Value → Type 0
@@ -99,14 +99,14 @@ module _ (n : Notation) (look : List ℕ → Slot) where
       by (inl ds) = inl (subst (λ slot. FieldsDecodeTo n (Fields.field name t p s fs) (slot ∷ map look (field_names fs)) (Slots.absent name (adapted_slots fs vs))) (sym e) (FieldsDecodeTo.decodes_absent name t p s fs (map look (field_names fs)) (adapted_slots fs vs) lack ds))
       by (inr u) = inr (inr u)
 
-  seq-met : (kind : SeqKind) (fs : Fields) (added : FieldAdditions) (t : Tree) (vs : Slots) → as_members n t ≡ Some look → FieldsMet n look (all_fields fs added) vs → Met n (Shape.seq kind fs added) (Some t) (Value.members vs)
-  seq-met kind fs added t vs e m = by (all-or-some m)
+  seq-met : (kind : SeqKind) (fs : Fields) (added : FieldAdditions) (t : Tree) (vs : Slots) → as_members n t ≡ Some look → first_repeated n t (field_names (all_fields fs added)) ≡ None → FieldsMet n look (all_fields fs added) vs → Met n (Shape.seq kind fs added) (Some t) (Value.members vs)
+  seq-met kind fs added t vs e single m = by (all-or-some m)
     where
       by : FieldsDecodeTo n (all_fields fs added) (map look (field_names (all_fields fs added))) (adapted_slots (all_fields fs added) vs) ⊎ SomeField (all_fields fs added) → Met n (Shape.seq kind fs added) (Some t) (Value.members vs)
-      by (inl d) = inl (DecodesTo.decodes_seq kind fs added t look (adapted_slots (all_fields fs added) vs) e d)
+      by (inl d) = inl (DecodesTo.decodes_seq kind fs added t look (adapted_slots (all_fields fs added) vs) e single d)
       by (inr u) =
           let r = first-stop IsUnknown n look (reading_order kind fs added) (all-read (IsRead IsUnknown n look) kind fs added (each-met fs added m)) (some-read is_stop kind fs added (some-met fs added u)) in
-          inr (t, refl, r.0, r.1, ComesUpon.in_field kind fs added t look r.0 r.1 e r.2, r.3)
+          inr (t, refl, r.0, r.1, ComesUpon.in_field kind fs added t look r.0 r.1 e single r.2, r.3)
 
 -- An item, or why there is none.
 item_of : (n : Notation) (t : Tree) → ((i : List ℕ) × (as_leaf n Item t ≡ Ok (Value.item i))) ⊎ ((b : LeafFailure) × (as_leaf n Item t ≡ Err b))
@@ -189,12 +189,12 @@ mutual
   forward {n} {slot = slot} {v = v} x a (Grows.grows_same {s} e) h = inl (subst (DecodesTo n s slot) (sym (adapted-same s v e)) h)
   forward {n} x a g (DecodesTo.decodes_free s slot v e) = absurd (not_other n x e)
   forward {n} x a (Grows.grows_enum items added more) (DecodesTo.decodes_leaf s t v e) = item-met n items added more t v e
-  forward {n} x a (Grows.grows_closed_seq {kind} {fs} m) (DecodesTo.decodes_seq kind2 gs added t look vs e hs) =
+  forward {n} x a (Grows.grows_closed_seq {kind} {fs} m) (DecodesTo.decodes_seq kind2 gs added t look vs e single hs) =
       let read = fields_read kind fs FieldAdditions.closed_fields a in
-      seq-met n look kind fs FieldAdditions.closed_fields t vs e (fields-forward look x (fields-begin m) read.parts hs refl)
-  forward {n} x a (Grows.grows_seq {kind} {fs} {gs} {added} {more} m k) (DecodesTo.decodes_seq kind2 gs2 added2 t look vs e hs) =
+      seq-met n look kind fs FieldAdditions.closed_fields t vs e (single-begin n t (fields-begin m) single) (fields-forward look x (fields-begin m) read.parts hs refl)
+  forward {n} x a (Grows.grows_seq {kind} {fs} {gs} {added} {more} m k) (DecodesTo.decodes_seq kind2 gs2 added2 t look vs e single hs) =
       let read = fields_read kind fs (FieldAdditions.extended_fields added) a in
-      seq-met n look kind fs (FieldAdditions.extended_fields added) t vs e (fields-forward look x (joined-begin m k) read.parts hs refl)
+      seq-met n look kind fs (FieldAdditions.extended_fields added) t vs e (single-begin n t (joined-begin m k) single) (fields-forward look x (joined-begin m k) read.parts hs refl)
   forward {n} x a (Grows.grows_list {s} g) (DecodesTo.decodes_list r t slots vs e hs) = list-met n s t slots vs e (each-forward x a g hs)
   forward {n} x a (Grows.grows_set {s} g) (DecodesTo.decodes_set r t slots vs e hs) = set-met n s t slots vs e (each-forward x a g hs)
   forward {n} x a (Grows.grows_closed_choice {alts} {bs} m) (DecodesTo.decodes_choice bs2 added t name u id s v e f h) = chosen alts AlternativeAdditions.closed_alternatives t u name id s v a e (find name id s (alternatives-begin m) f) (λ r b g. forward x b g h)

@@ -6,8 +6,8 @@ use Rattle.asn_model.specs.DecodesTo.{DecodesTo}
 use Rattle.asn_model.specs.FailsWith.{FailsWith, EachFailsWith, FieldsFailWith, Path}
 use Rattle.asn_model.specs.Leaf.{LeafFailure, IsFailureOf, as_leaf, codec_of, leaf, refined}
 use Rattle.asn_model.specs.Notation.{Notation, IsText}
-use Rattle.asn_model.specs.Shape.{Shape, SeqKind, Fields, FieldAdditions, Alternatives, AlternativeAdditions, all_alternatives, all_items, alternative_named, is_item, unfold_loop}
-use Rattle.asn_model.specs.Tree.{Tree, Slot, as_choice, as_list, as_members, same_identifier}
+use Rattle.asn_model.specs.Shape.{Shape, SeqKind, Fields, FieldAdditions, Alternatives, AlternativeAdditions, all_alternatives, all_fields, all_items, alternative_named, field_names, is_item, unfold_loop}
+use Rattle.asn_model.specs.Tree.{Tree, Slot, as_choice, as_list, as_members, first_repeated, same_identifier}
 use Rattle.asn_model.specs.Value.{Value, may_lack}
 use Rattle.asn_model.specs.declared.leaves.LeafKind.TheVariants.{Item}
 use Rattle.asn_model.proofs.Meanings.{apart, not_other}
@@ -31,7 +31,7 @@ mutual
       FailsWith.fails_leaf (Shape.enum items added) t _ _ (unknown-leaf n items added t i is unknown) (IsFailureOf.is_because (Cause.invalid_enum_discriminant (codec_of n) i))
   fails-upon (ComesUpon.unknown_alternative alts added t u name type_name e f) = FailsWith.fails_unnamed alts added t name u type_name e f
   fails-upon (ComesUpon.in_payload alts added t u name id s p w e f h) = FailsWith.fails_payload alts added t name u id s p w e f (fails-upon h)
-  fails-upon (ComesUpon.in_field kind fs added t look p w e h) = FailsWith.fails_seq kind fs added t look p w e (fields-fail-upon h)
+  fails-upon (ComesUpon.in_field kind fs added t look p w e single h) = FailsWith.fails_seq kind fs added t look p w e single (fields-fail-upon h)
   fails-upon (ComesUpon.in_list s t slots p w e h) = FailsWith.fails_list s t slots p w e (each-fails-upon h)
   fails-upon (ComesUpon.in_set s t slots p w e h) = FailsWith.fails_set s t slots p w e (each-fails-upon h)
   fails-upon (ComesUpon.in_table s t p w h) = FailsWith.fails_table s t p w (fails-upon h)
@@ -112,13 +112,14 @@ payload_place {n} {u = u} {name = name} {id = id} {s = s} w x e f payload (Fails
     payload q y (subst (λ r. FailsWith n r (Some u) q y) (ap (λ (r : List ℕ × Shape). r.1) c) (subst (λ r. FailsWith n s2 (Some r) q y) (ap (λ (r : List ℕ × Tree). r.1) m) k))
 payload_place {n} w x e f payload (FailsWith.fails_free s2 slot q y k) = absurd (not_other n x k)
 
-field_place : {n : Notation} {kind : SeqKind} {fs : Fields} {added : FieldAdditions} {t : Tree} {look : List ℕ → Slot} {p q : Path} {y : Cause} (w : Cause) → IsText n → as_members n t ≡ Some look
+field_place : {n : Notation} {kind : SeqKind} {fs : Fields} {added : FieldAdditions} {t : Tree} {look : List ℕ → Slot} {p q : Path} {y : Cause} (w : Cause) → IsText n → as_members n t ≡ Some look → first_repeated n t (field_names (all_fields fs added)) ≡ None
     → ((r : Path) (z : Cause) → FieldsFailWith n (reading_order kind fs added) (map look (component_names (reading_order kind fs added))) r z → Same p r w z) → FailsWith n (Shape.seq kind fs added) (Some t) q y → Same p q w y
-field_place w x e fields (FailsWith.fails_leaf s2 t2 b y f blamed) = absurd (none_some refl f)
-field_place w x e fields (FailsWith.fails_no_members kind2 fs2 added2 t2 y f blamed) = absurd (none_some f e)
-field_place {n} w x e fields (FailsWith.fails_seq kind fs added t look2 q y f k) =
+field_place w x e single fields (FailsWith.fails_leaf s2 t2 b y f blamed) = absurd (none_some refl f)
+field_place w x e single fields (FailsWith.fails_no_members kind2 fs2 added2 t2 y f blamed) = absurd (none_some f e)
+field_place w x e single fields (FailsWith.fails_repeated kind2 fs2 added2 t2 look2 name f g) = absurd (none_some single g)
+field_place {n} w x e single fields (FailsWith.fails_seq kind fs added t look2 q y f single2 k) =
     fields q y (subst (λ m. FieldsFailWith n (reading_order kind fs added) (map m (component_names (reading_order kind fs added))) q y) (some_same f e) k)
-field_place {n} w x e fields (FailsWith.fails_free s2 slot q y k) = absurd (not_other n x k)
+field_place {n} w x e single fields (FailsWith.fails_free s2 slot q y k) = absurd (not_other n x k)
 
 list_place : {n : Notation} {s : Shape} {t : Tree} {slots : List Slot} {p q : Path} {y : Cause} (w : Cause) → IsText n → as_list n t ≡ Some slots → ((r : Path) (z : Cause) → EachFailsWith n s slots r z → Same p r w z) → FailsWith n (Shape.list_of s) (Some t) q y → Same p q w y
 list_place w x e each (FailsWith.fails_leaf s2 t2 b y f blamed) = absurd (none_some refl f)
@@ -148,7 +149,7 @@ mutual
   one_place x (ComesUpon.unknown_item items added t i is unknown) k = item_place x is unknown k
   one_place x (ComesUpon.unknown_alternative alts added t u name type_name e f) k = alternative_place type_name x e f k
   one_place x (ComesUpon.in_payload alts added t u name id s p w e f h) k = payload_place _ x e f (λ r z j. one_place x h j) k
-  one_place x (ComesUpon.in_field kind fs added t look p w e h) k = field_place _ x e (λ r z j. one_field x h j) k
+  one_place x (ComesUpon.in_field kind fs added t look p w e single h) k = field_place _ x e single (λ r z j. one_field x h j) k
   one_place x (ComesUpon.in_list s t slots p w e h) k = list_place _ x e (λ r z j. one_element x h j) k
   one_place x (ComesUpon.in_set s t slots p w e h) k = set_place _ x e (λ r z j. one_element x h j) k
   one_place x (ComesUpon.in_table s t p w h) k = table_place _ x (λ r z j. one_place x h j) k

@@ -4,8 +4,9 @@ use Rattle.std.specs.Char.{to_ascii_lowercase}
 use Rattle.std.specs.Str.{bytes_eq}
 use Rattle.std.proofs.lemmas.Slice.Eq.{bytes_eq-Decides}
 use Rattle.asn_model.specs.Readable.{is_readable, are_alternatives_readable, are_added_alternatives_readable, are_distinguishable, has_alternative}
-use Rattle.asn_model.specs.Shape.{Shape, Fields, Alternatives, AlternativeAdditions, all_alternatives, alternative_named, join_alternatives, join_fields}
-use Rattle.asn_model.specs.Tree.{same_identifier}
+use Rattle.asn_model.specs.Shape.{Shape, Fields, Alternatives, AlternativeAdditions, all_alternatives, alternative_named, field_names, join_alternatives, join_fields}
+use Rattle.asn_model.specs.Notation.{Notation}
+use Rattle.asn_model.specs.Tree.{Tree, first_repeated, is_repeated, same_identifier}
 use Rattle.asn_model.specs.Value.{Value}
 use Rattle.asn_model.proofs.Readables.{and-left, and-right}
 use Rattle.asn_model.proofs.Written.{all_readable}
@@ -22,6 +23,15 @@ fields-begin (GrowsFields.grows_field g h) = BeginsFields.begins_field g (fields
 pub joined-begin : {fs gs added more : Fields} → GrowsFields fs gs → BeginsFields added more → BeginsFields (join_fields fs added) (join_fields gs more)
 joined-begin GrowsFields.grows_no_fields m = m
 joined-begin (GrowsFields.grows_field g h) m = BeginsFields.begins_field g (joined-begin h m)
+
+-- What repeats no name of a type repeats none of an older version of it.
+pub single-begin : (n : Notation) (t : Tree) {fs gs : Fields} → BeginsFields fs gs → first_repeated n t (field_names gs) ≡ None → first_repeated n t (field_names fs) ≡ None
+single-begin n t BeginsFields.begins_fields e = refl
+single-begin n t (BeginsFields.begins_field {n = name} {fs = fs} {gs = gs} g m) e = by (single-begin n t m) (is_repeated n t name) e
+  where
+    by : (first_repeated n t (field_names gs) ≡ None → first_repeated n t (field_names fs) ≡ None) → (b : Bool) → (if b then Some name else first_repeated n t (field_names gs)) ≡ None → (if b then Some name else first_repeated n t (field_names fs)) ≡ None
+    by later true f = f
+    by later false f = later f
 
 pub alternatives-begin : {alts bs : Alternatives} → GrowsAlternatives alts bs → BeginsAlternatives alts bs
 alternatives-begin GrowsAlternatives.grows_no_alternatives = BeginsAlternatives.begins_alternatives

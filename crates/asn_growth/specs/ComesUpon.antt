@@ -6,13 +6,13 @@ use Rattle.asn_model.specs.DecodesTo.{DecodesTo}
 use Rattle.asn_model.specs.FailsWith.{Path}
 use Rattle.asn_model.specs.Leaf.{as_leaf, codec_of}
 use Rattle.asn_model.specs.Notation.{Notation}
-use Rattle.asn_model.specs.Shape.{Shape, SeqKind, Fields, FieldAdditions, Alternatives, AlternativeAdditions, all_alternatives, all_items, alternative_named, is_item, unfold_loop}
-use Rattle.asn_model.specs.Tree.{Tree, Slot, as_choice, as_list, as_members, same_identifier}
+use Rattle.asn_model.specs.Shape.{Shape, SeqKind, Fields, FieldAdditions, Alternatives, AlternativeAdditions, all_alternatives, all_fields, all_items, alternative_named, field_names, is_item, unfold_loop}
+use Rattle.asn_model.specs.Tree.{Tree, Slot, as_choice, as_list, as_members, first_repeated, same_identifier}
 use Rattle.asn_model.specs.Value.{Value, may_lack}
 use Rattle.asn_model.specs.declared.leaves.LeafKind.TheVariants.{Item}
 
 mutual
-  -- A reader of the shape comes upon an alternative or item that the shape lacks, or upon the absence of an addition that it requires, at the end of this path of fields, and all that it reads before decodes.
+  -- A reader of the shape comes upon an alternative or item that the shape lacks, or upon the absence of an addition that it requires, at the end of this path of fields. No SEQUENCE or SET on the path has a field's name twice, and all that is read before decodes.
   pub data ComesUpon (n : Notation) : Shape → Tree → Path → Cause → Type 0 where
     unknown_item : (items : List (List ℕ)) (added : Option (List (List ℕ))) (t : Tree) (i : List ℕ) → as_leaf n Item t ≡ Ok (Value.item i) → is_item (all_items items added) i ≡ false
         → ComesUpon n (Shape.enum items added) t [] (Cause.invalid_enum_discriminant (codec_of n) i)
@@ -21,7 +21,7 @@ mutual
     in_payload : (alts : Alternatives) (added : AlternativeAdditions) (t u : Tree) (name id : List ℕ) (s : Shape) (p : Path) (w : Cause)
         → as_choice n t ≡ Some (Some (name, u)) → alternative_named same_identifier (all_alternatives alts added) name ≡ Some (id, s) → ComesUpon n s u p w → ComesUpon n (Shape.choice alts added) t p w
     in_field : (kind : SeqKind) (fs : Fields) (added : FieldAdditions) (t : Tree) (look : List ℕ → Slot) (p : Path) (w : Cause)
-        → as_members n t ≡ Some look → FieldsComeUpon n (reading_order kind fs added) (map look (component_names (reading_order kind fs added))) p w → ComesUpon n (Shape.seq kind fs added) t p w
+        → as_members n t ≡ Some look → first_repeated n t (field_names (all_fields fs added)) ≡ None → FieldsComeUpon n (reading_order kind fs added) (map look (component_names (reading_order kind fs added))) p w → ComesUpon n (Shape.seq kind fs added) t p w
     in_list : (s : Shape) (t : Tree) (slots : List Slot) (p : Path) (w : Cause) → as_list n t ≡ Some slots → EachComesUpon n s slots p w → ComesUpon n (Shape.list_of s) t p w
     in_set : (s : Shape) (t : Tree) (slots : List Slot) (p : Path) (w : Cause) → as_list n t ≡ Some slots → EachComesUpon n s slots p w → ComesUpon n (Shape.set_of s) t p w
     in_table : (s : Shape) (t : Tree) (p : Path) (w : Cause) → ComesUpon n (Shape.list_of s) t p w → ComesUpon n (Shape.table s) t p w

@@ -27,11 +27,11 @@ use Rattle.asn_growth.specs.ComesUpon.{ComesUpon, EachComesUpon, IsMissing}
 use Rattle.asn_growth.specs.Grows.{Grows, GrowsFields, BeginsFields, BeginsAlternatives}
 use Rattle.asn_growth.proofs.Adapting.{adapted-loop, adapted-same, bag-adapted, kept-adapted, no-slots, set-adapted, table-adapted}
 use Rattle.asn_growth.proofs.Relaying.{Alike, IsRelayed, SlotsAlike, alike-itself, choice-alike, list-alike, members-alike, set-alike, tree-alike, tree_of, tree_writes}
-use Rattle.asn_growth.proofs.Stopping.{IsRead, SomeComponent, Stops, all-read, first-stop, some-read}
+use Rattle.asn_growth.proofs.FirstFailures.{IsRead, SomeComponent, FailsHere, all-read, first-failure, some-read}
 use Rattle.asn_growth.proofs.Unfolding.{grows-unfolded, has_none}
 use Rattle.asn_growth.proofs.Versions.{alternatives-begin, alternatives-joined, choice-adapted, fields-begin, joined-begin, readable-alternatives}
 
--- The newer reader reads the tree alts the lifted value, or comes upon an absence.
+-- The newer reader reads the tree as the lifted value, or comes upon an absence.
 abbrev pub Back : Notation → Shape → Value → Type 0
 Back n r v = DecodesTo n r (Some (tree_of n v)) (adapted r v) ⊎ ((p : Path) × (w : Cause) × ComesUpon n r (tree_of n v) p w × IsMissing w)
 
@@ -203,12 +203,12 @@ module _ (n : Notation) (look : List ℕ → Slot) where
   abbrev is_read : Component → Type 0
   is_read c = IsRead IsMissing n look c
 
-  abbrev is_stop : Component → Type 0
-  is_stop c = Stops IsMissing n look c
+  abbrev fails : Component → Type 0
+  fails c = FailsHere IsMissing n look c
 
-  -- Each component is read or stops the reader, and all fields are read alts these members or some component stops the reader.
+  -- Each component is read or fails, and all fields are read as these members or some component fails.
   abbrev Outcome : List Component → Fields → Slots → Type 0
-  Outcome cs gs vs = AllByRecursion is_read cs × (FieldsDecodeTo n gs (map look (field_names gs)) vs ⊎ SomeComponent is_stop cs)
+  Outcome cs gs vs = AllByRecursion is_read cs × (FieldsDecodeTo n gs (map look (field_names gs)) vs ⊎ SomeComponent fails cs)
 
   abbrev component : Standing → List ℕ → Tag → Presence → Shape → Component
   component at name t p r = record { name = name; tag = t; presence = p; shape = r; standing = at }
@@ -220,22 +220,22 @@ module _ (n : Notation) (look : List ℕ → Slot) where
       found : DecodesTo n r (look name) (adapted r v)
       found = subst (λ slot. DecodesTo n r slot (adapted r v)) (sym e) d
 
-      by : FieldsDecodeTo n gs (map look (field_names gs)) vs ⊎ SomeComponent is_stop cs → FieldsDecodeTo n (Fields.field name t p r gs) (look name ∷ map look (field_names gs)) (Slots.present name (adapted r v) vs) ⊎ SomeComponent is_stop (component at name t p r ∷ cs)
+      by : FieldsDecodeTo n gs (map look (field_names gs)) vs ⊎ SomeComponent fails cs → FieldsDecodeTo n (Fields.field name t p r gs) (look name ∷ map look (field_names gs)) (Slots.present name (adapted r v) vs) ⊎ SomeComponent fails (component at name t p r ∷ cs)
       by (inl ds) = inl (subst (FieldsDecodeTo n (Fields.field name t p r gs) (look name ∷ map look (field_names gs))) (ap (λ b. if b then Slots.present name (adapted r v) vs else Slots.absent name vs) (kept-adapted p r v ∙ kept)) (FieldsDecodeTo.decodes_present name t p r gs (look name) (map look (field_names gs)) (adapted r v) vs found ds))
       by (inr h) = inr (inr h)
-  present-outcome at name t p r cs gs v vs e kept (inr (q, w, u, m)) o = let stop = inl (tree_of n v, e, q, w, u, m) in ((inr stop, o.0), inr (inl stop))
+  present-outcome at name t p r cs gs v vs e kept (inr (q, w, u, m)) o = let failure = inl (tree_of n v, e, q, w, u, m) in ((inr failure, o.0), inr (inl failure))
 
   absent-outcome : (at : Standing) (name : List ℕ) (t : Tag) (p : Presence) (r : Shape) (cs : List Component) (gs : Fields) (vs : Slots) → look name ≡ None → may_lack p ≡ true → Outcome cs gs vs → Outcome (component at name t p r ∷ cs) (Fields.field name t p r gs) (Slots.absent name vs)
   absent-outcome at name t p r cs gs vs e lack o = ((inl (inr (e, lack)), o.0), by o.1)
     where
-      by : FieldsDecodeTo n gs (map look (field_names gs)) vs ⊎ SomeComponent is_stop cs → FieldsDecodeTo n (Fields.field name t p r gs) (look name ∷ map look (field_names gs)) (Slots.absent name vs) ⊎ SomeComponent is_stop (component at name t p r ∷ cs)
+      by : FieldsDecodeTo n gs (map look (field_names gs)) vs ⊎ SomeComponent fails cs → FieldsDecodeTo n (Fields.field name t p r gs) (look name ∷ map look (field_names gs)) (Slots.absent name vs) ⊎ SomeComponent fails (component at name t p r ∷ cs)
       by (inl ds) = inl (subst (λ slot. FieldsDecodeTo n (Fields.field name t p r gs) (slot ∷ map look (field_names gs)) (Slots.absent name vs)) (sym e) (FieldsDecodeTo.decodes_absent name t p r gs (map look (field_names gs)) vs lack ds))
       by (inr h) = inr (inr h)
 
-  -- An addition that the older version lacks may be absent, or it stops the reader.
+  -- An addition that the older version lacks may be absent, or it fails.
   lacking-outcome : (name : List ℕ) (t : Tag) (p : Presence) (r : Shape) (cs : List Component) (gs : Fields) (vs : Slots) (b : Bool) → may_lack p ≡ b → look name ≡ None → Outcome cs gs vs → Outcome (component Standing.addition name t p r ∷ cs) (Fields.field name t p r gs) (Slots.absent name vs)
   lacking-outcome name t p r cs gs vs true lack e o = absent-outcome Standing.addition name t p r cs gs vs e lack o
-  lacking-outcome name t p r cs gs vs false needed e o = let stop = inr (e, needed, refl, (name, refl)) in ((inr stop, o.0), inr (inl stop))
+  lacking-outcome name t p r cs gs vs false needed e o = let failure = inr (e, needed, refl, (name, refl)) in ((inr failure, o.0), inr (inl failure))
 
   more-outcome : (more : Fields) → Finds (tree_of n) look (all_absent more) → Outcome (components Standing.addition more) more (all_absent more)
   more-outcome Fields.no_fields f = (tt, inl FieldsDecodeTo.decodes_end)
@@ -269,10 +269,10 @@ module _ (n : Notation) (look : List ℕ → Slot) where
       → Back n (Shape.seq kind gs more) (Value.members ms)
   members-back kind gs more ms e single o = by o.1
     where
-      by : FieldsDecodeTo n (all_fields gs more) (map look (field_names (all_fields gs more))) (adapted_slots (all_fields gs more) ms) ⊎ SomeComponent is_stop (with_additions (components Standing.root gs) more) → Back n (Shape.seq kind gs more) (Value.members ms)
+      by : FieldsDecodeTo n (all_fields gs more) (map look (field_names (all_fields gs more))) (adapted_slots (all_fields gs more) ms) ⊎ SomeComponent fails (with_additions (components Standing.root gs) more) → Back n (Shape.seq kind gs more) (Value.members ms)
       by (inl ds) = inl (DecodesTo.decodes_seq kind gs more (tree_of n (Value.members ms)) look (adapted_slots (all_fields gs more) ms) e single ds)
       by (inr h) =
-          let r = first-stop IsMissing n look (reading_order kind gs more) (all-read is_read kind gs more o.0) (some-read is_stop kind gs more h) in
+          let r = first-failure IsMissing n look (reading_order kind gs more) (all-read is_read kind gs more o.0) (some-read fails kind gs more h) in
           inr (r.0, r.1, ComesUpon.in_field kind gs more (tree_of n (Value.members ms)) look r.0 r.1 e single r.2, r.3)
 
 members-taken : (n : Notation) (kind : SeqKind) (fs : Fields) (added : FieldAdditions) (gs : Fields) (more : FieldAdditions) (ms : Slots) → IsText n → are_distinct (field_names (all_fields gs more)) ≡ true → FieldsTaken n (all_fields fs added) (all_fields gs more) ms

@@ -2,8 +2,11 @@
 use Rattle.std.proofs.Common.{◌≡◌, ℕ, [], ◌∷◌, refl, true, Some, None, pos}
 use Rattle.std.specs.Prelude.{codes}
 use Rattle.asn_core.specs.declared.codec.Codec.TheVariants.{Jer}
+use Rattle.avn_grammar.specs.Tree.{Tree as AvnTree, Fields as AvnFields}
 use Rattle.serde_json.specs.Data.{Data}
 use Rattle.asn_fault.specs.Failure.{Cause}
+use Rattle.asn_model.specs.DecodesTo.{DecodesTo, FieldsDecodeTo}
+use Rattle.asn_model.specs.FailsWith.{FailsWith}
 use Rattle.asn_model.specs.Notation.{Notation}
 use Rattle.asn_model.specs.Readable.{is_readable}
 use Rattle.asn_model.specs.Shape.{Alphabet, Shape, SeqKind, Fields, FieldAdditions, Presence, closed_seq, end_tag}
@@ -123,3 +126,24 @@ both_fields = refl
 ways : paths new_tree ≡ [] ∷ [] ∷ (codes "kids" ∷ []) ∷ (codes "kids" ∷ codes "*" ∷ []) ∷ (codes "label" ∷ []) ∷ []
 unfolding new_tree
 ways = refl
+
+-- SEQUENCE { ... }, to which a later version adds b.
+abbrev old_empty : Shape
+old_empty = Shape.seq SeqKind.sequence Fields.no_fields (FieldAdditions.extended_fields Fields.no_fields)
+
+abbrev new_empty : Shape
+new_empty = Shape.seq SeqKind.sequence Fields.no_fields (FieldAdditions.extended_fields (Fields.field (codes "b") end_tag Presence.optional Shape.boolean Fields.no_fields))
+
+empty_grows : Grows old_empty new_empty
+empty_grows = Grows.grows_seq GrowsFields.grows_no_fields BeginsFields.begins_fields
+
+abbrev b_twice : Tree
+b_twice = Tree.avn (AvnTree.sequence (AvnFields.field (codes "b") (AvnTree.boolean true) (AvnFields.field (codes "b") (AvnTree.boolean true) AvnFields.no_fields)))
+
+-- The older version passes over the name that it lacks, also where it stands twice.
+passed_over : DecodesTo Notation.avn old_empty (Some b_twice) (Value.members Slots.no_slots)
+passed_over = DecodesTo.decodes_seq _ _ _ _ _ _ refl refl FieldsDecodeTo.decodes_end
+
+-- The newer version has the name, and refuses it there.
+refused_by_newer : FailsWith Notation.avn new_empty (Some b_twice) [] (Cause.duplicate_field (codes "b"))
+refused_by_newer = FailsWith.fails_repeated _ _ _ _ _ _ refl refl

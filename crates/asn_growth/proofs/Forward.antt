@@ -21,7 +21,7 @@ use Rattle.asn_growth.specs.Adapted.{adapted, adapted_each, adapted_slots}
 use Rattle.asn_growth.specs.Grows.{Grows, BeginsFields}
 use Rattle.asn_growth.specs.ComesUpon.{ComesUpon, EachComesUpon, IsUnknown}
 use Rattle.asn_growth.proofs.Adapting.{adapted-loop, adapted-same, field-adapted, no-slots, set-adapted, table-adapted}
-use Rattle.asn_growth.proofs.Stopping.{IsRead, SomeComponent, Stops, Upon, all-read, first-stop, some-read}
+use Rattle.asn_growth.proofs.FirstFailures.{IsRead, SomeComponent, FailsHere, Upon, all-read, first-failure, some-read}
 use Rattle.asn_growth.proofs.Unfolding.{grows-unfolded}
 use Rattle.asn_growth.proofs.Versions.{alternatives-begin, alternatives-joined, Found, choice-adapted, fields-begin, find, found-again, joined-begin, none_some, readable-alternatives, readable-named, single-begin}
 
@@ -42,8 +42,8 @@ data FieldsMet (n : Notation) (look : List ℕ → Slot) : Fields → Slots → 
   met_absent : (name : List ℕ) (t : Tag) (p : Presence) (s : Shape) (fs : Fields) (vs : Slots) → look name ≡ None → may_lack p ≡ true → FieldsMet n look fs vs → FieldsMet n look (Fields.field name t p s fs) (Slots.absent name vs)
 
 module _ (n : Notation) (look : List ℕ → Slot) where
-  abbrev is_stop : Component → Type 0
-  is_stop c = Stops IsUnknown n look c
+  abbrev fails : Component → Type 0
+  fails c = FailsHere IsUnknown n look c
 
   read-met : (c : Component) (v : Value) → Met n c.shape (look c.name) v → IsRead IsUnknown n look c
   read-met c v (inl d) = inl (inl (adapted c.shape v, d))
@@ -64,26 +64,26 @@ module _ (n : Notation) (look : List ℕ → Slot) where
   each-met fs FieldAdditions.closed_fields m = each-read Standing.root fs m
   each-met fs (FieldAdditions.extended_fields more) m = each-joined fs more m
 
-  -- Some field stops the reader, as a component wherever it stands.
+  -- Some field fails, as a component wherever it stands.
   abbrev SomeField : Fields → Type 0
   SomeField Fields.no_fields = ⊥
   SomeField (Fields.field name t p s fs) = Upon IsUnknown n s (look name) ⊎ SomeField fs
 
-  some-fields : (at : Standing) (fs : Fields) → SomeField fs → SomeComponent is_stop (components at fs)
+  some-fields : (at : Standing) (fs : Fields) → SomeField fs → SomeComponent fails (components at fs)
   some-fields at Fields.no_fields h = elim h [ ]
   some-fields at (Fields.field name t p s fs) (inl u) = inl (inl u)
   some-fields at (Fields.field name t p s fs) (inr h) = inr (some-fields at fs h)
 
-  some-joined : (fs more : Fields) → SomeField (join_fields fs more) → SomeComponent is_stop (components Standing.root fs ++ components Standing.addition more)
+  some-joined : (fs more : Fields) → SomeField (join_fields fs more) → SomeComponent fails (components Standing.root fs ++ components Standing.addition more)
   some-joined Fields.no_fields more h = some-fields Standing.addition more h
   some-joined (Fields.field name t p s fs) more (inl u) = inl (inl u)
   some-joined (Fields.field name t p s fs) more (inr h) = inr (some-joined fs more h)
 
-  some-met : (fs : Fields) (added : FieldAdditions) → SomeField (all_fields fs added) → SomeComponent is_stop (with_additions (components Standing.root fs) added)
+  some-met : (fs : Fields) (added : FieldAdditions) → SomeField (all_fields fs added) → SomeComponent fails (with_additions (components Standing.root fs) added)
   some-met fs FieldAdditions.closed_fields h = some-fields Standing.root fs h
   some-met fs (FieldAdditions.extended_fields more) h = some-joined fs more h
 
-  -- All are read, or one stops the reader.
+  -- All are read, or one fails.
   all-or-some : {fs : Fields} {vs : Slots} → FieldsMet n look fs vs → FieldsDecodeTo n fs (map look (field_names fs)) (adapted_slots fs vs) ⊎ SomeField fs
   all-or-some (FieldsMet.met_end vs) = inl (subst (FieldsDecodeTo n Fields.no_fields []) (sym (no-slots vs)) FieldsDecodeTo.decodes_end)
   all-or-some (FieldsMet.met_present name t p s fs v vs m ms) = by m (all-or-some ms)
@@ -105,7 +105,7 @@ module _ (n : Notation) (look : List ℕ → Slot) where
       by : FieldsDecodeTo n (all_fields fs added) (map look (field_names (all_fields fs added))) (adapted_slots (all_fields fs added) vs) ⊎ SomeField (all_fields fs added) → Met n (Shape.seq kind fs added) (Some t) (Value.members vs)
       by (inl d) = inl (DecodesTo.decodes_seq kind fs added t look (adapted_slots (all_fields fs added) vs) e single d)
       by (inr u) =
-          let r = first-stop IsUnknown n look (reading_order kind fs added) (all-read (IsRead IsUnknown n look) kind fs added (each-met fs added m)) (some-read is_stop kind fs added (some-met fs added u)) in
+          let r = first-failure IsUnknown n look (reading_order kind fs added) (all-read (IsRead IsUnknown n look) kind fs added (each-met fs added m)) (some-read fails kind fs added (some-met fs added u)) in
           inr (t, refl, r.0, r.1, ComesUpon.in_field kind fs added t look r.0 r.1 e single r.2, r.3)
 
 -- An item, or why there is none.

@@ -1,7 +1,7 @@
 pub mod Unfolding
 pub mod Adapting
 pub mod Versions
-pub mod Stopping
+pub mod FirstFailures
 pub mod Forward
 pub mod Unknowns
 pub mod Relaying

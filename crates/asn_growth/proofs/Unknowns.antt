@@ -178,11 +178,11 @@ mutual
   one_field x (FieldsComeUpon.past_absent c cs rest p w lack h) (FieldsFailWith.after_present c2 cs2 slot2 rest2 v2 q y d2 k) = absurd (nothing x d2)
   one_field x (FieldsComeUpon.past_absent c cs rest p w lack h) (FieldsFailWith.after_absent c2 cs2 rest2 q y lack2 k) = one_field x h k
 
--- What a reader refuses, that either decodes or stops it for a reason of a kind, it refuses where it is stopped.
-pub stopped_at : (K : Cause → Type 0) {n : Notation} {s : Shape} {t : Tree} {v : Value} {q : Path} {y : Cause} → IsText n → DecodesTo n s (Some t) v ⊎ ((p : Path) × (w : Cause) × ComesUpon n s t p w × K w) → FailsWith n s (Some t) q y
+-- What a reader refuses, in which it would else come upon a reason of a kind, it refuses there.
+pub fails_there : (K : Cause → Type 0) {n : Notation} {s : Shape} {t : Tree} {v : Value} {q : Path} {y : Cause} → IsText n → DecodesTo n s (Some t) v ⊎ ((p : Path) × (w : Cause) × ComesUpon n s t p w × K w) → FailsWith n s (Some t) q y
     → (w : Cause) × ComesUpon n s t q w × K w × IsAsMuch w y
-stopped_at K x (inl d) k = absurd (apart x d k)
-stopped_at K {n} {s} {t} x (inr (p, w, u, i)) k = let r = one_place x u k in (w, subst (λ r. ComesUpon n s t r w) (sym r.0) u, i, r.1)
+fails_there K x (inl d) k = absurd (apart x d k)
+fails_there K {n} {s} {t} x (inr (p, w, u, i)) k = let r = one_place x u k in (w, subst (λ r. ComesUpon n s t r w) (sym r.0) u, i, r.1)
 
 -- A reason that is as much as an absence is that absence.
 pub missing_at : {n : Notation} {s : Shape} {t : Tree} {q : Path} {y : Cause} → (w : Cause) × ComesUpon n s t q w × IsMissing w × IsAsMuch w y → ComesUpon n s t q y × IsMissing y

@@ -19,7 +19,7 @@ use Rattle.asn_growth.specs.ComesUpon.{ComesUpon, IsMissing, IsUnknown, Known}
 use Rattle.asn_growth.specs.Grows.{Grows}
 use Rattle.asn_growth.proofs.Backward.{taken}
 use Rattle.asn_growth.proofs.Forward.{forward, read-or-upon}
-use Rattle.asn_growth.proofs.Unknowns.{fails-upon, stopped_at}
+use Rattle.asn_growth.proofs.Unknowns.{fails-upon, fails_there}
 use Rattle.asn_upgrades.specs.Apart.{IsApart}
 use Rattle.asn_codec.proofs.Again.{one_tree}
 use Rattle.asn_upgrades.proofs.Refusing.{is_text, refused_tree}
@@ -43,7 +43,7 @@ says {n} {s} {text} {t} {w} has h = subst (λ u. DecodesTo n s (Some u) w) (one_
 apart_at : {codec : Codec} {s : Shape} {text : List ℕ} {t : Tree} {v : Value} {failure : Failure} (IsSuch : Cause → Type 0) → HasTree (notation_of codec) text t → Reached (notation_of codec) s t v IsSuch → IsDecodeFailure codec s text failure
     → IsApart (notation_of codec) s t IsSuch failure
 apart_at {codec} {s} {text} {t} {v} {failure} IsSuch has reached h =
-    let k = stopped_at IsSuch (is_text has) reached (refused_tree codec s text t failure has h) in record { reason = k.0; upon = k.1; such = k.2; told = k.3 }
+    let k = fails_there IsSuch (is_text has) reached (refused_tree codec s text t failure has h) in record { reason = k.0; upon = k.1; such = k.2; told = k.3 }
 
 -- An older reader over a text of a newer version.
 module _ (codec : Codec) (old new : Shape) (text : List ℕ) (t : Tree) (v : Value) (a : is_readable old ≡ true) (g : Grows old new) (has : HasTree (notation_of codec) text t) (d : DecodesTo (notation_of codec) new (Some t) v) where

@@ -8,7 +8,7 @@ use Rattle.asn_model.specs.Tree.{Tree}
 use Rattle.asn_model.specs.Value.{Value}
 use Rattle.asn_growth.specs.ComesUpon.{ComesUpon, IsUnknown, Known}
 use Rattle.asn_growth.proofs.Forward.{forward, read-or-upon}
-use Rattle.asn_growth.proofs.Unknowns.{stopped_at}
+use Rattle.asn_growth.proofs.Unknowns.{fails_there}
 use Rattle.asn_growth.proofs.laws.older_readers_read_newer_texts.Goals as goal
 
 where_known : {n : Notation} {s : Shape} {t : Tree} {v : Value} → Known n s t → DecodesTo n s (Some t) v ⊎ ((p : Path) × (w : Cause) × ComesUpon n s t p w × IsUnknown w) → DecodesTo n s (Some t) v
@@ -18,6 +18,6 @@ where_known k (inr (p, w, u, i)) = absurd (k p w u i)
 pub returns : goal.returns
 returns c = record {
   known = λ n old new t v x a g h k. where_known k (read-or-upon v (forward x a g h));
-  refused = λ n old new t v p y x a g h k. stopped_at IsUnknown x (read-or-upon v (forward x a g h)) k;
+  refused = λ n old new t v p y x a g h k. fails_there IsUnknown x (read-or-upon v (forward x a g h)) k;
   unknown = λ n old new t v x a g h. read-or-upon v (forward x a g h);
 }

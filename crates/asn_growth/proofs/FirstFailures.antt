@@ -1,4 +1,4 @@
--- Of components that are read or stop a reader, the first one that stops it in the order of reading.
+-- Of components that are read or fail, the first one that fails in the order of reading.
 use Rattle.std.proofs.Common.{◌≡◌, sym, subst, ℕ, Bool, true, false, if◌then◌else◌, List, [], ◌∷◌, ◌++◌, map, Some, None, ◌⊎◌, inl, inr}
 use Rattle.std.specs.List.{AllByRecursion}
 use Rattle.std.specs.Ordering.{is_gt, on}
@@ -81,34 +81,34 @@ module _ (P : Component → Type 0) where
       by (inl k) = inl (some-root kind fs k)
       by (inr k) = inr k
 
--- The slot comes to stop a reader, for a reason of this kind.
+-- A reader comes upon a reason of this kind in the slot.
 abbrev pub Upon : (Cause → Type 0) → Notation → Shape → Slot → Type 0
 Upon K n s slot = (t : Tree) × (slot ≡ Some t) × (p : Path) × (w : Cause) × ComesUpon n s t p w × K w
 
 module _ (K : Cause → Type 0) (n : Notation) (look : List ℕ → Slot) where
-  -- The component stops a reader, for a reason of this kind.
-  abbrev pub Stops : Component → Type 0
-  Stops c = Upon K n c.shape (look c.name) ⊎ ((look c.name ≡ None) × (may_lack c.presence ≡ false) × (c.standing ≡ Standing.addition) × K (Cause.missing_field c.name))
+  -- The component fails, for a reason of this kind.
+  abbrev pub FailsHere : Component → Type 0
+  FailsHere c = Upon K n c.shape (look c.name) ⊎ ((look c.name ≡ None) × (may_lack c.presence ≡ false) × (c.standing ≡ Standing.addition) × K (Cause.missing_field c.name))
 
-  -- The component is read, or it stops a reader.
+  -- The component is read, or it fails.
   abbrev pub IsRead : Component → Type 0
-  IsRead c = (((v : Value) × DecodesTo n c.shape (look c.name) v) ⊎ ((look c.name ≡ None) × (may_lack c.presence ≡ true))) ⊎ Stops c
+  IsRead c = (((v : Value) × DecodesTo n c.shape (look c.name) v) ⊎ ((look c.name ≡ None) × (may_lack c.presence ≡ true))) ⊎ FailsHere c
 
-  abbrev pub FirstStop : List Component → Type 0
-  FirstStop cs = (p : Path) × (w : Cause) × FieldsComeUpon n cs (map look (component_names cs)) p w × K w
+  abbrev pub FirstFailure : List Component → Type 0
+  FirstFailure cs = (p : Path) × (w : Cause) × FieldsComeUpon n cs (map look (component_names cs)) p w × K w
 
-  stop-here : (c : Component) (cs : List Component) → Stops c → FirstStop (c ∷ cs)
-  stop-here c cs (inl (t, e, p, w, u, k)) = (c.name ∷ p, w, subst (λ slot. FieldsComeUpon n (c ∷ cs) (slot ∷ map look (component_names cs)) (c.name ∷ p) w) (sym e) (FieldsComeUpon.upon_field c cs t (map look (component_names cs)) p w u), k)
-  stop-here c cs (inr (e, needed, at, k)) = ([], Cause.missing_field c.name, subst (λ slot. FieldsComeUpon n (c ∷ cs) (slot ∷ map look (component_names cs)) [] (Cause.missing_field c.name)) (sym e) (FieldsComeUpon.upon_missing c cs (map look (component_names cs)) needed at), k)
+  failure-here : (c : Component) (cs : List Component) → FailsHere c → FirstFailure (c ∷ cs)
+  failure-here c cs (inl (t, e, p, w, u, k)) = (c.name ∷ p, w, subst (λ slot. FieldsComeUpon n (c ∷ cs) (slot ∷ map look (component_names cs)) (c.name ∷ p) w) (sym e) (FieldsComeUpon.upon_field c cs t (map look (component_names cs)) p w u), k)
+  failure-here c cs (inr (e, needed, at, k)) = ([], Cause.missing_field c.name, subst (λ slot. FieldsComeUpon n (c ∷ cs) (slot ∷ map look (component_names cs)) [] (Cause.missing_field c.name)) (sym e) (FieldsComeUpon.upon_missing c cs (map look (component_names cs)) needed at), k)
 
   -- The first of them.
-  pub first-stop : (cs : List Component) → AllByRecursion IsRead cs → SomeComponent Stops cs → FirstStop cs
-  first-stop [] h k = elim k [ ]
-  first-stop (c ∷ cs) h k = by (λ j. first-stop cs h.1 j) h.0 k
+  pub first-failure : (cs : List Component) → AllByRecursion IsRead cs → SomeComponent FailsHere cs → FirstFailure cs
+  first-failure [] h k = elim k [ ]
+  first-failure (c ∷ cs) h k = by (λ j. first-failure cs h.1 j) h.0 k
     where
-      by : (SomeComponent Stops cs → FirstStop cs) → IsRead c → Stops c ⊎ SomeComponent Stops cs → FirstStop (c ∷ cs)
-      by later h (inl u) = stop-here c cs u
-      by later (inr u) (inr ks) = stop-here c cs u
+      by : (SomeComponent FailsHere cs → FirstFailure cs) → IsRead c → FailsHere c ⊎ SomeComponent FailsHere cs → FirstFailure (c ∷ cs)
+      by later h (inl u) = failure-here c cs u
+      by later (inr u) (inr ks) = failure-here c cs u
       by later (inl (inl (v, d))) (inr ks) = let r = later ks in (r.0, r.1, FieldsComeUpon.past_present c cs (look c.name) (map look (component_names cs)) v r.0 r.1 d r.2, r.3)
       by later (inl (inr (e, lack))) (inr ks) =
           let r = later ks in

@@ -5,7 +5,7 @@ use asn_base::{Codec, Constraints, Identifier, Scan, Tag};
 use asn_codec::CodecCalls;
 use asn_traits::{Decoder, Encode, Encoder};
 use avn_rules::avn::{de, enc};
-use avn_value::{AvnValue, NodeTable};
+use avn_value::{AvnValue, LEVEL_LIMIT, NodeTable};
 use std::alloc::{AllocError, Global};
 use std::fmt::Display;
 use std::test::Fail;
@@ -121,7 +121,7 @@ fn an_integer_value_may_be_no_number(rt: HostRuntime) -> Result<(), Fail> {
 #[test]
 fn a_table_is_decoded(rt: HostRuntime) -> Result<(), Fail> {
     let mut scan = Scan::new("TRUE");
-    let table = NodeTable::parse(rt.alloc(), &mut scan)?;
+    let table = NodeTable::parse(rt.alloc(), &mut scan, LEVEL_LIMIT)?;
     let mut decoder = de::Decoder::from_table(rt.alloc(), table);
     let value = decoder.decode_bool(Tag::BOOL);
     let_go(decoder);

@@ -5,7 +5,7 @@
 #![tactic(auto)]
 
 use asn_core::Scan;
-use avn_value::{AvnValue, NodeTable, parse_avn};
+use avn_value::{AvnValue, LEVEL_LIMIT, NodeTable, parse_avn};
 use std::io;
 use std::time::{CpuClock, Duration};
 
@@ -23,7 +23,7 @@ fn table_time(rt: &HostRuntime, text: &str) -> io::Result<Duration> {
     for _ in 0..TURNS {
         let mut scan = Scan::new(text);
         let start = rt.process_cpu_time()?;
-        let _table = NodeTable::parse(rt.alloc(), &mut scan);
+        let _table = NodeTable::parse(rt.alloc(), &mut scan, LEVEL_LIMIT);
         least = least.min(rt.process_cpu_time()?.saturating_sub(start));
     }
     Ok(least)
@@ -53,7 +53,7 @@ fn value_time(rt: &HostRuntime, text: &str) -> io::Result<Duration> {
 fn table_printing_time(rt: &HostRuntime, text: &str) -> io::Result<Duration> {
     let mut scan = Scan::new(text);
     let mut least = Duration::MAX;
-    let Ok(table) = NodeTable::parse(rt.alloc(), &mut scan) else {
+    let Ok(table) = NodeTable::parse(rt.alloc(), &mut scan, LEVEL_LIMIT) else {
         return Ok(least);
     };
     for _ in 0..TURNS {

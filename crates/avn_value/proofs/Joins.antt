@@ -1,12 +1,12 @@
 -- Rows of trees, joined.
 use Rattle.std.proofs.Common.{◌≡◌, ◌≢◌, ℕ, ◌+◌, ◌<◌, List, [], ◌∷◌, ◌++◌, Option, Some, None, String, string_bytes, refl, sym, ap, ◌∙◌, take, get_or, length}
-use Rattle.std.specs.Prelude.{map, option_map}
+use Rattle.std.specs.Prelude.{map}
 use Rattle.std.specs.Fmt.{decimal}
 use Rattle.std.proofs.lemmas.List.{take_more}
 use Rattle.avn_grammar.specs.Tree.{Tree, Fields, integer, sequence, tree, no_fields, field, absent}
 use Rattle.avn_grammar.specs.Normal.{normal, normal_trees, normal_fields, arc_trees, braced}
 use Rattle.avn_value.specs.declared.value.AvnValue.{AvnValue}
-use Rattle.avn_nodes.specs.TreeLists.{trees_in, fields_in}
+use Rattle.avn_nodes.specs.TreeLists.{trees_in}
 use Rattle.avn_nodes.proofs.JoinedFields.{join, join-nil, seen, fields-push, fields-next}
 use Rattle.avn_value.specs.View.{fields_trees}
 

@@ -16,7 +16,9 @@ mod token;
 mod value;
 mod well_formed;
 
+pub use avn_grammar::laws::larger_limit_reads;
+pub use avn_grammar::limits::{GREATEST_LEVEL_LIMIT, LEVEL_LIMIT};
 pub use avn_nodes::NodeKind;
 pub use node_table::NodeTable;
-pub use text::{parse_avn, parse_scan};
+pub use text::{parse_avn, parse_scan, parse_scan_within};
 pub use value::AvnValue;

@@ -23,7 +23,7 @@ use crate::value::AvnValue;
 use asn_core::{OutOfMemory, Scan};
 use asn_fault::DecodeError;
 use avn_cursor::Cursor;
-use avn_grammar::limits::{LEVEL_LIMIT, LOOKS_PER_CHARACTER};
+use avn_grammar::limits::{GREATEST_LEVEL_LIMIT, LOOKS_PER_CHARACTER};
 use avn_nodes::{NodeKind, Nodes};
 use std::alloc::Global;
 use std::marker::Model;
@@ -58,9 +58,9 @@ impl Model for NodeTable {
 
 impl NodeTable {
     /// Reads the value that the whole text of the scan is, in the ASN.1 value notation (X.680),
-    /// where no value is looked for at a level above `LEVEL_LIMIT`. White space may follow it. What
+    /// where no value is looked for at a level above the limit. White space may follow it. What
     /// the scan counts rises by at most `LOOKS_PER_CHARACTER` for each character, and as many more,
-    /// whatever the answer.
+    /// whatever the answer and the limit.
     ///
     /// # Errors
     ///
@@ -69,26 +69,27 @@ impl NodeTable {
     /// space follows the value, with all that follows it; `ExceedsMaxParseDepth` where a value is
     /// looked for too deep; and `OutOfMemory`, also where the table would have more nodes or text
     /// than 32 bits count.
-    pub fn parse(alloc: Global, scan: &mut Scan<'_>) -> Result<NodeTable, DecodeError>
+    pub fn parse(alloc: Global, scan: &mut Scan<'_>, limit: usize) -> Result<NodeTable, DecodeError>
+        requires { limit ≤ GREATEST_LEVEL_LIMIT }
         ensures text { scan.new.text ≡ scan.old.text }
         ensures rises { scan.old.looks ≤ scan.new.looks }
         ensures looks { scan.new.looks
             ≤ scan.old.looks + LOOKS_PER_CHARACTER * (length (chars scan.old.text) + 1) }
 
-        ensures ok { IfOk result (λ table. ParsesWhole LEVEL_LIMIT (chars scan.old.text) table) }
+        ensures ok { IfOk result (λ table. ParsesWhole limit (chars scan.old.text) table) }
         ensures err { IfErr result (λ error.
-            Explains LEVEL_LIMIT (chars scan.old.text) (failure_of error)) }
+            Explains limit (chars scan.old.text) (failure_of error)) }
 
         // Each of the two errors comes exactly where it says, and a table else, memory aside.
-        ensures reads { (tree : Tree) → ParsesWhole LEVEL_LIMIT (chars scan.old.text) tree
+        ensures reads { (tree : Tree) → ParsesWhole limit (chars scan.old.text) tree
             → IsTable tree result }
-        ensures unread { (found : List ℕ) → ParseFailure LEVEL_LIMIT (chars scan.old.text) found
+        ensures unread { (found : List ℕ) → ParseFailure limit (chars scan.old.text) found
             → IsRefusal (Cause.unexpected_token found) result }
-        ensures deep { ExceedsDepth LEVEL_LIMIT 0 (chars scan.old.text)
+        ensures deep { ExceedsDepth limit 0 (chars scan.old.text)
             → IsRefusal Cause.exceeds_max_parse_depth result }
     {
         let mut cursor = Cursor::new(mem::replace(scan, Scan::new("")));
-        let found = NodeTable::read(alloc, &mut cursor, LEVEL_LIMIT);
+        let found = NodeTable::read(alloc, &mut cursor, limit);
         *scan = cursor.into_scan();
         found
     }

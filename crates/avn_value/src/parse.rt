@@ -268,7 +268,7 @@ fn no_value(alloc: Global, cursor: &mut Cursor<'_>) -> DecodeError
 ///
 /// # Errors
 ///
-/// As `parse_scan` has them, for this limit.
+/// As `parse_scan_within` has them.
 pub fn read_whole(
     alloc: Global,
     nodes: &mut Nodes,

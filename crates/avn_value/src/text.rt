@@ -17,7 +17,7 @@ use crate::node_table::NodeTable;
 use crate::value::AvnValue;
 use asn_core::{Codec, Scan};
 use asn_fault::DecodeError;
-use avn_grammar::limits::{LEVEL_LIMIT, LOOKS_PER_CHARACTER};
+use avn_grammar::limits::{GREATEST_LEVEL_LIMIT, LEVEL_LIMIT, LOOKS_PER_CHARACTER};
 use std::alloc::Global;
 
 /// Returns the value of a table. Its one error is `OutOfMemory`.
@@ -33,9 +33,10 @@ fn root_value(alloc: Global, table: &NodeTable) -> Result<AvnValue, DecodeError>
 }
 
 /// Reads the value that the whole text of the scan is, in the ASN.1 value notation (X.680), where
-/// no value is looked for at a level above `LEVEL_LIMIT`. White space may follow it. What the scan
+/// no value is looked for at a level above the limit. White space may follow it. What the scan
 /// counts rises by at most `LOOKS_PER_CHARACTER` for each character, and as many more, whatever the
-/// answer.
+/// answer and the limit. The printed text of a well-formed value is read as the value's normal
+/// form, unless it is too deep.
 ///
 /// # Errors
 ///
@@ -43,6 +44,50 @@ fn root_value(alloc: Global, table: &NodeTable) -> Result<AvnValue, DecodeError>
 /// the first `EXCERPT_LENGTH` characters of what is not read, or where more than white space
 /// follows the value, with all that follows it; `ExceedsMaxParseDepth` where a value is looked for
 /// too deep; and `OutOfMemory`.
+pub fn parse_scan_within(
+    alloc: Global,
+    scan: &mut Scan<'_>,
+    limit: usize,
+) -> Result<AvnValue, DecodeError>
+    requires { limit ≤ GREATEST_LEVEL_LIMIT }
+    ensures text { scan.new.text ≡ scan.old.text }
+    ensures rises { scan.old.looks ≤ scan.new.looks }
+    ensures looks { scan.new.looks
+        ≤ scan.old.looks + LOOKS_PER_CHARACTER * (length (chars scan.old.text) + 1) }
+
+    ensures ok { IfOk result (λ value. ParsesWhole limit (chars scan.old.text) (tree_of value)) }
+    ensures err { IfErr result (λ error.
+        Explains limit (chars scan.old.text) (failure_of error)) }
+
+    // Each of the two errors comes exactly where it says, and a value else, memory aside.
+    ensures reads { (tree : Tree) → ParsesWhole limit (chars scan.old.text) tree
+        → IsValue tree result }
+    ensures unread { (found : List ℕ) → ParseFailure limit (chars scan.old.text) found
+        → IsRefusal (Cause.unexpected_token found) result }
+    ensures deep { ExceedsDepth limit 0 (chars scan.old.text)
+        → IsRefusal Cause.exceeds_max_parse_depth result }
+
+    ensures printed { (tree : Tree)
+        → scan.old.text ≡ print 0 tree → is_well_formed tree ≡ true
+        → deepest 0 tree ≤ limit
+        → IsValue (normal tree) result }
+    ensures printed_deep { (tree : Tree)
+        → scan.old.text ≡ print 0 tree → is_well_formed tree ≡ true
+        → limit < deepest 0 tree
+        → IsRefusal Cause.exceeds_max_parse_depth result }
+{
+    match NodeTable::parse(alloc, scan, limit) {
+        Ok(table) => root_value(alloc, &table),
+        Err(error) => Err(error),
+    }
+}
+
+/// Reads the value that the whole text of the scan is, as `parse_scan_within` does with the limit
+/// `LEVEL_LIMIT`.
+///
+/// # Errors
+///
+/// As `parse_scan_within` has them.
 pub fn parse_scan(alloc: Global, scan: &mut Scan<'_>) -> Result<AvnValue, DecodeError>
     ensures text { scan.new.text ≡ scan.old.text }
     ensures rises { scan.old.looks ≤ scan.new.looks }
@@ -54,7 +99,6 @@ pub fn parse_scan(alloc: Global, scan: &mut Scan<'_>) -> Result<AvnValue, Decode
     ensures err { IfErr result (λ error.
         Explains LEVEL_LIMIT (chars scan.old.text) (failure_of error)) }
 
-    // Each of the two errors comes exactly where it says, and a value else, memory aside.
     ensures reads { (tree : Tree) → ParsesWhole LEVEL_LIMIT (chars scan.old.text) tree
         → IsValue tree result }
     ensures unread { (found : List ℕ) → ParseFailure LEVEL_LIMIT (chars scan.old.text) found
@@ -62,10 +106,7 @@ pub fn parse_scan(alloc: Global, scan: &mut Scan<'_>) -> Result<AvnValue, Decode
     ensures deep { ExceedsDepth LEVEL_LIMIT 0 (chars scan.old.text)
         → IsRefusal Cause.exceeds_max_parse_depth result }
 {
-    match NodeTable::parse(alloc, scan) {
-        Ok(table) => root_value(alloc, &table),
-        Err(error) => Err(error),
-    }
+    parse_scan_within(alloc, scan, LEVEL_LIMIT)
 }
 
 /// Reads the value that the whole text is, as `parse_scan` does. The printed text of a well-formed
@@ -73,7 +114,7 @@ pub fn parse_scan(alloc: Global, scan: &mut Scan<'_>) -> Result<AvnValue, Decode
 ///
 /// # Errors
 ///
-/// As `parse_scan` has them.
+/// As `parse_scan_within` has them.
 pub fn parse_avn(alloc: Global, input: &str) -> Result<AvnValue, DecodeError>
     ensures ok { IfOk result (λ value. ParsesWhole LEVEL_LIMIT (chars input.now) (tree_of value)) }
     ensures err { IfErr result (λ error.
@@ -96,5 +137,5 @@ pub fn parse_avn(alloc: Global, input: &str) -> Result<AvnValue, DecodeError>
         → IsRefusal Cause.exceeds_max_parse_depth result }
 {
     let mut scan = Scan::new(input);
-    parse_scan(alloc, &mut scan)
+    parse_scan_within(alloc, &mut scan, LEVEL_LIMIT)
 }

@@ -2,7 +2,9 @@
 use crate::kinds::{is_refused, let_go};
 use asn_core::Scan;
 use asn_fault::{DecodeError, DecodeErrorKind};
-use avn_value::{AvnValue, parse_avn, parse_scan};
+use avn_value::{
+    AvnValue, GREATEST_LEVEL_LIMIT, LEVEL_LIMIT, parse_avn, parse_scan, parse_scan_within,
+};
 use std::alloc::{AllocError, Global};
 use std::process::Abort;
 use std::test::Fail;
@@ -35,13 +37,13 @@ fn is_too_deep(error: &DecodeError) -> bool {
     matches!(error.kind, DecodeErrorKind::ExceedsMaxParseDepth)
 }
 
-/// Returns whether the text is read.
+/// Returns whether the answer to a text is its value.
 ///
 /// # Errors
 ///
 /// Those of reading, but for texts that are nested beyond the limit.
-fn is_read(alloc: Global, text: &str) -> Result<bool, Fail> {
-    match parse_avn(alloc, text) {
+fn is_read(answer: Result<AvnValue, DecodeError>) -> Result<bool, Fail> {
+    match answer {
         Ok(value) => {
             let_go(value);
             Ok(true)
@@ -84,9 +86,49 @@ const DEPTHS: [(usize, &str, &str, &str, bool); 10] = [
 fn values_are_looked_for_down_to_level_64(rt: HostRuntime) -> Result<(), Fail> {
     for row in DEPTHS.iter() {
         let text = nested(rt.alloc(), row.0, row.1, row.2, row.3)?;
-        let is_read = is_read(rt.alloc(), text.as_str())?;
+        let is_read = is_read(parse_avn(rt.alloc(), text.as_str()))?;
         assert!(rt; is_read == row.4, "{} {} {}", row.0, row.1, row.2);
     }
+    Ok(())
+}
+
+/// Lists limits, how many braces nest, and whether they are read within the limit.
+const LIMITS: [(usize, usize, bool); 8] = [
+    (0, 1, true),
+    (0, 2, false),
+    (63, 64, true),
+    (63, 65, false),
+    (65, 66, true),
+    (65, 67, false),
+    (GREATEST_LEVEL_LIMIT, 101, true),
+    (GREATEST_LEVEL_LIMIT, 102, false),
+];
+
+/// Values are read down to the level that a call names, and refused for depth beyond it.
+#[test]
+fn values_are_looked_for_down_to_the_limit(rt: HostRuntime) -> Result<(), Fail> {
+    for row in LIMITS.iter() {
+        let limit = row.0;
+        assert!(rt; limit <= GREATEST_LEVEL_LIMIT);
+        let text = nested(rt.alloc(), row.1, "{", "", "}")?;
+        let mut scan = Scan::new(text.as_str());
+        let is_read = is_read(parse_scan_within(rt.alloc(), &mut scan, limit))?;
+        assert!(rt; is_read == row.2, "{} {}", limit, row.1);
+    }
+    Ok(())
+}
+
+/// A call that names no limit has `LEVEL_LIMIT`: 66 braces, whose innermost is at level 65, are
+/// refused there and read within the next limit.
+#[test]
+fn the_limit_of_no_name_is_64(rt: HostRuntime) -> Result<(), Fail> {
+    let text = nested(rt.alloc(), 66, "{", "", "}")?;
+    let mut scan = Scan::new(text.as_str());
+    assert!(rt; !is_read(parse_scan(rt.alloc(), &mut scan))?);
+    let mut scan = Scan::new(text.as_str());
+    assert!(rt; !is_read(parse_scan_within(rt.alloc(), &mut scan, LEVEL_LIMIT))?);
+    let mut scan = Scan::new(text.as_str());
+    assert!(rt; is_read(parse_scan_within(rt.alloc(), &mut scan, LEVEL_LIMIT + 1))?);
     Ok(())
 }
 

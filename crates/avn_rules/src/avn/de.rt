@@ -20,7 +20,7 @@ use asn_fault::DecodeError;
 use asn_model::words;
 use asn_slots::Pending;
 use asn_traits::{Field, LeafKind, OwnedLeaf, SeqKind, place_of};
-use avn_value::{AvnValue, NodeKind, NodeTable};
+use avn_value::{AvnValue, LEVEL_LIMIT, NodeKind, NodeTable};
 use std::alloc::Global;
 use std::marker::Model;
 
@@ -66,7 +66,7 @@ impl Decoder {
         ensures refused { IfErr result (λ e. NoTree input.now (failure_of e)) }
     {
         let mut scan = Scan::new(input);
-        Ok(Decoder::from_table(alloc, NodeTable::parse(alloc, &mut scan)?))
+        Ok(Decoder::from_table(alloc, NodeTable::parse(alloc, &mut scan, LEVEL_LIMIT)?))
     }
 
     /// Makes a decoder of an AVN value.

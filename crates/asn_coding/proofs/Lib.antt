@@ -1,3 +1,5 @@
+pub mod Sorted
+pub mod Repeated
 pub mod Steps
 pub mod Refusing
 pub mod LeafValues

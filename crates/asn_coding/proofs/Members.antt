@@ -19,9 +19,13 @@ use Rattle.asn_coding.specs.FieldAnswer.{Ahead, TakesDefault, TakesField, TakesS
 use Rattle.asn_coding.specs.Opening.{HasMembers, OpensMembers}
 use Rattle.asn_coding.specs.Passing.{allows, default_slot, RefusesFields, TakesFields}
 use Rattle.asn_coding.specs.ReadingSlots.{slots_read, tag_order, with_slots}
+use Rattle.asn_coding.specs.Tables.{names_of}
+use Rattle.asn_coding.specs.declared.field.Field.{Field}
 use Rattle.asn_coding.specs.Writing.{Frame, members_value, named}
 use Rattle.asn_coding.proofs.Passing.{allowed-kept, allowed-lacks, refuses_components, slots_ahead, takes_components}
 use Rattle.asn_coding.proofs.ReadingOrder.{fields_from, fields-read, names-read}
+use Rattle.asn_coding.proofs.Repeated.{none_repeated}
+use Rattle.asn_coding.proofs.Sorted.{each-append, each-first, each-second, each-sorted}
 use Rattle.asn_coding.specs.SetFields.{additions_of}
 use Rattle.asn_coding.proofs.TagOrder.{by_tag, with-additions}
 use Rattle.asn_coding.proofs.Steps.{refuses_by, members_fail, same_head, same_tail}
@@ -125,32 +129,6 @@ members_from n look (c ∷ cs) (o ∷ ss) count (t, all) = by t (members_from n 
         (subst (λ q. FieldsDecodeTo n (fields_from (c ∷ cs)) (q ∷ map look (component_names cs)) (Slots.absent c.name (named ss (component_names cs)))) (sym shown)
         (FieldsDecodeTo.decodes_absent c.name c.tag c.presence c.shape (fields_from cs) (map look (component_names cs)) (named ss (component_names cs)) lacks later))
 
--- What holds of each of the sorted list holds of each.
-module _ {X : Type 0} (cmp : X → X → Ordering) (P : X → Type 0) where
-  each-inserted : (x : X) (ys : List X) → AllByRecursion P (insert_in_order cmp x ys) → P x × AllByRecursion P ys
-  each-inserted x [] all = all
-  each-inserted x (y ∷ ys) all = by (each-inserted x ys) (is_gt (cmp x y)) all
-    where
-      by : (AllByRecursion P (insert_in_order cmp x ys) → P x × AllByRecursion P ys) → (b : Bool) → AllByRecursion P (if b then y ∷ insert_in_order cmp x ys else x ∷ y ∷ ys) → P x × AllByRecursion P (y ∷ ys)
-      by rest true (p, qs) = let r = rest qs in (r.0, (p, r.1))
-      by rest false all = all
-
-  each-sorted : (xs : List X) → AllByRecursion P (sort cmp xs) → AllByRecursion P xs
-  each-sorted [] all = tt
-  each-sorted (x ∷ xs) all = let r = each-inserted x (sort cmp xs) all in (r.0, each-sorted xs r.1)
-
-  each-append : (xs ys : List X) → AllByRecursion P xs → AllByRecursion P ys → AllByRecursion P (xs ++ ys)
-  each-append [] ys a b = b
-  each-append (x ∷ xs) ys (p, a) b = (p, each-append xs ys a b)
-
-  each-first : (xs ys : List X) → AllByRecursion P (xs ++ ys) → AllByRecursion P xs
-  each-first [] ys all = tt
-  each-first (x ∷ xs) ys (p, all) = (p, each-first xs ys all)
-
-  each-second : (xs ys : List X) → AllByRecursion P (xs ++ ys) → AllByRecursion P ys
-  each-second [] ys all = all
-  each-second (x ∷ xs) ys (p, all) = each-second xs ys all
-
 length-insert : {X : Type 0} (cmp : X → X → Ordering) (x : X) (ys : List X) → length (insert_in_order cmp x ys) ≡ suc (length ys)
 length-insert cmp x [] = refl
 length-insert cmp x (y ∷ ys) = by (length-insert cmp x ys) (is_gt (cmp x y))
@@ -233,7 +211,7 @@ module _ (n : Notation) (look : List ℕ → Slot) (root adds : List Component) 
       record {
         count = h.1;
         each = subst (AllByRecursion (IsTaken n look)) (sym (split-with root adds ss h.0))
-            (each-append tag_order (IsTaken n look) (with_slots root ss) (with_slots adds (drop (length root) ss)) (each-sorted tag_order (IsTaken n look) (with_slots root ss) (each-first tag_order (IsTaken n look) sorted _ all)) (each-second tag_order (IsTaken n look) sorted _ all));
+            (each-append (IsTaken n look) (with_slots root ss) (with_slots adds (drop (length root) ss)) (each-sorted tag_order (IsTaken n look) (with_slots root ss) (each-first (IsTaken n look) sorted _ all)) (each-second (IsTaken n look) sorted _ all));
       }
 
 as_listed : (n : Notation) (look : List ℕ → Slot) (kind : SeqKind) (fs : Fields) (added : FieldAdditions) (ss : Frame) → Each n look (reading_order kind fs added) (slots_read kind fs ss) → Each n look (reading_order SeqKind.sequence fs added) ss
@@ -251,25 +229,25 @@ as_members n look kind fs added ss e =
     let read = reading_order SeqKind.sequence fs added in
     subst (λ ns. FieldsDecodeTo n (all_fields fs added) (map look ns) (named ss ns)) (names-read fs added) (subst (λ gs. FieldsDecodeTo n gs (map look (component_names read)) (named ss (component_names read))) (fields-read fs added) (members_from n look read ss d.count d.each))
 
-one_each : (cs : List Component) (names : List (List ℕ)) (slots : List Slot) → names ≡ component_names cs → length slots ≡ length names → length slots ≡ length cs
-one_each cs names slots spelled count = count ∙ ap length spelled ∙ length-map cs (λ (c : Component). c.name)
+one_each : (cs : List Component) (rows : List Field) (slots : List Slot) → names_of rows ≡ component_names cs → length slots ≡ length rows → length slots ≡ length cs
+one_each cs rows slots spelled count = count ∙ sym (length-map rows (λ (f : Field). f.name.now)) ∙ ap length spelled ∙ length-map cs (λ (c : Component). c.name)
 
 -- What is read of the members of an open slot is its value.
 module _ {n : Notation} (kind : SeqKind) (fs : Fields) (added : FieldAdditions) where
   decodes : (ss : Frame) (rest : List Slot) {ahead others names : List (List ℕ)} {after slots : List Slot} {slot : Slot} → names ≡ component_names (reading_order kind fs added) → HasMembers n names slot slots
       → TakesFields n (reading_order kind fs added) (slots_read kind fs ss) (Ahead.ahead ahead (slots ++ rest)) (Ahead.ahead others after) → DecodesTo n (Shape.seq kind fs added) slot (members_value (all_fields fs added) ss)
-  decodes ss rest spelled (HasMembers.has_members names t look is) taken =
-      DecodesTo.decodes_seq kind fs added t look _ is (as_members n look kind fs added ss (takes_each n look rest (ap (λ ns. map look ns ++ rest) spelled) taken))
+  decodes ss rest spelled (HasMembers.has_members names t look is once) taken =
+      DecodesTo.decodes_seq kind fs added t look _ is (none_repeated n t kind fs added spelled once) (as_members n look kind fs added ss (takes_each n look rest (ap (λ ns. map look ns ++ rest) spelled) taken))
   decodes ss rest spelled (HasMembers.members_free names slot slots is) taken = DecodesTo.decodes_free _ slot _ is
 
-  pub members_read : (ss : Frame) {ahead others names : List (List ℕ)} {before mid after : List Slot} → names ≡ component_names (reading_order kind fs added) → OpensMembers n kind names before (Ok tt) mid
+  pub members_read : (rows : List Field) (ss : Frame) {ahead others : List (List ℕ)} {before mid after : List Slot} → names_of rows ≡ component_names (reading_order kind fs added) → OpensMembers n kind rows before (Ok tt) mid
       → TakesFields n (reading_order kind fs added) (slots_read kind fs ss) (Ahead.ahead ahead mid) (Ahead.ahead others after) → (slot : Slot) × (before ≡ slot ∷ after) × DecodesTo n (Shape.seq kind fs added) slot (members_value (all_fields fs added) ss)
-  members_read ss {ahead = ahead} {others = others} {names = names} {after = after} spelled (slot, slots, rest, was, is, count, below, has) taken =
+  members_read rows ss {ahead = ahead} {others = others} {after = after} spelled (slot, slots, rest, was, is, count, below, has) taken =
       let t = subst (λ m. TakesFields n (reading_order kind fs added) (slots_read kind fs ss) (Ahead.ahead ahead m) (Ahead.ahead others after)) is taken in
-      (slot, was ∙ ap (λ l. slot ∷ l) (sym (takes_components t slots rest (one_each (reading_order kind fs added) names slots spelled count) refl)), decodes ss rest spelled has t)
+      (slot, was ∙ ap (λ l. slot ∷ l) (sym (takes_components t slots rest (one_each (reading_order kind fs added) rows slots spelled count) refl)), decodes ss rest spelled has t)
 
-  pub members_refused : {names ahead : List (List ℕ)} {before mid : List Slot} {e : Failure} → names ≡ component_names (reading_order kind fs added) → ahead ≡ component_names (reading_order kind fs added) → OpensMembers n kind names before (Ok tt) mid
+  pub members_refused : (rows : List Field) {ahead : List (List ℕ)} {before mid : List Slot} {e : Failure} → names_of rows ≡ component_names (reading_order kind fs added) → ahead ≡ component_names (reading_order kind fs added) → OpensMembers n kind rows before (Ok tt) mid
       → RefusesFields n (reading_order kind fs added) (Ahead.ahead ahead mid) e → Refuses n (FailsWith n (Shape.seq kind fs added) (head_slot before)) e
-  members_refused {names = names} {e = e} spelled along (slot, slots, rest, was, is, count, below, has) refused =
+  members_refused rows {e = e} spelled along (slot, slots, rest, was, is, count, below, has) refused =
       refuses_by (λ p w k. subst (λ l. FailsWith n (Shape.seq kind fs added) (head_slot l) p w) (sym was) (members_fail kind fs added p w spelled has k)) e
-      (refuses_components along refused slots rest (one_each (reading_order kind fs added) names slots spelled count) is)
+      (refuses_components along refused slots rest (one_each (reading_order kind fs added) rows slots spelled count) is)

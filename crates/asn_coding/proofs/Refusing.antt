@@ -1,5 +1,5 @@
 -- Refusals of a decoder's calls, from what their errors tell.
-use Rattle.std.proofs.Common.{◌≡◌, ap, sym, ◌∙◌, subst, refl, ◌⊎◌, inl, inr, List, [], ◌∷◌, Some, None, Err}
+use Rattle.std.proofs.Common.{◌≡◌, ap, sym, ◌∙◌, subst, refl, ◌⊎◌, inl, inr, ℕ, List, [], ◌∷◌, Some, None, Err}
 use Rattle.std.specs.Prelude.{option_map}
 use Rattle.asn_core.specs.declared.codec.Codec.{Codec}
 use Rattle.asn_fault.specs.Failure.{Failure, Cause, at_root}
@@ -10,6 +10,10 @@ use Rattle.asn_model.specs.Leaf.{LeafFailure, IsFailureOf, codec_of, as_leaf, ki
 use Rattle.asn_model.specs.FailsWith.{FailsWith, Path}
 use Rattle.asn_model.specs.declared.leaves.LeafKind.{LeafKind}
 use Rattle.asn_coding.specs.Answer.{Refuses, OfPlace, AtRoot, RefusesLeaf}
+use Rattle.asn_coding.specs.Opening.{IsFirstRepeated}
+use Rattle.asn_coding.specs.Tables.{ListsFields}
+use Rattle.asn_coding.specs.declared.field.Field.{Field}
+use Rattle.asn_coding.proofs.Repeated.{first_row}
 use Rattle.asn_coding.proofs.Steps.{refuses_by}
 
 -- Lack of memory.
@@ -51,12 +55,18 @@ pub no_members : {n : Notation} (kind : SeqKind) (fs : Fields) (added : FieldAdd
     → Refuses n (FailsWith n (Shape.seq kind fs added) (head_slot before)) e
 no_members kind fs added t before after e was is tells = first_fails (Shape.seq kind fs added) t _ before after e was tells (λ w h. FailsWith.fails_no_members kind fs added t w is h)
 
+-- A tree that has members, in which a name of the rows is repeated.
+pub repeated_name : {n : Notation} (kind : SeqKind) (fs : Fields) (added : FieldAdditions) (t : Tree) (look : List ℕ → Slot) {rows : List Field} (row : Field) (c : Codec) (before after : List Slot) (e : Failure) → before ≡ Some t ∷ after → as_members n t ≡ Some look → ListsFields rows fs added
+    → IsFirstRepeated n t rows row → e ≡ at_root (Cause.duplicate_field row.name.now) c → notation_of c ≡ n → Refuses n (FailsWith n (Shape.seq kind fs added) (head_slot before)) e
+repeated_name {n} kind fs added t look row c before after e was is listed first says of =
+    at_no_field {P = FailsWith n (Shape.seq kind fs added) (head_slot before)} (Cause.duplicate_field row.name.now) c e says of (rw was (FailsWith.fails_repeated kind fs added t look row.name.now is (first_row listed first)))
+
 -- A tree that is no list.
 pub no_list : {n : Notation} (s : Shape) (t : Tree) (before after : List Slot) (e : Failure) → before ≡ Some t ∷ after → as_list n t ≡ None → RefusesLeaf n t (list_mismatch n) e
     → Refuses n (FailsWith n (Shape.list_of s) (head_slot before)) e
 no_list s t before after e was is tells = first_fails (Shape.list_of s) t _ before after e was tells (λ w h. FailsWith.fails_no_list s t w is h)
 
 -- A tree that is no choice.
-pub no_choice : {n : Notation} (alts : Alternatives) (added : AlternativeAdditions) (t : Tree) (before after : List Slot) (e : Failure) → before ≡ Some t ∷ after → as_choice n t ≡ None → RefusesLeaf n t (choice_mismatch n) e
+pub no_choice : {n : Notation} (alts : Alternatives) (added : AlternativeAdditions) (t : Tree) (before after : List Slot) (e : Failure) → before ≡ Some t ∷ after → as_choice n t ≡ None → RefusesLeaf n t (choice_mismatch n t) e
     → Refuses n (FailsWith n (Shape.choice alts added) (head_slot before)) e
 no_choice alts added t before after e was is tells = first_fails (Shape.choice alts added) t _ before after e was tells (λ w h. FailsWith.fails_no_choice alts added t w is h)

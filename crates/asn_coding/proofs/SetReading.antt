@@ -2,6 +2,7 @@
 use Rattle.std.proofs.Common.{◌≡◌, refl, sym, subst, ap, ◌∙◌, ℕ, suc, ◌+◌, ◌<◌, ◌≤◌, List, [], ◌∷◌, ◌++◌, map, take, drop, drop-cons, get_or, length, Option, Some, None, Result, Ok, Err, arith, zero, Bool, true, false, not, if◌then◌else◌}
 use Rattle.std.proofs.lemmas.List.{length-map, map-append, map_push, take_all, take_more, take-append-drop}
 use Rattle.std.specs.List.{AllByRecursion}
+use Rattle.asn_core.specs.declared.tag.Tag.{Tag}
 use Rattle.asn_fault.specs.Failure.{Failure}
 use Rattle.asn_model.specs.Components.{Component, component_names, reading_order}
 use Rattle.asn_model.specs.DecodesTo.{DecodesTo}
@@ -15,6 +16,7 @@ use Rattle.asn_coding.specs.FieldAnswer.{Ahead, TakesDefault, TakesField}
 use Rattle.asn_coding.specs.Opening.{OpensMembers}
 use Rattle.asn_coding.specs.Passing.{ComponentFailsWith, RefusesFields, TakesFields, allows, default_slot, may_take}
 use Rattle.asn_coding.specs.SetFields.{SetAnswer, TakesPlace, component_at, kept_slot, listed_components, places_read}
+use Rattle.asn_coding.specs.Tables.{field_tag, names_of}
 use Rattle.asn_coding.specs.declared.field.Field.{Field}
 use Rattle.asn_coding.specs.Writing.{tail_names}
 use Rattle.asn_coding.proofs.Grouping.{all_taken, second_refused}
@@ -107,7 +109,7 @@ element [] i h = absurd (omega (arith, h))
 element (x ∷ xs) zero h = (x, refl)
 element (x ∷ xs) (suc i) h = element xs i (omega (arith, h))
 
-same_at : {X Y : Type 0} (f : X → ℕ) (g : Y → ℕ) (xs : List X) (ys : List Y) (i : ℕ) (d : X) (y : Y) → map f xs ≡ map g ys → i < length xs → y ≡ get_or ys i y → f (get_or xs i d) ≡ g y
+same_at : {X Y Z : Type 0} (f : X → Z) (g : Y → Z) (xs : List X) (ys : List Y) (i : ℕ) (d : X) (y : Y) → map f xs ≡ map g ys → i < length xs → y ≡ get_or ys i y → f (get_or xs i d) ≡ g y
 same_at f g [] ys i u y e h b = absurd (omega (arith, h))
 same_at f g (x ∷ xs) [] i u v e h b = let d : f x ∷ map f xs ≡ [] = e in cc d
 same_at f g (x ∷ xs) (y ∷ ys) zero u v e h b =
@@ -124,47 +126,58 @@ holds_at P [] i x all h a = absurd (omega (arith, h))
 holds_at P (y ∷ ys) zero x (p, all) h a = subst P (sym a) p
 holds_at P (y ∷ ys) (suc i) x (p, all) h a = holds_at P ys i x all (omega (arith, h)) a
 
--- The place and the component of the field that is read next.
-pub record NextPlace (fs : Fields) (added : FieldAdditions) (i index : ℕ) : Type 0 where
+-- The place and the component of the field that is read next, whose tag is this one.
+pub record NextPlace (fs : Fields) (added : FieldAdditions) (i index : ℕ) (tag : Tag) : Type 0 where
   pub place : Place
   pub below : i < length (places_read fs added)
   pub at : place ≡ get_or (places_read fs added) i place
   pub is : index ≡ place.0
+  pub tagged : place.1.tag ≡ tag
   pub stands : component_at (listed_components fs added) index ≡ Some place.1
 
-pub next_place : (fs : Fields) (added : FieldAdditions) (fields : List Field) (i index : ℕ) (d : Field) → map (λ (f : Field). f.index) fields ≡ map (λ p. p.0) (places_read fs added) → i < length fields → index ≡ (get_or fields i d).index → NextPlace fs added i index
-next_place fs added fields i index d same h at =
+abbrev row_spot : Field → ℕ × Tag
+row_spot f = (f.index, field_tag f)
+
+abbrev place_spot : Place → ℕ × Tag
+place_spot p = (p.0, p.1.tag)
+
+as_long : (fs : Fields) (added : FieldAdditions) (fields : List Field) → map row_spot fields ≡ map place_spot (places_read fs added) → length fields ≡ length (places_read fs added)
+as_long fs added fields same = sym (length-map fields row_spot) ∙ ap length same ∙ length-map (places_read fs added) place_spot
+
+pub next_place : (fs : Fields) (added : FieldAdditions) (fields : List Field) (i : ℕ) (spot : ℕ × Tag) (d : Field) → map {B = ℕ × Tag} (λ (f : Field). (f.index, field_tag f)) fields ≡ map {B = ℕ × Tag} (λ p. (p.0, p.1.tag)) (places_read fs added) → i < length fields
+    → spot ≡ ((get_or fields i d).index, field_tag (get_or fields i d)) → NextPlace fs added i spot.0 spot.1
+next_place fs added fields i spot d same h at =
     let ps = places_read fs added in
-    let long : length fields ≡ length ps = sym (length-map fields (λ (f : Field). f.index)) ∙ ap length same ∙ length-map ps (λ (p : Place). p.0) in
+    let long = as_long fs added fields same in
     let below : i < length ps = omega (arith, h, long) in
     let found = element ps i below in
-    let is : index ≡ found.0.0 = at ∙ same_at (λ (f : Field). f.index) (λ (p : Place). p.0) fields ps i d found.0 same h found.1 in
+    let both : spot ≡ place_spot found.0 = at ∙ same_at row_spot place_spot fields ps i d found.0 same h found.1 in
+    let is : spot.0 ≡ found.0.0 = ap (λ (s : ℕ × Tag). s.0) both in
     record {
       place = found.0;
       below = below;
       at = found.1;
       is = is;
+      tagged = sym (ap (λ (s : ℕ × Tag). s.1) both);
       stands = ap (component_at (listed_components fs added)) is ∙ holds_at (λ (p : Place). component_at (listed_components fs added) p.0 ≡ Some p.1) ps i found.0 (all-stand fs added) below found.1;
     }
 
 -- There are no more places than fields.
-pub as_many : (fs : Fields) (added : FieldAdditions) (fields : List Field) {i : ℕ} → map (λ (f : Field). f.index) fields ≡ map (λ p. p.0) (places_read fs added) → length fields ≤ i → length (places_read fs added) ≤ i
-as_many fs added fields same h =
-    let long : length fields ≡ length (places_read fs added) = sym (length-map fields (λ (f : Field). f.index)) ∙ ap length same ∙ length-map (places_read fs added) (λ (p : Place). p.0) in
-    omega (arith, h, long)
+pub as_many : (fs : Fields) (added : FieldAdditions) (fields : List Field) {i : ℕ} → map {B = ℕ × Tag} (λ (f : Field). (f.index, field_tag f)) fields ≡ map {B = ℕ × Tag} (λ p. (p.0, p.1.tag)) (places_read fs added) → length fields ≤ i → length (places_read fs added) ≤ i
+as_many fs added fields same h = let long = as_long fs added fields same in omega (arith, h, long)
 
 -- What is made of all answers is the value, or memory ran out.
-pub set_answer : {A E S : Type 0} (failure : E → Failure) (slot : S → Option Value) (n : Notation) (kind : SeqKind) (fs : Fields) (added : FieldAdditions) (value : A → Value) (answers : List S) {table others : List (List ℕ)} {before mid now : List Slot} (r : Result A E)
-    → kind ≡ SeqKind.set → table ≡ component_names (reading_order SeqKind.set fs added) → OpensMembers n SeqKind.set table before (Ok tt) mid
+pub set_answer : {A E S : Type 0} (failure : E → Failure) (slot : S → Option Value) (n : Notation) (kind : SeqKind) (fs : Fields) (added : FieldAdditions) (value : A → Value) (table : List Field) (answers : List S) {others : List (List ℕ)} {before mid now : List Slot} (r : Result A E)
+    → kind ≡ SeqKind.set → names_of table ≡ component_names (reading_order SeqKind.set fs added) → OpensMembers n SeqKind.set table before (Ok tt) mid
     → TakesFields n (parts (places_read fs added)) (map slot answers) (Ahead.ahead (names (places_read fs added)) mid) (Ahead.ahead others now) → SetAnswer failure n slot fs added value answers r → AnswerBy failure n (Shape.seq kind fs added) value before r now
-set_answer failure slot n kind fs added value answers {others = others} {before = before} {mid = mid} {now = now} (Ok x) set spelled opened taken (ss, is, value_is) =
+set_answer failure slot n kind fs added value table answers {others = others} {before = before} {mid = mid} {now = now} (Ok x) set spelled opened taken (ss, is, value_is) =
     let t = subst (λ cs. TakesFields n cs (map slot answers) (Ahead.ahead (names (places_read fs added)) mid) (Ahead.ahead others now)) (parts-read fs added) taken in
-    let d = members_read SeqKind.set fs added ss spelled opened (subst (λ f. TakesFields n (reading_order SeqKind.set fs added) f (Ahead.ahead (names (places_read fs added)) mid) (Ahead.ahead others now)) (sym is) t) in
+    let d = members_read SeqKind.set fs added table ss spelled opened (subst (λ f. TakesFields n (reading_order SeqKind.set fs added) f (Ahead.ahead (names (places_read fs added)) mid) (Ahead.ahead others now)) (sym is) t) in
     (d.0, d.1, subst (λ k. DecodesTo n (Shape.seq k fs added) d.0 (value x)) (sym set) (subst (DecodesTo n (Shape.seq SeqKind.set fs added) d.0) (sym value_is) d.2))
-set_answer failure slot n kind fs added value answers (Err e) set spelled opened taken memory = Refuses.no_memory memory
+set_answer failure slot n kind fs added value table answers (Err e) set spelled opened taken memory = Refuses.no_memory memory
 
-pub set_refused : {n : Notation} (kind : SeqKind) (fs : Fields) (added : FieldAdditions) {table : List (List ℕ)} {before mid : List Slot} {e : Failure} → kind ≡ SeqKind.set → table ≡ component_names (reading_order SeqKind.set fs added) → OpensMembers n SeqKind.set table before (Ok tt) mid
+pub set_refused : {n : Notation} (kind : SeqKind) (fs : Fields) (added : FieldAdditions) (table : List Field) {before mid : List Slot} {e : Failure} → kind ≡ SeqKind.set → names_of table ≡ component_names (reading_order SeqKind.set fs added) → OpensMembers n SeqKind.set table before (Ok tt) mid
     → RefusesFields n (parts (places_read fs added)) (Ahead.ahead (names (places_read fs added)) mid) e → Refuses n (FailsWith n (Shape.seq kind fs added) (head_slot before)) e
-set_refused {n} kind fs added {before = before} {mid = mid} {e = e} set spelled opened refused =
+set_refused {n} kind fs added table {before = before} {mid = mid} {e = e} set spelled opened refused =
     subst (λ k. Refuses n (FailsWith n (Shape.seq k fs added) (head_slot before)) e) (sym set)
-    (members_refused SeqKind.set fs added spelled (ap component_names (parts-read fs added)) opened (subst (λ cs. RefusesFields n cs (Ahead.ahead (names (places_read fs added)) mid) e) (parts-read fs added) refused))
+    (members_refused SeqKind.set fs added table spelled (ap component_names (parts-read fs added)) opened (subst (λ cs. RefusesFields n cs (Ahead.ahead (names (places_read fs added)) mid) e) (parts-read fs added) refused))

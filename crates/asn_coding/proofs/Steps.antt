@@ -13,6 +13,8 @@ use Rattle.asn_model.specs.DecodesTo.{DecodesTo, EachDecodesTo, FieldsDecodeTo}
 use Rattle.asn_model.specs.FailsWith.{FailsWith, EachFailsWith, FieldsFailWith, Path}
 use Rattle.asn_coding.specs.Answer.{Answer, Refuses}
 use Rattle.asn_coding.specs.Opening.{IsList, HasMembers, list_shape, list_value}
+use Rattle.asn_coding.proofs.ReadingOrder.{names-read}
+use Rattle.asn_coding.proofs.Repeated.{none_repeated}
 
 -- A refusal for a reason is one for another reason that follows from it.
 pub refuses_by : {n : Notation} {P Q : Path → Cause → Type 0} → ((p : Path) (w : Cause) → P p w → Q p w) → (e : Failure) → Refuses n P e → Refuses n Q e
@@ -37,11 +39,11 @@ list_fails SeqKind.set s p w (IsList.is_list t slots e) h = FailsWith.fails_set 
 list_fails kind s p w (IsList.list_free slot slots e) h = FailsWith.fails_free _ slot p w e
 
 pub members_decode : {n : Notation} {names : List (List ℕ)} {slot : Slot} {slots : List Slot} (kind : SeqKind) (fs : Fields) (added : FieldAdditions) (vs : Slots) → names ≡ field_names (all_fields fs added) → HasMembers n names slot slots → FieldsDecodeTo n (all_fields fs added) slots vs → DecodesTo n (Shape.seq kind fs added) slot (Value.members vs)
-members_decode {n} kind fs added vs e (HasMembers.has_members names t look is) h = DecodesTo.decodes_seq kind fs added t look vs is (subst (λ l. FieldsDecodeTo n (all_fields fs added) (map look l) vs) e h)
+members_decode {n} kind fs added vs e (HasMembers.has_members names t look is once) h = DecodesTo.decodes_seq kind fs added t look vs is (none_repeated n t SeqKind.sequence fs added (e ∙ sym (names-read fs added)) once) (subst (λ l. FieldsDecodeTo n (all_fields fs added) (map look l) vs) e h)
 members_decode kind fs added vs e (HasMembers.members_free names slot slots is) h = DecodesTo.decodes_free _ slot _ is
 
 pub members_fail : {n : Notation} {names : List (List ℕ)} {slot : Slot} {slots : List Slot} (kind : SeqKind) (fs : Fields) (added : FieldAdditions) (p : Path) (w : Cause) → names ≡ component_names (reading_order kind fs added) → HasMembers n names slot slots → FieldsFailWith n (reading_order kind fs added) slots p w → FailsWith n (Shape.seq kind fs added) slot p w
-members_fail {n} kind fs added p w e (HasMembers.has_members names t look is) h = FailsWith.fails_seq kind fs added t look p w is (subst (λ l. FieldsFailWith n (reading_order kind fs added) (map look l) p w) e h)
+members_fail {n} kind fs added p w e (HasMembers.has_members names t look is once) h = FailsWith.fails_seq kind fs added t look p w is (none_repeated n t kind fs added e once) (subst (λ l. FieldsFailWith n (reading_order kind fs added) (map look l) p w) e h)
 members_fail kind fs added p w e (HasMembers.members_free names slot slots is) h = FailsWith.fails_free _ slot p w is
 
 decodes_nothing : {n : Notation} {s : Shape} {v : Value} → DecodesTo n s None v → (r : Shape) → DecodesTo n r None v

@@ -1,14 +1,17 @@
 -- What a decoder puts before the pending slots when it opens a tree.
-use Rattle.std.specs.Prelude.{◌≡◌, ℕ, ◌<◌, List, [], ◌∷◌, ◌++◌, map, length, Option, Some, None, Result, Ok, Err}
+use Rattle.std.specs.Prelude.{◌≡◌, ℕ, ◌<◌, ◌≤◌, List, [], ◌∷◌, ◌++◌, map, length, Option, Some, None, Result, Ok, Err, true, false}
+use Rattle.std.specs.List.{All, Contains}
 use Rattle.asn_fault.specs.Failure.{failure_of}
 use Rattle.asn_fault.specs.declared.decode.DecodeError.{DecodeError}
 use Rattle.asn_core.specs.declared.tag.Tag.{Tag}
 use Rattle.asn_model.specs.Leaf.{answer_kind, as_leaf, kind_of, kind_of_owned, IsOwned}
 use Rattle.asn_model.specs.Notation.{Notation}
-use Rattle.asn_model.specs.Shape.{Shape, SeqKind, Fields, FieldAdditions, Alternatives, AlternativeAdditions, place_named, alternative_named, alternative_tagged, all_alternatives, all_fields, field_names}
-use Rattle.asn_model.specs.Tree.{Tree, Slot, slot_nodes, head_slot, as_list, as_members, as_choice, first_repeated, same_identifier}
+use Rattle.asn_model.specs.Shape.{Shape, SeqKind, Fields, FieldAdditions, Alternatives, AlternativeAdditions, place_named, alternative_named, alternative_tagged, all_alternatives}
+use Rattle.asn_model.specs.Tree.{Tree, Slot, slot_nodes, head_slot, as_list, as_members, as_choice, is_repeated, same_identifier}
 use Rattle.asn_model.specs.FailsWith.{FailsWith}
 use Rattle.asn_coding.specs.Answer.{Refuses}
+use Rattle.asn_coding.specs.Tables.{ListsFields, names_of}
+use Rattle.asn_coding.specs.declared.field.Field.{Field}
 use Rattle.asn_model.specs.Value.{Value, Values, bag_of}
 use Rattle.asn_model.specs.declared.leaves.LeafKind.{LeafKind}
 use Rattle.asn_model.specs.declared.leaves.OwnedLeaf.{OwnedLeaf}
@@ -25,7 +28,7 @@ pub data IsList (n : Notation) : Slot → List Slot → Type 0 where
 
 -- The slot has these slots at these names, none of which is repeated.
 pub data HasMembers (n : Notation) : List (List ℕ) → Slot → List Slot → Type 0 where
-  has_members : (names : List (List ℕ)) (t : Tree) (look : List ℕ → Slot) → as_members n t ≡ Some look → first_repeated n t names ≡ None → HasMembers n names (Some t) (map look names)
+  has_members : (names : List (List ℕ)) (t : Tree) (look : List ℕ → Slot) → as_members n t ≡ Some look → All (λ name. is_repeated n t name ≡ false) names → HasMembers n names (Some t) (map look names)
   members_free : (names : List (List ℕ)) (slot : Slot) (slots : List Slot) → n ≡ Notation.other → HasMembers n names slot slots
 
 -- The payload stands in a slot, with the place of its identifier, or an absent slot without a place.
@@ -67,10 +70,16 @@ abbrev pub OpensList : Notation → SeqKind → List Slot → Result ℕ DecodeE
 OpensList n kind before (Ok count) after = (slot : Slot) × (slots : List Slot) × (rest : List Slot) × (before ≡ slot ∷ rest) × (after ≡ slots ++ rest) × (length slots ≡ count) × AllBelow (slot_nodes slot) slots × IsList n slot slots
 OpensList n kind before (Err e) after = (s : Shape) → Refuses n (FailsWith n (list_shape kind s) (head_slot before)) (failure_of e)
 
--- The slots of these names in the first pending slot stand in its place, or it has no members, or a name twice.
-abbrev pub OpensMembers : Notation → SeqKind → List (List ℕ) → List Slot → Result (Unit {0}) DecodeError → List Slot → Type 0
-OpensMembers n kind names before (Ok u) after = (slot : Slot) × (slots : List Slot) × (rest : List Slot) × (before ≡ slot ∷ rest) × (after ≡ slots ++ rest) × (length slots ≡ length names) × AllBelow (slot_nodes slot) slots × HasMembers n names slot slots
-OpensMembers n kind names before (Err e) after = (fs : Fields) (added : FieldAdditions) → field_names (all_fields fs added) ≡ names → Refuses n (FailsWith n (Shape.seq kind fs added) (head_slot before)) (failure_of e)
+-- Of the rows whose names are repeated in the tree, this one is the first by its place among the fields.
+pub record IsFirstRepeated (n : Notation) (t : Tree) (rows : List Field) (row : Field) : Type 0 where
+  pub listed : Contains rows row
+  pub repeated : is_repeated n t row.name.now ≡ true
+  pub first : All (λ (other : Field). is_repeated n t other.name.now ≡ true → row.index ≤ other.index) rows
+
+-- The slots of these rows in the first pending slot stand in its place, or it has no members, or a name of the rows is repeated.
+abbrev pub OpensMembers : Notation → SeqKind → List Field → List Slot → Result (Unit {0}) DecodeError → List Slot → Type 0
+OpensMembers n kind rows before (Ok u) after = (slot : Slot) × (slots : List Slot) × (rest : List Slot) × (before ≡ slot ∷ rest) × (after ≡ slots ++ rest) × (length slots ≡ length rows) × AllBelow (slot_nodes slot) slots × HasMembers n (names_of rows) slot slots
+OpensMembers n kind rows before (Err e) after = (fs : Fields) (added : FieldAdditions) → ListsFields rows fs added → Refuses n (FailsWith n (Shape.seq kind fs added) (head_slot before)) (failure_of e)
 
 -- A choice's payload stands in its place, or an absent slot, or it is no choice.
 abbrev pub OpensChoice : Notation → List (List ℕ) → List Slot → Result (Option ℕ) DecodeError → List Slot → Type 0

@@ -1,9 +1,10 @@
 -- What tables of constants say.
-use Rattle.std.specs.Prelude.{ℕ, suc, List, [], ◌∷◌, map, length, Option, Some, None}
+use Rattle.std.specs.Prelude.{◌≡◌, ℕ, suc, ◌<◌, List, [], ◌∷◌, map, length, Option, Some, None}
+use Rattle.std.specs.List.{All, Contains, slice_get}
 use Rattle.asn_core.specs.Tags.{smallest}
 use Rattle.asn_core.specs.declared.tag.Tag.{Tag}
 use Rattle.asn_core.specs.declared.tag_tree.TagTree.{TagTree}
-use Rattle.asn_model.specs.Shape.{Fields, FieldAdditions, Alternatives, AlternativeAdditions, Presence, field_names, tags, end_tag}
+use Rattle.asn_model.specs.Shape.{Fields, FieldAdditions, Alternatives, AlternativeAdditions, Presence, all_fields, field_names, tags, end_tag}
 use Rattle.asn_coding.specs.declared.field.Field.{Field}
 use Rattle.asn_coding.specs.declared.field.Presence.{Presence as PresenceKind}
 use Rattle.asn_coding.specs.declared.field.Presence.TheVariants as kind
@@ -11,6 +12,11 @@ use Rattle.asn_coding.specs.declared.field.Presence.TheVariants as kind
 -- The names in a table of fields.
 abbrev pub names_of : List Field → List (List ℕ)
 names_of fields = map (λ f. f.name.now) fields
+
+-- The rows list these fields, in any order: each has the name at its place among them, and each place has a row.
+pub record ListsFields (rows : List Field) (fs : Fields) (added : FieldAdditions) : Type 0 where
+  pub named : All (λ (f : Field). slice_get (field_names (all_fields fs added)) f.index ≡ Some f.name.now) rows
+  pub complete : (k : ℕ) → k < length (field_names (all_fields fs added)) → (f : Field) × Contains rows f × (f.index ≡ k)
 
 -- What a table tells of a field: its place, its smallest tag, its presence and its name.
 pub record Row : Type 0 where

@@ -76,11 +76,11 @@ pub fn fields_as_read(
     Ok(fields)
 }
 
-/// Returns the place of a field among all fields, and its tag.
+/// Returns the place of a field among all fields, and its smallest tag, by which a SET is ordered.
 pub fn place_and_tag(field: &Field) -> (usize, Tag)
-    ensures { result ≡ (field.now.index, field.now.tag) }
+    ensures { result ≡ (field.now.index, field_tag field.now) }
 {
-    (field.index, field.tag)
+    (field.index, or_end(field.tag_tree.least_leaf()))
 }
 
 /// Returns the place of the first field whose tag is not below that of this one.

@@ -24,3 +24,4 @@ pub mod SameText
 pub mod ShapeNames
 pub mod Ranges
 pub mod SetTexts
+pub mod DecodedJson

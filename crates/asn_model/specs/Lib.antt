@@ -20,3 +20,4 @@ pub mod Readable
 pub mod Writes
 pub mod Canonical
 pub mod Enclosing
+pub mod HeldJson

@@ -1,6 +1,7 @@
 //! States the laws of the definitions, each as the contract of a function that does nothing. They
 //! hold for every shape, recursive ones too, and the contracts of the codecs stand on them.
 ghost use Rattle.asn_model.specs.Canonical.{jer_data, avn_tree, canonical_text};
+ghost use Rattle.asn_model.specs.HeldJson.{is_held};
 ghost use Rattle.asn_model.specs.Notation.{Notation, IsText};
 ghost use Rattle.asn_model.specs.Readable.{is_readable};
 ghost use Rattle.asn_model.specs.DecodesTo.{DecodesTo};
@@ -58,6 +59,20 @@ pub fn written_avn_is_read()
 pub fn written_json_nests_no_deeper()
     ensures { (s : Shape) (d : Data) (v : Value) → DecodesTo Notation.jer s (Some (Tree.json d)) v
         → depth (jer_data v) ≤ depth d }
+{}
+
+/// AVN can write each value that JER can write.
+pub fn avn_writes_what_jer_writes()
+    ensures { (v : Value) → Writable Notation.jer v → Writable Notation.avn v }
+{}
+
+/// Both notations can write what decodes from a JSON value whose strings are UTF-8 and whose whole
+/// numbers have 64 bits, whatever the shape is.
+pub fn decoded_json_can_be_written()
+    ensures jer { (s : Shape) (d : Data) (v : Value) → is_held d ≡ true
+        → DecodesTo Notation.jer s (Some (Tree.json d)) v → Writable Notation.jer v }
+    ensures avn { (s : Shape) (d : Data) (v : Value) → is_held d ≡ true
+        → DecodesTo Notation.jer s (Some (Tree.json d)) v → Writable Notation.avn v }
 {}
 
 /// Values of a shape that can be read, which the notation can write, are equal where their

@@ -28,21 +28,21 @@ use Rattle.avn_value.specs.Answer.{Explains}
 use Rattle.avn_rules.specs.Text.{IsAvn, NoTree, RefusesText}
 
 -- A refusal of the tree is one of its text.
-pub text_refused : {A : Type 0} (s : Shape) (value : A → Value) (text : List ℕ) (t : AvnTree) (r : Result A DecodeError) → IsAvn text t → RootAnswer Notation.avn s value (Tree.avn t) r → IfErr r (λ e. RefusesText s text (failure_of e))
-text_refused s value text t (Ok x) is h = tt
-text_refused s value text t (Err e) is h = RefusesText.no_value t is h
+pub text_refused : {A : Type 0} (limit : ℕ) (s : Shape) (value : A → Value) (text : List ℕ) (t : AvnTree) (r : Result A DecodeError) → IsAvn limit text t → RootAnswer Notation.avn s value (Tree.avn t) r → IfErr r (λ e. RefusesText limit s text (failure_of e))
+text_refused limit s value text t (Ok x) is h = tt
+text_refused limit s value text t (Err e) is h = RefusesText.no_value t is h
 
 -- A text that decodes to a value is read as that value.
-pub text_complete : {A : Type 0} (s : Shape) (value : A → Value) (text : List ℕ) (t : AvnTree) (r : Result A DecodeError) → IsAvn text t → RootAnswer Notation.avn s value (Tree.avn t) r
-    → (u : AvnTree) (v : Value) → IsAvn text u → DecodesTo Notation.avn s (Some (Tree.avn u)) v → Reads value v r
-text_complete s value text t r is h u v was says =
+pub text_complete : {A : Type 0} (limit : ℕ) (s : Shape) (value : A → Value) (text : List ℕ) (t : AvnTree) (r : Result A DecodeError) → IsAvn limit text t → RootAnswer Notation.avn s value (Tree.avn t) r
+    → (u : AvnTree) (v : Value) → IsAvn limit text u → DecodesTo Notation.avn s (Some (Tree.avn u)) v → Reads value v r
+text_complete limit s value text t r is h u v was says =
     root_complete Notation.avn s value (Tree.avn t) r tt h v (subst (λ x. DecodesTo Notation.avn s (Some (Tree.avn x)) v) ((same_parses was.1 is.1).0) says)
 
 -- A text that is a value of the notation is refused for lack of memory alone.
-pub explained_memory : (text : List ℕ) {failure : Failure} {t : AvnTree} → NoTree text failure → IsAvn text t → is_out_of_memory failure ≡ true
-explained_memory text (Explains.unexpected_token found u) r = absurd (reads-unread r u)
-explained_memory text (Explains.exceeds_depth d) r = absurd (reads-deep r d)
-explained_memory text Explains.out_of_memory r = refl
+pub explained_memory : (limit : ℕ) (text : List ℕ) {failure : Failure} {t : AvnTree} → NoTree limit text failure → IsAvn limit text t → is_out_of_memory failure ≡ true
+explained_memory limit text (Explains.unexpected_token found u) r = absurd (reads-unread r u)
+explained_memory limit text (Explains.exceeds_depth d) r = absurd (reads-deep r d)
+explained_memory limit text Explains.out_of_memory r = refl
 
 -- The last tree of the last frame is that of the last value.
 pub last_held : (frames : List (List (Option AvnTree))) (f : Frame) (fs : List Frame) → map (trees_of avn_tree) (f ∷ fs) ≡ frames → last_present (last_frame frames) ≡ option_map avn_tree (last_present f)

@@ -12,7 +12,7 @@ ghost use Rattle.asn_traits.specs.Writable.{Writable};
 ghost use Rattle.asn_coding.specs.Writing.{FailsToEncode, IsOutOfMemory};
 ghost use Rattle.avn_grammar.specs.Tree.{Tree as AvnTree};
 ghost use Rattle.avn_rules.specs.Text.{IsAvn, ReadsBack, RefusesText};
-ghost use Rattle.std.specs.Prelude.{◌≡◌, Some, IfOk, IfErr, OnOk, string_bytes};
+ghost use Rattle.std.specs.Prelude.{◌≡◌, ℕ, ◌≤◌, Some, IfOk, IfErr, OnOk, string_bytes};
 
 mod bits;
 pub mod de;
@@ -27,6 +27,7 @@ mod take_apart;
 
 use asn_fault::{DecodeError, EncodeError};
 use asn_traits::{Decode, Encode};
+use avn_value::{GREATEST_LEVEL_LIMIT, LEVEL_LIMIT};
 use std::alloc::Global;
 
 /// Encodes a value as text of the value notation, with a line for each element and each field.
@@ -36,10 +37,11 @@ use std::alloc::Global;
 /// `OutOfMemory`; else the kind of the first part that AVN cannot encode.
 pub fn encode<T: Encode>(alloc: Global, value: &T) -> Result<String, EncodeError>
     // The text is the canonical one of the value, of the type's shape. It is read as the tree that
-    // is written for the value, in normal form, unless that nests deeper than 64 levels.
+    // is written for the value, in normal form, within each limit that it nests no deeper than.
     ensures text { IfOk result (λ s. string_bytes s
         ≡ canonical_text Notation.avn (T.value_of value.now)) }
-    ensures reads_back { IfOk result (λ s. ReadsBack (T.value_of value.now) (string_bytes s)) }
+    ensures reads_back { IfOk result (λ s. (limit : ℕ)
+        → ReadsBack limit (T.value_of value.now) (string_bytes s)) }
     ensures fits { OnOk result (Fits T.shape_of (T.value_of value.now)) }
     ensures writable { OnOk result (Writable Notation.avn (T.value_of value.now)) }
     // An error is that of the first part that can't be encoded, or that memory ran out.
@@ -53,24 +55,42 @@ pub fn encode<T: Encode>(alloc: Global, value: &T) -> Result<String, EncodeError
     encoder.to_string()
 }
 
-/// Returns the value that a text of the value notation decodes to.
+/// Returns the value that a text of the value notation decodes to, within the limit on levels.
 ///
 /// # Errors
 ///
 /// `OutOfMemory`; `UnexpectedToken` where the text is no value; `ExceedsMaxParseDepth` where it is
-/// deeper than 64 levels; else why the value of the notation is no value of the type, within a
+/// deeper than the limit; else why the value of the notation is no value of the type, within a
 /// `FieldError` for each field on the way.
-pub fn decode<T: Decode>(alloc: Global, input: &str) -> Result<T, DecodeError>
+pub fn decode_within<T: Decode>(alloc: Global, input: &str, limit: usize) -> Result<T, DecodeError>
+    requires { limit ≤ GREATEST_LEVEL_LIMIT }
     // The text is a value of the notation that decodes to the value of the result.
-    ensures value { IfOk result (λ x. (t : AvnTree) × IsAvn input.now t
+    ensures value { IfOk result (λ x. (t : AvnTree) × IsAvn limit input.now t
         × DecodesTo Notation.avn T.shape_of (Some (Tree.avn t)) (T.value_of x)) }
     // An error is why the text is no value of the notation, or that it is too deep, or where and
     // why its value decodes to none of the type, or that memory ran out.
-    ensures refused { IfErr result (λ e. RefusesText T.shape_of input.now (failure_of e)) }
+    ensures refused { IfErr result (λ e. RefusesText limit T.shape_of input.now (failure_of e)) }
     // A text that decodes to a value is read as that value, unless memory runs out.
-    ensures complete { (t : AvnTree) (v : Value) → IsAvn input.now t
+    ensures complete { (t : AvnTree) (v : Value) → IsAvn limit input.now t
         → DecodesTo Notation.avn T.shape_of (Some (Tree.avn t)) v → Reads T.value_of v result }
 {
-    let mut decoder = de::Decoder::new(alloc, input)?;
+    let mut decoder = de::Decoder::new_within(alloc, input, limit)?;
     T::decode(&mut decoder)
+}
+
+/// Returns the value that a text of the value notation decodes to, as `decode_within` does with the
+/// limit `LEVEL_LIMIT`.
+///
+/// # Errors
+///
+/// As `decode_within` has them.
+pub fn decode<T: Decode>(alloc: Global, input: &str) -> Result<T, DecodeError>
+    ensures value { IfOk result (λ x. (t : AvnTree) × IsAvn LEVEL_LIMIT input.now t
+        × DecodesTo Notation.avn T.shape_of (Some (Tree.avn t)) (T.value_of x)) }
+    ensures refused { IfErr result (λ e.
+        RefusesText LEVEL_LIMIT T.shape_of input.now (failure_of e)) }
+    ensures complete { (t : AvnTree) (v : Value) → IsAvn LEVEL_LIMIT input.now t
+        → DecodesTo Notation.avn T.shape_of (Some (Tree.avn t)) v → Reads T.value_of v result }
+{
+    decode_within(alloc, input, LEVEL_LIMIT)
 }

@@ -10,7 +10,7 @@ ghost use Rattle.asn_traits.specs.Tree.{Tree, head_slot};
 ghost use Rattle.avn_grammar.specs.Tree.{Tree as AvnTree};
 ghost use Rattle.avn_rules.specs.Pending.{IsPresent, IsSlot, TakesNode, pending_of};
 ghost use Rattle.std.specs.List.{All};
-ghost use Rattle.std.specs.Prelude.{◌≡◌, ◌∷◌, ◌++◌, [], Some, IfOk, IfErr, MatchResult, map};
+ghost use Rattle.std.specs.Prelude.{◌≡◌, ◌≤◌, ◌∷◌, ◌++◌, [], Some, IfOk, IfErr, MatchResult, map};
 
 use super::faults::{end_of_input, mismatch, needed_list, needed_members, no_item};
 use super::leaf_nodes::leaf_of_node;
@@ -20,7 +20,7 @@ use asn_fault::DecodeError;
 use asn_model::words;
 use asn_slots::Pending;
 use asn_traits::{Field, LeafKind, OwnedLeaf, SeqKind, place_of};
-use avn_value::{AvnValue, LEVEL_LIMIT, NodeKind, NodeTable};
+use avn_value::{AvnValue, GREATEST_LEVEL_LIMIT, LEVEL_LIMIT, NodeKind, NodeTable};
 use std::alloc::Global;
 use std::marker::Model;
 
@@ -54,19 +54,33 @@ impl Decoder {
     ghost use Rattle.avn_rules.specs.Pending.{tree_of};
     ghost use Rattle.avn_rules.specs.Text.{IsAvn, NoTree};
 
-    /// Makes a decoder of a text.
+    /// Makes a decoder of a text, within the limit on levels.
     ///
     /// # Errors
     ///
     /// `UnexpectedToken` where the text is no value of the notation; `ExceedsMaxParseDepth` where
-    /// it is deeper than 64 levels; `OutOfMemory`.
-    pub fn new(alloc: Global, input: &str) -> Result<Decoder, DecodeError>
-        ensures tree { IfOk result (λ d. (t : AvnTree) × IsAvn input.now t
+    /// it is deeper than the limit; `OutOfMemory`.
+    pub fn new_within(alloc: Global, input: &str, limit: usize) -> Result<Decoder, DecodeError>
+        requires { limit ≤ GREATEST_LEVEL_LIMIT }
+        ensures tree { IfOk result (λ d. (t : AvnTree) × IsAvn limit input.now t
             × (pending_of d ≡ Some (Tree.avn t) ∷ [])) }
-        ensures refused { IfErr result (λ e. NoTree input.now (failure_of e)) }
+        ensures refused { IfErr result (λ e. NoTree limit input.now (failure_of e)) }
     {
         let mut scan = Scan::new(input);
-        Ok(Decoder::from_table(alloc, NodeTable::parse(alloc, &mut scan, LEVEL_LIMIT)?))
+        Ok(Decoder::from_table(alloc, NodeTable::parse(alloc, &mut scan, limit)?))
+    }
+
+    /// Makes a decoder of a text, as `new_within` does with the limit `LEVEL_LIMIT`.
+    ///
+    /// # Errors
+    ///
+    /// As `new_within` has them.
+    pub fn new(alloc: Global, input: &str) -> Result<Decoder, DecodeError>
+        ensures tree { IfOk result (λ d. (t : AvnTree) × IsAvn LEVEL_LIMIT input.now t
+            × (pending_of d ≡ Some (Tree.avn t) ∷ [])) }
+        ensures refused { IfErr result (λ e. NoTree LEVEL_LIMIT input.now (failure_of e)) }
+    {
+        Decoder::new_within(alloc, input, LEVEL_LIMIT)
     }
 
     /// Makes a decoder of an AVN value.

@@ -99,8 +99,9 @@ pub trait Decoder {
     ///
     /// # Errors
     ///
-    /// A type mismatch, which in AVN names the kind, where the slot has no members; those of
-    /// `Decoder`.
+    /// A type mismatch, which in AVN names the kind, where the slot has no members; in AVN
+    /// `DuplicateField` where the name of a field stands at two present entries, with the first
+    /// such name by the rows' `index`; those of `Decoder`.
     fn open_members(
         &mut self,
         kind: SeqKind,
@@ -108,9 +109,8 @@ pub trait Decoder {
         additions: &[Field],
     ) -> Result<(), DecodeError>
         requires { are_distinct (names_of root.now ++ names_of additions.now) ≡ true }
-        ensures { OpensMembers notation (kind_view kind)
-            (names_of root.now ++ names_of additions.now) (pending self.old) result
-            (pending self.new) };
+        ensures { OpensMembers notation (kind_view kind) (root.now ++ additions.now)
+            (pending self.old) result (pending self.new) };
 
     /// Puts the payload of the first pending slot, a choice, in its place, and returns the place of
     /// its identifier. Where the identifier is none of these, or there is none, it puts an absent
@@ -118,7 +118,8 @@ pub trait Decoder {
     ///
     /// # Errors
     ///
-    /// A type mismatch where the slot is no choice; those of `Decoder`.
+    /// A type mismatch where the slot is no choice, as a JSON object of two members or more; those
+    /// of `Decoder`.
     fn open_choice(&mut self, identifiers: &[&'static str]) -> Result<Option<usize>, DecodeError>
         ensures { OpensChoice notation (map (λ s. s.now) identifiers.now) (pending self.old) result
             (pending self.new) };
@@ -497,8 +498,9 @@ pub trait Decoder {
 
     /// Decodes a SET field by field: those of the root in the order of their tags, and then the
     /// extension additions. `decode_fn` takes the first pending slot as the field at a place among
-    /// all fields, and is handed the tag of its row in the table too; `field_fn` makes the value of
-    /// what it returned, in that order. Their error is a `DecodeError`.
+    /// all fields, and is handed that field's tag too, of an untagged CHOICE its smallest one;
+    /// `field_fn` makes the value of what it returned, in that order. Their error is a
+    /// `DecodeError`.
     ///
     /// # Errors
     ///
@@ -511,13 +513,14 @@ pub trait Decoder {
         F: FnOnce(Vec<S>) -> Result<C, E>,
     >(&mut self, tag: Tag, decode_fn: R, field_fn: F) -> Result<C, E>
         requires set { C.kind ≡ AbstractSeqKind.set }
-        // `decode_fn` may be called for each place, and what it returns is that field's.
-        requires callable { (p : _) (k : ℕ) (t : Tag) (c : Component)
+        // `decode_fn` may be called for each place with the tag of the component there, and what it
+        // returns is that field's.
+        requires callable { (p : _) (k : ℕ) (c : Component)
             → component_at (listed_components C.fields C.added) k ≡ Some c
-            → R.pre decode_fn p k t }
-        requires reads { (p : _) (k : ℕ) (t : Tag) (r : _) (q : _) (c : Component)
+            → R.pre decode_fn p k c.tag }
+        requires reads { (p : _) (k : ℕ) (r : _) (q : _) (c : Component)
             → component_at (listed_components C.fields C.added) k ≡ Some c
-            → R.post decode_fn p k t r q
+            → R.post decode_fn p k c.tag r q
             → PlaceAnswer E.failure S.number S.slot notation k c (pending p.now) r
             (pending q.now) }
         // `field_fn` may be called with these answers, and makes the value of their slots.

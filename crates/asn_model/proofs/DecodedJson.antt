@@ -40,6 +40,7 @@ use Rattle.asn_model.specs.Writable.{Writable, WritableEach, WritableSlots}
 use Rattle.asn_model.specs.declared.leaves.LeafKind.{LeafKind}
 use Rattle.asn_model.specs.declared.leaves.LeafKind.TheVariants.{Null, Boolean, Number, Text, Time, Date, Item, Octets, Any, Oid, Bits}
 use Rattle.asn_model.proofs.Bags.{each-ordered}
+use Rattle.asn_model.proofs.Nesting.{no_first, no_list, same_first, same_some}
 use Rattle.asn_model.proofs.Ranges.{inside}
 use Rattle.asn_model.proofs.Readables.{and-left, and-right}
 
@@ -207,12 +208,6 @@ leaf-can s t h = by (kind_of s)
     by None = tt
     by (Some k) = refined-can s (as_leaf Notation.jer k t) (kind-can k t h)
 
-no_list : {A : Type 0} {P : Type 0} {x : A} → ◌≡◌ {A = Option A} None (Some x) → P
-no_list e = cc e
-
-same_some : {A : Type 0} {x y : A} → ◌≡◌ {A = Option A} (Some x) (Some y) → x ≡ y
-same_some e = cc e
-
 list-held : (t : Tree) (slots : List Slot) → as_list Notation.jer t ≡ Some slots → IsHeld t → AllByRecursion IsSlotHeld slots
 list-held (Tree.json (Data.array ds)) slots e h = subst (AllByRecursion IsSlotHeld) (same_some e) (items-held ds h)
 list-held (Tree.json d) slots e h = no_list e
@@ -222,12 +217,6 @@ members-held : (t : Tree) (look : List ℕ → Slot) → as_members Notation.jer
 members-held (Tree.json (Data.object ms)) look e h name = subst (λ (l : List ℕ → Slot). IsSlotHeld (l name)) (same_some e) (member-held ms h name)
 members-held (Tree.json d) look e h name = no_list e
 members-held (Tree.avn t) look e h name = no_list e
-
-no_first : {A P : Type 0} {x : A} → ◌≡◌ {A = Option (Option A)} (Some None) (Some (Some x)) → P
-no_first e = cc e
-
-same_first : {A : Type 0} {x y : A} → ◌≡◌ {A = Option (Option A)} (Some (Some x)) (Some (Some y)) → x ≡ y
-same_first e = cc e
 
 choice-held : (t : Tree) (name : List ℕ) (u : Tree) → as_choice Notation.jer t ≡ Some (Some (name, u)) → IsHeld t → IsHeld u
 choice-held (Tree.json (Data.object Members.no_members)) name u e h = no_first e

@@ -25,3 +25,5 @@ pub mod ShapeNames
 pub mod Ranges
 pub mod SetTexts
 pub mod DecodedJson
+pub mod JsonStrings
+pub mod JsonRead

@@ -163,10 +163,10 @@ leaf-flat s t = by (kind_of s)
     by None = omega arith
     by (Some k) = refined-flat s (as_leaf Notation.jer k t) (tree_depth t) (kind-flat k t)
 
-no_list : {A : Type 0} {P : Type 0} {x : A} → ◌≡◌ {A = Option A} None (Some x) → P
+pub no_list : {A : Type 0} {P : Type 0} {x : A} → ◌≡◌ {A = Option A} None (Some x) → P
 no_list e = cc e
 
-same_some : {A : Type 0} {x y : A} → ◌≡◌ {A = Option A} (Some x) (Some y) → x ≡ y
+pub same_some : {A : Type 0} {x y : A} → ◌≡◌ {A = Option A} (Some x) (Some y) → x ≡ y
 same_some e = cc e
 
 -- A tree that is opened nests one deeper than so deep, and its parts no deeper.
@@ -188,10 +188,10 @@ members-opened (Tree.avn t) look e = no_list e
 abbrev second : {A B : Type 0} → A × B → B
 second p = p.1
 
-no_first : {A P : Type 0} {x : A} → ◌≡◌ {A = Option (Option A)} (Some None) (Some (Some x)) → P
+pub no_first : {A P : Type 0} {x : A} → ◌≡◌ {A = Option (Option A)} (Some None) (Some (Some x)) → P
 no_first e = cc e
 
-same_first : {A : Type 0} {x y : A} → ◌≡◌ {A = Option (Option A)} (Some (Some x)) (Some (Some y)) → x ≡ y
+pub same_first : {A : Type 0} {x y : A} → ◌≡◌ {A = Option (Option A)} (Some (Some x)) (Some (Some y)) → x ≡ y
 same_first e = cc e
 
 choice-opened : (t : Tree) (name : List ℕ) (u : Tree) → as_choice Notation.jer t ≡ Some (Some (name, u)) → suc (tree_depth u) ≤ tree_depth t

@@ -15,7 +15,8 @@ ghost use Rattle.avn_grammar.specs.Depth.{ExceedsDepth, deepest};
 ghost use Rattle.avn_grammar.specs.Grammar.{ParsesWhole};
 ghost use Rattle.avn_grammar.specs.Normal.{normal};
 ghost use Rattle.serde_json.specs.Data.{Data, depth};
-ghost use Rattle.std.specs.Prelude.{◌≡◌, ℕ, ◌≤◌, ◌<◌, Some, true};
+ghost use Rattle.serde_json.specs.Read.{read};
+ghost use Rattle.std.specs.Prelude.{◌≡◌, ℕ, List, ◌≤◌, ◌<◌, Some, true, IsUtf8};
 ghost use Rattle.std.specs.Str.{chars};
 
 /// A slot decodes to at most one value by a shape.
@@ -66,13 +67,20 @@ pub fn avn_writes_what_jer_writes()
     ensures { (v : Value) → Writable Notation.jer v → Writable Notation.avn v }
 {}
 
-/// Both notations can write what decodes from a JSON value whose strings are UTF-8 and whose whole
-/// numbers have 64 bits, whatever the shape is.
+/// The strings of a JSON text are UTF-8 at every depth, and its whole numbers have 64 bits.
+pub fn json_texts_are_held()
+    ensures { (text : List ℕ) (d : Data) → IsUtf8 text → read text ≡ Some d → is_held d ≡ true }
+{}
+
+/// Both notations can write what decodes from a JSON text, whatever the shape is, and from each JSON
+/// value that `serde_json` can hold.
 pub fn decoded_json_can_be_written()
-    ensures jer { (s : Shape) (d : Data) (v : Value) → is_held d ≡ true
-        → DecodesTo Notation.jer s (Some (Tree.json d)) v → Writable Notation.jer v }
-    ensures avn { (s : Shape) (d : Data) (v : Value) → is_held d ≡ true
-        → DecodesTo Notation.jer s (Some (Tree.json d)) v → Writable Notation.avn v }
+    ensures text { (s : Shape) (text : List ℕ) (d : Data) (v : Value) → IsUtf8 text
+        → read text ≡ Some d → DecodesTo Notation.jer s (Some (Tree.json d)) v
+        → Writable Notation.jer v × Writable Notation.avn v }
+    ensures held { (s : Shape) (d : Data) (v : Value) → is_held d ≡ true
+        → DecodesTo Notation.jer s (Some (Tree.json d)) v
+        → Writable Notation.jer v × Writable Notation.avn v }
 {}
 
 /// Values of a shape that can be read, which the notation can write, are equal where their

@@ -1,8 +1,9 @@
 use Rattle.asn_model.proofs.DecodedJson.{avn-writable, decoded-can}
+use Rattle.asn_model.proofs.JsonRead.{text-held}
 use Rattle.asn_model.proofs.laws.decoded_json_can_be_written.Goals as goal
 
 pub returns : goal.returns
 returns c = record {
-  jer = λ s d v held h. decoded-can h held;
-  avn = λ s d v held h. avn-writable v (decoded-can h held);
+  text = λ s text d v utf8 is h. let can = decoded-can h (text-held text d utf8 is) in (can, avn-writable v can);
+  held = λ s d v held h. let can = decoded-can h held in (can, avn-writable v can);
 }

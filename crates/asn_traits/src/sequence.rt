@@ -11,7 +11,7 @@ ghost use Rattle.asn_coding.specs.ReadingSlots.{slots_read};
 ghost use Rattle.asn_model.specs.Shape.{Shape as AbstractShape, Fields as AbstractFields};
 ghost use Rattle.asn_model.specs.Shape.{FieldAdditions, all_fields};
 ghost use Rattle.asn_model.specs.ShapeView.{shape_view};
-ghost use Rattle.asn_coding.specs.Tables.{added_rows, field_rows, names_of, rows_of};
+ghost use Rattle.asn_coding.specs.Tables.{ListsFields, added_rows, field_rows, names_of, rows_of};
 ghost use Rattle.asn_coding.specs.Writing.{FailsToEncode, Frame, Written};
 ghost use Rattle.asn_coding.specs.Writing.{members_value};
 ghost use Rattle.std.specs.Prelude.{◌≡◌, ◌++◌, IfErr, IfOk, OnOk, option_map, true};
@@ -132,8 +132,9 @@ where
 ///
 /// # Errors
 ///
-/// Those of `read_fields`; a type mismatch where the slot's tree has no members, and the end of
-/// input where the slot is absent or none is pending; `OutOfMemory`.
+/// Those of `read_fields`; a type mismatch where the slot's tree has no members, in AVN
+/// `DuplicateField` where a field's name stands at two present entries, and the end of input where
+/// the slot is absent or none is pending; `OutOfMemory`.
 pub fn read_sequence<T: SequenceFields, D: Decoder>(decoder: &mut D) -> Result<T, DecodeError>
 where
     T::Kind: FieldsKind,
@@ -166,7 +167,8 @@ fn read_members<T: SequenceFields, D: Decoder>(
 ) -> Result<T, DecodeError>
 where
     T::Kind: FieldsKind,
-    requires { names_of root.now ++ names_of additions.now
+    requires rows { ListsFields (root.now ++ additions.now) T.fields T.added }
+    requires names { names_of root.now ++ names_of additions.now
         ≡ component_names (reading_order T.Kind.seq_kind T.fields T.added) }
     ensures { Answer D.notation (AbstractShape.seq T.Kind.seq_kind T.fields T.added)
         (λ x. members_value (all_fields T.fields T.added) (T.slots x))

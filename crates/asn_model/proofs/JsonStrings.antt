@@ -65,12 +65,14 @@ one_mark false true c f g h e = g refl
 one_mark false false true f g h e = h refl
 one_mark false false false f g h e = let d : false ≡ true = e in cc d
 
+mark-ascii : (x : ℕ) → ((x == 34) || (x == 92) || (x == 47)) ≡ true → x < 128
+mark-ascii x e = one_mark (x == 34) (x == 92) (x == 47) (λ f. omega (arith, eqb-true x 34 f)) (λ f. omega (arith, eqb-true x 92 f)) (λ f. omega (arith, eqb-true x 47 f)) e
+
 -- A short escape and what it stands for are ASCII.
 short-ascii : (x c : ℕ) → short_escape x ≡ Some c → (x < 128) × (c < 128)
 unfolding short_escape
 short-ascii x c e =
-    let mark = one_mark (x == 34) (x == 92) (x == 47) (λ f. omega (arith, eqb-true x 34 f)) (λ f. omega (arith, eqb-true x 92 f)) (λ f. omega (arith, eqb-true x 47 f)) in
-    one_of ((x == 34) || (x == 92) || (x == 47)) x x c _ mark mark
+    one_of ((x == 34) || (x == 92) || (x == 47)) x x c _ (mark-ascii x) (mark-ascii x)
     (one_of (x == 98) x 8 c _ (λ f. omega (arith, eqb-true x 98 f)) (λ f. omega arith)
     (one_of (x == 102) x 12 c _ (λ f. omega (arith, eqb-true x 102 f)) (λ f. omega arith)
     (one_of (x == 110) x 10 c _ (λ f. omega (arith, eqb-true x 110 f)) (λ f. omega arith)

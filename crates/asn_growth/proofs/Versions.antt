@@ -1,12 +1,14 @@
 -- The fields and the alternatives of a type begin with those of its older versions.
-use Rattle.std.proofs.Common.{◌≡◌, refl, ap, sym, ◌∙◌, subst, ℕ, Bool, true, false, ◌&&◌, if◌then◌else◌, List, map, Option, Some, None, ◌⊎◌, inl, inr}
+use Rattle.std.proofs.Common.{◌≡◌, refl, ap, sym, ◌∙◌, subst, ℕ, Bool, true, false, ◌&&◌, if◌then◌else◌, List, [], map, Option, Some, None, ◌⊎◌, inl, inr}
 use Rattle.std.specs.Char.{to_ascii_lowercase}
 use Rattle.std.specs.Str.{bytes_eq}
 use Rattle.std.proofs.lemmas.Slice.Eq.{bytes_eq-Decides}
 use Rattle.asn_model.specs.Readable.{is_readable, are_alternatives_readable, are_added_alternatives_readable, are_distinguishable, has_alternative}
-use Rattle.asn_model.specs.Shape.{Shape, Fields, Alternatives, AlternativeAdditions, all_alternatives, alternative_named, field_names, join_alternatives, join_fields}
+use Rattle.asn_model.specs.Shape.{Shape, SeqKind, Fields, FieldAdditions, Alternatives, AlternativeAdditions, all_alternatives, all_fields, alternative_named, field_names, join_alternatives, join_fields}
+use Rattle.asn_fault.specs.Failure.{Cause}
+use Rattle.asn_model.specs.FailsWith.{FailsWith}
 use Rattle.asn_model.specs.Notation.{Notation}
-use Rattle.asn_model.specs.Tree.{Tree, first_repeated, is_repeated, same_identifier}
+use Rattle.asn_model.specs.Tree.{Slot, Tree, as_members, first_repeated, is_repeated, same_identifier}
 use Rattle.asn_model.specs.Value.{Value}
 use Rattle.asn_model.proofs.Readables.{and-left, and-right}
 use Rattle.asn_model.proofs.Written.{all_readable}
@@ -32,6 +34,22 @@ single-begin n t (BeginsFields.begins_field {n = name} {fs = fs} {gs = gs} g m) 
     by : (first_repeated n t (field_names gs) ≡ None → first_repeated n t (field_names fs) ≡ None) → (b : Bool) → (if b then Some name else first_repeated n t (field_names gs)) ≡ None → (if b then Some name else first_repeated n t (field_names fs)) ≡ None
     by later true f = f
     by later false f = later f
+
+-- The first repeated name of an older version is that of the newer one.
+repeated-begin : (n : Notation) (t : Tree) {fs gs : Fields} (found : List ℕ) → BeginsFields fs gs → first_repeated n t (field_names fs) ≡ Some found → first_repeated n t (field_names gs) ≡ Some found
+repeated-begin n t found BeginsFields.begins_fields e = absurd (none_some refl e)
+repeated-begin n t found (BeginsFields.begins_field {n = name} {fs = fs} {gs = gs} g m) e = by (repeated-begin n t found m) (is_repeated n t name) e
+  where
+    by : (first_repeated n t (field_names fs) ≡ Some found → first_repeated n t (field_names gs) ≡ Some found) → (b : Bool) → (if b then Some name else first_repeated n t (field_names fs)) ≡ Some found → (if b then Some name else first_repeated n t (field_names gs)) ≡ Some found
+    by later true f = f
+    by later false f = later f
+
+-- So it is refused by the newer version as by the older one.
+pub repeated-again : {n : Notation} {kind other : SeqKind} {fs gs : Fields} {added more : FieldAdditions} {t : Tree} {look : List ℕ → Slot} (found : List ℕ) → Grows (Shape.seq kind fs added) (Shape.seq other gs more) → as_members n t ≡ Some look → first_repeated n t (field_names (all_fields fs added)) ≡ Some found
+    → FailsWith n (Shape.seq other gs more) (Some t) [] (Cause.duplicate_field found)
+repeated-again {n} {t = t} {look = look} found (Grows.grows_closed_seq {kind} {gs = gs} m) e f = FailsWith.fails_repeated kind gs FieldAdditions.closed_fields t look found e (repeated-begin n t found (fields-begin m) f)
+repeated-again {n} {t = t} {look = look} found (Grows.grows_seq {kind} {gs = gs} {more = more} m k) e f = FailsWith.fails_repeated kind gs (FieldAdditions.extended_fields more) t look found e (repeated-begin n t found (joined-begin m k) f)
+repeated-again found (Grows.grows_same h) e f = let d : true ≡ false = h in cc d
 
 pub alternatives-begin : {alts bs : Alternatives} → GrowsAlternatives alts bs → BeginsAlternatives alts bs
 alternatives-begin GrowsAlternatives.grows_no_alternatives = BeginsAlternatives.begins_alternatives

@@ -11,12 +11,13 @@ ghost use Rattle.asn_model.specs.DecodesTo.{DecodesTo};
 ghost use Rattle.asn_model.specs.FailsWith.{FailsWith, Path};
 ghost use Rattle.asn_model.specs.Notation.{Notation, IsText};
 ghost use Rattle.asn_model.specs.Readable.{is_readable};
-ghost use Rattle.asn_model.specs.Shape.{Shape, unfold_loop};
-ghost use Rattle.asn_model.specs.Tree.{Tree};
+ghost use Rattle.asn_model.specs.Shape.{FieldAdditions, Fields, SeqKind, Shape, all_fields};
+ghost use Rattle.asn_model.specs.Shape.{field_names, unfold_loop};
+ghost use Rattle.asn_model.specs.Tree.{Slot, Tree, as_members, first_repeated};
 ghost use Rattle.asn_model.specs.Value.{Fits, Value};
 ghost use Rattle.asn_model.specs.Writable.{Writable};
 ghost use Rattle.avn_grammar.specs.Normal.{normal};
-ghost use Rattle.std.specs.Prelude.{◌≡◌, ◌⊎◌, Some, true};
+ghost use Rattle.std.specs.Prelude.{◌≡◌, ◌⊎◌, ℕ, List, [], Some, true};
 
 /// A later version of a type that refers to itself is one when both are unfolded.
 pub fn growth_survives_unfolding()
@@ -39,6 +40,17 @@ pub fn older_readers_read_newer_texts()
         → IsText n → is_readable old ≡ true → Grows old new → DecodesTo n new (Some t) v
         → FailsWith n old (Some t) p x
         → (w : Cause) × ComesUpon n old t p w × IsUnknown w × IsAsMuch w x }
+{}
+
+/// A field's name that stands twice for an older reader of a SEQUENCE or SET is refused by a newer
+/// reader too, and it is the first one in both. A name that the newer version adds may stand twice
+/// for the older reader alone.
+pub fn repeated_names_stay_refused()
+    ensures { (n : Notation) (kind : SeqKind) (fs gs : Fields) (added more : FieldAdditions)
+        (t : Tree) (look : List ℕ → Slot) (name : List ℕ)
+        → Grows (Shape.seq kind fs added) (Shape.seq kind gs more) → as_members n t ≡ Some look
+        → first_repeated n t (field_names (all_fields fs added)) ≡ Some name
+        → FailsWith n (Shape.seq kind gs more) (Some t) [] (Cause.duplicate_field name) }
 {}
 
 /// A reader that comes upon an alternative or an item that its type lacks, or upon the absence of

@@ -6,6 +6,7 @@ pub mod NumbersTaken
 pub mod Octets
 pub mod Opened
 pub mod ReadBack
+pub mod Repeats
 pub mod Roots
 pub mod Taken
 pub mod Told

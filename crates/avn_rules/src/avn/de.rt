@@ -228,7 +228,8 @@ impl asn_traits::Decoder for Decoder {
         Ok(count)
     }
 
-    // The slots of all fields are found first, extension additions last, and put at once.
+    // The slots of all fields are found first, extension additions last, and put at once; a name of
+    // a field that stands twice is refused before.
     fn open_members(
         &mut self,
         kind: SeqKind,
@@ -241,7 +242,7 @@ impl asn_traits::Decoder for Decoder {
         }
         match slots_of(self.alloc, &self.table, node, root, additions) {
             Ok(slots) => self.put_slots(slots),
-            Err(_) => Err(DecodeError::out_of_memory(Codec::Avn)),
+            Err(error) => Err(error),
         }
     }
 

@@ -3,15 +3,18 @@ ghost use Rattle.asn_slots.specs.Trees.{trees_of};
 ghost use Rattle.asn_traits.specs.Notation.{Notation};
 ghost use Rattle.asn_traits.specs.Shape.{are_distinct};
 ghost use Rattle.asn_coding.specs.Tables.{names_of};
-ghost use Rattle.asn_traits.specs.Tree.{Slot, as_list, as_members};
-ghost use Rattle.avn_rules.specs.Parts.{place_of_slot};
+ghost use Rattle.asn_traits.specs.Tree.{Slot, as_list, as_members, is_repeated};
+ghost use Rattle.avn_rules.specs.Parts.{IsEarlier, IsRepeatedOrMemory, place_of_slot};
 ghost use Rattle.avn_rules.specs.Pending.{IsPresent, IsSlot, value_at};
 ghost use Rattle.avn_nodes.specs.Preorder.{node_at, tree_at, node_count, slot_descendants};
-ghost use Rattle.std.specs.List.{All};
-ghost use Rattle.std.specs.Prelude.{true, ◌≡◌, ◌<◌, ◌+◌, ◌++◌, List, ℕ, Some, None, IfOk, IfSome};
+ghost use Rattle.asn_fault.specs.Failure.{failure_of};
+ghost use Rattle.std.specs.List.{All, slice_get};
+ghost use Rattle.std.specs.Prelude.{true, false, ◌≡◌, ◌<◌, ◌+◌, ◌++◌, List, ℕ, Some, None};
+ghost use Rattle.std.specs.Prelude.{IfErr, IfOk, IfSome, OnOk};
 ghost use Rattle.std.specs.Prelude.{is_some, length, map, nat_eq, replicate};
 
-use asn_core::OutOfMemory;
+use asn_core::{Codec, OutOfMemory};
+use asn_fault::DecodeError;
 use asn_traits::{Field, place_of_field};
 use avn_value::{NodeKind, NodeTable};
 use std::alloc::Global;
@@ -72,19 +75,20 @@ pub fn items_of(alloc: Global, table: &NodeTable, node: usize) -> Result<Vec<usi
     Ok(items)
 }
 
-/// Returns the slot of each field, extension additions last: the node of the last present entry
-/// of its name. Entries of other names are passed over.
+/// Returns the slot of each field, extension additions last: the node of the one present entry of
+/// its name. Absent entries and those of other names are passed over.
 ///
 /// # Errors
 ///
-/// `OutOfMemory` alone.
+/// `DuplicateField` where two present entries have the name of a field, with the first such field
+/// as the type lists them; `OutOfMemory`.
 pub fn slots_of(
     alloc: Global,
     table: &NodeTable,
     node: usize,
     root: &[Field],
     additions: &[Field],
-) -> Result<Vec<Option<usize>>, OutOfMemory>
+) -> Result<Vec<Option<usize>>, DecodeError>
     requires present { IsPresent table.now node }
     requires members { is_some (as_members Notation.avn (value_at table.now node)) ≡ true }
     requires distinct { are_distinct (names_of root.now ++ names_of additions.now) ≡ true }
@@ -93,19 +97,56 @@ pub fn slots_of(
         → trees_of (value_at table.now) slots.items
         ≡ map look (names_of root.now ++ names_of additions.now)) }
     ensures held { IfOk result (λ slots. All (IsSlot table.now) slots.items) }
+    ensures once { OnOk result (All (λ name.
+        is_repeated Notation.avn (value_at table.now node) name ≡ false)
+        (names_of root.now ++ names_of additions.now)) }
+    ensures refused { IfErr result (λ e. IsRepeatedOrMemory (value_at table.now node)
+        (root.now ++ additions.now) (failure_of e)) }
 {
-    let mut slots = absent_slots(alloc, root.len() + additions.len())?;
+    let Ok(mut slots) = absent_slots(alloc, root.len() + additions.len()) else {
+        return Err(DecodeError::out_of_memory(Codec::Avn));
+    };
+    let mut repeated = None;
     let end = table.end(node);
     let mut entry = node + 1;
-    // Each entry is looked at once, in order, so a later one of the same name takes the place.
+    // Each entry is looked at once, so the time is linear in their number.
     'entries: while entry < end {
         if let Some(place) = place_of_entry(table, entry, root, additions) {
             // The place is one of a field, and there is a slot for each.
+            if slots[place].is_some() {
+                repeated = Some(earlier(repeated, row_at(root, additions, place)));
+            }
             slots[place] = Some(entry);
         }
         entry = table.end(entry);
     }
-    Ok(slots)
+    match repeated {
+        Some(row) => Err(DecodeError::duplicate_field(row.name, Codec::Avn)),
+        None => Ok(slots),
+    }
+}
+
+/// Returns the row at a place among those of the root and then those of the additions.
+fn row_at(root: &[Field], additions: &[Field], place: usize) -> Field
+    requires { place < length root.now + length additions.now }
+    ensures { slice_get (root.now ++ additions.now) place ≡ Some result }
+{
+    if place < root.len() {
+        root[place]
+    } else {
+        additions[place - root.len()]
+    }
+}
+
+/// Returns the row that the type lists earlier: this one, or the earliest of those before, if there
+/// are any.
+fn earlier(before: Option<Field>, row: Field) -> Field
+    ensures { IsEarlier before row result }
+{
+    match before {
+        Some(first) => { if first.index <= row.index { first } else { row } }
+        None => row,
+    }
 }
 
 /// Returns a number of absent slots.

@@ -1,6 +1,7 @@
 -- A tree is what its kids and its additions are.
 use Rattle.std.proofs.Common.{◌≡◌, ℕ, suc, ◌<◌, List, [], ◌∷◌, ◌++◌, ◌&&◌, length, Some, Ok, ◌⊎◌, true, codes, sym, ◌∙◌, ap, refl, subst, arith}
 use Rattle.std.proofs.lemmas.Bool.{and_parts}
+use Rattle.std.proofs.lemmas.List.{length-map, map-append}
 use Rattle.asn_core.specs.declared.codec.Codec.{Codec}
 use Rattle.asn_fault.specs.Failure.{Cause, Failure, at_root, wrapped}
 use Rattle.asn_fault.specs.declared.encode.EncodeError.{EncodeError}
@@ -20,12 +21,13 @@ use Rattle.asn_coding.proofs.Passing.{adds_fields, refuses_adding}
 use Rattle.asn_coding.proofs.ReadingOrder.{names-read}
 use Rattle.asn_coding.proofs.Scopes.{table_names}
 use Rattle.asn_coding.proofs.Steps.{loop_decodes, loop_refuses}
+use Rattle.asn_coding.proofs.TagOrder.{tables_list}
 use Rattle.asn_coding.specs.Answer.{Refuses}
 use Rattle.asn_coding.specs.FieldAnswer.{AddsSlot, Ahead, TakesField, TakesSlot}
 use Rattle.asn_coding.specs.Opening.{AllBelow, OpensMembers}
 use Rattle.asn_coding.specs.Passing.{AddsFields, RefusesAdding, RefusesFields, TakesFields}
-use Rattle.asn_coding.specs.Tables.{names_of, rows_of, field_rows}
-use Rattle.asn_coding.specs.Writing.{Frame, push, push_all, close, as_members, Maps, Written, Filled, FailsToEncode, FailsToFill}
+use Rattle.asn_coding.specs.Tables.{ListsFields, names_of, rows_of, field_rows}
+use Rattle.asn_coding.specs.Writing.{Frame, push, close, as_members, Maps, Written, Filled, FailsToEncode, FailsToFill}
 use Rattle.asn_coding.specs.declared.field.Field.{Field}
 use Rattle.asn_sample_trees.specs.Tree.{tree_of, tree_step, tree_value}
 use Rattle.asn_sample_trees.specs.TreeShape.{tree_body, tree_fields, tree_shape}
@@ -48,7 +50,15 @@ pub names_told : (added : Fields) (root additions : List Field) → rows_of root
 names_told added root additions e f =
     ap (λ l. l ++ names_of additions) (table_names 0 root (tree_fields Shape.null) e) ∙ ap (λ l. codes "kids" ∷ l) (table_names 1 additions added f)
 
--- They are distinct.
+-- So has the list of their rows.
+pub rows_told : (added : Fields) (root additions : List Field) → rows_of root ≡ field_rows 0 (tree_fields Shape.null) → rows_of additions ≡ field_rows 1 added → names_of (root ++ additions) ≡ codes "kids" ∷ field_names added
+rows_told added root additions e f = map-append (λ (f : Field). f.name.now) root additions ∙ names_told added root additions e f
+
+-- The tables of a tree list its fields.
+pub tables_told : (added : Fields) (root additions : List Field) → rows_of root ≡ field_rows 0 (tree_fields Shape.null) → rows_of additions ≡ field_rows 1 added → ListsFields (root ++ additions) (tree_fields (tree_shape added)) (FieldAdditions.extended_fields added)
+tables_told added root additions e f = tables_list (λ (rows : List Field). rows) root additions (Some additions) (tree_fields (tree_shape added)) (FieldAdditions.extended_fields added) e (ap Some f) refl
+
+-- The names are distinct.
 pub names_distinct : (added : Fields) → is_readable (tree_shape added) ≡ true → are_distinct (codes "kids" ∷ field_names added) ≡ true
 names_distinct added h =
     let names = and_parts (are_identifiers (tree_names added) && are_distinct (tree_names added)) (are_fields_readable 1 (tree_fields (Shape.back 0)) && are_fields_readable 1 added) h in
@@ -90,33 +100,34 @@ pub additions_unwritten : {S A : Type 0} {holds : S → List Frame → Type 0} {
 additions_unwritten {n = n} {e = e} added slots t k h = subst (λ v. FailsToEncode n v e) (sym (value_out added slots t)) (refuse_members (tree_names added) (FailsToFill.after_slot k.writable (refuses_adding h)))
 
 -- The kids stand before the other slots of an open tree, with fewer nodes than the tree.
-pub kids_below : {n : Notation} {names : List (List ℕ)} {before mid : List Slot} (added : Fields) → names ≡ codes "kids" ∷ field_names added → OpensMembers n SeqKind.sequence names before (Ok tt) mid → head_nodes mid < head_nodes before
-kids_below {mid = mid} added e (slot, slots, rest, was, is, count, below, has) = rw was (below_at slots rest mid slot (length (field_names added)) (count ∙ ap length e) below is)
+pub kids_below : {n : Notation} {before mid : List Slot} (rows : List Field) (added : Fields) → names_of rows ≡ codes "kids" ∷ field_names added → OpensMembers n SeqKind.sequence rows before (Ok tt) mid → head_nodes mid < head_nodes before
+kids_below {mid = mid} rows added e (slot, slots, rest, was, is, count, below, has) =
+    rw was (below_at slots rest mid slot (length (field_names added)) (count ∙ sym (length-map rows (λ (f : Field). f.name.now)) ∙ ap length e) below is)
 
 -- What refuses one turn refuses the tree.
 pub turn_refused : {n : Notation} {slot : Slot} (added : Fields) → ((r : Shape) → fill_fields added 0 r ≡ added) → (err : Failure) → Refuses n (FailsWith n (tree_body added (tree_shape added)) slot) err → Refuses n (FailsWith n (tree_shape added) slot) err
 turn_refused {n} {slot} added fixed err h = loop_refuses (tree_body added (Shape.back 0)) slot err (subst (λ s. Refuses n (FailsWith n s slot) err) (sym (turn added fixed)) h)
 
 -- Of the extension additions of a tree, none holds the tree, and the tree is open.
-module _ {n : Notation} {names : List (List ℕ)} {before mid : List Slot} (added : Fields) (fixed : (r : Shape) → fill_fields added 0 r ≡ added) (e : names ≡ codes "kids" ∷ field_names added) (opened : OpensMembers n SeqKind.sequence names before (Ok tt) mid) where
+module _ {n : Notation} {before mid : List Slot} (added : Fields) (fixed : (r : Shape) → fill_fields added 0 r ≡ added) (rows : List Field) (e : names_of rows ≡ codes "kids" ∷ field_names added) (opened : OpensMembers n SeqKind.sequence rows before (Ok tt) mid) where
   -- Kids and additions are read as a tree.
   pub tree_read : {A : Type 0} {late after : List Slot} {ahead others : List (List ℕ)} (slots : A → Frame) (layer : Tree-F A (Tree A)) → ((t : Slot) × (mid ≡ t ∷ late) × DecodesTo n (Shape.list_of (tree_shape added)) t (Value.list (values (tree_value added slots) layer.kids.items)))
       → TakesFields n (components Standing.addition added) (slots layer.added) (Ahead.ahead ahead late) (Ahead.ahead others after) → (t : Slot) × (before ≡ t ∷ after) × DecodesTo n (tree_shape added) t (tree_value added slots (roll-Tree A layer))
   tree_read {A} {ahead = ahead} slots layer (t, shown, says) taken =
       let kids = values (tree_value added slots) layer.kids.items in
-      let d = members_read SeqKind.sequence (tree_fields (tree_shape added)) (FieldAdditions.extended_fields added) (Some (Value.list kids) ∷ slots layer.added) {ahead = codes "kids" ∷ ahead} (e ∙ sym (spelled added)) opened (TakesFields.takes_next (TakesField.takes_field (TakesSlot.takes_value t (Value.list kids) shown says) refl) taken refl) in
+      let d = members_read SeqKind.sequence (tree_fields (tree_shape added)) (FieldAdditions.extended_fields added) rows (Some (Value.list kids) ∷ slots layer.added) {ahead = codes "kids" ∷ ahead} (e ∙ sym (spelled added)) opened (TakesFields.takes_next (TakesField.takes_field (TakesSlot.takes_value t (Value.list kids) shown says) refl) taken refl) in
       (d.0, d.1, subst (DecodesTo n (tree_shape added) d.0) (sym (value_roll added slots layer)) (loop_decodes (tree_body added (Shape.back 0)) d.0 (subst (λ s. DecodesTo n s d.0 (tree_of added kids (slots layer.added))) (sym (turn added fixed)) d.2)))
 
   -- Kids are refused.
   pub kids_refused : (codec : Codec) (inner err : Failure) → notation_of codec ≡ n → (err ≡ wrapped (codes "kids") codec inner) ⊎ (err ≡ at_root Cause.out_of_memory codec)
       → Refuses n (FailsWith n (Shape.list_of (tree_shape added)) (head_slot mid)) inner → Refuses n (FailsWith n (tree_shape added) (head_slot before)) err
   kids_refused codec inner err of wraps h =
-      turn_refused added fixed err (members_refused SeqKind.sequence (tree_fields (tree_shape added)) (FieldAdditions.extended_fields added) {ahead = codes "kids" ∷ field_names added} (e ∙ sym (spelled added)) (sym (spelled added)) opened
+      turn_refused added fixed err (members_refused SeqKind.sequence (tree_fields (tree_shape added)) (FieldAdditions.extended_fields added) rows {ahead = codes "kids" ∷ field_names added} (e ∙ sym (spelled added)) (sym (spelled added)) opened
       (RefusesFields.refuses_field (field_refused (codes "kids") codec of inner err wraps h)))
 
   -- Additions are refused.
   pub additions_refused : {late : List Slot} {ahead : List (List ℕ)} (kids : Values) (err : Failure) → ahead ≡ field_names added → ((t : Slot) × (mid ≡ t ∷ late) × DecodesTo n (Shape.list_of (tree_shape added)) t (Value.list kids))
       → RefusesFields n (components Standing.addition added) (Ahead.ahead ahead late) err → Refuses n (FailsWith n (tree_shape added) (head_slot before)) err
   additions_refused {ahead = ahead} kids err along (t, shown, says) h =
-      turn_refused added fixed err (members_refused SeqKind.sequence (tree_fields (tree_shape added)) (FieldAdditions.extended_fields added) {ahead = codes "kids" ∷ ahead} (e ∙ sym (spelled added)) (ap (λ l. codes "kids" ∷ l) along ∙ sym (spelled added)) opened
+      turn_refused added fixed err (members_refused SeqKind.sequence (tree_fields (tree_shape added)) (FieldAdditions.extended_fields added) rows {ahead = codes "kids" ∷ ahead} (e ∙ sym (spelled added)) (ap (λ l. codes "kids" ∷ l) along ∙ sym (spelled added)) opened
       (RefusesFields.refuses_later_field (TakesField.takes_field (TakesSlot.takes_value t (Value.list kids) shown says) refl) h refl))

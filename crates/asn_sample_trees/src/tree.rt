@@ -143,8 +143,9 @@ fn write_kids<A: TreeAdditions, E: Encoder>(
 ///
 /// # Errors
 ///
-/// A type mismatch where there are no members, and the end of input where there is no slot; those
-/// of the kids within `FieldError`; those of the additions; `OutOfMemory`.
+/// A type mismatch where there are no members, in AVN `DuplicateField` where a field's name stands
+/// at two present entries, and the end of input where there is no slot; those of the kids within
+/// `FieldError`; those of the additions; `OutOfMemory`.
 #[cycle(read)]
 fn read_tree<A: TreeAdditions, D: Decoder>(decoder: &mut D) -> Result<Tree<A>, DecodeError>
     ensures { Answer D.notation (tree_shape A.fields) (tree_value A.fields A.slots)

@@ -163,7 +163,8 @@ pub(crate) fn read_members<D: Decoder>(decoder: &mut D) -> Result<Map<String, Va
 ///
 /// # Errors
 ///
-/// A type mismatch where there are no members; those of the key or the value within `FieldError`.
+/// A type mismatch where there are no members; in AVN `DuplicateField` where the key or the value
+/// stands twice; those of the key or the value within `FieldError`.
 #[cycle(read)]
 fn read_entry<D: Decoder>(decoder: &mut D) -> Result<(String, Value), DecodeError>
     ensures read { Answer D.notation entry_shape json_entry (D.pending decoder.old) result

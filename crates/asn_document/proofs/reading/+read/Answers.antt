@@ -1,14 +1,14 @@
 use Rattle.std.proofs.Common.{◌++◌, ◌∷◌, [], ap, ◌∙◌, subst, arith, ◌<◌, ◌*◌, string_bytes}
 use Rattle.std.proofs.lemmas.Result.{err_from_is_err_and}
-use Rattle.asn_document.proofs.Entries.{entry_names, value_below, entry_read, key_refused, value_refused}
+use Rattle.asn_document.proofs.Entries.{entry_listed, entry_names, entry_rows, value_below, entry_read, key_refused, value_refused}
 use Rattle.asn_document.proofs.Puts.{put_next, table_fails, table_read}
 use Rattle.asn_document.proofs.Whole.{items_more, put_whole}
-use Rattle.asn_document.specs.Meaning.{alternatives_with, document_alternatives, entry_shape, json_value}
+use Rattle.asn_document.specs.Meaning.{alternatives_with, document_alternatives, entry_fields, entry_shape, json_value}
 use Rattle.asn_coding.proofs.Choices.{choice_by_tag}
 use Rattle.asn_coding.proofs.Reading as list
 use Rattle.asn_coding.proofs.Steps.{loop_answer, loop_refuses, refuses_by}
 use Rattle.asn_fault.specs.Failure.{failure_of}
-use Rattle.asn_model.specs.Shape.{Shape, SeqKind, are_distinct, AlternativeAdditions, closed_choice}
+use Rattle.asn_model.specs.Shape.{Shape, SeqKind, are_distinct, AlternativeAdditions, FieldAdditions, closed_choice}
 use Rattle.asn_model.specs.Tree.{head_nodes}
 use Rattle.serde_json.proofs.Views.{Entry}
 use Rattle.serde_json.specs.View.{view, members_view}
@@ -17,25 +17,27 @@ use Rattle.asn_document.proofs.reading.+read.Goals as goal
 
 pub read_entry-read_value-requires : goal.read_entry-read_value-requires
 read_entry-read_value-requires g t c κs within =
-    let names = entry_names c.entry_table-table.result.now c.entry_table-table.ensures in
-    let h = value_below names c.in-Ok.ensures c.in-Ok-read_field.ensures.read in
+    let rows = entry_rows c.entry_table-table.result.now c.entry_table-table.ensures in
+    let h = value_below _ rows c.in-Ok.ensures c.in-Ok-read_field.ensures.read in
     (subst (λ m. 2 * head_nodes (g.D.Decoder.pending c.read_field.new.decoder) < m) c.decreases (omega (arith, h)), within)
 
 pub read_entry-returns-in-Ok-read_value-clause-read : goal.read_entry-returns-in-Ok-read_value-clause-read
 read_entry-returns-in-Ok-read_value-clause-read g t c =
-    let names = entry_names c.entry_table-table.result.now c.entry_table-table.ensures in
-    entry_read c.in-Ok-read_field.key c.in-Ok-read_value.value names c.in-Ok.ensures c.in-Ok-read_field.ensures.read c.in-Ok-read_value.ensures.read
+    let rows = entry_rows c.entry_table-table.result.now c.entry_table-table.ensures in
+    entry_read _ c.in-Ok-read_field.key c.in-Ok-read_value.value rows c.in-Ok.ensures c.in-Ok-read_field.ensures.read c.in-Ok-read_value.ensures.read
 
 pub read_entry-returns-in-Err-read_value-clause-read : goal.read_entry-returns-in-Err-read_value-clause-read
 read_entry-returns-in-Err-read_value-clause-read g t c =
     let names = entry_names c.entry_table-table.result.now c.entry_table-table.ensures in
+    let rows = entry_rows c.entry_table-table.result.now c.entry_table-table.ensures in
     let w = c.within_field.ensures in
-    value_refused w.0 (failure_of c.in-Err-read_value.error) (failure_of c.within_field.result) names (c.new-names.ensures ∙ names) c.in-Ok.ensures c.in-Ok-read_field.ensures.read w.1 w.2 c.in-Err-read_value.ensures.read
+    value_refused _ w.0 (failure_of c.in-Err-read_value.error) (failure_of c.within_field.result) rows (c.new-names.ensures ∙ names) c.in-Ok.ensures c.in-Ok-read_field.ensures.read w.1 w.2 c.in-Err-read_value.ensures.read
 
 pub read_entry-returns-in-Err-read_field-clause-read : goal.read_entry-returns-in-Err-read_field-clause-read
 read_entry-returns-in-Err-read_field-clause-read g t c =
     let names = entry_names c.entry_table-table.result.now c.entry_table-table.ensures in
-    key_refused (failure_of c.in-Err-read_field.error) names (c.new-names.ensures ∙ names) c.in-Ok.ensures c.in-Err-read_field.ensures.refused
+    let rows = entry_rows c.entry_table-table.result.now c.entry_table-table.ensures in
+    key_refused _ (failure_of c.in-Err-read_field.error) rows (c.new-names.ensures ∙ names) c.in-Ok.ensures c.in-Err-read_field.ensures.refused
 
 pub read_items-read_value-requires : goal.read_items-read_value-requires
 read_items-read_value-requires g t c κs within =
@@ -101,3 +103,7 @@ read_value-returns-in-Err-clause-read g t c =
 pub read_entry-open_members-requires : goal.read_entry-open_members-requires
 read_entry-open_members-requires g t c =
     ap are_distinct (entry_names c.entry_table-table.result.now c.entry_table-table.ensures)
+
+pub read_entry-returns-in-Err-clause-read : goal.read_entry-returns-in-Err-clause-read
+read_entry-returns-in-Err-clause-read g t c =
+    c.in-Err.ensures entry_fields FieldAdditions.closed_fields (entry_listed c.entry_table-table.result.now c.entry_table-table.ensures)

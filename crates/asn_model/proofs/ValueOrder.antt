@@ -35,7 +35,7 @@ same_pos : (m n : ℕ) → pos m ≡ pos n → m ≡ n
 unfolding the_number
 same_pos m n e = ap the_number e
 
-numbers_back : (m n : List ℕ) (r s : List ℤ) → number_row m ++ r ≡ number_row n ++ s → (m ≡ n) × (r ≡ s)
+pub numbers_back : (m n : List ℕ) (r s : List ℤ) → number_row m ++ r ≡ number_row n ++ s → (m ≡ n) × (r ≡ s)
 numbers_back [] [] r s e = (refl, tails _ _ _ _ e)
 numbers_back (x ∷ xs) (y ∷ ys) r s e =
     let t = tails _ _ _ _ e in
@@ -45,7 +45,7 @@ numbers_back (x ∷ xs) (y ∷ ys) r s e =
 numbers_back [] (y ∷ ys) r s e = absurd (grind arith)
 numbers_back (x ∷ xs) [] r s e = absurd (grind arith)
 
-bits_back : (m n : List Bool) (r s : List ℤ) → bit_row m ++ r ≡ bit_row n ++ s → (m ≡ n) × (r ≡ s)
+pub bits_back : (m n : List Bool) (r s : List ℤ) → bit_row m ++ r ≡ bit_row n ++ s → (m ≡ n) × (r ≡ s)
 bits_back [] [] r s e = (refl, tails _ _ _ _ e)
 bits_back (x ∷ xs) (y ∷ ys) r s e =
     let t = tails _ _ _ _ e in
@@ -55,7 +55,7 @@ bits_back (x ∷ xs) (y ∷ ys) r s e =
 bits_back [] (y ∷ ys) r s e = absurd (grind arith)
 bits_back (x ∷ xs) [] r s e = absurd (grind arith)
 
-size_back : (m n : Option ℕ) (r s : List ℤ) → size_row m ++ r ≡ size_row n ++ s → (m ≡ n) × (r ≡ s)
+pub size_back : (m n : Option ℕ) (r s : List ℤ) → size_row m ++ r ≡ size_row n ++ s → (m ≡ n) × (r ≡ s)
 size_back None None r s e = (refl, tails _ _ _ _ e)
 size_back (Some x) (Some y) r s e =
     let t = tails _ _ _ _ e in
@@ -68,7 +68,7 @@ split : (a b r s c d : List ℤ) → (a ++ c) ++ r ≡ (b ++ d) ++ s → a ++ (c
 split a b r s c d e = sym (append_assoc a c r) ∙ e ∙ append_assoc b d s
 
 mutual
-  value_back : (v w : Value) (r s : List ℤ) → value_row v ++ r ≡ value_row w ++ s → (v ≡ w) × (r ≡ s)
+  pub value_back : (v w : Value) (r s : List ℤ) → value_row v ++ r ≡ value_row w ++ s → (v ≡ w) × (r ≡ s)
   value_back Value.null Value.null r s e = (refl, tails _ _ _ _ e)
   value_back (Value.boolean a) (Value.boolean b) r s e = let t = tails _ _ _ _ e in (ap (λ x. Value.boolean x) (same_flag a b (heads _ _ _ _ t)), tails _ _ _ _ t)
   value_back (Value.int a) (Value.int b) r s e = let t = tails _ _ _ _ e in (ap (λ x. Value.int x) (heads _ _ _ _ t), tails _ _ _ _ t)
@@ -95,7 +95,7 @@ mutual
       ((λ i. Value.choice (p.0 i) (q.0 i)), q.1)
   value_back _ _ r s e = absurd (grind arith)
 
-  elements_back : (a b : Values) (r s : List ℤ) → element_row a ++ r ≡ element_row b ++ s → (a ≡ b) × (r ≡ s)
+  pub elements_back : (a b : Values) (r s : List ℤ) → element_row a ++ r ≡ element_row b ++ s → (a ≡ b) × (r ≡ s)
   elements_back Values.no_values Values.no_values r s e = (refl, tails _ _ _ _ e)
   elements_back (Values.value v vs) (Values.value w ws) r s e =
       let t = split (value_row v) (value_row w) r s (element_row vs) (element_row ws) (tails _ _ _ _ e) in
@@ -104,7 +104,7 @@ mutual
       ((λ i. Values.value (p.0 i) (q.0 i)), q.1)
   elements_back _ _ r s e = absurd (grind arith)
 
-  members_back : (a b : Slots) (r s : List ℤ) → member_row a ++ r ≡ member_row b ++ s → (a ≡ b) × (r ≡ s)
+  pub members_back : (a b : Slots) (r s : List ℤ) → member_row a ++ r ≡ member_row b ++ s → (a ≡ b) × (r ≡ s)
   members_back Slots.no_slots Slots.no_slots r s e = (refl, tails _ _ _ _ e)
   members_back (Slots.absent m ms) (Slots.absent n ns) r s e =
       let t = split (number_row m) (number_row n) r s (pos 0 ∷ member_row ms) (pos 0 ∷ member_row ns) (tails _ _ _ _ e) in

@@ -1,0 +1,2 @@
+pub mod DynView
+pub mod Order

@@ -1,2 +1,4 @@
 pub mod Views
 pub mod Rows
+pub mod Bits
+pub mod Moments

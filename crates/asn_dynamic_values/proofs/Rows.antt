@@ -6,10 +6,9 @@ use Rattle.std.specs.declared.cmp.Ordering.TheVariants.{Less, Equal, Greater}
 use Rattle.std.specs.Ordering.{bool_cmp, int_cmp, nat_cmp, ordering_then}
 use Rattle.std.specs.FinMap.{int_cmp-IsAntisymmetric}
 use Rattle.asn_model.specs.Value.{Value, Values, Slots, bit_row, element_row, flag_number, member_row, number_row, size_row, value_cmp, value_row}
-use Rattle.asn_model.proofs.ValueOrder.{bits_back, elements_back, members_back, numbers_back, size_back, value_back}
+use Rattle.asn_model.proofs.ValueOrder.{bits_back, numbers_back, value_back}
 use Rattle.asn_core.specs.Bounds.{nat_cmp-int_cmp}
-use Rattle.asn_dynamic_values.specs.DynView.{members_named}
-use Rattle.asn_dynamic_values.specs.Order.{elements_cmp, kind_number, member_cmp, members_cmp, size_cmp}
+use Rattle.asn_dynamic_values.specs.Order.{contents_cmp, elements_cmp, kind_number, members_cmp, size_cmp}
 
 -- Where the rows begin alike they are the same.
 abbrev PrefixFree : List ℤ → List ℤ → Type 0
@@ -71,99 +70,25 @@ sizes_cmp None (Some n) = refl
 sizes_cmp (Some m) None = refl
 sizes_cmp (Some m) (Some n) = one_cmp (pos m) (pos n) ∙ sym (nat_cmp-int_cmp m n)
 
--- The order of two values of one kind is that of their parts.
-pub cmp-boolean : (a b : Bool) → bool_cmp a b ≡ value_cmp (Value.boolean a) (Value.boolean b)
-unfolding value_cmp
-cmp-boolean a b = sym (one_cmp (flag_number a) (flag_number b) ∙ flags_cmp a b)
+elements_rows : (vs ws : Values) → slice_cmp int_cmp (element_row vs) (element_row ws) ≡ elements_cmp vs ws
+elements_rows Values.no_values Values.no_values = refl
+elements_rows Values.no_values (Values.value w ws) = refl
+elements_rows (Values.value v vs) Values.no_values = refl
+elements_rows (Values.value v vs) (Values.value w ws) = value_then v w (element_row vs) (element_row ws) ∙ ap (ordering_then (value_cmp v w)) (elements_rows vs ws)
 
-pub cmp-int : (a b : ℤ) → int_cmp a b ≡ value_cmp (Value.int a) (Value.int b)
-unfolding value_cmp
-cmp-int a b = sym (one_cmp a b)
+members_rows : (ms ns : Slots) → slice_cmp int_cmp (member_row ms) (member_row ns) ≡ members_cmp ms ns
+members_rows Slots.no_slots Slots.no_slots = refl
+members_rows Slots.no_slots (Slots.absent n ns) = refl
+members_rows Slots.no_slots (Slots.present n w ns) = refl
+members_rows (Slots.absent m ms) Slots.no_slots = refl
+members_rows (Slots.present m v ms) Slots.no_slots = refl
+members_rows (Slots.absent m ms) (Slots.absent n ns) = numbers_then m n _ _ ∙ ap (ordering_then (slice_cmp nat_cmp m n)) (members_rows ms ns)
+members_rows (Slots.absent m ms) (Slots.present n w ns) = numbers_then m n _ _
+members_rows (Slots.present m v ms) (Slots.absent n ns) = numbers_then m n _ _
+members_rows (Slots.present m v ms) (Slots.present n w ns) =
+    numbers_then m n _ _ ∙ ap (ordering_then (slice_cmp nat_cmp m n)) (value_then v w (member_row ms) (member_row ns) ∙ ap (ordering_then (value_cmp v w)) (members_rows ms ns))
 
-pub cmp-bits : (a b : List Bool) (m n : Option ℕ) → ordering_then (slice_cmp bool_cmp a b) (size_cmp m n) ≡ value_cmp (Value.bits a m) (Value.bits b n)
-unfolding value_cmp
-cmp-bits a b m n = sym (prefix_then (bit_row a) (bit_row b) (size_row m) (size_row n) (λ p q e. ap bit_row (bits_back a b p q e).0) ∙ (λ i. ordering_then (bits_cmp a b i) (sizes_cmp m n i)))
-
-pub cmp-octets : (a b : List ℕ) → slice_cmp nat_cmp a b ≡ value_cmp (Value.octets a) (Value.octets b)
-unfolding value_cmp
-cmp-octets a b = sym (numbers_cmp a b)
-
-pub cmp-arcs : (a b : List ℕ) → slice_cmp nat_cmp a b ≡ value_cmp (Value.arcs a) (Value.arcs b)
-unfolding value_cmp
-cmp-arcs a b = sym (numbers_cmp a b)
-
-pub cmp-text : (a b : List ℕ) → slice_cmp nat_cmp a b ≡ value_cmp (Value.text a) (Value.text b)
-unfolding value_cmp
-cmp-text a b = sym (numbers_cmp a b)
-
-pub cmp-units : (a b : List ℕ) → slice_cmp nat_cmp a b ≡ value_cmp (Value.units a) (Value.units b)
-unfolding value_cmp
-cmp-units a b = sym (numbers_cmp a b)
-
-pub cmp-utc : (a b : ℤ) → int_cmp a b ≡ value_cmp (Value.utc a) (Value.utc b)
-unfolding value_cmp
-cmp-utc a b = sym (one_cmp a b)
-
-pub cmp-gen : (a b : ℤ) → int_cmp a b ≡ value_cmp (Value.gen a) (Value.gen b)
-unfolding value_cmp
-cmp-gen a b = sym (one_cmp a b)
-
-pub cmp-day : (a b : ℤ) → int_cmp a b ≡ value_cmp (Value.day a) (Value.day b)
-unfolding value_cmp
-cmp-day a b = sym (one_cmp a b)
-
-pub cmp-item : (a b : List ℕ) → slice_cmp nat_cmp a b ≡ value_cmp (Value.item a) (Value.item b)
-unfolding value_cmp
-cmp-item a b = sym (numbers_cmp a b)
-
-pub cmp-members : (ms ns : Slots) → members_cmp ms ns ≡ value_cmp (Value.members ms) (Value.members ns)
-unfolding value_cmp
-cmp-members ms ns = refl
-
-pub cmp-list : (vs ws : Values) → elements_cmp vs ws ≡ value_cmp (Value.list vs) (Value.list ws)
-unfolding value_cmp
-cmp-list vs ws = refl
-
-pub cmp-bag : (vs ws : Values) → elements_cmp vs ws ≡ value_cmp (Value.bag vs) (Value.bag ws)
-unfolding value_cmp
-cmp-bag vs ws = refl
-
-pub cmp-choice : (i j : List ℕ) (v w : Value) → ordering_then (slice_cmp nat_cmp i j) (value_cmp v w) ≡ value_cmp (Value.choice i v) (Value.choice j w)
-unfolding value_cmp
-cmp-choice i j v w = sym (numbers_then i j (value_row v) (value_row w))
-
--- Elements are compared one by one.
-pub elements_then : (v w : Value) (vs ws : Values) → elements_cmp (Values.value v vs) (Values.value w ws) ≡ ordering_then (value_cmp v w) (elements_cmp vs ws)
-elements_then v w vs ws = value_then v w (element_row vs) (element_row ws)
-
--- Members are compared one by one.
-pub members_then : (m n : List ℕ × Option Value) (ms ns : List (List ℕ × Option Value)) → members_cmp (members_named (m ∷ ms)) (members_named (n ∷ ns)) ≡ ordering_then (member_cmp m n) (members_cmp (members_named ms) (members_named ns))
-members_then (a, None) (b, None) ms ns = numbers_then a b _ _ ∙ by (slice_cmp nat_cmp a b) (members_cmp (members_named ms) (members_named ns))
-  where
-    by : (o p : Ordering) → ordering_then o p ≡ ordering_then (ordering_then o Equal) p
-    by o p = ap (λ q. ordering_then q p) (sym (then_Equal o))
-members_then (a, None) (b, Some w) ms ns = numbers_then a b _ _ ∙ by (slice_cmp nat_cmp a b) (members_cmp (members_named ms) (members_named ns))
-  where
-    by : (o p : Ordering) → ordering_then o Less ≡ ordering_then (ordering_then o Less) p
-    by Less p = refl
-    by Equal p = refl
-    by Greater p = refl
-members_then (a, Some v) (b, None) ms ns = numbers_then a b _ _ ∙ by (slice_cmp nat_cmp a b) (members_cmp (members_named ms) (members_named ns))
-  where
-    by : (o p : Ordering) → ordering_then o Greater ≡ ordering_then (ordering_then o Greater) p
-    by Less p = refl
-    by Equal p = refl
-    by Greater p = refl
-members_then (a, Some v) (b, Some w) ms ns =
-    numbers_then a b _ _ ∙ ap (ordering_then (slice_cmp nat_cmp a b)) (value_then v w (member_row (members_named ms)) (member_row (members_named ns)))
-    ∙ by (slice_cmp nat_cmp a b) (value_cmp v w) (members_cmp (members_named ms) (members_named ns))
-  where
-    by : (o p q : Ordering) → ordering_then o (ordering_then p q) ≡ ordering_then (ordering_then o p) q
-    by Less p q = refl
-    by Equal p q = refl
-    by Greater p q = refl
-
--- Values of different kinds are ordered by their kinds.
+-- A row begins with the number of the value's kind.
 first_row : (v : Value) → value_row v ≡ pos (kind_number v) ∷ drop 1 (value_row v)
 first_row Value.null = refl
 first_row (Value.boolean b) = refl
@@ -182,14 +107,42 @@ first_row (Value.list vs) = refl
 first_row (Value.bag vs) = refl
 first_row (Value.choice i v) = refl
 
-pub cmp-kinds : (v w : Value) → (nat_cmp (kind_number v) (kind_number w) ≡ Equal → ⊥) → nat_cmp (kind_number v) (kind_number w) ≡ value_cmp v w
+-- What follows the kinds in two rows.
+abbrev rests_cmp : Value → Value → Ordering
+rests_cmp v w = slice_cmp int_cmp (drop 1 (value_row v)) (drop 1 (value_row w))
+
+choice_rest : (i j : List ℕ) (v w : Value) → ordering_then (slice_cmp nat_cmp i j) (slice_cmp int_cmp (value_row v) (value_row w)) ≡ ordering_then (slice_cmp nat_cmp i j) (value_cmp v w)
 unfolding value_cmp
-cmp-kinds v w other =
-    by (nat_cmp (kind_number v) (kind_number w)) refl
-    ∙ ap (λ o. ordering_then o (slice_cmp int_cmp (drop 1 (value_row v)) (drop 1 (value_row w)))) (nat_cmp-int_cmp (kind_number v) (kind_number w))
+choice_rest i j v w = refl
+
+by_kinds : (v w : Value) → ordering_then (nat_cmp (kind_number v) (kind_number w)) (rests_cmp v w) ≡ ordering_then (nat_cmp (kind_number v) (kind_number w)) (contents_cmp v w)
+by_kinds Value.null Value.null = refl
+by_kinds (Value.boolean a) (Value.boolean b) = one_cmp (flag_number a) (flag_number b) ∙ flags_cmp a b
+by_kinds (Value.int a) (Value.int b) = one_cmp a b
+by_kinds (Value.bits a m) (Value.bits b n) = prefix_then (bit_row a) (bit_row b) (size_row m) (size_row n) (λ p q e. ap bit_row (bits_back a b p q e).0) ∙ (λ i. ordering_then (bits_cmp a b i) (sizes_cmp m n i))
+by_kinds (Value.octets a) (Value.octets b) = numbers_cmp a b
+by_kinds (Value.arcs a) (Value.arcs b) = numbers_cmp a b
+by_kinds (Value.text a) (Value.text b) = numbers_cmp a b
+by_kinds (Value.units a) (Value.units b) = numbers_cmp a b
+by_kinds (Value.utc a) (Value.utc b) = one_cmp a b
+by_kinds (Value.gen a) (Value.gen b) = one_cmp a b
+by_kinds (Value.day a) (Value.day b) = one_cmp a b
+by_kinds (Value.item a) (Value.item b) = numbers_cmp a b
+by_kinds (Value.members ms) (Value.members ns) = members_rows ms ns
+by_kinds (Value.list vs) (Value.list ws) = elements_rows vs ws
+by_kinds (Value.bag vs) (Value.bag ws) = elements_rows vs ws
+by_kinds (Value.choice i v) (Value.choice j w) = numbers_then i j (value_row v) (value_row w) ∙ choice_rest i j v w
+by_kinds _ _ = refl
+
+-- Values are ordered by kind, and then by contents.
+pub cmp_parts : (v w : Value) → ordering_then (nat_cmp (kind_number v) (kind_number w)) (contents_cmp v w) ≡ value_cmp v w
+unfolding value_cmp
+cmp_parts v w =
+    sym (by_kinds v w)
+    ∙ ap (λ o. ordering_then o (rests_cmp v w)) (nat_cmp-int_cmp (kind_number v) (kind_number w))
     ∙ (λ i. slice_cmp int_cmp (sym (first_row v) i) (sym (first_row w) i))
-  where
-    by : (o : Ordering) → nat_cmp (kind_number v) (kind_number w) ≡ o → o ≡ ordering_then o (slice_cmp int_cmp (drop 1 (value_row v)) (drop 1 (value_row w)))
-    by Less e = refl
-    by Greater e = refl
-    by Equal e = absurd (other e)
+
+pub then_unequal : (o p : Ordering) → (o ≡ Equal → ⊥) → o ≡ ordering_then o p
+then_unequal Less p h = refl
+then_unequal Greater p h = refl
+then_unequal Equal p h = absurd (h refl)

@@ -1,9 +1,10 @@
 -- What each kind of value is seen as.
-use Rattle.std.proofs.Common.{◌≡◌, refl, sym, ap, ◌∙◌, rules, ℕ, ℤ, List, [], ◌∷◌, map, Bool, Option, Some, None, String, Vec, Box, Global, string_bytes}
+use Rattle.std.proofs.Common.{◌≡◌, refl, sym, ap, ◌∙◌, rules, ℕ, ℤ, List, [], ◌∷◌, map, Bool, Option, String, Vec, Box, Global, string_bytes}
 use Rattle.std.specs.Option.{option_map}
 use Rattle.asn_core.specs.Numbers.{signed}
 use Rattle.asn_core.specs.declared.whole_number.WholeNumber.{WholeNumber}
-use Rattle.asn_model.specs.Value.{Value, Values, values}
+use Rattle.asn_model.specs.Value.{Value, Values, elements, values}
+use Rattle.asn_model.proofs.Bags.{elements-values}
 use Rattle.asn_dynamic_values.specs.DynView.{dyn_value, members_named, named_value}
 use Rattle.asn_dynamic_values.specs.declared.value.DynValue.{DynValue, Null, Bool as Bool', Int, Bits, Octets, Arcs, Text, Units, Utc, Gen, Day, Item, List as List', Bag, Members, Choice, the_lemmas}
 
@@ -47,13 +48,16 @@ values-map : (vs : List DynValue) → values (λ v. v) (map dyn_value vs) ≡ va
 values-map [] = refl
 values-map (v ∷ vs) = ap (Values.value (dyn_value v)) (values-map vs)
 
-layer-List : (v : Vec DynValue Global) → dyn_value (List' v) ≡ Value.list (values (λ v. v) (map dyn_value v.items))
+pub layer-List : (v : Vec DynValue Global) → dyn_value (List' v) ≡ Value.list (values (λ v. v) (map dyn_value v.items))
 layer-List v = search (rules, the_lemmas)
 
 pub view-List : (v : Vec DynValue Global) → dyn_value (List' v) ≡ Value.list (values dyn_value v.items)
 view-List v = layer-List v ∙ ap Value.list (values-map v.items)
 
-layer-Bag : (v : Vec DynValue Global) → dyn_value (Bag v) ≡ Value.bag (values (λ v. v) (map dyn_value v.items))
+pub elements-map : (vs : List DynValue) → elements (values dyn_value vs) ≡ map dyn_value vs
+elements-map vs = ap elements (sym (values-map vs)) ∙ elements-values (map dyn_value vs)
+
+pub layer-Bag : (v : Vec DynValue Global) → dyn_value (Bag v) ≡ Value.bag (values (λ v. v) (map dyn_value v.items))
 layer-Bag v = search (rules, the_lemmas)
 
 pub view-Bag : (v : Vec DynValue Global) → dyn_value (Bag v) ≡ Value.bag (values dyn_value v.items)

@@ -3,7 +3,7 @@ use Rattle.std.specs.Prelude.{ℕ, List, [], ◌∷◌, map, Option, Some, None,
 use Rattle.std.specs.Option.{option_map}
 use Rattle.std.specs.Global.{Global}
 use Rattle.asn_core.specs.Numbers.{signed}
-use Rattle.asn_model.specs.Value.{Value, Values, Slots, values}
+use Rattle.asn_model.specs.Value.{Value, Slots, values}
 use Rattle.asn_dynamic_values.specs.declared.value.DynValue.{DynValue, fold-DynValue}
 use Rattle.asn_dynamic_values.specs.declared.value.DynValue.TheOpen.{DynValue-F}
 

@@ -1,7 +1,10 @@
-//! Defines values that a program holds by a shape and not by a Rust type of their own.
+//! Defines values that a program holds by a shape and not by a Rust type of their own, their one
+//! total order, and copies of them.
 #![tactic(auto)]
 
+mod copies;
 mod order;
 mod value;
 
+pub use copies::bag;
 pub use value::DynValue;

@@ -1,8 +1,8 @@
 //! The one total order on values: by kind, then by contents from left to right. The elements of a
 //! SET OF stand in it.
 ghost use Rattle.asn_dynamic_values.specs.DynView.{dyn_value, members_named, named_value};
-ghost use Rattle.asn_dynamic_values.specs.Order.{elements_cmp, kind_number, member_cmp, members_cmp};
-ghost use Rattle.asn_dynamic_values.specs.Order.{size_cmp};
+ghost use Rattle.asn_dynamic_values.specs.Order.{contents_cmp, elements_cmp, kind_number};
+ghost use Rattle.asn_dynamic_values.specs.Order.{members_cmp, size_cmp};
 ghost use Rattle.asn_core.specs.Numbers.{signed};
 ghost use Rattle.asn_model.specs.Value.{value_cmp, values};
 ghost use Rattle.std.specs.Cmp.Lexicographic.{slice_cmp};
@@ -43,8 +43,18 @@ impl DynValue {
     pub fn compare(&self, other: &DynValue) -> Ordering
         ensures { result ≡ value_cmp (dyn_value self.now) (dyn_value other.now) }
     {
+        match self.kind_number().cmp(&other.kind_number()) {
+            Ordering::Equal => self.compare_contents(other),
+            unequal => unequal,
+        }
+    }
+
+    /// Compares the contents of two values, which are of one kind.
+    #[cycle(compare)]
+    fn compare_contents(&self, other: &DynValue) -> Ordering
+        ensures { result ≡ contents_cmp (dyn_value self.now) (dyn_value other.now) }
+    {
         match (self, other) {
-            (DynValue::Null, DynValue::Null) => Ordering::Equal,
             (DynValue::Bool(left), DynValue::Bool(right)) => left.cmp(right),
             (DynValue::Int(left), DynValue::Int(right)) => compare_numbers(*left, *right),
             (
@@ -74,8 +84,8 @@ impl DynValue {
             ) => identifier
                 .cmp(other_identifier)
                 .then(value.compare(other_value)),
-            // The two are of different kinds.
-            _ => self.kind_number().cmp(&other.kind_number()),
+            // NULL has no contents.
+            _ => Ordering::Equal,
         }
     }
 }
@@ -106,7 +116,10 @@ fn compare_bits(left: &Bits, right: &Bits) -> Ordering
             return bit.cmp(&other);
         }
     }
-    left.len().cmp(&right.len())
+    match right.get(left.len()) {
+        Some(_) => Ordering::Less,
+        None => Ordering::Equal,
+    }
 }
 
 /// Compares two sizes, of which none is below any.
@@ -153,34 +166,26 @@ fn compare_members(
         (members_named (map named_value right.now)) }
 {
     let mut others = right.iter();
-    for member in left {
-        let Some(other) = others.next() else {
+    for (name, value) in left {
+        let Some((other_name, other_value)) = others.next() else {
             return Ordering::Greater;
         };
-        match compare_member(member, other) {
-            Ordering::Equal => {}
-            unequal => return unequal,
+        let by_name = name.cmp(other_name);
+        if by_name != Ordering::Equal {
+            return by_name;
+        }
+        let by_value = match (value, other_value) {
+            (None, None) => Ordering::Equal,
+            (None, Some(_)) => Ordering::Less,
+            (Some(_), None) => Ordering::Greater,
+            (Some(member), Some(other)) => member.compare(other),
+        };
+        if by_value != Ordering::Equal {
+            return by_value;
         }
     }
     match others.next() {
         Some(_) => Ordering::Less,
         None => Ordering::Equal,
-    }
-}
-
-/// Compares two members: by name, then an absent one is below one that is present, and then by
-/// value.
-#[cycle(compare)]
-fn compare_member(left: &(String, Option<DynValue>), right: &(String, Option<DynValue>)) -> Ordering
-    ensures { result ≡ member_cmp (named_value left.now) (named_value right.now) }
-{
-    match left.0.cmp(&right.0) {
-        Ordering::Equal => match (&left.1, &right.1) {
-            (None, None) => Ordering::Equal,
-            (None, Some(_)) => Ordering::Less,
-            (Some(_), None) => Ordering::Greater,
-            (Some(left), Some(right)) => left.compare(right),
-        },
-        unequal => unequal,
     }
 }

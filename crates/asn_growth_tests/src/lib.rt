@@ -1,5 +1,5 @@
-//! Compares pairs of shapes that differ in one thing, and shows what no contract states: that the
-//! calls succeed where there is memory.
+//! Compares pairs of shapes that differ in one thing, makes values that have no Rust type of their
+//! own, and shows what no contract states: that the calls succeed where there is memory.
 #![tactic(auto)]
 
 #[cfg(test)]
@@ -12,3 +12,5 @@ mod large;
 mod nested;
 #[cfg(test)]
 mod reasons;
+#[cfg(test)]
+mod values;

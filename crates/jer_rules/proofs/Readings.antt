@@ -1,16 +1,17 @@
 -- What JER reads of a JSON value, by its kind.
-use Rattle.std.proofs.Common.{◌≡◌, ◌∷◌, refl, ap, ◌∙◌, List, ℕ, Option, Some, None}
+use Rattle.std.proofs.Common.{◌≡◌, ◌∷◌, refl, ap, sym, subst, ◌∙◌, List, Option, Some, None}
 use Rattle.std.specs.Prelude.{option_map}
 use Rattle.serde_json.specs.Data.{Data, Members}
 use Rattle.serde_json.specs.Find.{as_array as items_in, as_object as members_in}
 use Rattle.asn_fault.specs.Failure.{Failure}
 use Rattle.asn_coding.specs.Answer.{AtRoot, Refuses, RefusesLeaf}
 use Rattle.asn_traits.specs.FailsWith.{FailsWith}
-use Rattle.asn_traits.specs.Leaf.{IsFailureOf, list_mismatch, set_mismatch}
+use Rattle.asn_traits.specs.Leaf.{IsFailureOf, LeafFailure, choice_mismatch, list_mismatch, set_mismatch}
 use Rattle.asn_traits.specs.Notation.{Notation}
 use Rattle.asn_coding.specs.Opening.{list_shape}
 use Rattle.asn_traits.specs.Shape.{SeqKind, Shape}
 use Rattle.asn_traits.specs.Tree.{Slot, Tree, as_list, as_members, as_choice, head_slot, item_slots, member_slot}
+use Rattle.asn_model.specs.declared.words.TheConstants.{JER_OBJECT}
 use Rattle.asn_coding.proofs.Refusing.{no_list}
 use Rattle.asn_coding.proofs.Steps.{refuses_by}
 
@@ -30,28 +31,26 @@ members-read (Data.string x) = refl
 members-read (Data.array ds) = refl
 members-read (Data.object ms) = refl
 
--- The first member, if there is one.
-abbrev first_of : Members → Option (List ℕ × Tree)
-first_of Members.no_members = None
-first_of (Members.member n d ms) = Some (n, Tree.json d)
-
-choice-read : (d : Data) → as_choice Notation.jer (Tree.json d) ≡ option_map first_of (members_in d)
-choice-read Data.null = refl
-choice-read (Data.boolean b) = refl
-choice-read (Data.number n) = refl
-choice-read (Data.string x) = refl
-choice-read (Data.array ds) = refl
-choice-read (Data.object Members.no_members) = refl
-choice-read (Data.object (Members.member n d ms)) = refl
-
 pub list-none : (d : Data) → items_in d ≡ None → as_list Notation.jer (Tree.json d) ≡ None
 list-none d e = list-read d ∙ ap (option_map item_slots) e
 
 pub members-none : (d : Data) → members_in d ≡ None → as_members Notation.jer (Tree.json d) ≡ None
 members-none d e = members-read d ∙ ap (option_map member_slot) e
 
+no_object : {A : Type 0} (ms : Members) → members_in (Data.object ms) ≡ None → A
+no_object ms e = let x : ◌≡◌ {A = Option Members} (Some ms) None = e in cc x
+
 pub choice-none : (d : Data) → members_in d ≡ None → as_choice Notation.jer (Tree.json d) ≡ None
-choice-none d e = choice-read d ∙ ap (option_map first_of) e
+choice-none (Data.object ms) e = no_object ms e
+choice-none d e = refl
+
+choice_mismatch-other : (d : Data) → members_in d ≡ None → choice_mismatch Notation.jer (Tree.json d) ≡ LeafFailure.mismatch JER_OBJECT.now
+choice_mismatch-other (Data.object ms) e = no_object ms e
+choice_mismatch-other d e = refl
+
+-- The mismatch of a value that is no object is that of a choice.
+pub choice_refused : (d : Data) (e : Failure) → members_in d ≡ None → RefusesLeaf Notation.jer (Tree.json d) (LeafFailure.mismatch JER_OBJECT.now) e → RefusesLeaf Notation.jer (Tree.json d) (choice_mismatch Notation.jer (Tree.json d)) e
+choice_refused d e none tells = subst (λ blame. RefusesLeaf Notation.jer (Tree.json d) blame e) (sym (choice_mismatch-other d none)) tells
 
 -- A tree that is no list decodes to no list of either kind.
 pub no_list_of : (kind : SeqKind) (s : Shape) (t : Tree) (before after : List Slot) (e : Failure) → before ≡ Some t ∷ after → as_list Notation.jer t ≡ None → RefusesLeaf Notation.jer t (list_mismatch Notation.jer) e

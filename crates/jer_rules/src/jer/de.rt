@@ -216,21 +216,26 @@ impl asn_traits::Decoder for Decoder {
         Ok(())
     }
 
-    // A choice is the object's first member. Where its name is no identifier, or there is no
-    // member, an absent slot stands for the payload, and the caller refuses by the type's name.
+    // A choice is the object's only member. Where its name is no identifier, or there is no member,
+    // an absent slot stands for the payload, and the caller refuses by the type's name.
     fn open_choice(&mut self, identifiers: &[&'static str]) -> Result<Option<usize>, DecodeError> {
-        match into_members(self.take()?) {
-            Ok(members) => match into_payload(members, identifiers) {
-                Some((place, payload)) => {
-                    self.put(Some(payload))?;
-                    Ok(Some(place))
-                }
-                None => {
-                    self.put(None)?;
-                    Ok(None)
-                }
-            },
-            Err(other) => Err(mismatch(self.alloc, words::JER_OBJECT, &other)),
+        let members = match into_members(self.take()?) {
+            Ok(members) => members,
+            Err(other) => return Err(mismatch(self.alloc, words::JER_OBJECT, &other)),
+        };
+        if members.len() > 1 {
+            let object = Value::Object(members);
+            return Err(mismatch(self.alloc, words::JER_ONE_MEMBER, &object));
+        }
+        match into_payload(members, identifiers) {
+            Some((place, payload)) => {
+                self.put(Some(payload))?;
+                Ok(Some(place))
+            }
+            None => {
+                self.put(None)?;
+                Ok(None)
+            }
         }
     }
 }

@@ -5,7 +5,7 @@ ghost use Rattle.jer_rules.specs.Payload.{PayloadOf};
 ghost use Rattle.serde_json.specs.Data.{Data};
 ghost use Rattle.serde_json.specs.Find.{as_array, as_object};
 ghost use Rattle.serde_json.specs.View.{view, number_view, items_view, members_view};
-ghost use Rattle.std.specs.Prelude.{◌≡◌, None, MatchResult, map};
+ghost use Rattle.std.specs.Prelude.{◌≡◌, ◌≤◌, None, MatchResult, length, map};
 
 use asn_core::WholeNumber;
 use asn_traits::place_of;
@@ -41,18 +41,17 @@ pub fn into_members(value: Value) -> Result<Map<String, Value>, Value>
     }
 }
 
-/// Returns the place of the first member's name among the identifiers, and the member's value, or
-/// `None` exactly where there is no member, or no such identifier.
-///
-/// The case of ASCII letters makes no difference. Members after the first are dropped.
+/// Returns the place of the only member's name among the identifiers, and the member's value, or
+/// `None` exactly where there is no member, or no such identifier. The case of ASCII letters makes
+/// no difference.
 pub fn into_payload(
     members: Map<String, Value>,
     identifiers: &[&'static str],
 ) -> Option<(usize, Value)>
+    requires { length members.entries ≤ 1 }
     ensures { PayloadOf (members_view members.entries) (map (λ s. s.now) identifiers.now) result }
 {
     let mut members = members;
-    // A map holds its members in byte order of their names, and the first in that order counts.
     let (name, payload) = members.pop_first()?;
     let place = place_of(identifiers, name.as_str())?;
     Some((place, payload))

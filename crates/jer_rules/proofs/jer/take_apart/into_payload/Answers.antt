@@ -8,7 +8,7 @@ returns-in_err-name c =
     rw c.from_residual.ensures (no_payload-empty _ c.args.members.entries empty)
 
 pub returns-in_err-place : goal.returns-in_err-place
-returns-in_err-place c = rw c.from_residual-in_err-place.ensures (payload_lost _ _ _ _ _ _ c.in_ok-name.ensures.removal c.as_str.ensures.value c.in_err-place.ensures.is)
+returns-in_err-place c = rw c.from_residual-in_err-place.ensures (payload_lost _ _ _ _ _ _ c.requires c.in_ok-name.ensures.removal c.as_str.ensures.value c.in_err-place.ensures.is)
 
 pub returns : goal.returns
-returns c = payload_found _ _ _ _ _ _ _ c.in_ok-name.ensures.removal c.as_str.ensures.value c.in_ok-place.ensures.is
+returns c = payload_found _ _ _ _ _ _ _ c.requires c.in_ok-name.ensures.removal c.as_str.ensures.value c.in_ok-place.ensures.is

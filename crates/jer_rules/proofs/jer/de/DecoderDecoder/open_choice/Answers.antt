@@ -1,6 +1,8 @@
+use Rattle.std.proofs.Common.{arith}
+use Rattle.serde_json.proofs.Views.{view-Object}
 use Rattle.asn_coding.proofs.Refusing.{no_choice}
-use Rattle.jer_rules.proofs.Choosing.{opens, opens_none}
-use Rattle.jer_rules.proofs.Readings.{choice-none}
+use Rattle.jer_rules.proofs.Choosing.{no_choice-many, opens, opens_none}
+use Rattle.jer_rules.proofs.Readings.{choice-none, choice_refused}
 use Rattle.jer_rules.proofs.jer.de.DecoderDecoder.open_choice.Goals as goal
 
 pub returns-in_ok-put-in-Some : goal.returns-in_ok-put-in-Some
@@ -17,4 +19,7 @@ returns-in_ok-put-in-None c =
 pub returns-in-Err : goal.returns-in-Err
 returns-in-Err c =
     let h = c.in-Err.ensures in
-    λ alts added. no_choice alts added _ _ _ _ c.in_ok-take.ensures (choice-none _ h.1) (rw h.0 at c.mismatch.ensures)
+    λ alts added. no_choice alts added _ _ _ _ c.in_ok-take.ensures (choice-none _ h.1) (choice_refused _ _ h.1 (rw h.0 at c.mismatch.ensures))
+
+pub returns-then-len-gt1 : goal.returns-then-len-gt1
+returns-then-len-gt1 c = λ alts added. no_choice alts added _ _ _ _ (rw c.in-Ok.ensures at c.in_ok-take.ensures) (no_choice-many _ (omega (arith, c.len.ensures.len, c.if-len-gt1.true))) (rw (view-Object c.in-Ok.members) at c.mismatch-then-len-gt1.ensures)

@@ -72,8 +72,8 @@ pub fn json_texts_are_held()
     ensures { (text : List ℕ) (d : Data) → IsUtf8 text → read text ≡ Some d → is_held d ≡ true }
 {}
 
-/// Both notations can write what decodes from a JSON text, whatever the shape is, and from each JSON
-/// value that `serde_json` can hold.
+/// Both notations can write what decodes from a JSON text, whatever the shape is, and from each
+/// JSON value that `serde_json` can hold.
 pub fn decoded_json_can_be_written()
     ensures text { (s : Shape) (text : List ℕ) (d : Data) (v : Value) → IsUtf8 text
         → read text ≡ Some d → DecodesTo Notation.jer s (Some (Tree.json d)) v

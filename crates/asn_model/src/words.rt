@@ -111,7 +111,8 @@ pub fn stated_refusals()
     ensures jer_unknown { JER_UNKNOWN.now ≡ codes "unknown" }
     ensures avn_no_utf8 { AVN_NO_UTF8.now ≡ codes "Invalid UTF-8 in AVN string" }
     ensures avn_no_unicode { AVN_NO_UNICODE.now ≡ codes "Invalid UTF-8" }
-    ensures outside_alphabet { OUTSIDE_ALPHABET.now ≡ codes "character outside the alphabet at place" }
+    ensures outside_alphabet { OUTSIDE_ALPHABET.now
+        ≡ codes "character outside the alphabet at place" }
     ensures outside_years { OUTSIDE_YEARS.now ≡ codes "time outside the years of its text" }
     ensures no_decimal { NO_DECIMAL.now ≡ codes "Failed to parse decimal number: " }
     ensures no_teletex { NO_TELETEX.now ≡ codes "TeletexString is not supported" }
@@ -129,7 +130,8 @@ pub fn stated_words()
     ensures jer_item { JER_ITEM.now ≡ codes "enumerated item as string" }
     ensures jer_digits { JER_DIGITS.now ≡ codes "hex string" }
     ensures jer_arcs { JER_ARCS.now ≡ codes "number array" }
-    ensures jer_bits { JER_BITS.now ≡ codes "JSON object containing 'value' and 'length' properties." }
+    ensures jer_bits { JER_BITS.now
+        ≡ codes "JSON object containing 'value' and 'length' properties." }
     ensures null { NULL.now ≡ codes "null" }
     ensures boolean { BOOLEAN.now ≡ codes "boolean" }
     ensures avn_number { AVN_NUMBER.now ≡ codes "integer" }

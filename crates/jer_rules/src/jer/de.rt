@@ -17,7 +17,7 @@ use super::faults::{
     end_of_input, mismatch, no_digits, no_item, no_json, no_object, no_octets, no_oid, other_length,
 };
 use super::leaves::{NoLeaf, leaf_of_json};
-use super::take_apart::{into_items, into_members, into_payload};
+use super::take_apart::{has_several, into_items, into_members, into_payload};
 use asn_core::Codec;
 use asn_fault::DecodeError;
 use asn_model::words;
@@ -223,7 +223,7 @@ impl asn_traits::Decoder for Decoder {
             Ok(members) => members,
             Err(other) => return Err(mismatch(self.alloc, words::JER_OBJECT, &other)),
         };
-        if members.len() > 1 {
+        if has_several(&members) {
             let object = Value::Object(members);
             return Err(mismatch(self.alloc, words::JER_ONE_MEMBER, &object));
         }

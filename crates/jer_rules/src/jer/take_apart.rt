@@ -5,7 +5,7 @@ ghost use Rattle.jer_rules.specs.Payload.{PayloadOf};
 ghost use Rattle.serde_json.specs.Data.{Data};
 ghost use Rattle.serde_json.specs.Find.{as_array, as_object};
 ghost use Rattle.serde_json.specs.View.{view, number_view, items_view, members_view};
-ghost use Rattle.std.specs.Prelude.{◌≡◌, ◌≤◌, None, MatchResult, length, map};
+ghost use Rattle.std.specs.Prelude.{◌≡◌, ◌≤◌, None, MatchResult, length, map, nat_lt};
 
 use asn_core::WholeNumber;
 use asn_traits::place_of;
@@ -39,6 +39,13 @@ pub fn into_members(value: Value) -> Result<Map<String, Value>, Value>
         Value::Object(members) => Ok(members),
         other => Err(other),
     }
+}
+
+/// Returns whether an object has two members or more.
+pub fn has_several(members: &Map<String, Value>) -> bool
+    ensures { result ≡ nat_lt 1 (length members.now.entries) }
+{
+    members.len() > 1
 }
 
 /// Returns the place of the only member's name among the identifiers, and the member's value, or

@@ -1,4 +1,5 @@
-use Rattle.std.proofs.Common.{arith}
+use Rattle.std.proofs.Common.{sym, ◌∙◌}
+use Rattle.std.proofs.lemmas.Bool.{ltb-true}
 use Rattle.serde_json.proofs.Views.{view-Object}
 use Rattle.asn_coding.proofs.Refusing.{no_choice}
 use Rattle.jer_rules.proofs.Choosing.{no_choice-many, opens, opens_none}
@@ -21,5 +22,5 @@ returns-in-Err c =
     let h = c.in-Err.ensures in
     λ alts added. no_choice alts added _ _ _ _ c.in_ok-take.ensures (choice-none _ h.1) (choice_refused _ _ h.1 (rw h.0 at c.mismatch.ensures))
 
-pub returns-then-len-gt1 : goal.returns-then-len-gt1
-returns-then-len-gt1 c = λ alts added. no_choice alts added _ _ _ _ (rw c.in-Ok.ensures at c.in_ok-take.ensures) (no_choice-many _ (omega (arith, c.len.ensures.len, c.if-len-gt1.true))) (rw (view-Object c.in-Ok.members) at c.mismatch-then-len-gt1.ensures)
+pub returns-then-has_several : goal.returns-then-has_several
+returns-then-has_several c = λ alts added. no_choice alts added _ _ _ _ (rw c.in-Ok.ensures at c.in_ok-take.ensures) (no_choice-many _ (ltb-true 1 _ (sym c.has_several.ensures ∙ c.if-has_several.true))) (rw (view-Object c.in-Ok.members) at c.mismatch-then-has_several.ensures)

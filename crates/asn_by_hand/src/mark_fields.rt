@@ -91,15 +91,16 @@ pub fn read_mark_set<D: Decoder>(decoder: &mut D) -> Result<MarkSet, DecodeError
 {
     decoder.decode_set(
         Tag::SET,
-        |decoder: &mut D, place: usize, _tag: Tag| -> Result<MarkField, DecodeError>
+        |decoder: &mut D, place: usize, tag: Tag| -> Result<MarkField, DecodeError>
             ensures { (c : Component)
                 → component_at (listed_components mark_set_fields FieldAdditions.closed_fields)
                 place ≡ Some c
+                → c.tag ≡ tag
                 → PlaceAnswer failure_of mark_number mark_slot D.notation place c
                 (D.pending decoder.old) result (D.pending decoder.new) }
         {
-            match place {
-                0 => read_mark(decoder),
+            match tag {
+                Tag::CONTEXT_1 => read_mark(decoder),
                 _ => read_note(decoder),
             }
         },

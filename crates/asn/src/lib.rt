@@ -7,6 +7,9 @@ pub use asn_base::{
     Ia5String, Integer, NumericString, ObjectIdentifier, OctetString, Oid, OutOfMemory,
     PrintableString, SetOf, UniversalString, UtcTime, Utf8String, VisibleString,
 };
-pub use asn_codec::{BinaryRules, CodecCalls, NoRules, TranscodeError, transcode};
+pub use asn_codec::{
+    BinaryRules, CodecCalls, GREATEST_LEVEL_LIMIT, LEVEL_LIMIT, NoRules, TranscodeError, transcode,
+    transcode_within,
+};
 pub use asn_fault::{DecodeError, DecodeErrorKind, EncodeError, EncodeErrorKind};
 pub use asn_traits::{AsnType, Decode, Encode};

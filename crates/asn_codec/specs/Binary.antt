@@ -1,5 +1,6 @@
 -- What the binary calls of a codec return.
 use Rattle.std.specs.Prelude.{◌≡◌, ℕ, List, Result, Ok, Err, IsUtf8}
+use Rattle.avn_grammar.specs.declared.limits.TheConstants.{LEVEL_LIMIT}
 use Rattle.asn_core.specs.declared.codec.Codec.{Codec}
 use Rattle.asn_core.specs.declared.codec.Codec.TheVariants.{Jer, Avn, Xer}
 use Rattle.asn_fault.specs.Failure.{Failure, Cause, at_root}
@@ -22,4 +23,4 @@ map_ok view (Err e) = Err e
 -- reading the bytes as a text of the codec's notation is refused so: they are no UTF-8, or their text is refused
 pub data IsBytesFailure (codec : Codec) (s : Shape) (input : List ℕ) : Failure → Type 0 where
   not_utf8 : ¬ IsUtf8 input → IsBytesFailure codec s input (at_root (Cause.custom (no_utf8 codec)) codec)
-  not_decoded : (failure : Failure) → IsUtf8 input → IsDecodeFailure codec s input failure → IsBytesFailure codec s input failure
+  not_decoded : (failure : Failure) → IsUtf8 input → IsDecodeFailure LEVEL_LIMIT codec s input failure → IsBytesFailure codec s input failure

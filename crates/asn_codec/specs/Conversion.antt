@@ -13,20 +13,20 @@ use Rattle.asn_codec.specs.Texts.{TextDecodesTo, IsDecodeFailure, IsUnencodable}
 use Rattle.asn_codec.specs.declared.conversion.TranscodeError.{TranscodeError}
 use Rattle.asn_codec.specs.declared.conversion.TranscodeError.TheVariants.{Decode, Encode}
 
--- the output is the canonical text of the value that the input decodes to, which fits the shape and can be written by the other codec, a text notation
-pub record Converts (from to : Codec) (s : Shape) (input output : List ℕ) : Type 0 where
+-- the output is the canonical text of the value that the input decodes to with this limit on the levels of AVN, which fits the shape and can be written by the other codec, a text notation
+pub record Converts (limit : ℕ) (from to : Codec) (s : Shape) (input output : List ℕ) : Type 0 where
   pub notation : IsText (notation_of to)
   pub value : Value
-  pub says : TextDecodesTo (notation_of from) s input value
+  pub says : TextDecodesTo limit (notation_of from) s input value
   pub fits : Fits s value
   pub writable : Writable (notation_of to) value
   pub text : output ≡ canonical_text (notation_of to) value
 
--- the input decodes to a value by the shape that the other codec, a text notation, can write
-pub record IsConvertible (from to : Codec) (s : Shape) (input : List ℕ) : Type 0 where
+-- the input decodes with this limit to a value by the shape that the other codec, a text notation, can write
+pub record IsConvertible (limit : ℕ) (from to : Codec) (s : Shape) (input : List ℕ) : Type 0 where
   pub notation : IsText (notation_of to)
   pub value : Value
-  pub says : TextDecodesTo (notation_of from) s input value
+  pub says : TextDecodesTo limit (notation_of from) s input value
   pub writable : Writable (notation_of to) value
 
 -- a refusal: of reading, or of writing by the codec that refused
@@ -55,6 +55,6 @@ pub data IsMemoryRefusal (from to : Codec) : Refusal → Type 0 where
   in_writing : (cause : EncodeCause) → is_encode_out_of_memory cause ≡ true → IsMemoryRefusal from to (Refusal.encode cause to)
 
 -- the input is refused so: it is not read, or the value that it decodes to is not written
-pub data Refuses (from to : Codec) (s : Shape) (input : List ℕ) : Refusal → Type 0 where
-  unread : (failure : Failure) → IsDecodeFailure from s input failure → Refuses from to s input (Refusal.decode failure)
-  unwritten : (v : Value) (cause : EncodeCause) → TextDecodesTo (notation_of from) s input v → IsUnencodable to v cause → Refuses from to s input (Refusal.encode cause to)
+pub data Refuses (limit : ℕ) (from to : Codec) (s : Shape) (input : List ℕ) : Refusal → Type 0 where
+  unread : (failure : Failure) → IsDecodeFailure limit from s input failure → Refuses limit from to s input (Refusal.decode failure)
+  unwritten : (v : Value) (cause : EncodeCause) → TextDecodesTo limit (notation_of from) s input v → IsUnencodable to v cause → Refuses limit from to s input (Refusal.encode cause to)

@@ -12,7 +12,7 @@ ghost use Rattle.asn_codec.specs.Binary.{IsBinary, IsBytesFailure, map_ok};
 ghost use Rattle.asn_codec.specs.Refused.{IsCustomEncodeError, IsCustomDecodeError, no_xer};
 ghost use Rattle.asn_codec.specs.Refused.{no_remainder};
 ghost use Rattle.asn_codec.specs.Texts.{ReadsBack, TextDecodesTo, IsDecodeFailure, IsUnencodable};
-ghost use Rattle.std.specs.Prelude.{◌≡◌, ◌⊎◌, true, IfOk, IfErr, IsErrAnd, OnOk, string_bytes};
+ghost use Rattle.std.specs.Prelude.{◌≡◌, ◌≤◌, ◌⊎◌, ℕ, true, IfOk, IfErr, IsErrAnd, OnOk, string_bytes};
 ghost use Rattle.std.specs.Prelude.{IsUtf8};
 
 use crate::BinaryRules;
@@ -20,6 +20,7 @@ use crate::refusals::{CodecRefusal, decode_refusal, encode_refusal};
 use asn_core::Codec;
 use asn_fault::{DecodeError, EncodeError};
 use asn_traits::{Decode, Encode};
+use avn_grammar::limits::{GREATEST_LEVEL_LIMIT, LEVEL_LIMIT};
 use avn_rules::avn;
 use jer_rules::jer;
 use std::alloc::Global;
@@ -44,10 +45,10 @@ pub trait CodecCalls: Copy {
         // The text is the canonical one, of the value that `value` stands for.
         ensures text { IfOk result (λ s. string_bytes s
             ≡ canonical_text (notation_of (codec_of self)) (T.value_of value.now)) }
-        // The text is read as the tree that is written for the value, in AVN in normal form, unless
-        // it nests deeper than texts are read.
-        ensures reads_back { IfOk result (λ s. ReadsBack (notation_of (codec_of self))
-            (T.value_of value.now) (string_bytes s)) }
+        // The text is read as the tree that is written for the value, in AVN in normal form and
+        // with every limit on its levels, unless it nests deeper than texts are read.
+        ensures reads_back { IfOk result (λ s. (limit : ℕ) → ReadsBack limit
+            (notation_of (codec_of self)) (T.value_of value.now) (string_bytes s)) }
         // A text comes from a text notation alone, of a value of the shape that it can encode.
         ensures notation { OnOk result (IsText (notation_of (codec_of self))) }
         ensures fits { OnOk result (Fits T.shape_of (T.value_of value.now)) }
@@ -63,7 +64,8 @@ pub trait CodecCalls: Copy {
             → Writable (notation_of (codec_of self)) (T.value_of value.now)
             → IfErr result (λ e. is_encode_out_of_memory (encode_cause e.kind) ≡ true) };
 
-    /// Returns the value that a text decodes to as a T.
+    /// Returns the value that a text decodes to as a T. AVN is read with the level limit
+    /// `LEVEL_LIMIT`.
     ///
     /// # Errors
     ///
@@ -71,16 +73,17 @@ pub trait CodecCalls: Copy {
     /// in the notation, or why its tree decodes to no value.
     fn decode_from_str<T: Decode>(&self, alloc: Global, input: &str) -> Result<T, DecodeError>
         // The text decodes to the value that the result stands for.
-        ensures value { IfOk result (λ x. TextDecodesTo (notation_of (codec_of self.now))
-            T.shape_of input.now (T.value_of x)) }
+        ensures value { IfOk result (λ x. TextDecodesTo LEVEL_LIMIT
+            (notation_of (codec_of self.now)) T.shape_of input.now (T.value_of x)) }
         // An error states where and why decoding stops, by the definition of the notation, or that
         // memory ran out under this codec.
         ensures refused { IfErr result (λ e.
             (failure_of e ≡ at_root Cause.out_of_memory (codec_of self.now))
-            ⊎ IsDecodeFailure (codec_of self.now) T.shape_of input.now (failure_of e)) }
+            ⊎ IsDecodeFailure LEVEL_LIMIT (codec_of self.now) T.shape_of input.now
+            (failure_of e)) }
         // A text that decodes to a value is read as that value, unless memory runs out.
         ensures complete { (v : Value)
-            → TextDecodesTo (notation_of (codec_of self.now)) T.shape_of input.now v
+            → TextDecodesTo LEVEL_LIMIT (notation_of (codec_of self.now)) T.shape_of input.now v
             → Reads T.value_of v result };
 
     /// Encodes a value, and returns its bytes: those of its canonical text under JER and AVN, and
@@ -100,8 +103,8 @@ pub trait CodecCalls: Copy {
         // is written for the value, unless it nests deeper than texts are read.
         ensures text { IsText (notation_of (codec_of self)) → IfOk result (λ bytes. bytes.items
             ≡ canonical_text (notation_of (codec_of self)) (T.value_of value.now)) }
-        ensures reads_back { IfOk result (λ bytes. ReadsBack (notation_of (codec_of self))
-            (T.value_of value.now) bytes.items) }
+        ensures reads_back { IfOk result (λ bytes. (limit : ℕ) → ReadsBack limit
+            (notation_of (codec_of self)) (T.value_of value.now) bytes.items) }
         ensures fits { IsText (notation_of (codec_of self))
             → OnOk result (Fits T.shape_of (T.value_of value.now)) }
         ensures writable { IsText (notation_of (codec_of self))
@@ -139,7 +142,8 @@ pub trait CodecCalls: Copy {
         // Under JER and AVN the bytes are a text, which decodes to the value of the result.
         ensures value { IsText (notation_of (codec_of self.now)) → IfOk result
             (λ x. IsUtf8 input.now
-            × TextDecodesTo (notation_of (codec_of self.now)) T.shape_of input.now (T.value_of x)) }
+            × TextDecodesTo LEVEL_LIMIT (notation_of (codec_of self.now)) T.shape_of input.now
+            (T.value_of x)) }
         // Their error states that the bytes are no text, or where and why decoding stops, or that
         // memory ran out under this codec; and a text that decodes to a value is read as that
         // value, unless memory runs out.
@@ -147,7 +151,7 @@ pub trait CodecCalls: Copy {
             (λ e. (failure_of e ≡ at_root Cause.out_of_memory (codec_of self.now))
             ⊎ IsBytesFailure (codec_of self.now) T.shape_of input.now (failure_of e)) }
         ensures complete { IsUtf8 input.now → (v : Value)
-            → TextDecodesTo (notation_of (codec_of self.now)) T.shape_of input.now v
+            → TextDecodesTo LEVEL_LIMIT (notation_of (codec_of self.now)) T.shape_of input.now v
             → Reads T.value_of v result }
         // XER is refused.
         ensures xer { codec_of self.now ≡ Xer
@@ -194,11 +198,7 @@ impl CodecCalls for Codec {
     }
 
     fn decode_from_str<T: Decode>(&self, alloc: Global, input: &str) -> Result<T, DecodeError> {
-        match self {
-            Codec::Jer => jer::decode(alloc, input),
-            Codec::Avn => avn::decode(alloc, input),
-            _ => Err(decode_refusal(alloc, *self, CodecRefusal::NoTextDecoded)),
-        }
+        decode_within(alloc, *self, LEVEL_LIMIT, input)
     }
 
     fn encode_to_binary<T: Encode, R: BinaryRules>(
@@ -244,5 +244,33 @@ impl CodecCalls for Codec {
             Codec::Xer => Err(decode_refusal(alloc, *self, CodecRefusal::NoXer)),
             _ => rules.decode_with_remainder(alloc, *self, input),
         }
+    }
+}
+
+/// Returns the value that a text decodes to as a T, with this limit on the levels of AVN. It is
+/// `decode_from_str` where the limit is `LEVEL_LIMIT`.
+///
+/// # Errors
+///
+/// Those of `decode_from_str`.
+pub(crate) fn decode_within<T: Decode>(
+    alloc: Global,
+    codec: Codec,
+    limit: usize,
+    input: &str,
+) -> Result<T, DecodeError>
+    requires { limit ≤ GREATEST_LEVEL_LIMIT }
+    ensures value { IfOk result (λ x. TextDecodesTo limit (notation_of codec) T.shape_of input.now
+        (T.value_of x)) }
+    ensures refused { IfErr result (λ e. (failure_of e ≡ at_root Cause.out_of_memory codec)
+        ⊎ IsDecodeFailure limit codec T.shape_of input.now (failure_of e)) }
+    ensures complete { (v : Value)
+        → TextDecodesTo limit (notation_of codec) T.shape_of input.now v
+        → Reads T.value_of v result }
+{
+    match codec {
+        Codec::Jer => jer::decode(alloc, input),
+        Codec::Avn => avn::decode_within(alloc, input, limit),
+        _ => Err(decode_refusal(alloc, codec, CodecRefusal::NoTextDecoded)),
     }
 }

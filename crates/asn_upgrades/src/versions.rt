@@ -14,6 +14,7 @@ ghost use Rattle.asn_model.specs.Value.{Fits, Value};
 ghost use Rattle.asn_model.specs.Writable.{Writable};
 ghost use Rattle.asn_coding.specs.Root.{Reads};
 ghost use Rattle.asn_upgrades.specs.Apart.{IsApart};
+ghost use Rattle.avn_grammar.specs.declared.limits.TheConstants.{LEVEL_LIMIT};
 ghost use Rattle.std.specs.Prelude.{◌≡◌, ◌⊎◌, Some, true, IfErr, IfOk};
 
 use asn_codec::CodecCalls;
@@ -36,22 +37,22 @@ pub fn decode_as_older<Old: Decode, New: AsnType>(
     requires { Grows Old.shape_of New.shape_of }
     // As by `decode_from_str` the text decodes to the value, or it is refused by a reason to fail,
     // whatever the newer version decodes it to.
-    ensures value { IfOk result (λ x. TextDecodesTo (notation_of codec) Old.shape_of input.now
-        (Old.value_of x)) }
+    ensures value { IfOk result (λ x. TextDecodesTo LEVEL_LIMIT (notation_of codec) Old.shape_of
+        input.now (Old.value_of x)) }
     ensures refused { IfErr result (λ e. (failure_of e ≡ at_root Cause.out_of_memory codec)
-        ⊎ IsDecodeFailure codec Old.shape_of input.now (failure_of e)) }
+        ⊎ IsDecodeFailure LEVEL_LIMIT codec Old.shape_of input.now (failure_of e)) }
     // What the newer version decodes the text to is decoded, without what the older one lacks,
     // unless its reader looks at an alternative or item that it lacks, or memory runs out.
-    ensures known { (t : Tree) (v : Value) → HasTree (notation_of codec) input.now t
+    ensures known { (t : Tree) (v : Value) → HasTree LEVEL_LIMIT (notation_of codec) input.now t
         → DecodesTo (notation_of codec) New.shape_of (Some t) v
         → Known (notation_of codec) Old.shape_of t
         → Reads Old.value_of (project Old.shape_of v) result }
     // It is decoded to nothing else.
-    ensures projected { (t : Tree) (v : Value) → HasTree (notation_of codec) input.now t
+    ensures projected { (t : Tree) (v : Value) → HasTree LEVEL_LIMIT (notation_of codec) input.now t
         → DecodesTo (notation_of codec) New.shape_of (Some t) v
         → IfOk result (λ x. Old.value_of x ≡ project Old.shape_of v) }
     // It is refused for an alternative or item that the older version lacks, with the path to it.
-    ensures unknown { (t : Tree) (v : Value) → HasTree (notation_of codec) input.now t
+    ensures unknown { (t : Tree) (v : Value) → HasTree LEVEL_LIMIT (notation_of codec) input.now t
         → DecodesTo (notation_of codec) New.shape_of (Some t) v
         → IfErr result (λ e. (failure_of e ≡ at_root Cause.out_of_memory codec)
         ⊎ IsApart (notation_of codec) Old.shape_of t IsUnknown (failure_of e)) }
@@ -74,22 +75,22 @@ pub fn decode_as_newer<Old: AsnType, New: Decode>(
     requires { Grows Old.shape_of New.shape_of }
     // As by `decode_from_str` the text decodes to the value, or it is refused by a reason to fail,
     // whatever it was written for.
-    ensures value { IfOk result (λ x. TextDecodesTo (notation_of codec) New.shape_of text.now
-        (New.value_of x)) }
+    ensures value { IfOk result (λ x. TextDecodesTo LEVEL_LIMIT (notation_of codec) New.shape_of
+        text.now (New.value_of x)) }
     ensures refused { IfErr result (λ e. (failure_of e ≡ at_root Cause.out_of_memory codec)
-        ⊎ IsDecodeFailure codec New.shape_of text.now (failure_of e)) }
+        ⊎ IsDecodeFailure LEVEL_LIMIT codec New.shape_of text.now (failure_of e)) }
     // The value that the text was written for is decoded, with each addition absent, unless the
     // text nests deeper than texts are read.
     ensures lifted { (v : Value) → IsText (notation_of codec) → Fits Old.shape_of v
-        → Writable (notation_of codec) v → ReadsBack (notation_of codec) v text.now
-        → IsShallow Notation.avn (notation_of codec) v
+        → Writable (notation_of codec) v → ReadsBack LEVEL_LIMIT (notation_of codec) v text.now
+        → IsShallow LEVEL_LIMIT Notation.avn (notation_of codec) v
         → IfOk result (λ x. New.value_of x ≡ lift New.shape_of v) }
     // It is refused for an addition that the newer version requires, with the path to it.
     ensures missing { (v : Value) → IsText (notation_of codec) → Fits Old.shape_of v
-        → Writable (notation_of codec) v → ReadsBack (notation_of codec) v text.now
-        → IsShallow Notation.avn (notation_of codec) v
+        → Writable (notation_of codec) v → ReadsBack LEVEL_LIMIT (notation_of codec) v text.now
+        → IsShallow LEVEL_LIMIT Notation.avn (notation_of codec) v
         → IfErr result (λ e. (failure_of e ≡ at_root Cause.out_of_memory codec)
-        ⊎ ((t : Tree) × HasTree (notation_of codec) text.now t
+        ⊎ ((t : Tree) × HasTree LEVEL_LIMIT (notation_of codec) text.now t
         × IsApart (notation_of codec) New.shape_of t IsMissing (failure_of e))) }
 {
     codec.decode_from_str(alloc, text)

@@ -25,6 +25,7 @@ ghost use Rattle.asn_codec.specs.Texts.{HasTree, IsDecodeFailure, TextDecodesTo}
 ghost use Rattle.asn_coding.specs.Root.{Reads};
 ghost use Rattle.asn_fault.specs.Failure.{Cause, at_root, failure_of};
 ghost use Rattle.asn_upgrades.specs.Apart.{IsApart};
+ghost use Rattle.avn_grammar.specs.declared.limits.TheConstants.{LEVEL_LIMIT};
 ghost use Rattle.std.specs.Prelude.{◌≡◌, ◌⊎◌, None, Ok, Some, IfErr, IfOk, IfSome};
 
 use asn_core::Codec;
@@ -66,18 +67,18 @@ pub fn versions_of_part()
 /// Those of `decode_from_str`. Where a `NewPart` decodes the text, `OutOfMemory`, or
 /// `NoValidChoice` for the alternative that `OldPart` lacks.
 pub fn decode_part(alloc: Global, codec: Codec, input: &str) -> Result<OldPart, DecodeError>
-    ensures value { IfOk result (λ x. TextDecodesTo (notation_of codec) old_part_shape input.now
-        (old_part_value x)) }
+    ensures value { IfOk result (λ x. TextDecodesTo LEVEL_LIMIT (notation_of codec) old_part_shape
+        input.now (old_part_value x)) }
     ensures refused { IfErr result (λ e. (failure_of e ≡ at_root Cause.out_of_memory codec)
-        ⊎ IsDecodeFailure codec old_part_shape input.now (failure_of e)) }
-    ensures projected { (t : Tree) (v : Value) → HasTree (notation_of codec) input.now t
+        ⊎ IsDecodeFailure LEVEL_LIMIT codec old_part_shape input.now (failure_of e)) }
+    ensures projected { (t : Tree) (v : Value) → HasTree LEVEL_LIMIT (notation_of codec) input.now t
         → DecodesTo (notation_of codec) new_part_shape (Some t) v
         → IfOk result (λ x. old_part_value x ≡ project old_part_shape v) }
-    ensures unknown { (t : Tree) (v : Value) → HasTree (notation_of codec) input.now t
+    ensures unknown { (t : Tree) (v : Value) → HasTree LEVEL_LIMIT (notation_of codec) input.now t
         → DecodesTo (notation_of codec) new_part_shape (Some t) v
         → IfErr result (λ e. (failure_of e ≡ at_root Cause.out_of_memory codec)
         ⊎ IsApart (notation_of codec) old_part_shape t IsUnknown (failure_of e)) }
-    ensures known { (t : Tree) (v : Value) → HasTree (notation_of codec) input.now t
+    ensures known { (t : Tree) (v : Value) → HasTree LEVEL_LIMIT (notation_of codec) input.now t
         → DecodesTo (notation_of codec) new_part_shape (Some t) v
         → Known (notation_of codec) old_part_shape t
         → Reads old_part_value (project old_part_shape v) result }
@@ -99,12 +100,12 @@ pub fn decode_report(
     input: &str,
 ) -> Result<Option<OldReport>, DecodeError>
     ensures none { result ≡ Ok None → Grows old_report_shape new_report_shape → ⊥ }
-    ensures value { IfOk result (λ o. IfSome o (λ x. TextDecodesTo (notation_of codec)
+    ensures value { IfOk result (λ o. IfSome o (λ x. TextDecodesTo LEVEL_LIMIT (notation_of codec)
         old_report_shape input.now (old_report_value x))) }
-    ensures projected { (t : Tree) (v : Value) → HasTree (notation_of codec) input.now t
+    ensures projected { (t : Tree) (v : Value) → HasTree LEVEL_LIMIT (notation_of codec) input.now t
         → DecodesTo (notation_of codec) new_report_shape (Some t) v
         → IfOk result (λ o. IfSome o (λ x. old_report_value x ≡ project old_report_shape v)) }
-    ensures unknown { (t : Tree) (v : Value) → HasTree (notation_of codec) input.now t
+    ensures unknown { (t : Tree) (v : Value) → HasTree LEVEL_LIMIT (notation_of codec) input.now t
         → DecodesTo (notation_of codec) new_report_shape (Some t) v
         → IfErr result (λ e. (failure_of e ≡ at_root Cause.out_of_memory codec)
         ⊎ IsApart (notation_of codec) old_report_shape t IsUnknown (failure_of e)) }

@@ -17,22 +17,22 @@ use Rattle.asn_convert.specs.declared.status.Status.{Status}
 use Rattle.asn_convert.specs.declared.status.Status.TheVariants.{Done, Refused, BadRequest, ReadFault, WriteFault, WantOfMemory, TooLong, NotText}
 
 -- a canonical text and a line feed answer the text
-pub text_answers : (from to : Codec) (s : Shape) (text output : List ℕ) (t : Transfer) (r : Status) → Converts from to s text output
-    → Outcome (output ++ 10 ∷ []) Done t r → Answers from to s text t r
-text_answers from to s text output t r h (Outcome.whole a) = record { bytes = output ++ 10 ∷ []; has = record { output = output; converts = h; is = refl }; appended = a }
-text_answers from to s text output t r h (Outcome.cut rose front) = (rose, record { bytes = output ++ 10 ∷ []; has = inl record { output = output; converts = h; is = refl }; appended = front })
-text_answers from to s text output t r h (Outcome.unwritten keeps) = keeps
+pub text_answers : (limit : ℕ) (from to : Codec) (s : Shape) (text output : List ℕ) (t : Transfer) (r : Status) → Converts limit from to s text output
+    → Outcome (output ++ 10 ∷ []) Done t r → Answers limit from to s text t r
+text_answers limit from to s text output t r h (Outcome.whole a) = record { bytes = output ++ 10 ∷ []; has = record { output = output; converts = h; is = refl }; appended = a }
+text_answers limit from to s text output t r h (Outcome.cut rose front) = (rose, record { bytes = output ++ 10 ∷ []; has = inl record { output = output; converts = h; is = refl }; appended = front })
+text_answers limit from to s text output t r h (Outcome.unwritten keeps) = keeps
 
 -- the line of a fault returns the text that is refused so
-pub line_answers : (from to : Codec) (s : Shape) (text : List ℕ) (fault : TranscodeError) (t : Transfer) (r : Status)
-    → IsMemoryRefusal from to (refusal_of fault) ⊎ Refuses from to s text (refusal_of fault)
+pub line_answers : (limit : ℕ) (from to : Codec) (s : Shape) (text : List ℕ) (fault : TranscodeError) (t : Transfer) (r : Status)
+    → IsMemoryRefusal from to (refusal_of fault) ⊎ Refuses limit from to s text (refusal_of fault)
     → (is_refusal_out_of_memory (refusal_of fault) ≡ true → r ≡ WantOfMemory)
-    → Outcome (refusal_line fault) Refused t r → Answers from to s text t r
-line_answers from to s text fault t r (inl m) k (Outcome.whole a) = let e = k (memory_refused from to _ m) in absurd (cc e)
-line_answers from to s text fault t r (inr h) k (Outcome.whole a) = record { bytes = refusal_line fault; has = record { fault = fault; refuses = h; is = refl }; appended = a }
-line_answers from to s text fault t r (inl m) k (Outcome.cut rose front) = let e = k (memory_refused from to _ m) in absurd (cc e)
-line_answers from to s text fault t r (inr h) k (Outcome.cut rose front) = (rose, record { bytes = refusal_line fault; has = inr record { fault = fault; refuses = h; is = refl }; appended = front })
-line_answers from to s text fault t r h k (Outcome.unwritten keeps) = keeps
+    → Outcome (refusal_line fault) Refused t r → Answers limit from to s text t r
+line_answers limit from to s text fault t r (inl m) k (Outcome.whole a) = let e = k (memory_refused from to _ m) in absurd (cc e)
+line_answers limit from to s text fault t r (inr h) k (Outcome.whole a) = record { bytes = refusal_line fault; has = record { fault = fault; refuses = h; is = refl }; appended = a }
+line_answers limit from to s text fault t r (inl m) k (Outcome.cut rose front) = let e = k (memory_refused from to _ m) in absurd (cc e)
+line_answers limit from to s text fault t r (inr h) k (Outcome.cut rose front) = (rose, record { bytes = refusal_line fault; has = inr record { fault = fault; refuses = h; is = refl }; appended = front })
+line_answers limit from to s text fault t r h k (Outcome.unwritten keeps) = keeps
 
 -- what is put as an answer is no refusal
 pub no_refusal : (due : List ℕ) (t : Transfer) (r : Status) → Outcome due Done t r → r ≢ Refused
@@ -41,15 +41,15 @@ no_refusal due t r (Outcome.cut rose front) e = cc e
 no_refusal due t r (Outcome.unwritten keeps) e = cc e
 
 -- what is said of the answer to a text is said of the request for it
-pub conversion_answers : (from to : Codec) (sample : Sample) (text : List ℕ) (t : Transfer) (r : Status) → Answers from to (sample_shape sample) text t r → AnswersTo (Convert from to sample) text t r
-conversion_answers from to sample text t Done h = h
-conversion_answers from to sample text t Refused h = h
-conversion_answers from to sample text t WriteFault h = h
-conversion_answers from to sample text t WantOfMemory h = h
-conversion_answers from to sample text t BadRequest h = h
-conversion_answers from to sample text t ReadFault h = h
-conversion_answers from to sample text t TooLong h = h
-conversion_answers from to sample text t NotText h = h
+pub conversion_answers : (from to : Codec) (sample : Sample) (limit : ℕ) (text : List ℕ) (t : Transfer) (r : Status) → Answers limit from to (sample_shape sample) text t r → AnswersTo (Convert from to sample limit) text t r
+conversion_answers from to sample limit text t Done h = h
+conversion_answers from to sample limit text t Refused h = h
+conversion_answers from to sample limit text t WriteFault h = h
+conversion_answers from to sample limit text t WantOfMemory h = h
+conversion_answers from to sample limit text t BadRequest h = h
+conversion_answers from to sample limit text t ReadFault h = h
+conversion_answers from to sample limit text t TooLong h = h
+conversion_answers from to sample limit text t NotText h = h
 
 -- the report on a document answers the request for it
 pub report_answers : (n : ℕ) (text : List ℕ) (t : Transfer) (r : Status) → Outcome (report n) Done t r → AnswersTo (Make n) text t r

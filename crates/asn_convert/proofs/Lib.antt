@@ -1,6 +1,6 @@
 pub mod Asking
 pub mod Counting
-pub mod FewEntries
+pub mod Limited
 pub mod Relaying
 pub mod MadeTexts
 pub mod Answering

@@ -19,7 +19,7 @@ use Rattle.serde_json.specs.Data.{Data, Num, Items, Members, depth, items_depth,
 use Rattle.serde_json.specs.Find.{of_integer}
 use Rattle.serde_json.specs.Written.{has_float, members_have_float}
 use Rattle.asn_convert.specs.Made.{IsRelayed, made, made_key, made_members, made_value}
-use Rattle.asn_convert.specs.declared.request.TheConstants.{MOST_ENTRIES}
+use Rattle.asn_convert.specs.declared.limits.TheConstants.{MOST_ENTRIES}
 
 -- what is asked of the value of an entry
 pub record IsGood (d : Data) : Type 0 where

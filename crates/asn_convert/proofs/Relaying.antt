@@ -1,5 +1,6 @@
 -- A value whose texts are read again is relayed from one notation to the other and back.
 use Rattle.std.proofs.Common.{◌≡◌, ◌↔◌, ℕ, List, length, true, refl, sym, ap, ◌∙◌}
+use Rattle.avn_grammar.specs.declared.limits.TheConstants.{LEVEL_LIMIT}
 use Rattle.asn_core.specs.declared.codec.Codec.TheVariants.{Jer, Avn}
 use Rattle.asn_codec.specs.Conversion.{IsConvertible}
 use Rattle.asn_codec.specs.Texts.{DecodesOnlyTo, HasTree, IsShallow, ReadsBack, TextDecodesTo}
@@ -14,26 +15,26 @@ use Rattle.asn_traits.specs.Writable.{Writable}
 use Rattle.asn_convert.specs.Made.{IsRelayed, TextLengths, report_lines}
 
 -- the text in JER decodes to the value
-pub first_read : (s : Shape) (v : Value) (jer : List ℕ) → is_readable s ≡ true → Fits s v → IsRelayed v → ReadsBack Notation.jer v jer → TextDecodesTo Notation.jer s jer v
+pub first_read : (s : Shape) (v : Value) (jer : List ℕ) → is_readable s ≡ true → Fits s v → IsRelayed v → ReadsBack LEVEL_LIMIT Notation.jer v jer → TextDecodesTo LEVEL_LIMIT Notation.jer s jer v
 first_read s v jer readable fits relayed back = record { tree = Tree.json (jer_data v); has = HasTree.json_tree (back relayed.nests); says = decodes_written Notation.jer jer_tree jer_writes readable fits relayed.jer }
 
 -- what is said of the text of a value that was converted
 pub record IsConverted (from to : Notation) (s : Shape) (input output : List ℕ) : Type 0 where
-  pub again : (v : Value) → TextDecodesTo from s input v → IsShallow from to v → DecodesOnlyTo to s output v
-  pub equal : (v w : Value) → TextDecodesTo from s input v → Fits s w → Writable to w → (canonical_text to w ≡ output) ↔ (w ≡ v)
+  pub again : (v : Value) → TextDecodesTo LEVEL_LIMIT from s input v → IsShallow LEVEL_LIMIT from to v → DecodesOnlyTo LEVEL_LIMIT to s output v
+  pub equal : (v w : Value) → TextDecodesTo LEVEL_LIMIT from s input v → Fits s w → Writable to w → (canonical_text to w ≡ output) ↔ (w ≡ v)
 
 -- the text in AVN decodes to the value
-pub then_read : (s : Shape) (v : Value) (jer avn : List ℕ) → TextDecodesTo Notation.jer s jer v → IsRelayed v → IsConverted Notation.jer Notation.avn s jer avn → TextDecodesTo Notation.avn s avn v
+pub then_read : (s : Shape) (v : Value) (jer avn : List ℕ) → TextDecodesTo LEVEL_LIMIT Notation.jer s jer v → IsRelayed v → IsConverted Notation.jer Notation.avn s jer avn → TextDecodesTo LEVEL_LIMIT Notation.avn s avn v
 then_read s v jer avn read relayed forth = let only = forth.again v read relayed.levels in only.says
 
-pub to_avn : (s : Shape) (v : Value) (jer : List ℕ) → TextDecodesTo Notation.jer s jer v → IsRelayed v → IsConvertible Jer Avn s jer
+pub to_avn : (s : Shape) (v : Value) (jer : List ℕ) → TextDecodesTo LEVEL_LIMIT Notation.jer s jer v → IsRelayed v → IsConvertible LEVEL_LIMIT Jer Avn s jer
 to_avn s v jer read relayed = record { notation = tt; value = v; says = read; writable = relayed.avn }
 
-pub to_jer : (s : Shape) (v : Value) (avn : List ℕ) → TextDecodesTo Notation.avn s avn v → IsRelayed v → IsConvertible Avn Jer s avn
+pub to_jer : (s : Shape) (v : Value) (avn : List ℕ) → TextDecodesTo LEVEL_LIMIT Notation.avn s avn v → IsRelayed v → IsConvertible LEVEL_LIMIT Avn Jer s avn
 to_jer s v avn read relayed = record { notation = tt; value = v; says = read; writable = relayed.jer }
 
 -- the lengths of the three texts are those of the canonical ones
-pub measured : (s : Shape) (v : Value) (jer avn back : List ℕ) (a b c : ℕ) → Fits s v → IsRelayed v → jer ≡ canonical_text Notation.jer v → TextDecodesTo Notation.jer s jer v
+pub measured : (s : Shape) (v : Value) (jer avn back : List ℕ) (a b c : ℕ) → Fits s v → IsRelayed v → jer ≡ canonical_text Notation.jer v → TextDecodesTo LEVEL_LIMIT Notation.jer s jer v
     → IsConverted Notation.jer Notation.avn s jer avn → IsConverted Notation.avn Notation.jer s avn back → a ≡ length jer → b ≡ length avn → c ≡ length back → TextLengths v a b c
 measured s v jer avn back a b c fits relayed is read forth home is_a is_b is_c =
     let second = then_read s v jer avn read relayed forth in

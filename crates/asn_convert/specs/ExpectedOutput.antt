@@ -14,10 +14,10 @@ use Rattle.asn_convert.specs.declared.status.Status.{Status}
 use Rattle.asn_convert.specs.declared.status.Status.TheVariants.{Done, Refused, WriteFault, WantOfMemory}
 use Rattle.asn_codec.specs.declared.conversion.TranscodeError.{TranscodeError}
 
--- the bytes are the canonical text of the value that the text decodes to by the shape, and a line feed
-pub record IsAnswer (from to : Codec) (s : Shape) (text due : List ℕ) : Type 0 where
+-- the bytes are the canonical text of the value that the text decodes to by the shape, with this limit on the levels of AVN, and a line feed
+pub record IsAnswer (limit : ℕ) (from to : Codec) (s : Shape) (text due : List ℕ) : Type 0 where
   pub output : List ℕ
-  pub converts : Converts from to s text output
+  pub converts : Converts limit from to s text output
   pub is : due ≡ output ++ 10 ∷ []
 
 -- the line that tells a fault
@@ -25,14 +25,14 @@ abbrev pub refusal_line : TranscodeError → List ℕ
 refusal_line fault = codes "refused: " ++ error_text fault ++ 10 ∷ []
 
 -- the bytes are the line of a fault for which the text is refused by the shape
-pub record IsRefusal (from to : Codec) (s : Shape) (text due : List ℕ) : Type 0 where
+pub record IsRefusal (limit : ℕ) (from to : Codec) (s : Shape) (text due : List ℕ) : Type 0 where
   pub fault : TranscodeError
-  pub refuses : Refuses from to s text (refusal_of fault)
+  pub refuses : Refuses limit from to s text (refusal_of fault)
   pub is : due ≡ refusal_line fault
 
 -- the bytes are what is expected for the text, an answer or a refusal
-abbrev pub IsExpectedOutput : Codec → Codec → Shape → List ℕ → List ℕ → Type 0
-IsExpectedOutput from to s text due = IsAnswer from to s text due ⊎ IsRefusal from to s text due
+abbrev pub IsExpectedOutput : ℕ → Codec → Codec → Shape → List ℕ → List ℕ → Type 0
+IsExpectedOutput limit from to s text due = IsAnswer limit from to s text due ⊎ IsRefusal limit from to s text due
 
 -- bytes with P were written, where the sink tells its bytes
 pub record Wrote (sink : Transfer) (P : List ℕ → Type 0) : Type 0 where
@@ -48,12 +48,12 @@ pub record WroteFront (sink : Transfer) (P : List ℕ → Type 0) : Type 0 where
 
 -- the bytes are what is expected for the request: the answer to its text, or the report on its document
 abbrev pub IsAnswerTo : Request → List ℕ → List ℕ → Type 0
-IsAnswerTo (Convert from to sample) text due = IsAnswer from to (sample_shape sample) text due
+IsAnswerTo (Convert from to sample limit) text due = IsAnswer limit from to (sample_shape sample) text due
 IsAnswerTo (Make n) text due = due ≡ report n
 
 -- the bytes are the line of a fault for which the text is refused; a document that is made is never refused
 abbrev pub IsRefusalTo : Request → List ℕ → List ℕ → Type 0
-IsRefusalTo (Convert from to sample) text due = IsRefusal from to (sample_shape sample) text due
+IsRefusalTo (Convert from to sample limit) text due = IsRefusal limit from to (sample_shape sample) text due
 IsRefusalTo (Make n) text due = ⊥
 
 -- the bytes are what is expected for the request, an answer or a refusal
@@ -67,12 +67,12 @@ pub data Outcome (due : List ℕ) (status : Status) (sink : Transfer) : Status �
   unwritten : Keeps sink.bytes_before sink.bytes_after → Outcome due status sink WantOfMemory
 
 -- What a status says of the answer to a text: what was written, and why a write was cut short.
-abbrev pub Answers : Codec → Codec → Shape → List ℕ → Transfer → Status → Type 0
-Answers from to s text sink Done = Wrote sink (IsAnswer from to s text)
-Answers from to s text sink Refused = Wrote sink (IsRefusal from to s text)
-Answers from to s text sink WriteFault = Increased sink.faults_before sink.faults_after × WroteFront sink (IsExpectedOutput from to s text)
-Answers from to s text sink WantOfMemory = Keeps sink.bytes_before sink.bytes_after
-Answers from to s text sink _ = ⊥
+abbrev pub Answers : ℕ → Codec → Codec → Shape → List ℕ → Transfer → Status → Type 0
+Answers limit from to s text sink Done = Wrote sink (IsAnswer limit from to s text)
+Answers limit from to s text sink Refused = Wrote sink (IsRefusal limit from to s text)
+Answers limit from to s text sink WriteFault = Increased sink.faults_before sink.faults_after × WroteFront sink (IsExpectedOutput limit from to s text)
+Answers limit from to s text sink WantOfMemory = Keeps sink.bytes_before sink.bytes_after
+Answers limit from to s text sink _ = ⊥
 
 -- what a status says of the answer to a request: what was written, and why a write was cut short
 abbrev pub AnswersTo : Request → List ℕ → Transfer → Status → Type 0

@@ -2,11 +2,11 @@
 use Rattle.std.specs.Prelude.{◌≡◌, ◌≤◌, ◌+◌, ℕ, List, length}
 use Rattle.std.specs.Io.KnownBytes.{Consumes, IsAtEnd}
 use Rattle.asn_convert.specs.Transfer.{Transfer}
-use Rattle.asn_convert.specs.declared.io_all.TheConstants.{LIMIT}
+use Rattle.asn_convert.specs.declared.limits.TheConstants.{MOST_BYTES}
 
 -- the most bytes that an input may have
 abbrev pub input_limit : ℕ
-input_limit = LIMIT
+input_limit = MOST_BYTES
 
 -- the input was read to its end within the limit
 pub record IsWholeInput (source : Transfer) (input : List ℕ) : Type 0 where

@@ -33,7 +33,7 @@ pub record IsRead (source : Transfer) (input : List ℕ) : Type 0 where
 
 -- the text decodes to a value that can be written as the request asks, or a document is made
 abbrev pub IsAnswerable : Request → List ℕ → Type 0
-IsAnswerable (Convert from to sample) text = IsConvertible from to (sample_shape sample) text
+IsAnswerable (Convert from to sample limit) text = IsConvertible limit from to (sample_shape sample) text
 IsAnswerable (Make n) text = Unit {0}
 
 -- the input is a request that is answered, and not refused

@@ -9,10 +9,8 @@ ghost use Rattle.asn_convert.specs.declared.io_all.Stopped.TheVariants.{Fault, T
 ghost use Rattle.asn_convert.specs.declared.io_all.Stopped.TheVariants.{OutOfMemory};
 
 use crate::io::{Failed, Sink, Source};
+use crate::limits::MOST_BYTES;
 use std::alloc::{AllocError, Global};
-
-/// Limits the bytes of an input, to 16 MiB.
-pub const LIMIT: usize = 16_777_216;
 
 /// Limits the bytes that one read asks for, which is also the length of the buffer on the stack.
 const PIECE: usize = 65_536;
@@ -64,9 +62,9 @@ pub fn read_to_end<S: Source>(alloc: Global, source: &mut S) -> Result<Vec<u8>, 
     let mut bytes = Vec::new(alloc);
     // The buffer is reused for each read, and what was read is appended to `bytes`.
     let mut piece = [0u8; PIECE];
-    'pieces: while bytes.len() <= LIMIT {
+    'pieces: while bytes.len() <= MOST_BYTES {
         // The loop's condition keeps the subtraction from going below 0.
-        let room = (LIMIT + 1 - bytes.len()).min(PIECE);
+        let room = (MOST_BYTES + 1 - bytes.len()).min(PIECE);
         let count = source.read(&mut piece[..room])?;
         // `room` is at least 1, so a read of nothing is the end of the input.
         if count == 0 {

@@ -6,6 +6,7 @@
 
 mod io;
 mod io_all;
+mod limits;
 mod lines;
 mod made;
 mod memory;
@@ -15,7 +16,8 @@ mod standard;
 mod status;
 
 pub use io::{Failed, Sink, Source};
+pub use limits::stated_limits;
 pub use memory::{MemorySink, MemorySource, SteadySink, SteadySource};
-pub use program::{convert_as, run};
+pub use program::{convert_as, convert_within, run};
 pub use standard::{StdSink, StdSource};
 pub use status::Status;

@@ -2,7 +2,7 @@
 //! text is converted to AVN, and that one back to JER.
 ghost use Rattle.asn_convert.specs.Made.{IsRelayed, TextLengths, made, made_key, made_value};
 ghost use Rattle.asn_convert.specs.Made.{report};
-ghost use Rattle.asn_convert.specs.declared.request.TheConstants.{MOST_ENTRIES};
+ghost use Rattle.asn_convert.specs.declared.limits.TheConstants.{MOST_ENTRIES};
 ghost use Rattle.asn_codec.specs.Conversion.{is_refusal_out_of_memory, refusal_of};
 ghost use Rattle.serde_json.specs.View.{view};
 ghost use Rattle.std.specs.Prelude.{◌≡◌, ◌≤◌, ◌<◌, IfErr, IfOk, string_bytes, true};

@@ -6,7 +6,7 @@ ghost use Rattle.std.specs.Prelude.{Some, None, true, string_bytes};
 ghost use Rattle.std.specs.Io.KnownBytes.{Keeps};
 ghost use Rattle.asn_convert.specs.Faults.{Increased};
 ghost use Rattle.asn_convert.specs.Made.{report};
-ghost use Rattle.asn_convert.specs.Requests.{HasFewEntries, request_of};
+ghost use Rattle.asn_convert.specs.Requests.{KeepsLimits, request_of};
 ghost use Rattle.asn_samples.specs.Samples.{sample_shape};
 ghost use Rattle.asn_convert.specs.ExpectedOutput.{Answers, AnswersTo, IsAnswerTo, IsRefusalTo};
 ghost use Rattle.asn_convert.specs.ExpectedOutput.{Outcome, refusal_line};
@@ -14,7 +14,7 @@ ghost use Rattle.asn_convert.specs.Input.{ReadPastLimit, ReadWhole, input_limit}
 ghost use Rattle.asn_convert.specs.Transfer.{transfer_of};
 ghost use Rattle.asn_codec.specs.Conversion.{IsConvertible, refusal_of, is_refusal_out_of_memory};
 ghost use Rattle.asn_convert.specs.Run.{Answered, CutShort, IsAnswerable, IsRead, RequestsValue};
-ghost use Rattle.asn_convert.specs.declared.request.TheConstants.{MOST_ENTRIES};
+ghost use Rattle.asn_convert.specs.declared.limits.TheConstants.{MOST_ENTRIES};
 ghost use Rattle.asn_convert.specs.declared.status.Status.TheVariants.{Done, Refused, BadRequest};
 ghost use Rattle.asn_convert.specs.declared.status.Status.TheVariants.{ReadFault, WriteFault};
 ghost use Rattle.asn_convert.specs.declared.status.Status.TheVariants.{WantOfMemory, TooLong};
@@ -26,10 +26,11 @@ use crate::lines::split_request;
 use crate::made::report_on;
 use crate::request::{Request, requested};
 use crate::status::Status;
-use asn_codec::{TranscodeError, transcode};
+use asn_codec::{TranscodeError, transcode_within};
 use asn_core::{Codec, OutOfMemory};
 use asn_samples::{Sample, SampleVisitor};
 use asn_traits::{Decode, Encode};
+use avn_grammar::limits::{GREATEST_LEVEL_LIMIT, LEVEL_LIMIT};
 use std::alloc::Global;
 
 /// Reads the whole input, and writes the canonical text of the value that its text decodes to, or
@@ -117,13 +118,18 @@ pub fn run<S: Source, K: Sink>(alloc: Global, source: &mut S, sink: &mut K) -> S
 /// Does what a request asks for, with the text after it.
 #[tactic(auto, using(crate::proofs::Answering::conversion_answers, crate::proofs::Answering::report_answers))]
 fn respond<K: Sink>(alloc: Global, request: Request, text: &str, sink: &mut K) -> Status
-    requires { HasFewEntries request }
+    requires { KeepsLimits request }
     ensures answer { AnswersTo request text.now
         (transfer_of K.written K.faults sink.old sink.new) result }
     ensures complete { IsAnswerable request text.now → result ≢ Refused }
 {
     match request {
-        Request::Convert { from, to, sample } => convert(alloc, from, to, sample, text, sink),
+        Request::Convert {
+            from,
+            to,
+            sample,
+            limit,
+        } => convert(alloc, from, to, sample, limit, text, sink),
         Request::Make { entries } => make(alloc, entries, sink),
     }
 }
@@ -140,25 +146,29 @@ fn make<K: Sink>(alloc: Global, entries: u32, sink: &mut K) -> Status
     }
 }
 
-/// Converts a text as a value of the request's sample type: runs `convert_as` at the Rust type of
-/// that sample. A text that can be converted is not refused (`complete`).
+/// Converts a text as a value of the request's sample type: runs `convert_within` at the Rust type
+/// of that sample. A text that can be converted is not refused (`complete`).
 fn convert<K: Sink>(
     alloc: Global,
     from: Codec,
     to: Codec,
     sample: Sample,
+    limit: usize,
     text: &str,
     sink: &mut K,
 ) -> Status
-    ensures answer { Answers from to (sample_shape sample) text.now
+    requires { limit ≤ GREATEST_LEVEL_LIMIT }
+    ensures answer { Answers limit from to (sample_shape sample) text.now
         (transfer_of K.written K.faults sink.old sink.new) result }
-    ensures complete { IsConvertible from to (sample_shape sample) text.now → result ≢ Refused }
+    ensures complete { IsConvertible limit from to (sample_shape sample) text.now
+        → result ≢ Refused }
 {
     sample.accept(
         Conversion {
             alloc,
             from,
             to,
+            limit,
             text,
         },
         sink,
@@ -174,8 +184,12 @@ struct Conversion<'a> {
     from: Codec,
     /// Names the notation of the text that is written.
     to: Codec,
+    /// Limits the levels of AVN that are read.
+    limit: usize,
     /// Holds the text to convert, without the request line.
     text: &'a str,
+    /// The limit is one that a request may name.
+    ghost within: { limit ≤ GREATEST_LEVEL_LIMIT },
 }
 
 /// Converts the text at each sample type in the same way.
@@ -183,16 +197,17 @@ impl<K: Sink> SampleVisitor<K> for Conversion<'_> {
     type Output = Status;
 
     ghost visits = { λ c shape old new status.
-        Answers c.from c.to shape c.text.now (transfer_of K.written K.faults old new) status
-        × (IsConvertible c.from c.to shape c.text.now → status ≢ Refused) };
+        Answers c.limit c.from c.to shape c.text.now (transfer_of K.written K.faults old new) status
+        × (IsConvertible c.limit c.from c.to shape c.text.now → status ≢ Refused) };
 
     fn visit<T: Encode + Decode>(self, sink: &mut K) -> Status {
-        convert_as::<T, K>(self.alloc, self.from, self.to, self.text, sink)
+        convert_within::<T, K>(self.alloc, self.from, self.to, self.limit, self.text, sink)
     }
 }
 
 /// Writes the canonical text under `to` of the value that a text decodes to under `from` as a T,
-/// or the line of its error. The status is `Done`, `Refused`, `WriteFault` or `WantOfMemory`.
+/// or the line of its error. The status is `Done`, `Refused`, `WriteFault` or `WantOfMemory`. It is
+/// `convert_within` with the level limit `LEVEL_LIMIT`.
 pub fn convert_as<T: Encode + Decode, K: Sink>(
     alloc: Global,
     from: Codec,
@@ -200,11 +215,29 @@ pub fn convert_as<T: Encode + Decode, K: Sink>(
     input: &str,
     sink: &mut K,
 ) -> Status
-    ensures answer { Answers from to T.shape_of input.now
+    ensures answer { Answers LEVEL_LIMIT from to T.shape_of input.now
         (transfer_of K.written K.faults sink.old sink.new) result }
-    ensures complete { IsConvertible from to T.shape_of input.now → result ≢ Refused }
+    ensures complete { IsConvertible LEVEL_LIMIT from to T.shape_of input.now
+        → result ≢ Refused }
 {
-    match transcode::<T>(alloc, from, to, input) {
+    convert_within::<T, K>(alloc, from, to, LEVEL_LIMIT, input, sink)
+}
+
+/// Does the same, where AVN is read with this limit on its levels.
+pub fn convert_within<T: Encode + Decode, K: Sink>(
+    alloc: Global,
+    from: Codec,
+    to: Codec,
+    limit: usize,
+    input: &str,
+    sink: &mut K,
+) -> Status
+    requires { limit ≤ GREATEST_LEVEL_LIMIT }
+    ensures answer { Answers limit from to T.shape_of input.now
+        (transfer_of K.written K.faults sink.old sink.new) result }
+    ensures complete { IsConvertible limit from to T.shape_of input.now → result ≢ Refused }
+{
+    match transcode_within::<T>(alloc, from, to, limit, input) {
         Ok(output) => answer(output, sink),
         Err(fault) => refuse(alloc, &fault, sink),
     }

@@ -1,17 +1,17 @@
 //! Reads a request line: `<from> <to> <type>`, three words, of which the first two name a text
-//! notation and the third a sample type; or `make <n>`, with a number of entries.
+//! notation and the third a sample type; the same with a limit on the levels of AVN after them; or
+//! `make <n>`, with a number of entries.
 ghost use Rattle.std.specs.Prelude.{◌≡◌};
 ghost use Rattle.asn_convert.specs.Lines.{words};
-ghost use Rattle.asn_convert.specs.Requests.{before_text, count_of};
+ghost use Rattle.asn_convert.specs.Requests.{before_text, count_of, limit_of, short_number};
 ghost use Rattle.asn_convert.specs.Requests.{notation_named, request_for, request_of_words};
 ghost use Rattle.asn_samples.specs.Samples.{sample_named};
 
+use crate::limits::MOST_ENTRIES;
 use crate::lines::next_word;
 use asn_core::Codec;
 use asn_samples::Sample;
-
-/// The most entries of a document that is made.
-pub const MOST_ENTRIES: u32 = 100_000;
+use avn_grammar::limits::{GREATEST_LEVEL_LIMIT, LEVEL_LIMIT};
 
 /// Holds what an input asks for.
 #[derive(Clone, Copy, Debug, PartialEq, Eq, Drop)]
@@ -24,6 +24,9 @@ pub enum Request {
         to: Codec,
         /// Names the type that the value has.
         sample: Sample,
+        /// Limits the levels of AVN that are read: `LEVEL_LIMIT` where the line names no limit, at
+        /// most `GREATEST_LEVEL_LIMIT` where it does.
+        limit: usize,
     },
     /// Asks to make a document, to convert it to AVN and back, and to report the lengths.
     Make {
@@ -43,15 +46,41 @@ fn notation(name: &str) -> Option<Codec>
     }
 }
 
-/// Returns the request to convert by these three words, or `None` where one of them is no name.
-fn conversion(from: &str, to: &str, name: &str) -> Option<Request>
+/// Returns the request to convert by these three words and the limit, or `None` where one of the
+/// words is no name or there is no limit.
+fn conversion(from: &str, to: &str, name: &str, limit: Option<usize>) -> Option<Request>
     ensures { result ≡ request_for (notation_named from.now) (notation_named to.now)
-        (sample_named name.now) }
+        (sample_named name.now) limit }
 {
-    match (notation(from), notation(to), Sample::named(name)) {
-        (Some(from), Some(to), Some(sample)) => Some(Request::Convert { from, to, sample }),
+    match (notation(from), notation(to), Sample::named(name), limit) {
+        (Some(from), Some(to), Some(sample), Some(limit)) => Some(Request::Convert {
+            from,
+            to,
+            sample,
+            limit,
+        }),
         _ => None,
     }
+}
+
+/// Returns the number that a word is, of at least one digit and at most `digits`, where it is at
+/// most `most`, or `None` for any other word.
+fn number(word: &str, digits: usize, most: u32) -> Option<u32>
+    ensures { result ≡ short_number digits most word.now }
+{
+    // A sign is no digit.
+    let first = *word.as_bytes().first()?;
+    if first < b'0' {
+        return None;
+    }
+    if word.len() > digits {
+        return None;
+    }
+    let number = word.parse::<u32>().ok()?;
+    if number > most {
+        return None;
+    }
+    Some(number)
 }
 
 /// Returns the number of entries that a word is, one to six digits and at most `MOST_ENTRIES`, or
@@ -59,22 +88,21 @@ fn conversion(from: &str, to: &str, name: &str) -> Option<Request>
 fn count(word: &str) -> Option<u32>
     ensures { result ≡ count_of word.now }
 {
-    // A sign is no digit.
-    let first = *word.as_bytes().first()?;
-    if first < b'0' {
-        return None;
-    }
-    if word.len() > 6 {
-        return None;
-    }
-    let number = word.parse::<u32>().ok()?;
-    if number > MOST_ENTRIES {
-        return None;
-    }
-    Some(number)
+    number(word, 6, MOST_ENTRIES)
 }
 
-/// Returns the request of a line, or `None` where it makes none: where it has more words than three
+/// Returns the limit on levels that a word is, one to three digits and at most
+/// `GREATEST_LEVEL_LIMIT`, or `None` for any other word.
+fn level_limit(word: &str) -> Option<usize>
+    ensures { result ≡ limit_of word.now }
+{
+    match number(word, 3, GREATEST_LEVEL_LIMIT as u32) {
+        Some(limit) => Some(limit as usize),
+        None => None,
+    }
+}
+
+/// Returns the request of a line, or `None` where it makes none: where it has more words than four
 /// or fewer than two, or one of them is not what stands there in a request.
 fn of_line(line: &str) -> Option<Request>
     ensures { result ≡ request_of_words (words line.now) }
@@ -89,10 +117,13 @@ fn of_line(line: &str) -> Option<Request>
             entries: count(second)?,
         });
     };
+    let Some((fourth, rest)) = next_word(rest) else {
+        return conversion(first, second, third, Some(LEVEL_LIMIT));
+    };
     if next_word(rest).is_some() {
         return None;
     }
-    conversion(first, second, third)
+    conversion(first, second, third, level_limit(fourth))
 }
 
 /// Returns the request that a line makes before a text, or `None` where it makes none: a document

@@ -3,11 +3,11 @@ use Rattle.std.specs.Prelude.{IsUtf8}
 use Rattle.asn_convert.specs.Lines.{words}
 use Rattle.asn_convert.proofs.Answering.{done_or_hungry}
 use Rattle.asn_convert.proofs.Asking.{whole_input, answerable_text, requests_something, within_limit}
-use Rattle.asn_convert.proofs.FewEntries.{few_asked}
+use Rattle.asn_convert.proofs.Limited.{limits_kept}
 use Rattle.asn_convert.proofs.program.run.Goals as goal
 
 pub respond-requires : goal.respond-requires
-respond-requires g c = few_asked (words c.split_request.result.0.now) c.split_request.result.1.now c.in-Some.request (sym c.requested.ensures ∙ c.in-Some.is)
+respond-requires g c = limits_kept (words c.split_request.result.0.now) c.split_request.result.1.now c.in-Some.request (sym c.requested.ensures ∙ c.in-Some.is)
 
 pub returns-in-Some-clause-answers_values : goal.returns-in-Some-clause-answers_values
 returns-in-Some-clause-answers_values g c input read utf8 asks steady =

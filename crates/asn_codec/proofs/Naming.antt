@@ -9,7 +9,7 @@ use Rattle.avn_value.specs.Answer.{Explains}
 use Rattle.asn_core.specs.declared.codec.Codec.{Codec}
 use Rattle.asn_core.specs.declared.codec.Codec.TheVariants.{Jer, Avn}
 use Rattle.asn_fault.specs.Failure.{Failure, Level, Cause, at_root, failure_of, is_out_of_memory, is_out_of_memory_at}
-use Rattle.asn_fault.specs.EncodeCause.{EncodeCause, encode_cause, is_encode_out_of_memory}
+use Rattle.asn_fault.specs.EncodeCause.{encode_cause, is_encode_out_of_memory}
 use Rattle.asn_fault.specs.declared.decode.DecodeError.{DecodeError}
 use Rattle.asn_fault.specs.declared.encode.EncodeError.{EncodeError}
 use Rattle.asn_coding.specs.Answer as answer

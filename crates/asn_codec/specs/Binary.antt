@@ -1,5 +1,5 @@
 -- What the binary calls of a codec return.
-use Rattle.std.specs.Prelude.{◌≡◌, ℕ, List, Result, Ok, Err, IsUtf8}
+use Rattle.std.specs.Prelude.{ℕ, List, Result, Ok, Err, IsUtf8}
 use Rattle.avn_grammar.specs.declared.limits.TheConstants.{LEVEL_LIMIT}
 use Rattle.asn_core.specs.declared.codec.Codec.{Codec}
 use Rattle.asn_core.specs.declared.codec.Codec.TheVariants.{Jer, Avn, Xer}

@@ -1,8 +1,8 @@
 -- SEQUENCE { id INTEGER, parts SET OF OldPart, ... }
 use Rattle.std.specs.Prelude.{[], ◌∷◌, Some, codes}
-use Rattle.asn_traits.specs.Shape.{Shape, SeqKind, Fields, FieldAdditions, Presence}
+use Rattle.asn_traits.specs.Shape.{Shape, SeqKind, Fields, FieldAdditions, Presence, all_fields}
 use Rattle.asn_traits.specs.Value.{Value, bag_of, values}
-use Rattle.asn_coding.specs.Writing.{Frame}
+use Rattle.asn_coding.specs.Writing.{Frame, members_value}
 use Rattle.asn_coding.specs.Terms.{context, signed}
 use Rattle.asn_sample_choices.specs.OldPart.{old_part_shape, old_part_value}
 use Rattle.asn_sample_choices.specs.declared.old_report.OldReport.{OldReport}
@@ -21,3 +21,7 @@ old_report_shape = Shape.seq SeqKind.sequence old_report_fields (FieldAdditions.
 -- The values of the fields of an OldReport, in order.
 abbrev pub old_report_slots : OldReport → Frame
 old_report_slots x = Some (Value.int x.id) ∷ Some (bag_of (values old_part_value x.parts)) ∷ []
+
+-- The value of an OldReport.
+abbrev pub old_report_value : OldReport → Value
+old_report_value x = members_value (all_fields old_report_fields (FieldAdditions.extended_fields Fields.no_fields)) (old_report_slots x)

@@ -26,7 +26,7 @@ above a b h = by (nat_le a b) refl
 
 -- A word of at most so many digits, for a number that is at most the other.
 module _ (width most : ℕ) (word : List ℕ) where
-  counted : Bool → Option ℕ
+  abbrev counted : Bool → Option ℕ
   counted b = if b then option_and_then (if_at_most most) (digits word) else None
 
   -- a longer word is none

@@ -14,6 +14,7 @@ ghost use Rattle.asn_convert.specs.Input.{ReadPastLimit, ReadWhole, input_limit}
 ghost use Rattle.asn_convert.specs.Transfer.{transfer_of};
 ghost use Rattle.asn_codec.specs.Conversion.{IsConvertible, refusal_of, is_refusal_out_of_memory};
 ghost use Rattle.asn_convert.specs.Run.{Answered, CutShort, IsAnswerable, IsRead, RequestsValue};
+ghost use Rattle.avn_grammar.specs.declared.limits.TheConstants.{GREATEST_LEVEL_LIMIT};
 ghost use Rattle.asn_convert.specs.declared.limits.TheConstants.{MOST_ENTRIES};
 ghost use Rattle.asn_convert.specs.declared.status.Status.TheVariants.{Done, Refused, BadRequest};
 ghost use Rattle.asn_convert.specs.declared.status.Status.TheVariants.{ReadFault, WriteFault};
@@ -30,7 +31,7 @@ use asn_codec::{TranscodeError, transcode_within};
 use asn_core::{Codec, OutOfMemory};
 use asn_samples::{Sample, SampleVisitor};
 use asn_traits::{Decode, Encode};
-use avn_grammar::limits::{GREATEST_LEVEL_LIMIT, LEVEL_LIMIT};
+use avn_grammar::limits::LEVEL_LIMIT;
 use std::alloc::Global;
 
 /// Reads the whole input, and writes the canonical text of the value that its text decodes to, or

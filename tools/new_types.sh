@@ -38,9 +38,9 @@ cp "$top/HANDLES" "$top/.gitignore" "$1" || exit 1
 git init -q "$1" || exit 1
 cat <<END
 $1 is ready. Go on in $1/crates/example_convert:
-    rt try -- jer data/alarm.json       runs the program from its sources, in about two minutes
+    rt try -- jer data/alarm.json       runs the program from its sources, unproved
     rt fmt                              lays out what you changed
 and in $1:
-    rt ci example_convert               proves it, and leaves the program in its out/; what is
-                                        proved on this machine isn't proved again
+    rt ci example_convert               proves it; what is proved on this machine isn't proved again
+    rt ci                               the same of all crates, and leaves the program in its out/
 END

@@ -1,0 +1,2 @@
+pub mod DynFailure
+pub mod Texts

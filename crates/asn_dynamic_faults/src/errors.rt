@@ -1,0 +1,163 @@
+//! Defines `DynError`: where a value isn't read by a shape, why, and by which codec. Contracts see
+//! it as a `Failure`, as they see the error of a typed reader (`dyn_failure`).
+ghost use Rattle.asn_core.specs.declared.codec.Codec.{Codec as CodecName};
+ghost use Rattle.asn_dynamic_faults.specs.DynFailure.{IsTold, IsWithin, dyn_failure};
+ghost use Rattle.asn_fault.specs.Failure.{Cause, at_root, failure_of, is_out_of_memory};
+ghost use Rattle.asn_fault.specs.Failure.{is_out_of_memory_at, kind_failure};
+ghost use Rattle.std.specs.Prelude.{◌≡◌, []};
+
+use asn_core::Codec;
+use asn_fault::{DecodeError, DecodeErrorKind};
+use std::alloc::Global;
+
+/// States why a value isn't read. The first two kinds hold names of the shape; every other kind is
+/// that of a typed reader.
+#[derive(Debug, Drop)]
+pub enum DynKind {
+    /// A required extension addition of this name is absent.
+    MissingField(String),
+    /// In AVN, two present entries have the name of this field.
+    DuplicateField(String),
+    /// The kind is that of a typed reader. A CHOICE has the name `CHOICE` in it.
+    Other(DecodeErrorKind),
+}
+
+/// Reports that a value isn't read: where, why, and by which codec.
+#[derive(Debug, Drop)]
+pub struct DynError {
+    /// Names the fields that lead to the place, the outermost first.
+    pub path: Vec<String>,
+    /// States why.
+    pub kind: DynKind,
+    /// Names the codec that has the kind.
+    pub codec: Codec,
+    /// Names the notation that is read.
+    pub notation: Codec,
+}
+
+/// Makes errors, and takes those of primitive calls over.
+impl DynError {
+    /// Returns the error of this kind, at no field.
+    pub fn at_root(alloc: Global, kind: DynKind, codec: Codec, notation: Codec) -> DynError
+        ensures path { result.path.items ≡ [] }
+        ensures kind { result.kind ≡ kind }
+        ensures codec { result.codec ≡ codec }
+        ensures notation { result.notation ≡ notation }
+    {
+        DynError {
+            path: Vec::new(alloc),
+            kind,
+            codec,
+            notation,
+        }
+    }
+
+    /// Returns the error that memory ran out.
+    pub fn out_of_memory(alloc: Global, notation: Codec) -> DynError
+        ensures { dyn_failure result ≡ at_root Cause.out_of_memory notation }
+    {
+        let kind = DynKind::Other(DecodeErrorKind::OutOfMemory);
+        DynError::at_root(alloc, kind, notation, notation)
+    }
+
+    /// Returns the error that the required extension addition of this name is absent, or that
+    /// memory ran out.
+    pub fn missing_field(alloc: Global, name: &str, notation: Codec) -> DynError
+        ensures { IsTold notation (at_root (Cause.missing_field name.now) notation)
+            (dyn_failure result) }
+    {
+        match String::from_str(alloc, name) {
+            Ok(name) => DynError::at_root(alloc, DynKind::MissingField(name), notation, notation),
+            Err(_) => DynError::out_of_memory(alloc, notation),
+        }
+    }
+
+    /// Returns the error that two present entries have the name of this field, or that memory ran
+    /// out.
+    pub fn duplicate_field(alloc: Global, name: &str, notation: Codec) -> DynError
+        ensures { IsTold notation (at_root (Cause.duplicate_field name.now) notation)
+            (dyn_failure result) }
+    {
+        match String::from_str(alloc, name) {
+            Ok(name) => DynError::at_root(alloc, DynKind::DuplicateField(name), notation, notation),
+            Err(_) => DynError::out_of_memory(alloc, notation),
+        }
+    }
+
+    /// Returns the error of a typed reader, with this notation at its fields, or that memory ran
+    /// out.
+    pub fn of_decode(alloc: Global, error: DecodeError, notation: Codec) -> DynError
+        ensures { IsTold notation (failure_of error) (dyn_failure result) }
+    {
+        let codec = error.codec;
+        match error.kind {
+            DecodeErrorKind::FieldError { name, nested } => {
+                let inner = DynError::of_decode(alloc, Box::into_inner(nested), notation);
+                inner.within(alloc, name, notation)
+            }
+            DecodeErrorKind::MissingField { name } => match String::from_str(alloc, name) {
+                Ok(name) => DynError::at_root(alloc, DynKind::MissingField(name), codec, notation),
+                Err(_) => DynError::out_of_memory(alloc, notation),
+            },
+            DecodeErrorKind::DuplicateField { name } => match String::from_str(alloc, name) {
+                Ok(name) => DynError::at_root(
+                    alloc,
+                    DynKind::DuplicateField(name),
+                    codec,
+                    notation,
+                ),
+                Err(_) => DynError::out_of_memory(alloc, notation),
+            },
+            kind => DynError::at_root(alloc, DynKind::Other(kind), codec, notation),
+        }
+    }
+
+    /// Returns whether memory ran out.
+    pub fn is_out_of_memory(&self) -> bool
+        ensures { result ≡ is_out_of_memory (dyn_failure self.now) }
+    {
+        if !self.path.as_slice().is_empty() {
+            return false;
+        }
+        match &self.kind {
+            DynKind::MissingField(_) => false,
+            DynKind::DuplicateField(_) => false,
+            DynKind::Other(kind) => is_lack_of_memory(kind),
+        }
+    }
+
+    /// Returns the error within the field of this name. Lack of memory stays at no field, and may
+    /// be the error in place of any other.
+    pub fn within(self, alloc: Global, name: &str, notation: Codec) -> DynError
+        ensures { IsWithin notation name.now (dyn_failure self) (dyn_failure result) }
+    {
+        if self.is_out_of_memory() {
+            return DynError::out_of_memory(alloc, notation);
+        }
+        let Ok(name) = String::from_str(alloc, name) else {
+            return DynError::out_of_memory(alloc, notation);
+        };
+        let mut path = self.path;
+        match path.insert(0, name) {
+            Ok(()) => DynError {
+                path,
+                kind: self.kind,
+                codec: self.codec,
+                notation,
+            },
+            Err(_) => DynError::out_of_memory(alloc, notation),
+        }
+    }
+}
+
+/// Returns whether the kind is that memory ran out, whatever fields are around it.
+fn is_lack_of_memory(kind: &DecodeErrorKind) -> bool
+    ensures { (codec : CodecName)
+        → result ≡ is_out_of_memory_at [] (kind_failure kind.now codec).cause }
+{
+    match kind {
+        DecodeErrorKind::OutOfMemory => true,
+        DecodeErrorKind::FieldError { nested, .. } => is_lack_of_memory(&nested.kind),
+        _ => false,
+    }
+}

@@ -1,0 +1,61 @@
+//! Prints errors as a typed reader prints its own.
+ghost use Rattle.asn_dynamic_faults.specs.Texts.{closings, dyn_error_text, dyn_kind_text, openings};
+ghost use Rattle.std.specs.Fmt.{WritesOnOk};
+ghost use Rattle.std.specs.Prelude.{Some};
+
+use crate::errors::{DynError, DynKind};
+use asn_core::Codec;
+use std::error::Error;
+use std::fmt;
+
+/// Prints the kind with the words of a typed reader.
+impl fmt::Display for DynKind {
+    ghost output = { λ kind. Some (dyn_kind_text kind) };
+
+    fn fmt<W: fmt::Write>(&self, f: &mut fmt::Formatter<W>) -> fmt::Result {
+        match self {
+            DynKind::MissingField(name) => write!(f, "Missing field `{name}`"),
+            DynKind::DuplicateField(name) => write!(f, "Duplicate field for `{name}`"),
+            DynKind::Other(kind) => kind.fmt(f),
+        }
+    }
+}
+
+/// Prints the fields on the way, the kind with its codec, and the notation of each field.
+impl fmt::Display for DynError {
+    ghost output = { λ error. Some (dyn_error_text error) };
+
+    fn fmt<W: fmt::Write>(&self, f: &mut fmt::Formatter<W>) -> fmt::Result {
+        let path = self.path.as_slice();
+        write_openings(path, f)?;
+        write!(f, "{} (Codec: {})", self.kind, self.codec)?;
+        write_closings(path.len(), self.notation, f)
+    }
+}
+
+/// Has no source: the text has all of the error.
+impl Error for DynError {}
+
+/// Writes for each field that the error is in it.
+fn write_openings<W: fmt::Write>(path: &[String], f: &mut fmt::Formatter<W>) -> fmt::Result
+    ensures { WritesOnOk W.write_str_gives f.old result (openings path.now) f.new }
+{
+    for name in path {
+        write!(f, "Error when decoding field `{name}`: ")?;
+    }
+    Ok(())
+}
+
+/// Writes the codec of each of so many fields.
+fn write_closings<W: fmt::Write>(
+    count: usize,
+    codec: Codec,
+    f: &mut fmt::Formatter<W>,
+) -> fmt::Result
+    ensures { WritesOnOk W.write_str_gives f.old result (closings codec count) f.new }
+{
+    for level in 0..count {
+        write!(f, " (Codec: {codec})")?;
+    }
+    Ok(())
+}

@@ -1,0 +1,4 @@
+mod LeafKinds
+mod Leaves
+pub mod Elements
+pub mod Fitting

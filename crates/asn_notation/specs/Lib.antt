@@ -1,0 +1,9 @@
+pub mod Keywords
+pub mod Notation
+pub mod View
+pub mod Tokens
+pub mod Starts
+pub mod Grammar
+pub mod Printed
+pub mod Proper
+pub mod Names

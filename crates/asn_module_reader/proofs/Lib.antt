@@ -1,0 +1,9 @@
+pub mod Markers
+pub mod EntriesSeen
+pub mod Runs
+pub mod TokensTaken
+pub mod ItemsRead
+pub mod ElementsRead
+pub mod NotationsRead
+pub mod ModulesRead
+pub mod Results

@@ -1,0 +1,4 @@
+pub mod TokenView
+pub mod StartView
+pub mod EntryLists
+pub mod Productions

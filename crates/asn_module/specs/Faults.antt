@@ -1,0 +1,60 @@
+-- Why a text is no module.
+use Rattle.std.specs.Prelude.{◌≡◌, ℕ, List, ◌++◌, codes, Option, None, Some, string_bytes}
+use Rattle.asn_notation.specs.Grammar.{ModuleParses}
+use Rattle.asn_notation.specs.Names.{first_repeated, first_unassigned}
+use Rattle.asn_notation.specs.Notation.{Assignment}
+use Rattle.asn_module_reader.specs.declared.fault.ReadFault.{ReadFault}
+use Rattle.asn_module_reader.specs.declared.fault.ReadFault.TheVariants as read
+use Rattle.asn_module.specs.declared.fault.ModuleFault.{ModuleFault}
+use Rattle.asn_module.specs.declared.fault.ModuleFault.TheVariants as fault
+
+-- The text of a fault.
+abbrev pub module_fault_text : ModuleFault → List ℕ
+module_fault_text fault.Syntax = codes "not a module of this profile"
+module_fault_text (fault.Duplicate name) = codes "type " ++ string_bytes name ++ codes " is assigned twice"
+module_fault_text (fault.Unknown name) = codes "type " ++ string_bytes name ++ codes " isn't assigned"
+module_fault_text (fault.NoSuchName name) = codes "the module has no type " ++ string_bytes name
+module_fault_text (fault.TooLarge name) = codes "type " ++ string_bytes name ++ codes " is too large"
+module_fault_text (fault.NotReadable name) = codes "type " ++ string_bytes name ++ codes " isn't readable"
+module_fault_text fault.OutOfMemory = codes "Out of memory"
+
+-- The fault of a reader.
+abbrev pub module_fault_of : ReadFault → ModuleFault
+module_fault_of read.Syntax = fault.Syntax
+module_fault_of read.OutOfMemory = fault.OutOfMemory
+
+-- The text is these assignments, whose names are distinct, and each name that they refer to is assigned.
+pub record IsModule (limit : ℕ) (text : List ℕ) (assignments : List Assignment) : Type 0 where
+  pub parses : ModuleParses limit text assignments
+  pub distinct : first_repeated assignments ≡ None
+  pub assigned : first_unassigned assignments ≡ None
+
+-- The text is assignments of which the first one whose name was assigned before has this name.
+pub record IsDuplicate (limit : ℕ) (text name : List ℕ) : Type 0 where
+  pub assignments : List Assignment
+  pub parses : ModuleParses limit text assignments
+  pub repeated : first_repeated assignments ≡ Some name
+
+-- The text is assignments with distinct names, and of the names that they refer to this is the first one that isn't assigned.
+pub record IsUnknown (limit : ℕ) (text name : List ℕ) : Type 0 where
+  pub assignments : List Assignment
+  pub parses : ModuleParses limit text assignments
+  pub distinct : first_repeated assignments ≡ None
+  pub unassigned : first_unassigned assignments ≡ Some name
+
+-- The fault is a reason why the text is no module. Want of memory is none, and may come at any text.
+abbrev pub IsRefusal : ℕ → List ℕ → ModuleFault → Type 0
+IsRefusal limit text fault.Syntax = (assignments : List Assignment) → ModuleParses limit text assignments → ⊥
+IsRefusal limit text (fault.Duplicate name) = IsDuplicate limit text (string_bytes name)
+IsRefusal limit text (fault.Unknown name) = IsUnknown limit text (string_bytes name)
+IsRefusal limit text (fault.NoSuchName name) = ⊥
+IsRefusal limit text (fault.TooLarge name) = ⊥
+IsRefusal limit text (fault.NotReadable name) = ⊥
+IsRefusal limit text fault.OutOfMemory = Unit {0}
+
+-- The fault is the first name that was assigned before, else the first one that isn't assigned, or memory.
+abbrev pub NamesFail : List Assignment → ModuleFault → Type 0
+NamesFail assignments (fault.Duplicate name) = first_repeated assignments ≡ Some (string_bytes name)
+NamesFail assignments (fault.Unknown name) = (first_repeated assignments ≡ None) × (first_unassigned assignments ≡ Some (string_bytes name))
+NamesFail assignments fault.OutOfMemory = Unit {0}
+NamesFail assignments e = ⊥

@@ -1,0 +1,11 @@
+//! Reads type assignments (X.680, section 16) into modules, so that types are known that no Rust
+//! code describes.
+#![tactic(auto)]
+
+mod fault;
+mod names;
+mod read;
+
+pub use asn_notation::{Assignment, Component, Components, Module, Notation};
+pub use fault::ModuleFault;
+pub use read::read_module;

@@ -1,0 +1,105 @@
+#!/usr/bin/env python3
+"""Runs `rt ci` over what it proved of the same files on this machine before.
+
+usage: tools/kept_ci.py [STORE]      STORE: ~/.cache/kept-ci unless given, or a folder of your own
+
+What a crate, its tests or its wrong bodies were proved to be is kept in STORE under a sum of the
+crate's files, its line of crates.txt, the toolchain and the same of all crates below, and isn't
+proved again. Programs and tests are run each time. This is for the way to the gate: the gate is
+`rt ci` itself, which proves everything from nothing. A store takes some 10 GB; an entry may be
+removed at any time, and a crate that was proved anew has those above it proved anew. Two runs over
+one store at a time may prove a crate twice.
+"""
+import hashlib
+import importlib.machinery
+import importlib.util
+import os
+import shutil
+import subprocess
+import sys
+import threading
+
+BIN = os.path.dirname(os.path.realpath(shutil.which("rt") or sys.exit("there is no rt")))
+sys.path.insert(0, BIN)
+sys.dont_write_bytecode = True
+LOADER = importlib.machinery.SourceFileLoader("rt", f"{BIN}/rt")
+rt = importlib.util.module_from_spec(importlib.util.spec_from_loader("rt", LOADER))
+LOADER.exec_module(rt)
+import rtlib  # noqa: E402: beside rt
+
+STORE = sys.argv[1] if len(sys.argv) > 1 else os.path.expanduser("~/.cache/kept-ci")
+sums, lock = {}, threading.RLock()
+stamp_of, prove, try_edits = rtlib.Crate.stamp, rt.Crate.ci, rt.must_fail_all
+
+
+def stamp(crate):
+    """The sum of all that a crate is proved from, found once."""
+    with lock:
+        if crate.folder not in sums:
+            sums[crate.folder] = stamp_of(crate)
+        return sums[crate.folder]
+
+
+def copy(path, to):
+    """Copies a file or a folder, in place of what is there."""
+    if os.path.isdir(path):
+        shutil.rmtree(to, ignore_errors=True)
+        shutil.copytree(path, to)
+    else:
+        shutil.copy2(path, to)
+
+
+def made_by(crate, tests):
+    """The names of what a proof of the crate, or of its tests, leaves in its folder out/."""
+    of_tests = f"{crate.name}_tests"
+    names = [it for it in os.listdir(f"{crate.folder}/out") if it != "incremental"]
+    return [it for it in names if it.startswith(of_tests) == tests]
+
+
+def keep(crate, tests, key):
+    """Puts what a proof made into the store, whole or not at all."""
+    part = f"{key}.{os.getpid()}.{threading.get_ident()}"
+    os.makedirs(part)
+    for name in made_by(crate, tests):
+        copy(f"{crate.folder}/out/{name}", f"{part}/{name}")
+    if os.path.isdir(key):
+        shutil.rmtree(part)
+    else:
+        os.rename(part, key)
+
+
+def ci(crate, flags, tests):
+    """Proves the crate or its tests, or takes what was kept of these files."""
+    key = f"{STORE}/{crate.name}-{'tests' if tests else 'proof'}-{stamp(crate)}"
+    if os.path.isdir(key):
+        for name in os.listdir(key):
+            copy(f"{key}/{name}", f"{crate.folder}/out/{name}")
+        print("kept of an earlier run", file=crate.out)
+        return 0
+    status = prove(crate, flags, tests)
+    if status == 0:
+        keep(crate, tests, key)
+    return status
+
+
+def must_fail_all(crate, edits, flags):
+    """Tries the crate's wrong bodies, unless all of them were refused before."""
+    found = hashlib.sha256(stamp(crate).encode())
+    for edit in edits:
+        with open(edit, "rb") as file:
+            found.update(file.read())
+    key = f"{STORE}/{crate.name}-edits-{found.hexdigest()}"
+    if edits and os.path.isfile(key):
+        return [(True, f"must-fail {crate.name}/{os.path.basename(it)}: kept") for it in edits]
+    tried = try_edits(crate, edits, flags)
+    if edits and all(refused for refused, _ in tried):
+        with open(key, "w"):
+            pass
+    return tried
+
+
+os.makedirs(STORE, exist_ok=True)
+top = subprocess.run(["git", "rev-parse", "--show-toplevel"], capture_output=True, text=True)
+os.chdir(top.stdout.strip() or ".")
+rtlib.Crate.stamp, rt.Crate.ci, rt.must_fail_all = stamp, ci, must_fail_all
+sys.exit(rt.ci())

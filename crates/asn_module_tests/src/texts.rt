@@ -98,3 +98,16 @@ fn reads_an_empty_text(rt: HostRuntime) -> Result<(), Fail> {
     assert!(rt; module.assignments.is_empty());
     Ok(())
 }
+
+/// Is the example of `docs/MODULE-PROFILE.md`.
+const EXAMPLE: &str = "Pair ::= SEQUENCE { a INTEGER, b Pair OPTIONAL, ... }\n\
+Level ::= ENUMERATED { low, high, ..., extreme }\n\
+Message ::= CHOICE { text UTF8String, pairs SEQUENCE OF Pair }\n";
+
+/// The example of the page on modules is read.
+#[test]
+fn reads_the_example(rt: HostRuntime) -> Result<(), Fail> {
+    let module = read_module(rt.alloc(), EXAMPLE)?;
+    assert_eq!(rt; module.assignments.len(), 3);
+    Ok(())
+}

@@ -1,3 +1,3 @@
-mod Naming
+pub mod Naming
 pub mod Passing
 pub mod Again

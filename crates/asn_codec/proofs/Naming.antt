@@ -14,7 +14,7 @@ use Rattle.asn_fault.specs.declared.decode.DecodeError.{DecodeError}
 use Rattle.asn_fault.specs.declared.encode.EncodeError.{EncodeError}
 use Rattle.asn_coding.specs.Answer as answer
 use Rattle.asn_traits.specs.Notation.{Notation, notation_of}
-use Rattle.asn_coding.specs.Root.{Reads}
+use Rattle.asn_coding.specs.Root.{ReadsBy}
 use Rattle.asn_traits.specs.DecodesTo.{DecodesTo}
 use Rattle.asn_traits.specs.Shape.{Shape}
 use Rattle.asn_traits.specs.Tree.{Tree}
@@ -77,18 +77,18 @@ avn_of : {limit : ℕ} {text : List ℕ} {t : Tree} → HasTree limit Notation.a
 avn_of (HasTree.avn_tree {t = u} h) = (u, h, refl)
 
 -- a JSON text that decodes to a value is read as that value, unless memory runs out
-pub jer_complete : {A : Type 0} (limit : ℕ) (s : Shape) (text : List ℕ) (value : A → Value) (r : Result A DecodeError)
-    → ((d : Data) (v : Value) → jer.IsJer text d → DecodesTo Notation.jer s (Some (Tree.json d)) v → Reads value v r)
-    → (v : Value) → TextDecodesTo limit Notation.jer s text v → Reads value v r
-jer_complete limit s text value r complete v h =
+pub jer_complete : {A E : Type 0} (failure : E → Failure) (limit : ℕ) (s : Shape) (text : List ℕ) (value : A → Value) (r : Result A E)
+    → ((d : Data) (v : Value) → jer.IsJer text d → DecodesTo Notation.jer s (Some (Tree.json d)) v → ReadsBy failure value v r)
+    → (v : Value) → TextDecodesTo limit Notation.jer s text v → ReadsBy failure value v r
+jer_complete failure limit s text value r complete v h =
     let (d, is, same) = json_of h.has in
     complete d v is (subst (λ t. DecodesTo Notation.jer s (Some t) v) same h.says)
 
 -- a text of the value notation that decodes to a value is read as that value, unless memory runs out
-pub avn_complete : {A : Type 0} (limit : ℕ) (s : Shape) (text : List ℕ) (value : A → Value) (r : Result A DecodeError)
-    → ((t : AvnTree) (v : Value) → avn.IsAvn limit text t → DecodesTo Notation.avn s (Some (Tree.avn t)) v → Reads value v r)
-    → (v : Value) → TextDecodesTo limit Notation.avn s text v → Reads value v r
-avn_complete limit s text value r complete v h =
+pub avn_complete : {A E : Type 0} (failure : E → Failure) (limit : ℕ) (s : Shape) (text : List ℕ) (value : A → Value) (r : Result A E)
+    → ((t : AvnTree) (v : Value) → avn.IsAvn limit text t → DecodesTo Notation.avn s (Some (Tree.avn t)) v → ReadsBy failure value v r)
+    → (v : Value) → TextDecodesTo limit Notation.avn s text v → ReadsBy failure value v r
+avn_complete failure limit s text value r complete v h =
     let (t, is, same) = avn_of h.has in
     complete t v is (subst (λ u. DecodesTo Notation.avn s (Some u) v) same h.says)
 
@@ -118,25 +118,25 @@ other_codec Avn h k = absurd (k refl)
 other_codec c h k = refl
 
 -- the call's answer, where its codec is this one
-pub jer_value : {A : Type 0} (limit : ℕ) (c : Codec) (s : Shape) (text : List ℕ) (value : A → Value) (r : Result A DecodeError) → c ≡ Jer
+pub jer_value : {A E : Type 0} (failure : E → Failure) (limit : ℕ) (c : Codec) (s : Shape) (text : List ℕ) (value : A → Value) (r : Result A E) → c ≡ Jer
     → IfOk r (λ x. (d : Data) × jer.IsJer text d × DecodesTo Notation.jer s (Some (Tree.json d)) (value x)) → IfOk r (λ x. TextDecodesTo limit (notation_of c) s text (value x))
-jer_value limit c s text value (Ok x) is (d, h, says) = subst (λ k. TextDecodesTo limit (notation_of k) s text (value x)) (sym is) record { tree = Tree.json d; has = HasTree.json_tree h; says = says }
-jer_value limit c s text value (Err e) is h = tt
+jer_value failure limit c s text value (Ok x) is (d, h, says) = subst (λ k. TextDecodesTo limit (notation_of k) s text (value x)) (sym is) record { tree = Tree.json d; has = HasTree.json_tree h; says = says }
+jer_value failure limit c s text value (Err e) is h = tt
 
-pub avn_value_of : {A : Type 0} (limit : ℕ) (c : Codec) (s : Shape) (text : List ℕ) (value : A → Value) (r : Result A DecodeError) → c ≡ Avn
+pub avn_value_of : {A E : Type 0} (failure : E → Failure) (limit : ℕ) (c : Codec) (s : Shape) (text : List ℕ) (value : A → Value) (r : Result A E) → c ≡ Avn
     → IfOk r (λ x. (t : AvnTree) × avn.IsAvn limit text t × DecodesTo Notation.avn s (Some (Tree.avn t)) (value x)) → IfOk r (λ x. TextDecodesTo limit (notation_of c) s text (value x))
-avn_value_of limit c s text value (Ok x) is (t, h, says) = subst (λ k. TextDecodesTo limit (notation_of k) s text (value x)) (sym is) record { tree = Tree.avn t; has = HasTree.avn_tree h; says = says }
-avn_value_of limit c s text value (Err e) is h = tt
+avn_value_of failure limit c s text value (Ok x) is (t, h, says) = subst (λ k. TextDecodesTo limit (notation_of k) s text (value x)) (sym is) record { tree = Tree.avn t; has = HasTree.avn_tree h; says = says }
+avn_value_of failure limit c s text value (Err e) is h = tt
 
-pub jer_refused : {A : Type 0} (limit : ℕ) (c : Codec) (s : Shape) (text : List ℕ) (r : Result A DecodeError) → c ≡ Jer → IfErr r (λ e. jer.RefusesText s text (failure_of e))
-    → IfErr r (λ e. (failure_of e ≡ at_root Cause.out_of_memory c) ⊎ IsDecodeFailure limit c s text (failure_of e))
-jer_refused limit c s text (Ok x) is h = tt
-jer_refused limit c s text (Err e) is h = subst (λ k. (failure_of e ≡ at_root Cause.out_of_memory k) ⊎ IsDecodeFailure limit k s text (failure_of e)) (sym is) (jer_unread limit s text (failure_of e) h)
+pub jer_refused : {A E : Type 0} (failure : E → Failure) (limit : ℕ) (c : Codec) (s : Shape) (text : List ℕ) (r : Result A E) → c ≡ Jer → IfErr r (λ e. jer.RefusesText s text (failure e))
+    → IfErr r (λ e. (failure e ≡ at_root Cause.out_of_memory c) ⊎ IsDecodeFailure limit c s text (failure e))
+jer_refused failure limit c s text (Ok x) is h = tt
+jer_refused failure limit c s text (Err e) is h = subst (λ k. (failure e ≡ at_root Cause.out_of_memory k) ⊎ IsDecodeFailure limit k s text (failure e)) (sym is) (jer_unread limit s text (failure e) h)
 
-pub avn_refused : {A : Type 0} (limit : ℕ) (c : Codec) (s : Shape) (text : List ℕ) (r : Result A DecodeError) → c ≡ Avn → IfErr r (λ e. avn.RefusesText limit s text (failure_of e))
-    → IfErr r (λ e. (failure_of e ≡ at_root Cause.out_of_memory c) ⊎ IsDecodeFailure limit c s text (failure_of e))
-avn_refused limit c s text (Ok x) is h = tt
-avn_refused limit c s text (Err e) is h = subst (λ k. (failure_of e ≡ at_root Cause.out_of_memory k) ⊎ IsDecodeFailure limit k s text (failure_of e)) (sym is) (avn_unread limit s text (failure_of e) h)
+pub avn_refused : {A E : Type 0} (failure : E → Failure) (limit : ℕ) (c : Codec) (s : Shape) (text : List ℕ) (r : Result A E) → c ≡ Avn → IfErr r (λ e. avn.RefusesText limit s text (failure e))
+    → IfErr r (λ e. (failure e ≡ at_root Cause.out_of_memory c) ⊎ IsDecodeFailure limit c s text (failure e))
+avn_refused failure limit c s text (Ok x) is h = tt
+avn_refused failure limit c s text (Err e) is h = subst (λ k. (failure e ≡ at_root Cause.out_of_memory k) ⊎ IsDecodeFailure limit k s text (failure e)) (sym is) (avn_unread limit s text (failure e) h)
 
 pub jer_not_written : {A : Type 0} (c : Codec) (v : Value) (r : Result A EncodeError) → c ≡ Jer → IfErr r (FailsToEncode Notation.jer v)
     → IfErr r (λ e. ((is_encode_out_of_memory (encode_cause e.kind) ≡ true) ⊎ IsUnencodable c v (encode_cause e.kind)) × (e.codec ≡ c))

@@ -13,3 +13,4 @@ pub use avn_grammar::limits::{GREATEST_LEVEL_LIMIT, LEVEL_LIMIT};
 pub use binary_rules::{BinaryRules, NoRules};
 pub use calls::CodecCalls;
 pub use conversion::{TranscodeError, transcode, transcode_within, values_of_json_can_be_written};
+pub use refusals::{no_text_decoded, no_text_encoded};

@@ -2,7 +2,7 @@
 //! its message and the codec.
 ghost use Rattle.asn_codec.specs.Refused.{IsCustomEncodeError, IsCustomDecodeError};
 ghost use Rattle.asn_codec.specs.Refused.{message_of, no_text};
-ghost use Rattle.std.specs.Prelude.{◌≡◌, IfOk, string_bytes};
+ghost use Rattle.std.specs.Prelude.{◌≡◌, IfOk, codes, string_bytes};
 
 use asn_core::Codec;
 use asn_fault::{DecodeError, EncodeError};
@@ -46,6 +46,20 @@ pub(crate) fn decode_refusal(alloc: Global, codec: Codec, refusal: CodecRefusal)
         Ok(msg) => DecodeError::custom(msg, codec),
         Err(_) => DecodeError::out_of_memory(codec),
     }
+}
+
+/// Returns the error by which a codec that is no text notation refuses to decode a text.
+pub fn no_text_decoded(alloc: Global, codec: Codec) -> DecodeError
+    ensures { IsCustomDecodeError (no_text codec (codes "decode_from_binary")) codec result }
+{
+    decode_refusal(alloc, codec, CodecRefusal::NoTextDecoded)
+}
+
+/// Returns the error by which a codec that is no text notation refuses to encode a text.
+pub fn no_text_encoded(alloc: Global, codec: Codec) -> EncodeError
+    ensures { IsCustomEncodeError (no_text codec (codes "encode_to_binary")) codec result }
+{
+    encode_refusal(alloc, codec, CodecRefusal::NoTextEncoded)
 }
 
 /// Returns the words of a refusal. Those of the crate `rasn` for a remainder end with a blank.

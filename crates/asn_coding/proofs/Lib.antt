@@ -1,4 +1,6 @@
 pub mod Sorted
+pub mod NameRows
+pub mod LookingUp
 pub mod Repeated
 pub mod Steps
 pub mod Refusing

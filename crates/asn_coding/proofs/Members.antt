@@ -1,5 +1,5 @@
 -- The fields of a SEQUENCE or SET that are read in their order are the members of the value, in the order in which the type lists them.
-use Rattle.std.proofs.Common.{◌≡◌, refl, sym, subst, ap, ◌∙◌, ℕ, zero, suc, ◌+◌, ◌≤◌, List, [], ◌∷◌, ◌++◌, map, drop, length, Option, Some, None, Ok, Bool, true, false, not, if◌then◌else◌, ◌⊎◌, inl, inr, arith}
+use Rattle.std.proofs.Common.{◌≡◌, refl, sym, subst, ap, ◌∙◌, ℕ, zero, suc, ◌+◌, ◌≤◌, List, [], ◌∷◌, ◌++◌, map, drop, length, Option, Some, None, Bool, true, false, not, if◌then◌else◌, ◌⊎◌, inl, inr, arith}
 use Rattle.std.proofs.lemmas.List.{length-map, length-drop}
 use Rattle.std.specs.declared.cmp.Ordering.{Ordering}
 use Rattle.std.specs.List.{AllByRecursion}
@@ -16,11 +16,10 @@ use Rattle.asn_model.specs.Value.{Value, Slots, is_kept, is_plain, may_lack, wit
 use Rattle.asn_model.proofs.Sorting.{sort-map}
 use Rattle.asn_coding.specs.Answer.{Refuses}
 use Rattle.asn_coding.specs.FieldAnswer.{Ahead, TakesDefault, TakesField, TakesSlot}
-use Rattle.asn_coding.specs.Opening.{HasMembers, OpensMembers}
+use Rattle.asn_names.specs.Rows.{NameRow, row_names}
+use Rattle.asn_coding.specs.Opening.{HasMembers, PutsMembers}
 use Rattle.asn_coding.specs.Passing.{allows, default_slot, RefusesFields, TakesFields}
 use Rattle.asn_coding.specs.ReadingSlots.{slots_read, tag_order, with_slots}
-use Rattle.asn_coding.specs.Tables.{names_of}
-use Rattle.asn_coding.specs.declared.field.Field.{Field}
 use Rattle.asn_coding.specs.Writing.{Frame, members_value, named}
 use Rattle.asn_coding.proofs.Passing.{allowed-kept, allowed-lacks, refuses_components, slots_ahead, takes_components}
 use Rattle.asn_coding.proofs.ReadingOrder.{fields_from, fields-read, names-read}
@@ -229,8 +228,8 @@ as_members n look kind fs added ss e =
     let read = reading_order SeqKind.sequence fs added in
     subst (λ ns. FieldsDecodeTo n (all_fields fs added) (map look ns) (named ss ns)) (names-read fs added) (subst (λ gs. FieldsDecodeTo n gs (map look (component_names read)) (named ss (component_names read))) (fields-read fs added) (members_from n look read ss d.count d.each))
 
-one_each : (cs : List Component) (rows : List Field) (slots : List Slot) → names_of rows ≡ component_names cs → length slots ≡ length rows → length slots ≡ length cs
-one_each cs rows slots spelled count = count ∙ sym (length-map rows (λ (f : Field). f.name.now)) ∙ ap length spelled ∙ length-map cs (λ (c : Component). c.name)
+one_each : (cs : List Component) (rows : List NameRow) (slots : List Slot) → row_names rows ≡ component_names cs → length slots ≡ length rows → length slots ≡ length cs
+one_each cs rows slots spelled count = count ∙ sym (length-map rows (λ (r : NameRow). r.name)) ∙ ap length spelled ∙ length-map cs (λ (c : Component). c.name)
 
 -- What is read of the members of an open slot is its value.
 module _ {n : Notation} (kind : SeqKind) (fs : Fields) (added : FieldAdditions) where
@@ -240,13 +239,13 @@ module _ {n : Notation} (kind : SeqKind) (fs : Fields) (added : FieldAdditions) 
       DecodesTo.decodes_seq kind fs added t look _ is (none_repeated n t kind fs added spelled once) (as_members n look kind fs added ss (takes_each n look rest (ap (λ ns. map look ns ++ rest) spelled) taken))
   decodes ss rest spelled (HasMembers.members_free names slot slots is) taken = DecodesTo.decodes_free _ slot _ is
 
-  pub members_read : (rows : List Field) (ss : Frame) {ahead others : List (List ℕ)} {before mid after : List Slot} → names_of rows ≡ component_names (reading_order kind fs added) → OpensMembers n kind rows before (Ok tt) mid
+  pub members_read : (rows : List NameRow) (ss : Frame) {ahead others : List (List ℕ)} {before mid after : List Slot} → row_names rows ≡ component_names (reading_order kind fs added) → PutsMembers n rows before mid
       → TakesFields n (reading_order kind fs added) (slots_read kind fs ss) (Ahead.ahead ahead mid) (Ahead.ahead others after) → (slot : Slot) × (before ≡ slot ∷ after) × DecodesTo n (Shape.seq kind fs added) slot (members_value (all_fields fs added) ss)
   members_read rows ss {ahead = ahead} {others = others} {after = after} spelled (slot, slots, rest, was, is, count, below, has) taken =
       let t = subst (λ m. TakesFields n (reading_order kind fs added) (slots_read kind fs ss) (Ahead.ahead ahead m) (Ahead.ahead others after)) is taken in
       (slot, was ∙ ap (λ l. slot ∷ l) (sym (takes_components t slots rest (one_each (reading_order kind fs added) rows slots spelled count) refl)), decodes ss rest spelled has t)
 
-  pub members_refused : (rows : List Field) {ahead : List (List ℕ)} {before mid : List Slot} {e : Failure} → names_of rows ≡ component_names (reading_order kind fs added) → ahead ≡ component_names (reading_order kind fs added) → OpensMembers n kind rows before (Ok tt) mid
+  pub members_refused : (rows : List NameRow) {ahead : List (List ℕ)} {before mid : List Slot} {e : Failure} → row_names rows ≡ component_names (reading_order kind fs added) → ahead ≡ component_names (reading_order kind fs added) → PutsMembers n rows before mid
       → RefusesFields n (reading_order kind fs added) (Ahead.ahead ahead mid) e → Refuses n (FailsWith n (Shape.seq kind fs added) (head_slot before)) e
   members_refused rows {e = e} spelled along (slot, slots, rest, was, is, count, below, has) refused =
       refuses_by (λ p w k. subst (λ l. FailsWith n (Shape.seq kind fs added) (head_slot l) p w) (sym was) (members_fail kind fs added p w spelled has k)) e

@@ -1,8 +1,10 @@
 -- Refusals of a decoder's calls, from what their errors tell.
-use Rattle.std.proofs.Common.{◌≡◌, ap, sym, ◌∙◌, subst, refl, ◌⊎◌, inl, inr, ℕ, List, [], ◌∷◌, Some, None, Err}
+use Rattle.std.proofs.Common.{◌≡◌, ap, sym, ◌∙◌, subst, refl, ◌⊎◌, inl, inr, ℕ, List, [], ◌∷◌, ◌++◌, Some, None, Err}
 use Rattle.std.specs.Prelude.{option_map}
 use Rattle.asn_core.specs.declared.codec.Codec.{Codec}
-use Rattle.asn_fault.specs.Failure.{Failure, Cause, at_root}
+use Rattle.std.specs.List.{slice_get}
+use Rattle.asn_fault.specs.Failure.{Failure, Cause, at_root, failure_of}
+use Rattle.asn_fault.specs.declared.decode.DecodeError.{DecodeError}
 use Rattle.asn_model.specs.Notation.{Notation, notation_of}
 use Rattle.asn_model.specs.Shape.{Shape, Fields, Alternatives, AlternativeAdditions, SeqKind, FieldAdditions}
 use Rattle.asn_model.specs.Tree.{Tree, Slot, head_slot, as_list, as_members, as_choice}
@@ -10,9 +12,11 @@ use Rattle.asn_model.specs.Leaf.{LeafFailure, IsFailureOf, codec_of, as_leaf, ki
 use Rattle.asn_model.specs.FailsWith.{FailsWith, Path}
 use Rattle.asn_model.specs.declared.leaves.LeafKind.{LeafKind}
 use Rattle.asn_coding.specs.Answer.{Refuses, OfPlace, AtRoot, RefusesLeaf}
-use Rattle.asn_coding.specs.Opening.{IsFirstRepeated}
-use Rattle.asn_coding.specs.Tables.{ListsFields}
+use Rattle.asn_names.specs.Rows.{NameRow}
+use Rattle.asn_coding.specs.Opening.{IsFirstRepeated, RefusesMembers, RepeatsName}
+use Rattle.asn_coding.specs.Tables.{ListsFields, name_rows}
 use Rattle.asn_coding.specs.declared.field.Field.{Field}
+use Rattle.asn_coding.proofs.NameRows.{row-field}
 use Rattle.asn_coding.proofs.Repeated.{first_row}
 use Rattle.asn_coding.proofs.Steps.{refuses_by}
 
@@ -56,10 +60,10 @@ pub no_members : {n : Notation} (kind : SeqKind) (fs : Fields) (added : FieldAdd
 no_members kind fs added t before after e was is tells = first_fails (Shape.seq kind fs added) t _ before after e was tells (λ w h. FailsWith.fails_no_members kind fs added t w is h)
 
 -- A tree that has members, in which a name of the rows is repeated.
-pub repeated_name : {n : Notation} (kind : SeqKind) (fs : Fields) (added : FieldAdditions) (t : Tree) (look : List ℕ → Slot) {rows : List Field} (row : Field) (c : Codec) (before after : List Slot) (e : Failure) → before ≡ Some t ∷ after → as_members n t ≡ Some look → ListsFields rows fs added
-    → IsFirstRepeated n t rows row → e ≡ at_root (Cause.duplicate_field row.name.now) c → notation_of c ≡ n → Refuses n (FailsWith n (Shape.seq kind fs added) (head_slot before)) e
+pub repeated_name : {n : Notation} (kind : SeqKind) (fs : Fields) (added : FieldAdditions) (t : Tree) (look : List ℕ → Slot) {rows : List NameRow} (row : NameRow) (c : Codec) (before after : List Slot) (e : Failure) → before ≡ Some t ∷ after → as_members n t ≡ Some look → ListsFields rows fs added
+    → IsFirstRepeated n t rows row → e ≡ at_root (Cause.duplicate_field row.name) c → notation_of c ≡ n → Refuses n (FailsWith n (Shape.seq kind fs added) (head_slot before)) e
 repeated_name {n} kind fs added t look row c before after e was is listed first says of =
-    at_no_field {P = FailsWith n (Shape.seq kind fs added) (head_slot before)} (Cause.duplicate_field row.name.now) c e says of (rw was (FailsWith.fails_repeated kind fs added t look row.name.now is (first_row listed first)))
+    at_no_field {P = FailsWith n (Shape.seq kind fs added) (head_slot before)} (Cause.duplicate_field row.name) c e says of (rw was (FailsWith.fails_repeated kind fs added t look row.name is (first_row listed first)))
 
 -- A tree that is no list.
 pub no_list : {n : Notation} (s : Shape) (t : Tree) (before after : List Slot) (e : Failure) → before ≡ Some t ∷ after → as_list n t ≡ None → RefusesLeaf n t (list_mismatch n) e
@@ -70,3 +74,9 @@ no_list s t before after e was is tells = first_fails (Shape.list_of s) t _ befo
 pub no_choice : {n : Notation} (alts : Alternatives) (added : AlternativeAdditions) (t : Tree) (before after : List Slot) (e : Failure) → before ≡ Some t ∷ after → as_choice n t ≡ None → RefusesLeaf n t (choice_mismatch n t) e
     → Refuses n (FailsWith n (Shape.choice alts added) (head_slot before)) e
 no_choice alts added t before after e was is tells = first_fails (Shape.choice alts added) t _ before after e was tells (λ w h. FailsWith.fails_no_choice alts added t w is h)
+
+-- The same, where the row is that of a field of a table.
+pub repeated_field : {n : Notation} (kind : SeqKind) (c : Codec) (root additions : List Field) {before : List Slot} (place : ℕ) (f : Field) (e : DecodeError) → RepeatsName n (name_rows (root ++ additions)) before place → slice_get (root ++ additions) place ≡ Some f
+    → notation_of c ≡ n → failure_of e ≡ at_root (Cause.duplicate_field f.name.now) c → RefusesMembers n kind (name_rows (root ++ additions)) before e
+repeated_field kind c root additions place f e r at of says = λ fs added listed.
+    repeated_name kind fs added r.tree r.look r.row c _ r.rest (failure_of e) r.pending r.members listed r.first (says ∙ ap (λ (row : NameRow). at_root (Cause.duplicate_field row.name) c) (sym (row-field (root ++ additions) place f r.row at r.at))) of

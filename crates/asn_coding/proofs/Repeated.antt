@@ -7,9 +7,9 @@ use Rattle.asn_model.specs.Components.{Component, Standing, component_names, com
 use Rattle.asn_model.specs.Notation.{Notation}
 use Rattle.asn_model.specs.Shape.{SeqKind, Fields, FieldAdditions, all_fields, field_names}
 use Rattle.asn_model.specs.Tree.{Tree, first_repeated, is_repeated}
+use Rattle.asn_names.specs.Rows.{NameRow}
 use Rattle.asn_coding.specs.Opening.{IsFirstRepeated}
 use Rattle.asn_coding.specs.Tables.{ListsFields}
-use Rattle.asn_coding.specs.declared.field.Field.{Field}
 use Rattle.asn_coding.proofs.ReadingOrder.{names-read}
 use Rattle.asn_coding.proofs.Sorted.{each-append, each-first, each-mapped, each-of_map, each-second, each-sorted}
 
@@ -51,17 +51,17 @@ get-below (x ∷ xs) zero name at = omega arith
 get-below (x ∷ xs) (suc j) name at = omega (arith, get-below xs j name at)
 
 -- The first of the rows whose names are repeated has the first name that is.
-pub first_row : {n : Notation} {t : Tree} {rows : List Field} {row : Field} {fs : Fields} {added : FieldAdditions} → ListsFields rows fs added → IsFirstRepeated n t rows row → first_repeated n t (field_names (all_fields fs added)) ≡ Some row.name.now
-first_row {n} {t} {rows} {row} {fs} {added} listed f = first-at n t (field_names (all_fields fs added)) row.index row.name.now (All-contains (λ (f : Field). slice_get (field_names (all_fields fs added)) f.index ≡ Some f.name.now) rows row listed.named f.listed) f.repeated (λ j other lt at. earlier j other lt at (is_repeated n t other) refl)
+pub first_row : {n : Notation} {t : Tree} {rows : List NameRow} {row : NameRow} {fs : Fields} {added : FieldAdditions} → ListsFields rows fs added → IsFirstRepeated n t rows row → first_repeated n t (field_names (all_fields fs added)) ≡ Some row.name
+first_row {n} {t} {rows} {row} {fs} {added} listed f = first-at n t (field_names (all_fields fs added)) row.index row.name (All-contains (λ (r : NameRow). slice_get (field_names (all_fields fs added)) r.index ≡ Some r.name) rows row listed.named f.listed) f.repeated (λ j other lt at. earlier j other lt at (is_repeated n t other) refl)
   where
     earlier : (j : ℕ) (other : List ℕ) → j < row.index → slice_get (field_names (all_fields fs added)) j ≡ Some other → (b : Bool) → is_repeated n t other ≡ b → is_repeated n t other ≡ false
     earlier j other lt at false e = e
     earlier j other lt at true e =
         let names = field_names (all_fields fs added) in
         let found = listed.complete j (get-below names j other at) in
-        let there : slice_get names j ≡ Some found.0.name.now = subst (λ k. slice_get names k ≡ Some found.0.name.now) found.2 (All-contains (λ (f : Field). slice_get names f.index ≡ Some f.name.now) rows found.0 listed.named found.1) in
-        let d : ◌≡◌ {A = Option (List ℕ)} (Some other) (Some found.0.name.now) = sym at ∙ there in
-        let same : other ≡ found.0.name.now = cc d in
-        let le : row.index ≤ found.0.index = All-contains (λ (g : Field). is_repeated n t g.name.now ≡ true → row.index ≤ g.index) rows found.0 f.first found.1 (ap (is_repeated n t) (sym same) ∙ e) in
+        let there : slice_get names j ≡ Some found.0.name = subst (λ k. slice_get names k ≡ Some found.0.name) found.2 (All-contains (λ (r : NameRow). slice_get names r.index ≡ Some r.name) rows found.0 listed.named found.1) in
+        let d : ◌≡◌ {A = Option (List ℕ)} (Some other) (Some found.0.name) = sym at ∙ there in
+        let same : other ≡ found.0.name = cc d in
+        let le : row.index ≤ found.0.index = All-contains (λ (r : NameRow). is_repeated n t r.name ≡ true → row.index ≤ r.index) rows found.0 f.first found.1 (ap (is_repeated n t) (sym same) ∙ e) in
         let is : found.0.index ≡ j = found.2 in
         absurd (omega (arith, le, is, lt))

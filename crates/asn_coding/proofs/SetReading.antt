@@ -13,10 +13,11 @@ use Rattle.asn_model.specs.Tree.{Slot, head_slot}
 use Rattle.asn_model.specs.Value.{Value, is_plain}
 use Rattle.asn_coding.specs.Answer.{AnswerBy, Refuses}
 use Rattle.asn_coding.specs.FieldAnswer.{Ahead, TakesDefault, TakesField}
-use Rattle.asn_coding.specs.Opening.{OpensMembers}
+use Rattle.asn_names.specs.Rows.{NameRow, row_names}
+use Rattle.asn_coding.specs.Opening.{PutsMembers}
 use Rattle.asn_coding.specs.Passing.{ComponentFailsWith, RefusesFields, TakesFields, allows, default_slot, may_take}
 use Rattle.asn_coding.specs.SetFields.{SetAnswer, TakesPlace, component_at, kept_slot, listed_components, places_read}
-use Rattle.asn_coding.specs.Tables.{field_tag, names_of}
+use Rattle.asn_coding.specs.Tables.{field_tag}
 use Rattle.asn_coding.specs.declared.field.Field.{Field}
 use Rattle.asn_coding.specs.Writing.{tail_names}
 use Rattle.asn_coding.proofs.Grouping.{all_taken, second_refused}
@@ -167,17 +168,17 @@ pub as_many : (fs : Fields) (added : FieldAdditions) (fields : List Field) {i : 
 as_many fs added fields same h = let long = as_long fs added fields same in omega (arith, h, long)
 
 -- What is made of all answers is the value, or memory ran out.
-pub set_answer : {A E S : Type 0} (failure : E → Failure) (slot : S → Option Value) (n : Notation) (kind : SeqKind) (fs : Fields) (added : FieldAdditions) (value : A → Value) (table : List Field) (answers : List S) {others : List (List ℕ)} {before mid now : List Slot} (r : Result A E)
-    → kind ≡ SeqKind.set → names_of table ≡ component_names (reading_order SeqKind.set fs added) → OpensMembers n SeqKind.set table before (Ok tt) mid
+pub set_answer : {A E S : Type 0} (failure : E → Failure) (slot : S → Option Value) (n : Notation) (kind : SeqKind) (fs : Fields) (added : FieldAdditions) (value : A → Value) (rows : List NameRow) (answers : List S) {others : List (List ℕ)} {before mid now : List Slot} (r : Result A E)
+    → kind ≡ SeqKind.set → row_names rows ≡ component_names (reading_order SeqKind.set fs added) → PutsMembers n rows before mid
     → TakesFields n (parts (places_read fs added)) (map slot answers) (Ahead.ahead (names (places_read fs added)) mid) (Ahead.ahead others now) → SetAnswer failure n slot fs added value answers r → AnswerBy failure n (Shape.seq kind fs added) value before r now
-set_answer failure slot n kind fs added value table answers {others = others} {before = before} {mid = mid} {now = now} (Ok x) set spelled opened taken (ss, is, value_is) =
+set_answer failure slot n kind fs added value rows answers {others = others} {before = before} {mid = mid} {now = now} (Ok x) set spelled opened taken (ss, is, value_is) =
     let t = subst (λ cs. TakesFields n cs (map slot answers) (Ahead.ahead (names (places_read fs added)) mid) (Ahead.ahead others now)) (parts-read fs added) taken in
-    let d = members_read SeqKind.set fs added table ss spelled opened (subst (λ f. TakesFields n (reading_order SeqKind.set fs added) f (Ahead.ahead (names (places_read fs added)) mid) (Ahead.ahead others now)) (sym is) t) in
+    let d = members_read SeqKind.set fs added rows ss spelled opened (subst (λ f. TakesFields n (reading_order SeqKind.set fs added) f (Ahead.ahead (names (places_read fs added)) mid) (Ahead.ahead others now)) (sym is) t) in
     (d.0, d.1, subst (λ k. DecodesTo n (Shape.seq k fs added) d.0 (value x)) (sym set) (subst (DecodesTo n (Shape.seq SeqKind.set fs added) d.0) (sym value_is) d.2))
-set_answer failure slot n kind fs added value table answers (Err e) set spelled opened taken memory = Refuses.no_memory memory
+set_answer failure slot n kind fs added value rows answers (Err e) set spelled opened taken memory = Refuses.no_memory memory
 
-pub set_refused : {n : Notation} (kind : SeqKind) (fs : Fields) (added : FieldAdditions) (table : List Field) {before mid : List Slot} {e : Failure} → kind ≡ SeqKind.set → names_of table ≡ component_names (reading_order SeqKind.set fs added) → OpensMembers n SeqKind.set table before (Ok tt) mid
+pub set_refused : {n : Notation} (kind : SeqKind) (fs : Fields) (added : FieldAdditions) (rows : List NameRow) {before mid : List Slot} {e : Failure} → kind ≡ SeqKind.set → row_names rows ≡ component_names (reading_order SeqKind.set fs added) → PutsMembers n rows before mid
     → RefusesFields n (parts (places_read fs added)) (Ahead.ahead (names (places_read fs added)) mid) e → Refuses n (FailsWith n (Shape.seq kind fs added) (head_slot before)) e
-set_refused {n} kind fs added table {before = before} {mid = mid} {e = e} set spelled opened refused =
+set_refused {n} kind fs added rows {before = before} {mid = mid} {e = e} set spelled opened refused =
     subst (λ k. Refuses n (FailsWith n (Shape.seq k fs added) (head_slot before)) e) (sym set)
-    (members_refused SeqKind.set fs added table spelled (ap component_names (parts-read fs added)) opened (subst (λ cs. RefusesFields n cs (Ahead.ahead (names (places_read fs added)) mid) e) (parts-read fs added) refused))
+    (members_refused SeqKind.set fs added rows spelled (ap component_names (parts-read fs added)) opened (subst (λ cs. RefusesFields n cs (Ahead.ahead (names (places_read fs added)) mid) e) (parts-read fs added) refused))

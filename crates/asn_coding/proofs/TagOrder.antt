@@ -15,7 +15,8 @@ use Rattle.asn_model.specs.Components.{Component, Standing, component_names, com
 use Rattle.asn_model.specs.Shape.{Fields, FieldAdditions, SeqKind, all_fields, are_distinct, field_names, is_item}
 use Rattle.asn_model.specs.Sorting.{insert_in_order, sort}
 use Rattle.asn_model.proofs.Sorting.{each-sort, sort-map}
-use Rattle.asn_coding.specs.Tables.{ListsFields, Row, added_rows, field_rows, field_tag, names_of, or_end, rows_of}
+use Rattle.asn_names.specs.Rows.{NameRow}
+use Rattle.asn_coding.specs.Tables.{ListsFields, Row, added_rows, field_rows, field_tag, name_row, name_rows, names_of, or_end, rows_of}
 use Rattle.asn_coding.specs.SetFields.{additions_of, component_at, listed_components, placed, places_read}
 use Rattle.asn_coding.specs.declared.field.Field.{Field}
 use Rattle.asn_coding.proofs.ReadingOrder.{names-read}
@@ -259,6 +260,12 @@ row_of [] key (k, lt, e) = absurd (omega (arith, lt))
 row_of (f ∷ fs) key (zero, lt, e) = (f, (zero, omega arith, refl), e)
 row_of (f ∷ fs) key (suc k, lt, e) = let r = row_of fs key (k, omega (arith, lt), e) in (r.0, (suc r.1.0, omega (arith, r.1.1), r.1.2), r.2)
 
+-- The row of a field of a table is one of its rows.
+row_there : (fields : List Field) (f : Field) → Contains fields f → Contains (name_rows fields) (name_row f)
+row_there [] f (k, lt, e) = absurd (omega (arith, lt))
+row_there (g ∷ gs) f (zero, lt, e) = (zero, omega arith, ap name_row e)
+row_there (g ∷ gs) f (suc k, lt, e) = let r = row_there gs f (k, omega (arith, lt), e) in (suc r.0, omega (arith, r.1), r.2)
+
 -- What holds of each place from j on holds of this one.
 place-in : (P : ℕ → Type 0) (cs : List Component) (j i : ℕ) → AllByRecursion (λ (p : ℕ × Component). P p.0) (placed j cs) → i < length cs → P (j + i)
 place-in P [] j i all lt = absurd (omega (arith, lt))
@@ -274,19 +281,21 @@ module _ (fs : Fields) (added : FieldAdditions) (rows : List Field) where
   IsNamed k = slice_get listed_names k.1 ≡ Some k.2
 
   abbrev HasRow : ℕ → Type 0
-  HasRow k = (f : Field) × Contains rows f × (f.index ≡ k)
+  HasRow k = (r : NameRow) × Contains (name_rows rows) r × (r.index ≡ k)
 
   named : (ps : List (ℕ × Component)) → AllByRecursion (StandsIn (listed_components fs added)) ps → AllByRecursion (λ p. IsNamed (place_key p)) ps
   unfolding place_key
   named ps all = each-turn (λ p e. subst (λ ns. slice_get ns p.0 ≡ Some p.1.name) (names-listed fs added) (name-stands (listed_components fs added) p.0 p.1 e)) ps all
 
-  have_names : (all : AllByRecursion (λ f. IsNamed (field_key f)) rows) → All (λ (f : Field). slice_get listed_names f.index ≡ Some f.name.now) rows
+  have_names : (all : AllByRecursion (λ f. IsNamed (field_key f)) rows) → All (λ (r : NameRow). slice_get listed_names r.index ≡ Some r.name) (name_rows rows)
   unfolding field_key
-  have_names all = All-from_recursion (λ (f : Field). slice_get listed_names f.index ≡ Some f.name.now) rows all
+  have_names all =
+      let P : NameRow → Type 0 = λ r. slice_get listed_names r.index ≡ Some r.name in
+      All-from_recursion P (name_rows rows) (each-mapped P name_row rows all)
 
   has_row : (p : ℕ × Component) → (f : Field) × Contains rows f × (field_key f ≡ place_key p) → HasRow p.0
   unfolding field_key place_key
-  has_row p (f, there, e) = (f, there, ap (λ (k : Key). k.1) e)
+  has_row p (f, there, e) = (name_row f, row_there rows f there, ap (λ (k : Key). k.1) e)
 
   have_rows : (ps : List (ℕ × Component)) → map field_key rows ≡ map place_key ps → AllByRecursion (λ p. HasRow p.0) ps
   have_rows ps keys =
@@ -307,7 +316,7 @@ module _ (fs : Fields) (added : FieldAdditions) (rows : List Field) where
             )
       ]
 
-  lists : (ps : List (ℕ × Component)) → map field_key rows ≡ map place_key ps → AllByRecursion (StandsIn (listed_components fs added)) ps → (AllByRecursion (λ p. HasRow p.0) ps → AllByRecursion (λ p. HasRow p.0) (places_listed fs added)) → ListsFields rows fs added
+  lists : (ps : List (ℕ × Component)) → map field_key rows ≡ map place_key ps → AllByRecursion (StandsIn (listed_components fs added)) ps → (AllByRecursion (λ p. HasRow p.0) ps → AllByRecursion (λ p. HasRow p.0) (places_listed fs added)) → ListsFields (name_rows rows) fs added
   lists ps keys stand listed = record {
     named = have_names (each-of_map IsNamed field_key rows (subst (AllByRecursion IsNamed) (sym keys) (each-mapped IsNamed place_key ps (named ps stand))));
     complete = each_row (listed (have_rows ps keys));
@@ -316,9 +325,9 @@ module _ (fs : Fields) (added : FieldAdditions) (rows : List Field) where
 module _ {T : Type 0} (items : T → List Field) (fields additions : List Field) (table : Option T) (fs : Fields) (added : FieldAdditions)
     (rows : rows_of fields ≡ field_rows 0 fs) (more : option_map (λ t. rows_of (items t)) table ≡ added_rows fs added) (of : additions ≡ unwrap_or (option_map items table) []) where
   -- The tables of a type's fields list them.
-  pub tables_list : ListsFields (fields ++ additions) fs added
+  pub tables_list : ListsFields (name_rows (fields ++ additions)) fs added
   tables_list = lists fs added (fields ++ additions) (places_listed fs added) (listed_keys items fields additions table fs added rows more of) (places-stand fs added) (λ all. all)
 
   -- So do those of a SET, whose root is sorted by tags.
-  pub set_tables_list : (sorted : List Field) → sorted ≡ sort (on field_tag tag_cmp) fields → ListsFields (sorted ++ additions) fs added
+  pub set_tables_list : (sorted : List Field) → sorted ≡ sort (on field_tag tag_cmp) fields → ListsFields (name_rows (sorted ++ additions)) fs added
   set_tables_list sorted is = lists fs added (sorted ++ additions) (places_read fs added) (set_keys items fields additions table fs added rows more of sorted is) (all-stand fs added) (each-listed _ fs added)

@@ -2,7 +2,6 @@
 use Rattle.std.proofs.Common.{◌≡◌, sym, ◌∙◌, subst, ℕ, List, ◌∷◌, length, Option, Some, None, Result, Ok, Err, true, true≢false, inl, inr}
 use Rattle.asn_fault.specs.Failure.{Failure, is_out_of_memory}
 use Rattle.asn_fault.specs.EncodeCause.{EncodeCause}
-use Rattle.asn_fault.specs.declared.decode.DecodeError.{DecodeError}
 use Rattle.asn_fault.specs.declared.encode.EncodeError.{EncodeError}
 use Rattle.asn_model.specs.BitLeaves.{LengthStands, LengthBlocks}
 use Rattle.asn_model.specs.Notation.{Notation, IsText}
@@ -11,17 +10,17 @@ use Rattle.asn_model.specs.Tree.{Tree, Slot}
 use Rattle.asn_model.specs.Value.{Value, Values, Slots}
 use Rattle.asn_model.specs.DecodesTo.{DecodesTo}
 use Rattle.asn_model.specs.FailsWith.{FailsWith}
-use Rattle.asn_coding.specs.Answer.{Answer, Refuses}
-use Rattle.asn_coding.specs.Root.{RootAnswer, Reads}
+use Rattle.asn_coding.specs.Answer.{AnswerBy, Refuses}
+use Rattle.asn_coding.specs.Root.{RootAnswerBy, ReadsBy}
 use Rattle.asn_model.specs.Writable.{Writable, WritableEach, WritableSlots, FirstUnencodable, EachFirstUnencodable, SomeUnencodable, SlotsFirstUnencodable}
 use Rattle.asn_coding.specs.Writing.{FailsToEncode, IsOutOfMemory}
 use Rattle.asn_model.proofs.Meanings.{one, apart, not_other}
 use Rattle.asn_coding.proofs.Steps.{same_head}
 
 -- The answer of a reader whose first slot is the tree.
-pub root_answer : {A : Type 0} (n : Notation) (s : Shape) (value : A → Value) (t : Tree) (before after rest : List Slot) (r : Result A DecodeError) → before ≡ Some t ∷ rest → Answer n s value before r after → RootAnswer n s value t r
-root_answer n s value t before after rest (Ok x) e (slot, shown, says) = subst (λ c. DecodesTo n s c (value x)) (same_head _ _ _ _ (sym shown ∙ e)) says
-root_answer n s value t before after rest (Err error) e h = rw e at h
+pub root_answer : {A E : Type 0} (failure : E → Failure) (n : Notation) (s : Shape) (value : A → Value) (t : Tree) (before after rest : List Slot) (r : Result A E) → before ≡ Some t ∷ rest → AnswerBy failure n s value before r after → RootAnswerBy failure n s value t r
+root_answer failure n s value t before after rest (Ok x) e (slot, shown, says) = subst (λ c. DecodesTo n s c (value x)) (same_head _ _ _ _ (sym shown ∙ e)) says
+root_answer failure n s value t before after rest (Err error) e h = rw e at h
 
 -- What decodes to a value is refused for lack of memory alone.
 pub read_complete : {n : Notation} {s : Shape} {slot : Slot} {e : Failure} → IsText n → Refuses n (FailsWith n s slot) e → (v : Value) → DecodesTo n s slot v → is_out_of_memory e ≡ true
@@ -30,9 +29,9 @@ read_complete text (Refuses.stopped h l c) v says = absurd (apart text says h)
 read_complete {n} text (Refuses.refuses_free o) v says = absurd (not_other n text o)
 
 -- What decodes to a value is read as that value, unless memory runs out.
-pub root_complete : {A : Type 0} (n : Notation) (s : Shape) (value : A → Value) (t : Tree) (r : Result A DecodeError) → IsText n → RootAnswer n s value t r → (v : Value) → DecodesTo n s (Some t) v → Reads value v r
-root_complete n s value t (Ok x) text h v says = one text h says
-root_complete n s value t (Err e) text h v says = read_complete text h v says
+pub root_complete : {A E : Type 0} (failure : E → Failure) (n : Notation) (s : Shape) (value : A → Value) (t : Tree) (r : Result A E) → IsText n → RootAnswerBy failure n s value t r → (v : Value) → DecodesTo n s (Some t) v → ReadsBy failure value v r
+root_complete failure n s value t (Ok x) text h v says = one text h says
+root_complete failure n s value t (Err e) text h v says = read_complete text h v says
 
 length_not_blocked : (n : Notation) (size : Option ℕ) (k : ℕ) (cause : EncodeCause) → LengthStands n size k → LengthBlocks n size k cause → ⊥
 length_not_blocked Notation.jer (Some m) k cause stands blocks = blocks.0 stands

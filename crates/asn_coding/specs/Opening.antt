@@ -1,6 +1,6 @@
 -- What a decoder puts before the pending slots when it opens a tree.
 use Rattle.std.specs.Prelude.{◌≡◌, ℕ, ◌<◌, ◌≤◌, List, [], ◌∷◌, ◌++◌, map, length, Option, Some, None, Result, Ok, Err, true, false}
-use Rattle.std.specs.List.{All, Contains}
+use Rattle.std.specs.List.{All, Contains, slice_get}
 use Rattle.asn_fault.specs.Failure.{failure_of}
 use Rattle.asn_fault.specs.declared.decode.DecodeError.{DecodeError}
 use Rattle.asn_core.specs.declared.tag.Tag.{Tag}
@@ -10,8 +10,10 @@ use Rattle.asn_model.specs.Shape.{Shape, SeqKind, Fields, FieldAdditions, Altern
 use Rattle.asn_model.specs.Tree.{Tree, Slot, slot_nodes, head_slot, as_list, as_members, as_choice, is_repeated, same_identifier}
 use Rattle.asn_model.specs.FailsWith.{FailsWith}
 use Rattle.asn_coding.specs.Answer.{Refuses}
-use Rattle.asn_coding.specs.Tables.{ListsFields, names_of}
-use Rattle.asn_coding.specs.declared.field.Field.{Field}
+use Rattle.asn_names.specs.Rows.{NameRow, row_names}
+use Rattle.asn_coding.specs.Tables.{ListsFields}
+use Rattle.asn_coding.specs.declared.opening.Opened.{Opened}
+use Rattle.asn_coding.specs.declared.opening.Opened.TheVariants.{Members, Repeated}
 use Rattle.asn_model.specs.Value.{Value, Values, bag_of}
 use Rattle.asn_model.specs.declared.leaves.LeafKind.{LeafKind}
 use Rattle.asn_model.specs.declared.leaves.OwnedLeaf.{OwnedLeaf}
@@ -71,15 +73,40 @@ OpensList n kind before (Ok count) after = (slot : Slot) × (slots : List Slot) 
 OpensList n kind before (Err e) after = (s : Shape) → Refuses n (FailsWith n (list_shape kind s) (head_slot before)) (failure_of e)
 
 -- Of the rows whose names are repeated in the tree, this one is the first by its place among the fields.
-pub record IsFirstRepeated (n : Notation) (t : Tree) (rows : List Field) (row : Field) : Type 0 where
+pub record IsFirstRepeated (n : Notation) (t : Tree) (rows : List NameRow) (row : NameRow) : Type 0 where
   pub listed : Contains rows row
-  pub repeated : is_repeated n t row.name.now ≡ true
-  pub first : All (λ (other : Field). is_repeated n t other.name.now ≡ true → row.index ≤ other.index) rows
+  pub repeated : is_repeated n t row.name ≡ true
+  pub first : All (λ (other : NameRow). is_repeated n t other.name ≡ true → row.index ≤ other.index) rows
 
--- The slots of these rows in the first pending slot stand in its place, or it has no members, or a name of the rows is repeated.
-abbrev pub OpensMembers : Notation → SeqKind → List Field → List Slot → Result (Unit {0}) DecodeError → List Slot → Type 0
-OpensMembers n kind rows before (Ok u) after = (slot : Slot) × (slots : List Slot) × (rest : List Slot) × (before ≡ slot ∷ rest) × (after ≡ slots ++ rest) × (length slots ≡ length rows) × AllBelow (slot_nodes slot) slots × HasMembers n (names_of rows) slot slots
-OpensMembers n kind rows before (Err e) after = (fs : Fields) (added : FieldAdditions) → ListsFields rows fs added → Refuses n (FailsWith n (Shape.seq kind fs added) (head_slot before)) (failure_of e)
+-- The slots of these rows in the first pending slot stand in its place.
+abbrev pub PutsMembers : Notation → List NameRow → List Slot → List Slot → Type 0
+PutsMembers n rows before after = (slot : Slot) × (slots : List Slot) × (rest : List Slot) × (before ≡ slot ∷ rest) × (after ≡ slots ++ rest) × (length slots ≡ length rows) × AllBelow (slot_nodes slot) slots × HasMembers n (row_names rows) slot slots
+
+-- The first pending slot has members, and of the rows whose names are repeated in it, the one at this place is the first by its place among the fields.
+pub record RepeatsName (n : Notation) (rows : List NameRow) (before : List Slot) (place : ℕ) : Type 0 where
+  pub tree : Tree
+  pub rest : List Slot
+  pub pending : before ≡ Some tree ∷ rest
+  pub look : List ℕ → Slot
+  pub members : as_members n tree ≡ Some look
+  pub row : NameRow
+  pub at : slice_get rows place ≡ Some row
+  pub first : IsFirstRepeated n tree rows row
+
+-- The first pending slot decodes to no value of a SEQUENCE or SET whose fields the rows list.
+abbrev pub RefusesMembers : Notation → SeqKind → List NameRow → List Slot → DecodeError → Type 0
+RefusesMembers n kind rows before e = (fs : Fields) (added : FieldAdditions) → ListsFields rows fs added → Refuses n (FailsWith n (Shape.seq kind fs added) (head_slot before)) (failure_of e)
+
+-- The slots of these rows in the first pending slot stand in its place, or a name of the rows is repeated, or the slot has no members.
+abbrev pub OpensMembers : Notation → SeqKind → List NameRow → List Slot → Result Opened DecodeError → List Slot → Type 0
+OpensMembers n kind rows before (Ok Members) after = PutsMembers n rows before after
+OpensMembers n kind rows before (Ok (Repeated place)) after = RepeatsName n rows before place
+OpensMembers n kind rows before (Err e) after = RefusesMembers n kind rows before e
+
+-- The same, where a repeated name is an error too.
+abbrev pub OpensFields : Notation → SeqKind → List NameRow → List Slot → Result (Unit {0}) DecodeError → List Slot → Type 0
+OpensFields n kind rows before (Ok u) after = PutsMembers n rows before after
+OpensFields n kind rows before (Err e) after = RefusesMembers n kind rows before e
 
 -- A choice's payload stands in its place, or an absent slot, or it is no choice.
 abbrev pub OpensChoice : Notation → List (List ℕ) → List Slot → Result (Option ℕ) DecodeError → List Slot → Type 0

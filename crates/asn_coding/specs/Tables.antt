@@ -5,6 +5,7 @@ use Rattle.asn_core.specs.Tags.{smallest}
 use Rattle.asn_core.specs.declared.tag.Tag.{Tag}
 use Rattle.asn_core.specs.declared.tag_tree.TagTree.{TagTree}
 use Rattle.asn_model.specs.Shape.{Fields, FieldAdditions, Alternatives, AlternativeAdditions, Presence, all_fields, field_names, tags, end_tag}
+use Rattle.asn_names.specs.Rows.{NameRow}
 use Rattle.asn_coding.specs.declared.field.Field.{Field}
 use Rattle.asn_coding.specs.declared.field.Presence.{Presence as PresenceKind}
 use Rattle.asn_coding.specs.declared.field.Presence.TheVariants as kind
@@ -13,10 +14,23 @@ use Rattle.asn_coding.specs.declared.field.Presence.TheVariants as kind
 abbrev pub names_of : List Field → List (List ℕ)
 names_of fields = map (λ f. f.name.now) fields
 
+-- The place and the name of a field.
+abbrev pub name_row : Field → NameRow
+name_row f = record { index = f.index; name = f.name.now }
+
+-- Those of each field in a table.
+abbrev pub name_rows : List Field → List NameRow
+name_rows fields = map name_row fields
+
+-- Names with their places, of which the first is k.
+abbrev pub numbered : ℕ → List (List ℕ) → List NameRow
+numbered k [] = []
+numbered k (name ∷ names) = record { index = k; name = name } ∷ numbered (suc k) names
+
 -- The rows list these fields, in any order: each has the name at its place among them, and each place has a row.
-pub record ListsFields (rows : List Field) (fs : Fields) (added : FieldAdditions) : Type 0 where
-  pub named : All (λ (f : Field). slice_get (field_names (all_fields fs added)) f.index ≡ Some f.name.now) rows
-  pub complete : (k : ℕ) → k < length (field_names (all_fields fs added)) → (f : Field) × Contains rows f × (f.index ≡ k)
+pub record ListsFields (rows : List NameRow) (fs : Fields) (added : FieldAdditions) : Type 0 where
+  pub named : All (λ (r : NameRow). slice_get (field_names (all_fields fs added)) r.index ≡ Some r.name) rows
+  pub complete : (k : ℕ) → k < length (field_names (all_fields fs added)) → (r : NameRow) × Contains rows r × (r.index ≡ k)
 
 -- What a table tells of a field: its place, its smallest tag, its presence and its name.
 pub record Row : Type 0 where

@@ -1,19 +1,16 @@
-//! Looks things up in tables of constants, by which codecs find fields and alternatives. A table
-//! has a part for the root and one for the extension additions, which are looked through as one
-//! list, in order; the cost of a look-up is the length of that list.
+//! Looks things up in tables of constants, by which fields and alternatives are found by their
+//! tags. A table has a part for the root and one for the extension additions, which are looked
+//! through as one list, in order; the cost of a look-up is the length of that list.
 ghost use Rattle.asn_core.specs.Tags.{smallest};
-ghost use Rattle.asn_model.specs.Shape.{tag_eq, is_tag, name_tagged, place_named, class_number};
+ghost use Rattle.asn_model.specs.Shape.{tag_eq, is_tag, name_tagged, class_number};
 ghost use Rattle.asn_model.specs.Shape.{end_tag};
 ghost use Rattle.asn_model.specs.Components.{tag_cmp};
 ghost use Rattle.asn_model.specs.Sorting.{insert_in_order, sort};
-ghost use Rattle.asn_coding.specs.Tables.{field_tag, names_of, smallest_tags, or_end};
-ghost use Rattle.asn_model.specs.Tree.{same_identifier};
-ghost use Rattle.asn_coding.specs.Writing.{head_name};
-ghost use Rattle.std.specs.Prelude.{◌≡◌, ◌+◌, ◌<◌, ◌++◌, [], map, length, drop, option_map, get_or};
+ghost use Rattle.asn_coding.specs.Tables.{field_tag, smallest_tags, or_end};
+ghost use Rattle.std.specs.Prelude.{◌≡◌, ◌++◌, [], map, length, option_map, get_or};
 ghost use Rattle.std.specs.List.{insert};
 ghost use Rattle.std.specs.Ordering.{is_gt, on};
-ghost use Rattle.std.specs.Prelude.{◌≤◌, IfOk, Option, Some, None, IfSome, unwrap_or};
-ghost use Rattle.std.specs.Str.{bytes_eq};
+ghost use Rattle.std.specs.Prelude.{◌≤◌, IfOk, Option, Some, None, unwrap_or};
 
 use crate::field::{Field, Fields};
 use asn_core::{OutOfMemory, Tag, TagTree};
@@ -115,65 +112,6 @@ fn or_end(tag: Option<Tag>) -> Tag
         Some(tag) => tag,
         None => Tag::EOC,
     }
-}
-
-/// Returns the name of the field at the place, where extension additions come last. It is empty
-/// past the fields.
-pub fn field_name(root: &[Field], additions: &[Field], place: usize) -> &'static str
-    ensures { result.now ≡ head_name (drop place (names_of root.now ++ names_of additions.now)) }
-{
-    if place < root.len() {
-        name_at(root, place)
-    } else {
-        // No underflow: the place is past the root's fields here.
-        name_at(additions, place - root.len())
-    }
-}
-
-/// Returns the name of the field at the place, or an empty one past the fields.
-fn name_at(fields: &[Field], place: usize) -> &'static str
-    ensures { result.now ≡ head_name (drop place (names_of fields.now)) }
-{
-    match fields.get(place) {
-        Some(field) => field.name,
-        None => "",
-    }
-}
-
-/// Returns the first place of the field of this name, where extension additions come last, or
-/// `None` where no field has the name.
-pub fn place_of_field(root: &[Field], additions: &[Field], name: &str) -> Option<usize>
-    ensures is { result ≡ place_named bytes_eq (names_of root.now ++ names_of additions.now)
-        name.now }
-    ensures below { IfSome result (λ k. k < length root.now + length additions.now) }
-{
-    let Some((first, others)) = root.split_first() else {
-        // The additions take the place of the root, and no list that of the additions.
-        return if additions.is_empty() {
-            None
-        } else {
-            place_of_field(additions, &[], name)
-        };
-    };
-    if first.name == name {
-        return Some(0);
-    }
-    // No overflow: a place is below the number of rows.
-    Some(place_of_field(others, additions, name)? + 1)
-}
-
-/// Returns the first place of the identifier, or `None` where it is none of them. The case of
-/// ASCII letters makes no difference: alternatives are distinguished without it.
-pub fn place_of(identifiers: &[&'static str], name: &str) -> Option<usize>
-    ensures is { result ≡ place_named same_identifier (map (λ s. s.now) identifiers.now)
-        name.now }
-    ensures below { IfSome result (λ k. k < length identifiers.now) }
-{
-    let (first, others) = identifiers.split_first()?;
-    if name.eq_ignore_ascii_case(*first) {
-        return Some(0);
-    }
-    Some(place_of(others, name)? + 1)
 }
 
 /// Returns the identifier beside the alternative of this smallest tag, where extension additions

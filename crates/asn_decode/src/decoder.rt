@@ -16,16 +16,21 @@ ghost use Rattle.asn_model.specs.Value.{Value, bag_of, values};
 ghost use Rattle.asn_coding.specs.Answer.{Answer, AnswerBy, AnswerUnder, AtRoot, Refuses};
 ghost use Rattle.asn_coding.specs.Answer.{TakesAbsent, OptionalAnswer};
 ghost use Rattle.asn_coding.specs.Opening.{TakesLeaf, OpensList, OpensMembers, OpensChoice};
+ghost use Rattle.asn_coding.specs.Opening.{OpensFields};
 ghost use Rattle.asn_coding.specs.Opening.{OpensAlternative, AllBelow, list_shape, list_value};
 ghost use Rattle.asn_coding.specs.Scopes.{ScopeAnswer, TagAnswer};
 ghost use Rattle.asn_coding.specs.SetFields.{PlaceAnswer, SetAnswer, component_at};
 ghost use Rattle.asn_coding.specs.SetFields.{listed_components, places_read};
-ghost use Rattle.asn_coding.specs.Tables.{names_of};
+ghost use Rattle.asn_coding.specs.Tables.{name_rows, names_of};
+ghost use Rattle.asn_names.specs.Rows.{row_names};
 ghost use Rattle.asn_types.specs.TextTypes.{no_teletex};
 ghost use Rattle.std.specs.Prelude.{None, Some, true, ◌≡◌, ℕ, pos, List, ◌∷◌, ◌++◌, ◌<◌, map, length};
 ghost use Rattle.std.specs.Prelude.{string_bytes, IfErr, IsErr};
 
-use asn_coding::{Field, fields_as_read, listed, listed_fields, place_and_tag, tag_at};
+use asn_coding::{
+    Field, Identifiers, NameList, Opened, TableNames, fields_as_read, listed, listed_fields,
+    place_and_tag, tag_at,
+};
 use asn_core::{Any, Bits, Codec, Constraints, ObjectIdentifier, Tag};
 use asn_fault::{DecodeError, DecodeErrorKind, Refusal};
 use asn_integers::{IntegerType, beyond_128_bits};
@@ -93,24 +98,19 @@ pub trait Decoder {
         ensures { OpensList notation (kind_view kind) (pending self.old) result
             (pending self.new) };
 
-    /// Puts the slots of these fields of the first pending slot in its place: those of the root
-    /// fields, and then those of the extension additions. A field is found by its name, whatever
-    /// the order in the text, and members of other names are dropped.
+    /// Puts the slots of the fields of these names of the first pending slot in its place. A field
+    /// is found by its name, whatever the order in the text, and members of other names are
+    /// dropped. In AVN, where the names of fields stand at two present entries each, it returns the
+    /// place of the first such name by the entries' `index`.
     ///
     /// # Errors
     ///
-    /// A type mismatch, which in AVN names the kind, where the slot has no members; in AVN
-    /// `DuplicateField` where the name of a field stands at two present entries, with the first
-    /// such name by the rows' `index`; those of `Decoder`.
-    fn open_members(
-        &mut self,
-        kind: SeqKind,
-        root: &[Field],
-        additions: &[Field],
-    ) -> Result<(), DecodeError>
-        requires { are_distinct (names_of root.now ++ names_of additions.now) ≡ true }
-        ensures { OpensMembers notation (kind_view kind) (root.now ++ additions.now)
-            (pending self.old) result (pending self.new) };
+    /// A type mismatch, which in AVN names the kind, where the slot has no members; those of
+    /// `Decoder`.
+    fn open_members<N: NameList>(&mut self, kind: SeqKind, names: &N) -> Result<Opened, DecodeError>
+        requires { are_distinct (row_names (N.rows names.now)) ≡ true }
+        ensures { OpensMembers notation (kind_view kind) (N.rows names.now) (pending self.old)
+            result (pending self.new) };
 
     /// Puts the payload of the first pending slot, a choice, in its place, and returns the place of
     /// its identifier. Where the identifier is none of these, or there is none, it puts an absent
@@ -120,9 +120,38 @@ pub trait Decoder {
     ///
     /// A type mismatch where the slot is no choice, as a JSON object of two members or more; those
     /// of `Decoder`.
-    fn open_choice(&mut self, identifiers: &[&'static str]) -> Result<Option<usize>, DecodeError>
-        ensures { OpensChoice notation (map (λ s. s.now) identifiers.now) (pending self.old) result
-            (pending self.new) };
+    fn open_choice<N: NameList>(&mut self, identifiers: &N) -> Result<Option<usize>, DecodeError>
+        ensures { OpensChoice notation (row_names (N.rows identifiers.now)) (pending self.old)
+            result (pending self.new) };
+
+    /// Puts the slots of these fields of the first pending slot in its place: those of the root
+    /// fields, and then those of the extension additions. A field is found by its name, whatever
+    /// the order in the text, and members of other names are dropped.
+    ///
+    /// # Errors
+    ///
+    /// A type mismatch, which in AVN names the kind, where the slot has no members; in AVN
+    /// `DuplicateField` where the name of a field stands at two present entries, with the first
+    /// such name by the rows' `index`; those of `Decoder`.
+    final fn open_fields(
+        &mut self,
+        kind: SeqKind,
+        root: &[Field],
+        additions: &[Field],
+    ) -> Result<(), DecodeError>
+        requires { are_distinct (names_of root.now ++ names_of additions.now) ≡ true }
+        ensures { OpensFields notation (kind_view kind) (name_rows (root.now ++ additions.now))
+            (pending self.old) result (pending self.new) }
+    {
+        let tables = TableNames { root, additions };
+        match self.open_members(kind, &tables) {
+            Ok(Opened::Members) => Ok(()),
+            Ok(Opened::Repeated(place)) => {
+                Err(DecodeError::duplicate_field(tables.field(place).name, self.codec()))
+            }
+            Err(error) => Err(error),
+        }
+    }
 
     /// Decodes a BOOLEAN.
     final fn decode_bool(&mut self, tag: Tag) -> Result<bool, DecodeError>
@@ -490,7 +519,7 @@ pub trait Decoder {
     {
         // The fields are found by the names in the type's tables.
         let additions = listed_fields(C::extended_field_table());
-        match self.open_members(SeqKind::Sequence, C::field_table().items, additions) {
+        match self.open_fields(SeqKind::Sequence, C::field_table().items, additions) {
             Ok(()) => decode_fn(self),
             Err(error) => Err(E::of(error)),
         }
@@ -538,7 +567,7 @@ pub trait Decoder {
         let Ok(fields) = fields_as_read(self.allocator(), C::field_table().items, additions) else {
             return Err(E::of(DecodeError::out_of_memory(self.codec())));
         };
-        match self.open_members(SeqKind::Set, fields.as_slice(), &[]) {
+        match self.open_fields(SeqKind::Set, fields.as_slice(), &[]) {
             Ok(()) => {}
             Err(error) => return Err(E::of(error)),
         }
@@ -568,7 +597,7 @@ pub trait Decoder {
         ensures { OpensAlternative notation C.alternatives C.added (pending self.old) result
             (pending self.new) }
     {
-        match self.open_choice(C::identifier_table()) {
+        match self.open_choice(&Identifiers(C::identifier_table())) {
             Ok(Some(place)) => {
                 let added = listed(C::extended_variant_table());
                 Ok(tag_at(C::variant_table(), added, place))

@@ -172,7 +172,7 @@ fn read_entry<D: Decoder>(decoder: &mut D) -> Result<(String, Value), DecodeErro
     ensures whole { IfOk result (λ e. has_float (view e.1) ≡ false) }
 {
     let table = entry_table();
-    match decoder.open_members(SeqKind::Sequence, table, &[]) {
+    match decoder.open_fields(SeqKind::Sequence, table, &[]) {
         Ok(()) => {}
         Err(error) => return Err(error),
     }

@@ -17,7 +17,7 @@ ghost use Rattle.std.specs.Prelude.{◌≡◌, ◌^◌, ◌≤◌, IfErr, OnOk, 
 use crate::decimal::Decimal;
 use asn_core::{Class, Constraints, Identifier, Tag, TagTree};
 use asn_fault::EncodeError;
-use asn_traits::{EncodeText, Encoder, Field, Presence, required};
+use asn_traits::{EncodeText, Encoder, Field, Name, Presence, required};
 use serde_json::{Map, Number, Value};
 
 /// Is the tag of the alternative `decimal`.
@@ -161,7 +161,7 @@ pub(crate) fn write_value<E: Encoder>(encoder: &mut E, value: &Value) -> Result<
 {
     encoder.open_frame()?;
     write_payload(encoder, value)?;
-    encoder.close_choice(name_of(value))
+    encoder.close_choice(Name::Constant(name_of(value)))
 }
 
 /// Encodes what a JSON value holds as the payload of its alternative.
@@ -255,5 +255,5 @@ fn write_entry<E: Encoder>(encoder: &mut E, key: &String, member: &Value) -> Res
         Identifier::EMPTY,
     )?;
     write_value(encoder, member)?;
-    encoder.close_members(entry_table(), &[])
+    encoder.close_fields(entry_table(), &[])
 }

@@ -13,6 +13,8 @@ ghost use Rattle.asn_fault.specs.EncodeCause.{EncodeCause};
 ghost use Rattle.asn_model.specs.Writable.{no_unicode};
 ghost use Rattle.asn_coding.specs.FieldAnswer.{AddsSlot};
 ghost use Rattle.asn_coding.specs.Tables.{names_of};
+ghost use Rattle.asn_names.specs.Rows.{row_names};
+ghost use Rattle.asn_names.specs.Text.{name_text};
 ghost use Rattle.asn_types.specs.TextTypes.{IsEncodeFailure, no_teletex};
 ghost use Rattle.asn_model.specs.Value.{Value, bag_of, values};
 ghost use Rattle.asn_coding.specs.Writing.{Frame, push, close, as_list, as_members, as_choice};
@@ -26,7 +28,7 @@ ghost use Rattle.std.specs.Prelude.{IsOk};
 ghost use Rattle.std.specs.Prelude.{IsSome, ⊤};
 
 use crate::EncodeText;
-use asn_coding::{Field, identifier_of, listed, listed_fields};
+use asn_coding::{Field, Name, NameList, TableNames, identifier_of, listed, listed_fields};
 use asn_core::{Any, Bits, Codec, Constraints, Identifier, Tag, WholeNumber};
 use asn_fault::{EncodeError, EncodeErrorKind};
 use asn_integers::IntegerType;
@@ -112,15 +114,14 @@ pub trait Encoder {
         ensures closed { OnOk result (ClosesSet holds notation self.old self.new) }
         ensures refused { IfErr result (IsOutOfMemory notation) };
 
-    /// Closes the last frame, and puts it into the one before it as members, by the names of these
-    /// fields: the root fields, and then the extension additions.
+    /// Closes the last frame, and puts it into the one before it as members of these names.
     ///
     /// # Errors
     ///
     /// `OutOfMemory` alone.
-    fn close_members(&mut self, root: &[Field], additions: &[Field]) -> Result<(), EncodeError>
-        ensures closed { OnOk result (Maps holds (close
-            (as_members (names_of root.now ++ names_of additions.now))) self.old self.new) }
+    fn close_members<N: NameList>(&mut self, names: &N) -> Result<(), EncodeError>
+        ensures closed { OnOk result (Maps holds
+            (close (as_members (row_names (N.rows names.now)))) self.old self.new) }
         ensures refused { IfErr result (IsOutOfMemory notation) };
 
     /// Closes the last frame, and puts its first slot into the one before it as the payload of a
@@ -129,10 +130,24 @@ pub trait Encoder {
     /// # Errors
     ///
     /// `OutOfMemory` alone.
-    fn close_choice(&mut self, identifier: &'static str) -> Result<(), EncodeError>
+    fn close_choice(&mut self, identifier: Name<'_>) -> Result<(), EncodeError>
         ensures closed { OnOk result (Maps holds (close
-            (as_choice identifier.now)) self.old self.new) }
+            (as_choice (name_text identifier.entry))) self.old self.new) }
         ensures refused { IfErr result (IsOutOfMemory notation) };
+
+    /// Closes the last frame, and puts it into the one before it as members, by the names of these
+    /// fields: the root fields, and then the extension additions.
+    ///
+    /// # Errors
+    ///
+    /// `OutOfMemory` alone.
+    final fn close_fields(&mut self, root: &[Field], additions: &[Field]) -> Result<(), EncodeError>
+        ensures closed { OnOk result (Maps holds (close
+            (as_members (names_of root.now ++ names_of additions.now))) self.old self.new) }
+        ensures refused { IfErr result (IsOutOfMemory notation) }
+    {
+        self.close_members(&TableNames { root, additions })
+    }
 
     /// Encodes a BOOLEAN.
     final fn encode_bool(
@@ -651,7 +666,7 @@ pub trait Encoder {
     {
         self.open_frame()?;
         encoder_scope(self)?;
-        self.close_members(
+        self.close_fields(
             C::field_table().items,
             listed_fields(C::extended_field_table()),
         )
@@ -724,7 +739,7 @@ pub trait Encoder {
         self.open_frame()?;
         // By its clause the closure returns `tag`.
         let _answer = encode_fn(self)?;
-        self.close_choice(name)
+        self.close_choice(Name::Constant(name))
     }
 }
 

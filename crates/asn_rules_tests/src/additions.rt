@@ -104,7 +104,7 @@ const SLOT: &'static [Field] = &[optional!(0, Tag::CONTEXT_9, "a")];
 
 /// Decodes the field of a SEQUENCE by the call of that number.
 fn read_slot<D: Decoder>(decoder: &mut D, call: usize) -> Result<Option<u8>, DecodeError> {
-    match decoder.open_members(SeqKind::Sequence, SLOT, &[]) {
+    match decoder.open_fields(SeqKind::Sequence, SLOT, &[]) {
         Ok(()) => read_addition(decoder, call),
         Err(error) => Err(error),
     }

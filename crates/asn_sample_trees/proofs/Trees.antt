@@ -1,7 +1,7 @@
 -- A tree is what its kids and its additions are.
 use Rattle.std.proofs.Common.{◌≡◌, ℕ, suc, ◌<◌, List, [], ◌∷◌, ◌++◌, ◌&&◌, length, Some, Ok, ◌⊎◌, true, codes, sym, ◌∙◌, ap, refl, subst, arith}
 use Rattle.std.proofs.lemmas.Bool.{and_parts}
-use Rattle.std.proofs.lemmas.List.{length-map, map-append}
+use Rattle.std.proofs.lemmas.List.{length-map}
 use Rattle.asn_core.specs.declared.codec.Codec.{Codec}
 use Rattle.asn_fault.specs.Failure.{Cause, Failure, at_root, wrapped}
 use Rattle.asn_fault.specs.declared.encode.EncodeError.{EncodeError}
@@ -19,14 +19,16 @@ use Rattle.asn_coding.proofs.Filling.{push_all-new, refuse_members}
 use Rattle.asn_coding.proofs.Members.{members_read, members_refused}
 use Rattle.asn_coding.proofs.Passing.{adds_fields, refuses_adding}
 use Rattle.asn_coding.proofs.ReadingOrder.{names-read}
+use Rattle.asn_coding.proofs.NameRows.{names-tables}
 use Rattle.asn_coding.proofs.Scopes.{table_names}
 use Rattle.asn_coding.proofs.Steps.{loop_decodes, loop_refuses}
 use Rattle.asn_coding.proofs.TagOrder.{tables_list}
 use Rattle.asn_coding.specs.Answer.{Refuses}
 use Rattle.asn_coding.specs.FieldAnswer.{AddsSlot, Ahead, TakesField, TakesSlot}
-use Rattle.asn_coding.specs.Opening.{AllBelow, OpensMembers}
+use Rattle.asn_coding.specs.Opening.{AllBelow, PutsMembers}
+use Rattle.asn_names.specs.Rows.{NameRow, row_names}
 use Rattle.asn_coding.specs.Passing.{AddsFields, RefusesAdding, RefusesFields, TakesFields}
-use Rattle.asn_coding.specs.Tables.{ListsFields, names_of, rows_of, field_rows}
+use Rattle.asn_coding.specs.Tables.{ListsFields, name_rows, names_of, rows_of, field_rows}
 use Rattle.asn_coding.specs.Writing.{Frame, push, close, as_members, Maps, Written, Filled, FailsToEncode, FailsToFill}
 use Rattle.asn_coding.specs.declared.field.Field.{Field}
 use Rattle.asn_sample_trees.specs.Tree.{tree_of, tree_step, tree_value}
@@ -51,11 +53,11 @@ names_told added root additions e f =
     ap (λ l. l ++ names_of additions) (table_names 0 root (tree_fields Shape.null) e) ∙ ap (λ l. codes "kids" ∷ l) (table_names 1 additions added f)
 
 -- So has the list of their rows.
-pub rows_told : (added : Fields) (root additions : List Field) → rows_of root ≡ field_rows 0 (tree_fields Shape.null) → rows_of additions ≡ field_rows 1 added → names_of (root ++ additions) ≡ codes "kids" ∷ field_names added
-rows_told added root additions e f = map-append (λ (f : Field). f.name.now) root additions ∙ names_told added root additions e f
+pub rows_told : (added : Fields) (root additions : List Field) → rows_of root ≡ field_rows 0 (tree_fields Shape.null) → rows_of additions ≡ field_rows 1 added → row_names (name_rows (root ++ additions)) ≡ codes "kids" ∷ field_names added
+rows_told added root additions e f = names-tables root additions ∙ names_told added root additions e f
 
 -- The tables of a tree list its fields.
-pub tables_told : (added : Fields) (root additions : List Field) → rows_of root ≡ field_rows 0 (tree_fields Shape.null) → rows_of additions ≡ field_rows 1 added → ListsFields (root ++ additions) (tree_fields (tree_shape added)) (FieldAdditions.extended_fields added)
+pub tables_told : (added : Fields) (root additions : List Field) → rows_of root ≡ field_rows 0 (tree_fields Shape.null) → rows_of additions ≡ field_rows 1 added → ListsFields (name_rows (root ++ additions)) (tree_fields (tree_shape added)) (FieldAdditions.extended_fields added)
 tables_told added root additions e f = tables_list (λ (rows : List Field). rows) root additions (Some additions) (tree_fields (tree_shape added)) (FieldAdditions.extended_fields added) e (ap Some f) refl
 
 -- The names are distinct.
@@ -100,16 +102,16 @@ pub additions_unwritten : {S A : Type 0} {holds : S → List Frame → Type 0} {
 additions_unwritten {n = n} {e = e} added slots t k h = subst (λ v. FailsToEncode n v e) (sym (value_out added slots t)) (refuse_members (tree_names added) (FailsToFill.after_slot k.writable (refuses_adding h)))
 
 -- The kids stand before the other slots of an open tree, with fewer nodes than the tree.
-pub kids_below : {n : Notation} {before mid : List Slot} (rows : List Field) (added : Fields) → names_of rows ≡ codes "kids" ∷ field_names added → OpensMembers n SeqKind.sequence rows before (Ok tt) mid → head_nodes mid < head_nodes before
+pub kids_below : {n : Notation} {before mid : List Slot} (rows : List NameRow) (added : Fields) → row_names rows ≡ codes "kids" ∷ field_names added → PutsMembers n rows before mid → head_nodes mid < head_nodes before
 kids_below {mid = mid} rows added e (slot, slots, rest, was, is, count, below, has) =
-    rw was (below_at slots rest mid slot (length (field_names added)) (count ∙ sym (length-map rows (λ (f : Field). f.name.now)) ∙ ap length e) below is)
+    rw was (below_at slots rest mid slot (length (field_names added)) (count ∙ sym (length-map rows (λ (r : NameRow). r.name)) ∙ ap length e) below is)
 
 -- What refuses one turn refuses the tree.
 pub turn_refused : {n : Notation} {slot : Slot} (added : Fields) → ((r : Shape) → fill_fields added 0 r ≡ added) → (err : Failure) → Refuses n (FailsWith n (tree_body added (tree_shape added)) slot) err → Refuses n (FailsWith n (tree_shape added) slot) err
 turn_refused {n} {slot} added fixed err h = loop_refuses (tree_body added (Shape.back 0)) slot err (subst (λ s. Refuses n (FailsWith n s slot) err) (sym (turn added fixed)) h)
 
 -- Of the extension additions of a tree, none holds the tree, and the tree is open.
-module _ {n : Notation} {before mid : List Slot} (added : Fields) (fixed : (r : Shape) → fill_fields added 0 r ≡ added) (rows : List Field) (e : names_of rows ≡ codes "kids" ∷ field_names added) (opened : OpensMembers n SeqKind.sequence rows before (Ok tt) mid) where
+module _ {n : Notation} {before mid : List Slot} (added : Fields) (fixed : (r : Shape) → fill_fields added 0 r ≡ added) (rows : List NameRow) (e : row_names rows ≡ codes "kids" ∷ field_names added) (opened : PutsMembers n rows before mid) where
   -- Kids and additions are read as a tree.
   pub tree_read : {A : Type 0} {late after : List Slot} {ahead others : List (List ℕ)} (slots : A → Frame) (layer : Tree-F A (Tree A)) → ((t : Slot) × (mid ≡ t ∷ late) × DecodesTo n (Shape.list_of (tree_shape added)) t (Value.list (values (tree_value added slots) layer.kids.items)))
       → TakesFields n (components Standing.addition added) (slots layer.added) (Ahead.ahead ahead late) (Ahead.ahead others after) → (t : Slot) × (before ≡ t ∷ after) × DecodesTo n (tree_shape added) t (tree_value added slots (roll-Tree A layer))

@@ -112,7 +112,7 @@ fn write_tree<A: TreeAdditions, E: Encoder>(
     encoder.open_frame()?;
     write_kids(encoder, &tree.kids)?;
     tree.added.write(encoder)?;
-    encoder.close_members(tree_table(), A::listed())
+    encoder.close_fields(tree_table(), A::listed())
 }
 
 /// Encodes trees as a SEQUENCE OF them.
@@ -152,7 +152,7 @@ fn read_tree<A: TreeAdditions, D: Decoder>(decoder: &mut D) -> Result<Tree<A>, D
         (D.pending decoder.old) result (D.pending decoder.new) }
 {
     let additions = A::listed();
-    match decoder.open_members(SeqKind::Sequence, tree_table(), additions) {
+    match decoder.open_fields(SeqKind::Sequence, tree_table(), additions) {
         Ok(()) => {}
         Err(error) => return Err(error),
     }

@@ -10,7 +10,10 @@ mod rows;
 mod sequence;
 
 pub use alternative::{ChoiceElement, ChoicePayload, write_choice};
-pub use asn_coding::{Field, FieldNames, Fields, Presence, field_name, place_of, place_of_field};
+pub use asn_coding::{
+    Field, FieldNames, Fields, Identifiers, Name, NameList, Opened, Presence, TableNames, place_of,
+    place_of_field,
+};
 pub use asn_core::TagTree;
 pub use asn_decode::{Decode, DecodeChoice, DecodeChoiceKind, DecodeKind, Decoder};
 pub use asn_encode::{Encode, EncodeKind, EncodeText, Encoder};

@@ -11,7 +11,8 @@ ghost use Rattle.asn_coding.specs.ReadingSlots.{slots_read};
 ghost use Rattle.asn_model.specs.Shape.{Shape as AbstractShape, Fields as AbstractFields};
 ghost use Rattle.asn_model.specs.Shape.{FieldAdditions, all_fields};
 ghost use Rattle.asn_model.specs.ShapeView.{shape_view};
-ghost use Rattle.asn_coding.specs.Tables.{ListsFields, added_rows, field_rows, names_of, rows_of};
+ghost use Rattle.asn_coding.specs.Tables.{ListsFields, added_rows, field_rows, name_rows};
+ghost use Rattle.asn_coding.specs.Tables.{names_of, rows_of};
 ghost use Rattle.asn_coding.specs.Writing.{FailsToEncode, Frame, Written};
 ghost use Rattle.asn_coding.specs.Writing.{members_value};
 ghost use Rattle.std.specs.Prelude.{◌≡◌, ◌++◌, IfErr, IfOk, OnOk, option_map, true};
@@ -124,7 +125,7 @@ where
     let additions = listed(T::listed_added());
     encoder.open_frame()?;
     value.write_fields(encoder)?;
-    encoder.close_members(T::listed(), additions)
+    encoder.close_fields(T::listed(), additions)
 }
 
 /// Decodes a SEQUENCE or SET: puts a slot for each field, whatever their order in the text, and
@@ -167,14 +168,14 @@ fn read_members<T: SequenceFields, D: Decoder>(
 ) -> Result<T, DecodeError>
 where
     T::Kind: FieldsKind,
-    requires rows { ListsFields (root.now ++ additions.now) T.fields T.added }
+    requires rows { ListsFields (name_rows (root.now ++ additions.now)) T.fields T.added }
     requires names { names_of root.now ++ names_of additions.now
         ≡ component_names (reading_order T.Kind.seq_kind T.fields T.added) }
     ensures { Answer D.notation (AbstractShape.seq T.Kind.seq_kind T.fields T.added)
         (λ x. members_value (all_fields T.fields T.added) (T.slots x))
         (D.pending decoder.old) result (D.pending decoder.new) }
 {
-    decoder.open_members(<T::Kind as FieldsKind>::seq_kind(), root, additions)?;
+    decoder.open_fields(<T::Kind as FieldsKind>::seq_kind(), root, additions)?;
     let mut names = FieldNames::new(root, additions);
     match T::read_fields(decoder, &mut names) {
         Ok(value) => Ok(value),

@@ -1,5 +1,6 @@
 //! The open frames of an encoder. A frame is the list of slots that were written since it was
 //! opened; closing it makes one slot of them in the frame before it.
+ghost use Rattle.asn_names.specs.Rows.{name_at};
 ghost use Rattle.asn_slots.specs.Frames.{push, close, last_start};
 ghost use Rattle.asn_slots.specs.Slots.{last_present};
 ghost use Rattle.avn_frames.specs.Closing.{as_choice, as_list, as_members, as_set};
@@ -16,9 +17,10 @@ ghost use Rattle.std.specs.Prelude.{IfOk, OnOk, MatchOption, reverse, option_map
 use crate::arranging::{
     keep_alone, keep_first, keep_present, name_last, put_absent_first, sort_present,
 };
-use crate::field_names::{FieldNames, name_slots};
+use crate::field_names::name_slots;
 use crate::walk::last_place;
 use asn_core::OutOfMemory;
+use asn_names::NameList;
 use avn_nodes::{NodeKind, Nodes};
 use std::alloc::{AllocError, Global};
 use std::marker::Model;
@@ -312,8 +314,9 @@ impl NodeFrames {
     }
 
     /// Closes the last frame as the sequence of its slots, which get the names in their order.
-    pub fn close_members<N: FieldNames>(&mut self, names: &N) -> Result<(), OutOfMemory>
-        ensures { OnOk result (self.new ≡ close (as_members (N.name_at names.now)) self.old) }
+    pub fn close_members<N: NameList>(&mut self, names: &N) -> Result<(), OutOfMemory>
+        ensures { OnOk result (self.new
+            ≡ close (as_members (name_at (N.rows names.now))) self.old) }
     {
         self.put_above_root()?;
         // No place overflows, as the number of nodes is a `usize`.

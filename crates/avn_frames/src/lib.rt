@@ -7,5 +7,4 @@ mod field_names;
 mod frames;
 mod walk;
 
-pub use field_names::FieldNames;
 pub use frames::NodeFrames;

@@ -12,7 +12,9 @@ use Rattle.asn_traits.specs.Canonical.{avn_tree, avn_trees, avn_fields, sorted_t
 use Rattle.asn_traits.specs.Notation.{Notation}
 use Rattle.asn_traits.specs.Tree.{Tree}
 use Rattle.asn_traits.specs.Value.{Value, Values}
-use Rattle.asn_coding.specs.Writing.{Frame, IsWrittenAsSet, present_values, named, tail_names, head_name, as_list, as_members, as_choice}
+use Rattle.asn_names.specs.Rows.{NameRow, name_at, row_names}
+use Rattle.asn_coding.proofs.NameRows.{head-drop}
+use Rattle.asn_coding.specs.Writing.{Frame, IsWrittenAsSet, present_values, named, tail_names, as_list, as_members, as_choice}
 
 -- Frames of trees, the last one first.
 abbrev TreeFrames : Type 0
@@ -51,21 +53,19 @@ tail-drop zero (n ∷ names) = refl
 tail-drop (suc k) [] = refl
 tail-drop (suc k) (n ∷ names) = tail-drop k names
 
--- The name at a place.
-abbrev name_at : List (List ℕ) → ℕ → List ℕ
-name_at names place = head_name (drop place names)
-
 next-names : (names : List (List ℕ)) (i : ℕ) (f : Frame) → avn_fields (named f (tail_names (drop i names))) ≡ avn_fields (named f (drop (suc i) names))
 next-names names i f = ap (λ ns. avn_fields (named f ns)) (sym (tail-drop i names))
 
-named-trees : (names : List (List ℕ)) (i : ℕ) (f : Frame) → avn_fields (named f (drop i names)) ≡ named_from (name_at names) i (trees_of avn_tree f)
-named-trees names i [] = refl
-named-trees names i (None ∷ ss) = ap (absent (name_at names i)) (next-names names i ss ∙ named-trees names (suc i) ss)
-named-trees names i (Some v ∷ ss) = ap (field (name_at names i) (avn_tree v)) (next-names names i ss ∙ named-trees names (suc i) ss)
+named-trees : (rows : List NameRow) (i : ℕ) (f : Frame) → avn_fields (named f (drop i (row_names rows))) ≡ named_from (name_at rows) i (trees_of avn_tree f)
+named-trees rows i [] = refl
+named-trees rows i (None ∷ ss) =
+    ap (λ n. absent n (avn_fields (named ss (tail_names (drop i (row_names rows)))))) (head-drop (row_names rows) i) ∙ ap (absent (name_at rows i)) (next-names (row_names rows) i ss ∙ named-trees rows (suc i) ss)
+named-trees rows i (Some v ∷ ss) =
+    ap (λ n. field n (avn_tree v) (avn_fields (named ss (tail_names (drop i (row_names rows)))))) (head-drop (row_names rows) i) ∙ ap (field (name_at rows i) (avn_tree v)) (next-names (row_names rows) i ss ∙ named-trees rows (suc i) ss)
 
 -- The sequence of a frame.
-pub members-trees : (names : List (List ℕ)) (f : Frame) → option_map avn_tree (as_members names f) ≡ members_of_trees (name_at names) (trees_of avn_tree f)
-members-trees names f = ap (λ fs. Some (sequence fs)) (named-trees names 0 f)
+pub members-trees : (rows : List NameRow) (f : Frame) → option_map avn_tree (as_members (row_names rows) f) ≡ members_of_trees (name_at rows) (trees_of avn_tree f)
+members-trees rows f = ap (λ fs. Some (sequence fs)) (named-trees rows 0 f)
 
 -- The choice of a frame.
 pub choice-trees : (id : List ℕ) (f : Frame) → option_map avn_tree (as_choice id f) ≡ choice_of_tree id (trees_of avn_tree f)

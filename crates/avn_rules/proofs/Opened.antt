@@ -1,7 +1,7 @@
 -- Slots that are taken and put.
 use Rattle.std.proofs.Common.{◌≡◌, ℕ, List, [], ◌∷◌, ◌++◌, map, length, Option, Some, None, Bool, true, false, is_some, Result, Ok, Err, refl, sym, ap, subst, ◌∙◌}
 use Rattle.std.specs.Prelude.{option_map, MatchOption, MatchResult, OnErr, OnOk}
-use Rattle.std.specs.List.{All}
+use Rattle.std.specs.List.{All, slice_get}
 use Rattle.std.proofs.lemmas.List.{map-append, length-map}
 use Rattle.std.proofs.lemmas.List.Elements.{All-append, All-cons, All-head, All-nil, All-tail, All-rest}
 use Rattle.asn_core.specs.declared.codec.Codec.TheVariants.{Avn}
@@ -15,18 +15,19 @@ use Rattle.asn_coding.specs.Answer.{AtRoot, Refuses, RefusesLeaf}
 use Rattle.asn_traits.specs.FailsWith.{FailsWith}
 use Rattle.asn_traits.specs.Leaf.{IsFailureOf, LeafFailure, members_mismatch}
 use Rattle.asn_traits.specs.Notation.{Notation}
-use Rattle.asn_coding.specs.Opening.{HasMembers, IsChoice, IsList, OpensChoice, OpensList, OpensMembers, TakesLeaf, list_shape}
+use Rattle.asn_coding.specs.Opening.{HasMembers, IsChoice, IsList, IsFirstRepeated, OpensChoice, OpensList, OpensMembers, RepeatsName, TakesLeaf, list_shape}
 use Rattle.asn_traits.specs.Shape.{Shape, SeqKind, Fields, FieldAdditions, Alternatives, AlternativeAdditions, place_named}
 use Rattle.asn_traits.specs.Tree.{Slot, Tree, head_slot, as_choice, as_list, as_members, field_slot, is_repeated, same_identifier}
 use Rattle.asn_coding.proofs.LeafValues.{taken as is_taken}
-use Rattle.asn_coding.specs.Tables.{ListsFields, names_of}
-use Rattle.asn_coding.specs.declared.field.Field.{Field}
-use Rattle.asn_coding.proofs.Refusing.{no_choice, no_list, no_members, out_of_memory, repeated_name}
+use Rattle.asn_coding.specs.Tables.{ListsFields}
+use Rattle.asn_coding.specs.declared.opening.Opened.TheVariants.{Members}
+use Rattle.asn_names.specs.Rows.{NameRow, row_names}
+use Rattle.asn_coding.proofs.Refusing.{no_choice, no_list, no_members}
 use Rattle.asn_coding.proofs.Steps.{refuses_by}
 use Rattle.avn_grammar.specs.Tree.{Tree as AvnTree}
 use Rattle.avn_nodes.specs.Preorder.{tree_at}
 use Rattle.avn_rules.specs.LeafAnswer.{LeafAnswer}
-use Rattle.avn_rules.specs.Parts.{IsRepeatedOrMemory, list_failure}
+use Rattle.avn_rules.specs.Parts.{AreFieldSlots, list_failure}
 use Rattle.avn_rules.specs.Pending.{DecoderView, IsPresent, IsSlot, TakesNode, avn_or_null, pending_of, value_at}
 use Rattle.avn_rules.proofs.Taken.{list_below, members_below, payload_below, choice_above}
 use Rattle.avn_rules.proofs.Walks.{members_parts, none_there}
@@ -98,16 +99,11 @@ pub list_refused : (kind : SeqKind) (before taken : DecoderView) (node : ℕ) (f
     → (s : Shape) → Refuses Notation.avn (FailsWith Notation.avn (list_shape kind s) (head_slot (pending_of before))) failure
 list_refused kind before taken node failure k none tells s = no_list_of kind s (value_at taken.root node) (pending_of before) (pending_of taken) failure k.2 (none_there (as_list Notation.avn (value_at taken.root node)) none) tells
 
--- What was found of the rows in the members at a node: the slots at their names, none of which is repeated.
-pub record Found (root : AvnTree) (node : ℕ) (names : List (List ℕ)) (slots : List (Option ℕ)) : Type 0 where
-  pub at : (look : List ℕ → Slot) → as_members Notation.avn (value_at root node) ≡ Some look → trees_of (value_at root) slots ≡ map look names
-  pub once : All (λ name. is_repeated Notation.avn (value_at root node) name ≡ false) names
-
-members_opened : (kind : SeqKind) (before taken after : DecoderView) (node : ℕ) (rows : List Field) (slots : List (Option ℕ)) → TakesNode before taken node → is_some (as_members Notation.avn (value_at taken.root node)) ≡ true → Found taken.root node (names_of rows) slots
-    → after ≡ record taken { nodes = slots ++ taken.nodes } → OpensMembers Notation.avn kind rows (pending_of before) (Ok tt) (pending_of after)
+pub members_opened : (kind : SeqKind) (before taken after : DecoderView) (node : ℕ) (rows : List NameRow) (slots : List (Option ℕ)) → TakesNode before taken node → is_some (as_members Notation.avn (value_at taken.root node)) ≡ true → AreFieldSlots taken.root node rows slots
+    → after ≡ record taken { nodes = slots ++ taken.nodes } → OpensMembers Notation.avn kind rows (pending_of before) (Ok Members) (pending_of after)
 members_opened kind before taken after node rows slots k some found e =
     let see = value_at taken.root in
-    let names = names_of rows in
+    let names = row_names rows in
     let p = members_parts (tree_at taken.root node) some in
     let look = field_slot p.0 in (
       Some (see node),
@@ -115,27 +111,19 @@ members_opened kind before taken after node rows slots k some found e =
       pending_of taken,
       k.2,
       put_before taken after slots e ∙ ap (λ l. l ++ pending_of taken) (found.at look p.2),
-      length-map names look ∙ length-map rows (λ (f : Field). f.name.now),
+      length-map names look ∙ length-map rows (λ (r : NameRow). r.name),
       members_below (avn_or_null (tree_at taken.root node)) p.0 names p.2,
       HasMembers.has_members names (see node) look p.2 found.once,
     )
 
--- Slots of members that are put, or memory ran out.
-pub members_put : (kind : SeqKind) (before taken after : DecoderView) (node : ℕ) (root additions : List Field) (slots : List (Option ℕ)) (r : Result (Unit {0}) DecodeError) → TakesNode before taken node → is_some (as_members Notation.avn (value_at taken.root node)) ≡ true
-    → Found taken.root node (names_of root ++ names_of additions) slots → MatchResult r (λ _. after ≡ record taken { nodes = slots ++ taken.nodes }) (λ e. failure_of e ≡ at_root Cause.out_of_memory Avn) → OpensMembers Notation.avn kind (root ++ additions) (pending_of before) r (pending_of after)
-members_put kind before taken after node root additions slots (Ok u) k some found put =
-    members_opened kind before taken after node (root ++ additions) slots k some (subst (λ names. Found taken.root node names slots) (sym (map-append (λ (f : Field). f.name.now) root additions)) found) put
-members_put kind before taken after node root additions slots (Err e) k some found put = λ fs added listed. out_of_memory Avn (failure_of e) put refl
-
--- A name of the rows that is repeated, or memory ran out.
-pub members_repeated : (kind : SeqKind) (before taken : DecoderView) (node : ℕ) (rows : List Field) (failure : Failure) → TakesNode before taken node → is_some (as_members Notation.avn (value_at taken.root node)) ≡ true → IsRepeatedOrMemory (value_at taken.root node) rows failure
-    → (fs : Fields) (added : FieldAdditions) → ListsFields rows fs added → Refuses Notation.avn (FailsWith Notation.avn (Shape.seq kind fs added) (head_slot (pending_of before))) failure
-members_repeated kind before taken node rows failure k some (IsRepeatedOrMemory.repeated row first) fs added listed =
+-- A name of the rows that is repeated.
+pub members_repeated : (before taken : DecoderView) (node : ℕ) (rows : List NameRow) (place : ℕ) → TakesNode before taken node → is_some (as_members Notation.avn (value_at taken.root node)) ≡ true
+    → ((row : NameRow) × (slice_get rows place ≡ Some row) × IsFirstRepeated Notation.avn (value_at taken.root node) rows row) → RepeatsName Notation.avn rows (pending_of before) place
+members_repeated before taken node rows place k some (row, at, first) =
     let p = members_parts (tree_at taken.root node) some in
-    repeated_name kind fs added (value_at taken.root node) (field_slot p.0) row Avn (pending_of before) (pending_of taken) failure k.2 p.2 listed first refl refl
-members_repeated kind before taken node rows failure k some IsRepeatedOrMemory.memory fs added listed = out_of_memory Avn failure refl refl
+    record { tree = value_at taken.root node; rest = pending_of taken; pending = k.2; look = field_slot p.0; members = p.2; row = row; at = at; first = first }
 
-pub members_refused : (kind : SeqKind) (before taken : DecoderView) (node : ℕ) (rows : List Field) (failure : Failure) → TakesNode before taken node → is_some (as_members Notation.avn (value_at taken.root node)) ≡ false → RefusesLeaf Notation.avn (value_at taken.root node) (members_mismatch Notation.avn kind) failure
+pub members_refused : (kind : SeqKind) (before taken : DecoderView) (node : ℕ) (rows : List NameRow) (failure : Failure) → TakesNode before taken node → is_some (as_members Notation.avn (value_at taken.root node)) ≡ false → RefusesLeaf Notation.avn (value_at taken.root node) (members_mismatch Notation.avn kind) failure
     → (fs : Fields) (added : FieldAdditions) → ListsFields rows fs added → Refuses Notation.avn (FailsWith Notation.avn (Shape.seq kind fs added) (head_slot (pending_of before))) failure
 members_refused kind before taken node rows failure k none tells fs added listed =
     no_members kind fs added (value_at taken.root node) (pending_of before) (pending_of taken) failure k.2 (none_there (as_members Notation.avn (value_at taken.root node)) none) tells

@@ -4,11 +4,10 @@ use Rattle.std.specs.Prelude.{option_map}
 use Rattle.asn_slots.specs.Slots.{last_present}
 use Rattle.asn_slots.specs.Trees.{trees_of}
 use Rattle.asn_slots.proofs.Trees.{last-trees, no_tree}
-use Rattle.asn_fault.specs.Failure.{Failure, failure_of, is_out_of_memory}
-use Rattle.asn_fault.specs.declared.decode.DecodeError.{DecodeError}
+use Rattle.asn_fault.specs.Failure.{Failure, is_out_of_memory}
 use Rattle.asn_traits.specs.Canonical.{avn_tree, canonical_text}
 use Rattle.asn_traits.specs.Notation.{Notation}
-use Rattle.asn_coding.specs.Root.{RootAnswer, Reads}
+use Rattle.asn_coding.specs.Root.{RootAnswerBy, ReadsBy}
 use Rattle.asn_coding.specs.Writing.{Frame}
 use Rattle.asn_traits.specs.DecodesTo.{DecodesTo}
 use Rattle.asn_traits.specs.Shape.{Shape}
@@ -28,15 +27,15 @@ use Rattle.avn_value.specs.Answer.{Explains}
 use Rattle.avn_rules.specs.Text.{IsAvn, NoTree, RefusesText}
 
 -- A refusal of the tree is one of its text.
-pub text_refused : {A : Type 0} (limit : ℕ) (s : Shape) (value : A → Value) (text : List ℕ) (t : AvnTree) (r : Result A DecodeError) → IsAvn limit text t → RootAnswer Notation.avn s value (Tree.avn t) r → IfErr r (λ e. RefusesText limit s text (failure_of e))
-text_refused limit s value text t (Ok x) is h = tt
-text_refused limit s value text t (Err e) is h = RefusesText.no_value t is h
+pub text_refused : {A E : Type 0} (failure : E → Failure) (limit : ℕ) (s : Shape) (value : A → Value) (text : List ℕ) (t : AvnTree) (r : Result A E) → IsAvn limit text t → RootAnswerBy failure Notation.avn s value (Tree.avn t) r → IfErr r (λ e. RefusesText limit s text (failure e))
+text_refused failure limit s value text t (Ok x) is h = tt
+text_refused failure limit s value text t (Err e) is h = RefusesText.no_value t is h
 
 -- A text that decodes to a value is read as that value.
-pub text_complete : {A : Type 0} (limit : ℕ) (s : Shape) (value : A → Value) (text : List ℕ) (t : AvnTree) (r : Result A DecodeError) → IsAvn limit text t → RootAnswer Notation.avn s value (Tree.avn t) r
-    → (u : AvnTree) (v : Value) → IsAvn limit text u → DecodesTo Notation.avn s (Some (Tree.avn u)) v → Reads value v r
-text_complete limit s value text t r is h u v was says =
-    root_complete Notation.avn s value (Tree.avn t) r tt h v (subst (λ x. DecodesTo Notation.avn s (Some (Tree.avn x)) v) ((same_parses was.1 is.1).0) says)
+pub text_complete : {A E : Type 0} (failure : E → Failure) (limit : ℕ) (s : Shape) (value : A → Value) (text : List ℕ) (t : AvnTree) (r : Result A E) → IsAvn limit text t → RootAnswerBy failure Notation.avn s value (Tree.avn t) r
+    → (u : AvnTree) (v : Value) → IsAvn limit text u → DecodesTo Notation.avn s (Some (Tree.avn u)) v → ReadsBy failure value v r
+text_complete failure limit s value text t r is h u v was says =
+    root_complete failure Notation.avn s value (Tree.avn t) r tt h v (subst (λ x. DecodesTo Notation.avn s (Some (Tree.avn x)) v) ((same_parses was.1 is.1).0) says)
 
 -- A text that is a value of the notation is refused for lack of memory alone.
 pub explained_memory : (limit : ℕ) (text : List ℕ) {failure : Failure} {t : AvnTree} → NoTree limit text failure → IsAvn limit text t → is_out_of_memory failure ≡ true

@@ -15,9 +15,8 @@ use Rattle.asn_traits.specs.Notation.{Notation}
 use Rattle.asn_traits.specs.Shape.{are_distinct}
 use Rattle.asn_traits.specs.Tree.{Tree, Slot, as_choice, as_list, as_members, is_repeated, times_present, tree_slots, field_slot}
 use Rattle.asn_coding.specs.Opening.{IsFirstRepeated}
-use Rattle.asn_coding.specs.Tables.{names_of}
-use Rattle.asn_coding.specs.declared.field.Field.{Field}
-use Rattle.avn_rules.specs.Parts.{place_of_slot}
+use Rattle.asn_names.specs.Rows.{NameRow, row_names}
+use Rattle.avn_rules.specs.Parts.{AreFieldSlots, place_of_slot}
 use Rattle.avn_rules.specs.Pending.{IsPresent, IsSlot, avn_or_null, value_at}
 use Rattle.avn_rules.proofs.Repeats.{absent_kept, EachMet, KeptIsMet, Keeps, none_met, each_other, each_more, kept_more, none_twice, kept_first}
 use Rattle.avn_rules.proofs.Taken.{over, over-none, over-absent, over-other, put_at, not_placed}
@@ -156,41 +155,42 @@ items_done root node item end items g h =
     g.list ∙ ap Some (sym g.taken ∙ ap (λ x. taken ++ tree_slots x) (left_done root item end g.left h) ∙ append-nil taken)
 
 -- The slots of the fields that were taken, the first of the rows whose names were met twice, and the fields that are left.
-pub record FieldsLeft (root : AvnTree) (node child end : ℕ) (names : List (List ℕ)) (rows : List Field) (slots : List (Option ℕ)) (kept : Option Field) : Type 0 where
+pub record FieldsLeft (root : AvnTree) (node child end : ℕ) (rows : List NameRow) (slots : List (Option ℕ)) (kept : Option NameRow) : Type 0 where
   pub others : AvnFields
   pub from : From root child (fields_preorder others)
   pub ends : child + length (fields_preorder others) ≡ end
   pub whole : AvnFields
   pub members : as_members Notation.avn (value_at root node) ≡ Some (field_slot whole)
-  pub taken : over others names (trees_of (value_at root) slots) ≡ map (field_slot whole) names
-  pub each : length slots ≡ length names
+  pub taken : over others (row_names rows) (trees_of (value_at root) slots) ≡ map (field_slot whole) (row_names rows)
+  pub each : length slots ≡ length rows
   pub held : All (IsSlot root) slots
   pub counted : (name : List ℕ) → is_repeated Notation.avn (value_at root node) name ≡ nat_le 2 (times_present whole name)
   pub met : EachMet whole others kept rows slots
   pub kept_met : KeptIsMet whole others rows kept
 
-pub fields_begun : (root : AvnTree) (node end : ℕ) (names : List (List ℕ)) (rows : List Field) (slots : List (Option ℕ)) → IsPresent root node → is_some (as_members Notation.avn (value_at root node)) ≡ true → end ≡ node + length (slot_descendants (tree_at root node)) + 1 → names ≡ names_of rows → slots ≡ replicate (length names) None
-    → FieldsLeft root node (node + 1) end names rows slots None
-fields_begun root node end names rows slots h some e spelled none =
+pub fields_begun : (root : AvnTree) (node end : ℕ) (rows : List NameRow) (slots : List (Option ℕ)) → IsPresent root node → is_some (as_members Notation.avn (value_at root node)) ≡ true → end ≡ node + length (slot_descendants (tree_at root node)) + 1 → slots ≡ replicate (length rows) None
+    → FieldsLeft root node (node + 1) end rows slots None
+fields_begun root node end rows slots h some e none =
     let p = members_parts (tree_at root node) some in
     let P : Option ℕ → Type 0 = IsSlot root in
-    let many : length names ≡ length rows = ap (λ (l : List (List ℕ)). length l) spelled ∙ length-map rows (λ (f : Field). f.name.now) in
-    subst (λ l. FieldsLeft root node (node + 1) end names rows l None) (sym none) (record {
+    let names = row_names rows in
+    let many : length names ≡ length rows = length-map rows (λ (r : NameRow). r.name) in
+    subst (λ l. FieldsLeft root node (node + 1) end rows l None) (sym none) (record {
       others = p.0;
       from = subst (From root (node + 1)) p.1 (from_inside root node h.0);
       ends = omega (arith, e, ap (λ (x : List NamedSlot). length x) p.1);
       whole = p.0;
       members = p.2;
-      taken = over-absent (value_at root) p.0 names;
-      each = length-replicate (length names) None;
-      held = All-replicate P (length names) None tt;
+      taken = subst (λ n. over p.0 names (trees_of (value_at root) (replicate n None)) ≡ map (field_slot p.0) names) many (over-absent (value_at root) p.0 names);
+      each = length-replicate (length rows) None;
+      held = All-replicate P (length rows) None tt;
       counted = p.3;
-      met = subst (λ n. EachMet p.0 p.0 None rows (replicate n None)) (sym many) (none_met p.0 rows);
+      met = none_met p.0 rows;
       kept_met = tt;
     })
 
-pub fields_first : (root : AvnTree) (node child end : ℕ) (names : List (List ℕ)) (rows : List Field) (slots : List (Option ℕ)) (kept : Option Field) (g : FieldsLeft root node child end names rows slots kept) → child < end → FirstField root child g.others
-fields_first root node child end names rows slots kept g h = first_field root child g.others (omega (arith, g.ends)) g.from
+pub fields_first : (root : AvnTree) (node child end : ℕ) (rows : List NameRow) (slots : List (Option ℕ)) (kept : Option NameRow) (g : FieldsLeft root node child end rows slots kept) → child < end → FirstField root child g.others
+fields_first root node child end rows slots kept g h = first_field root child g.others (omega (arith, g.ends)) g.from
 
 -- The entry's slot is put at its place, or passed over where it has none.
 abbrev pub with_slot : Option ℕ → ℕ → List (Option ℕ) → List (Option ℕ)
@@ -216,28 +216,28 @@ entry_long : (slots : List (Option ℕ)) (p : Option ℕ) (child : ℕ) → leng
 entry_long slots None child = refl
 entry_long slots (Some k) child = length-set slots k (Some child)
 
-entry_met : (all : AvnFields) (child : ℕ) (id : List ℕ) (o : Option AvnTree) (fs : AvnFields) (kept later : Option Field) (rows : List Field) (slots : List (Option ℕ)) (p : Option ℕ) → are_distinct (names_of rows) ≡ true → p ≡ place_of_slot (names_of rows) (id, o) → Keeps rows slots kept p later
+entry_met : (all : AvnFields) (child : ℕ) (id : List ℕ) (o : Option AvnTree) (fs : AvnFields) (kept later : Option NameRow) (rows : List NameRow) (slots : List (Option ℕ)) (p : Option ℕ) → are_distinct (row_names rows) ≡ true → p ≡ place_of_slot (row_names rows) (id, o) → Keeps rows slots kept p later
     → EachMet all (entry id o fs) kept rows slots → EachMet all fs later rows (with_slot p child slots)
 entry_met all child id None fs kept later rows slots None d h (Keeps.passed) m = m
 entry_met all child id None fs kept later rows slots (Some k) d h w m = let x : ◌≡◌ {A = Option ℕ} (Some k) None = h in cc x
-entry_met all child id (Some t) fs kept later rows slots None d h (Keeps.passed) m = each_other all id t fs kept rows slots (not_placed (names_of rows) id h) m
+entry_met all child id (Some t) fs kept later rows slots None d h (Keeps.passed) m = each_other all id t fs kept rows slots (not_placed (row_names rows) id h) m
 entry_met all child id (Some t) fs kept later rows slots (Some k) d h w m = each_more all id t fs kept later rows slots k child d h w m
 
-entry_kept : (all : AvnFields) (id : List ℕ) (o : Option AvnTree) (fs : AvnFields) (kept later : Option Field) (rows : List Field) (slots : List (Option ℕ)) (p : Option ℕ) → p ≡ place_of_slot (names_of rows) (id, o) → Keeps rows slots kept p later → EachMet all (entry id o fs) kept rows slots
+entry_kept : (all : AvnFields) (id : List ℕ) (o : Option AvnTree) (fs : AvnFields) (kept later : Option NameRow) (rows : List NameRow) (slots : List (Option ℕ)) (p : Option ℕ) → p ≡ place_of_slot (row_names rows) (id, o) → Keeps rows slots kept p later → EachMet all (entry id o fs) kept rows slots
     → KeptIsMet all (entry id o fs) rows kept → KeptIsMet all fs rows later
 entry_kept all id None fs kept later rows slots None h (Keeps.passed) m k = absent_kept all id fs rows kept k
 entry_kept all id None fs kept later rows slots (Some j) h w m k = let x : ◌≡◌ {A = Option ℕ} (Some j) None = h in cc x
 entry_kept all id (Some t) fs kept later rows slots p h w m k = kept_more all id t fs kept later rows slots p h w m k
 
-pub fields_more : (root : AvnTree) (node child end next : ℕ) (names : List (List ℕ)) (rows : List Field) (slots later : List (Option ℕ)) (kept then : Option Field) (p : Option ℕ) (g : FieldsLeft root node child end names rows slots kept) → child < end → are_distinct names ≡ true → names ≡ names_of rows
-    → next ≡ child + length (slot_descendants (tree_at root child)) + 1 → p ≡ place_of_slot names (node_at root child) → Keeps rows slots kept p then → later ≡ with_slot p child slots → FieldsLeft root node next end names rows later then
-fields_more root node child end next names rows slots later kept then p g h d spelled e r keeps n =
-    let f = fields_first root node child end names rows slots kept g h in
+pub fields_more : (root : AvnTree) (node child end next : ℕ) (rows : List NameRow) (slots later : List (Option ℕ)) (kept then : Option NameRow) (p : Option ℕ) (g : FieldsLeft root node child end rows slots kept) → child < end → are_distinct (row_names rows) ≡ true
+    → next ≡ child + length (slot_descendants (tree_at root child)) + 1 → p ≡ place_of_slot (row_names rows) (node_at root child) → Keeps rows slots kept p then → later ≡ with_slot p child slots → FieldsLeft root node next end rows later then
+fields_more root node child end next rows slots later kept then p g h d e r keeps n =
+    let names = row_names rows in
+    let f = fields_first root node child end rows slots kept g h in
     let q = f.next next (e ∙ ap (λ (s : NamedSlot). child + length (slot_descendants s.1) + 1) f.here) in
     let here : p ≡ place_of_slot names (f.id, f.slot) = r ∙ ap (place_of_slot names) f.here in
-    let placed : p ≡ place_of_slot (names_of rows) (f.id, f.slot) = here ∙ ap (λ l. place_of_slot l (f.id, f.slot)) spelled in
     let met : EachMet g.whole (entry f.id f.slot f.others) kept rows slots = subst (λ x. EachMet g.whole x kept rows slots) f.is g.met in
-    subst (λ l. FieldsLeft root node next end names rows l then) (sym n) (record {
+    subst (λ l. FieldsLeft root node next end rows l then) (sym n) (record {
       others = f.others;
       from = q.0;
       ends = omega (arith, q.1, g.ends);
@@ -247,8 +247,8 @@ fields_more root node child end next names rows slots later kept then p g h d sp
       each = entry_long slots p child ∙ g.each;
       held = entry_held root child f.id f.slot names slots p f.below f.here here g.held;
       counted = g.counted;
-      met = entry_met g.whole child f.id f.slot f.others kept then rows slots p (ap are_distinct (sym spelled) ∙ d) placed keeps met;
-      kept_met = entry_kept g.whole f.id f.slot f.others kept then rows slots p placed keeps met (subst (λ x. KeptIsMet g.whole x rows kept) f.is g.kept_met);
+      met = entry_met g.whole child f.id f.slot f.others kept then rows slots p d here keeps met;
+      kept_met = entry_kept g.whole f.id f.slot f.others kept then rows slots p here keeps met (subst (λ x. KeptIsMet g.whole x rows kept) f.is g.kept_met);
     })
 
 no_fields_left : (fs : AvnFields) → length (fields_preorder fs) ≡ 0 → fs ≡ no_fields
@@ -260,36 +260,41 @@ no_fields_left (absent id fs) e = absurd (omega (arith, e))
 same_look : (a b : List ℕ → Slot) → Some a ≡ Some b → a ≡ b
 same_look a b e = cc
 
-pub fields_done : (root : AvnTree) (node child end : ℕ) (names : List (List ℕ)) (rows : List Field) (slots : List (Option ℕ)) (kept : Option Field) → FieldsLeft root node child end names rows slots kept → end ≤ child → (look : List ℕ → Slot) → as_members Notation.avn (value_at root node) ≡ Some look → trees_of (value_at root) slots ≡ map look names
-fields_done root node child end names rows slots kept g h look e =
+fields_done : (root : AvnTree) (node child end : ℕ) (rows : List NameRow) (slots : List (Option ℕ)) (kept : Option NameRow) → FieldsLeft root node child end rows slots kept → end ≤ child → (look : List ℕ → Slot) → as_members Notation.avn (value_at root node) ≡ Some look → trees_of (value_at root) slots ≡ map look (row_names rows)
+fields_done root node child end rows slots kept g h look e =
     let found = trees_of (value_at root) slots in
-    sym (over-none names found (length-map slots (option_map (value_at root)) ∙ g.each)) ∙ ap (λ x. over x names found) (sym (no_fields_left g.others (omega (arith, g.ends)))) ∙ g.taken
+    let names = row_names rows in
+    sym (over-none names found (length-map slots (option_map (value_at root)) ∙ g.each ∙ sym (length-map rows (λ (r : NameRow). r.name)))) ∙ ap (λ x. over x names found) (sym (no_fields_left g.others (omega (arith, g.ends)))) ∙ g.taken
     ∙ ap (λ (l : List ℕ → Slot). map l names) (same_look (field_slot g.whole) look (sym g.members ∙ e))
 
 -- Where no row was kept, no name is repeated.
-pub fields_once : (root : AvnTree) (node child end : ℕ) (names : List (List ℕ)) (rows : List Field) (slots : List (Option ℕ)) → FieldsLeft root node child end names rows slots None → end ≤ child → names ≡ names_of rows → All (λ name. is_repeated Notation.avn (value_at root node) name ≡ false) names
-fields_once root node child end names rows slots g h spelled =
+fields_once : (root : AvnTree) (node child end : ℕ) (rows : List NameRow) (slots : List (Option ℕ)) → FieldsLeft root node child end rows slots None → end ≤ child → All (λ name. is_repeated Notation.avn (value_at root node) name ≡ false) (row_names rows)
+fields_once root node child end rows slots g h =
     let P : List ℕ → Type 0 = λ name. is_repeated Notation.avn (value_at root node) name ≡ false in
     let met = subst (λ x. EachMet g.whole x None rows slots) (no_fields_left g.others (omega (arith, g.ends))) g.met in
-    subst (All P) (sym spelled) (All-from_recursion P (names_of rows) (each_of (names_of rows) (none_twice g.whole rows slots met)))
+    All-from_recursion P (row_names rows) (each_of (row_names rows) (none_twice g.whole rows slots met))
   where
     each_of : (l : List (List ℕ)) → AllByRecursion (λ name. nat_le 2 (times_present g.whole name) ≡ false) l → AllByRecursion (λ name. is_repeated Notation.avn (value_at root node) name ≡ false) l
     each_of [] m = tt
     each_of (name ∷ l) m = (g.counted name ∙ m.0, each_of l m.1)
 
+-- Where no row was kept, the slots are those of the rows.
+pub fields_found : (root : AvnTree) (node child end : ℕ) (rows : List NameRow) (slots : List (Option ℕ)) → FieldsLeft root node child end rows slots None → end ≤ child → AreFieldSlots root node rows slots
+fields_found root node child end rows slots g h = record { at = fields_done root node child end rows slots None g h; held = g.held; once = fields_once root node child end rows slots g h }
+
 -- A row that was kept is the first whose name is repeated.
-pub fields_repeated : (root : AvnTree) (node child end : ℕ) (names : List (List ℕ)) (rows : List Field) (slots : List (Option ℕ)) (kept : Field) → FieldsLeft root node child end names rows slots (Some kept) → end ≤ child → IsFirstRepeated Notation.avn (value_at root node) rows kept
-fields_repeated root node child end names rows slots kept g h =
-    let P : Field → Type 0 = λ other. is_repeated Notation.avn (value_at root node) other.name.now ≡ true → kept.index ≤ other.index in
+pub fields_repeated : (root : AvnTree) (node child end : ℕ) (rows : List NameRow) (slots : List (Option ℕ)) (kept : NameRow) → FieldsLeft root node child end rows slots (Some kept) → end ≤ child → IsFirstRepeated Notation.avn (value_at root node) rows kept
+fields_repeated root node child end rows slots kept g h =
+    let P : NameRow → Type 0 = λ other. is_repeated Notation.avn (value_at root node) other.name ≡ true → kept.index ≤ other.index in
     let none = no_fields_left g.others (omega (arith, g.ends)) in
     let met = subst (λ x. EachMet g.whole x (Some kept) rows slots) none g.met in
     record {
       listed = g.kept_met.0;
-      repeated = g.counted kept.name.now ∙ le-leb 2 (times_present g.whole kept.name.now) (omega (arith, g.kept_met.1));
+      repeated = g.counted kept.name ∙ le-leb 2 (times_present g.whole kept.name) (omega (arith, g.kept_met.1));
       first = All-from_recursion P rows (each_of rows (kept_first g.whole kept rows slots met));
     }
   where
-    each_of : (l : List Field) → AllByRecursion (λ (row : Field). nat_le 2 (times_present g.whole row.name.now) ≡ true → kept.index ≤ row.index) l
-        → AllByRecursion (λ (other : Field). is_repeated Notation.avn (value_at root node) other.name.now ≡ true → kept.index ≤ other.index) l
+    each_of : (l : List NameRow) → AllByRecursion (λ (row : NameRow). nat_le 2 (times_present g.whole row.name) ≡ true → kept.index ≤ row.index) l
+        → AllByRecursion (λ (other : NameRow). is_repeated Notation.avn (value_at root node) other.name ≡ true → kept.index ≤ other.index) l
     each_of [] m = tt
-    each_of (row ∷ l) m = ((λ e. m.0 (sym (g.counted row.name.now) ∙ e)), each_of l m.1)
+    each_of (row ∷ l) m = ((λ e. m.0 (sym (g.counted row.name) ∙ e)), each_of l m.1)

@@ -18,7 +18,6 @@ mod bits;
 pub mod de;
 pub mod enc;
 mod faults;
-mod field_names;
 mod identifiers;
 mod leaf_nodes;
 mod leaves;

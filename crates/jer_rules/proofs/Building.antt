@@ -1,11 +1,11 @@
 -- JSON values made of slots.
-use Rattle.std.proofs.Common.{◌≡◌, ℕ, zero, suc, List, [], ◌∷◌, ◌++◌, map, drop, length, Option, Some, None, ap, refl, sym, ◌∙◌, Vec, Global}
-use Rattle.std.specs.Borrow.{Bor}
+use Rattle.std.proofs.Common.{◌≡◌, ℕ, zero, suc, List, [], ◌∷◌, ◌++◌, map, drop, get_or, length, Option, Some, None, ap, refl, sym, ◌∙◌, Vec, Global}
 use Rattle.std.specs.Prelude.{option_map}
 use Rattle.std.proofs.lemmas.List.{map_push, length-map}
 use Rattle.serde_json.specs.Data.{Data, Items, Members, put}
 use Rattle.serde_json.specs.View.{items_of}
 use Rattle.jer_values.specs.Views.{data_of, members_view}
+use Rattle.jer_values.specs.declared.name.JerName.{JerName}
 use Rattle.jer_values.specs.declared.value.JerValue.{JerValue}
 use Rattle.jer_values.specs.declared.value.JerValue.TheVariants as value
 use Rattle.jer_values.proofs.Layers.{data_list, data_members}
@@ -15,6 +15,7 @@ use Rattle.asn_slots.proofs.Trees.{first_same, present_same}
 use Rattle.asn_traits.specs.Canonical.{jer_data, jer_items, jer_members}
 use Rattle.asn_traits.specs.Tree.{Tree}
 use Rattle.asn_coding.specs.Writing.{Frame, present_values, named, tail_names, head_name, as_list, as_members, as_choice}
+use Rattle.asn_coding.proofs.NameRows.{head-drop}
 use Rattle.jer_rules.specs.Holding.{members_onto, one_member}
 
 -- One JSON value stands in a tree.
@@ -40,10 +41,10 @@ members_onto-some (Some x ∷ ss) d names ms =
     ap (put (head_name names) x) (members_onto-some ss d (tail_names names) ms ∙ ap (λ n. members_onto ss (tail_names names) (put n d ms)) (head_name-drop names (length ss)))
 
 -- A last slot that is put as a member leaves the members that all slots make.
-pub onto-inserted : (old new : List (Option JerValue)) (v : JerValue) (names : List (List ℕ)) (ms inserted : Members) (name : List ℕ) (k : ℕ) → old ≡ new ++ Some v ∷ [] → name ≡ head_name (drop k names) → k ≡ length new
+pub onto-inserted : (old new : List (Option JerValue)) (v : JerValue) (names : List (List ℕ)) (ms inserted : Members) (name : List ℕ) (k : ℕ) → old ≡ new ++ Some v ∷ [] → name ≡ get_or names k [] → k ≡ length new
     → inserted ≡ put name (data_of v) ms → members_onto (trees_of data_of new) names inserted ≡ members_onto (trees_of data_of old) names ms
 onto-inserted old new v names ms inserted name k e named at is =
-    let here : name ≡ head_name (drop (length (trees_of data_of new)) names) = named ∙ ap (λ n. head_name (drop n names)) (at ∙ sym (length-map new (option_map data_of))) in
+    let here : name ≡ head_name (drop (length (trees_of data_of new)) names) = named ∙ sym (head-drop names k) ∙ ap (λ n. head_name (drop n names)) (at ∙ sym (length-map new (option_map data_of))) in
     ap (members_onto (trees_of data_of new) names) (is ∙ ap (λ n. put n (data_of v) ms) here)
     ∙ sym (members_onto-some (trees_of data_of new) (data_of v) names ms)
     ∙ ap (λ ss. members_onto ss names ms) (sym (ap (trees_of data_of) e ∙ map_push (option_map data_of) new (Some v)))
@@ -70,7 +71,7 @@ named-members (None ∷ ss) names = named-members ss (tail_names names)
 named-members (Some v ∷ ss) names = ap (put (head_name names) (jer_data v)) (named-members ss (tail_names names))
 
 -- An object of the named slots is the members that a frame is.
-pub members_built : (members : Vec (Bor (List ℕ) × JerValue) Global) (slots : List (Option JerValue)) (names : List (List ℕ)) → members_view members.items ≡ members_onto (trees_of data_of slots) names Members.no_members
+pub members_built : (members : Vec (JerName × JerValue) Global) (slots : List (Option JerValue)) (names : List (List ℕ)) → members_view members.items ≡ members_onto (trees_of data_of slots) names Members.no_members
     → (f : Frame) → trees_of jer_data f ≡ trees_of data_of slots → option_map data_of (Some (value.Members members)) ≡ option_map jer_data (as_members names f)
 members_built members slots names e f h = ap Some (data_members members ∙ ap Data.object (e ∙ (ap (λ ss. members_onto ss names Members.no_members) (sym h) ∙ named-members f names)))
 

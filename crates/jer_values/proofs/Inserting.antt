@@ -6,6 +6,7 @@ use Rattle.serde_json.specs.Data.{Members, put}
 use Rattle.serde_json.specs.View.{view}
 use Rattle.serde_json.specs.View.{members_view as members_seen}
 use Rattle.serde_json.specs.declared.value.Value.{Value}
+use Rattle.jer_values.specs.Names.{name_bytes}
 use Rattle.jer_values.specs.Order.{HasOrdered, IsOrdered}
 use Rattle.jer_values.specs.Views.{data_of, members_view}
 use Rattle.jer_values.proofs.Joined.{joined, joined_one, ordered_after, put_last}
@@ -14,14 +15,14 @@ use Rattle.jer_values.proofs.Placing.{Member}
 -- The next member goes after those that were inserted.
 pub inserted : (old new : List (String Global × Value)) (key : String Global) (value : Value)
     (m : Member) (left rest all : List Member)
-    → new ≡ insert_entry string_cmp old key value → string_bytes key ≡ m.0.now
+    → new ≡ insert_entry string_cmp old key value → string_bytes key ≡ name_bytes m.0
     → (IsOrdered (data_of m.1) → view value ≡ data_of m.1) → left ≡ m ∷ rest
     → HasOrdered (members_view all)
     → joined (members_seen old) (members_view left) ≡ members_view all
     → joined (members_seen new) (members_view rest) ≡ members_view all
 inserted old new key value m left rest all is named seen next ordered before =
     let found = members_seen old in
-    let k = m.0.now in
+    let k = name_bytes m.0 in
     let d = data_of m.1 in
     let whole : joined found (Members.member k d (members_view rest)) ≡ members_view all =
     ap (λ ms. joined found (members_view ms)) (sym next) ∙ before in

@@ -1,12 +1,13 @@
 -- Members one after another, and the member that is put last.
 use Rattle.std.proofs.Common.{◌≡◌, ◌∙◌, ◌++◌, ◌∷◌, [], List, Less, ap, refl, ℕ}
 use Rattle.std.proofs.lemmas.Cmp.{nat_list_cmp_total}
-use Rattle.std.specs.Borrow.{Bor}
 use Rattle.std.specs.Cmp.Lexicographic.{slice_cmp}
 use Rattle.std.specs.Ordering.{nat_cmp, ordering_reverse}
 use Rattle.serde_json.specs.Data.{Data, Members, put}
+use Rattle.jer_values.specs.Names.{name_bytes}
 use Rattle.jer_values.specs.Order.{HasOrdered, IsBefore}
 use Rattle.jer_values.specs.Views.{data_of, members_view}
+use Rattle.jer_values.specs.declared.name.JerName.{JerName}
 use Rattle.jer_values.specs.declared.value.JerValue.{JerValue}
 
 -- The members, and after them others.
@@ -25,10 +26,10 @@ pub joined_one : (found : Members) (k : List ℕ) (d : Data) (more : Members)
 joined_one Members.no_members k d more = refl
 joined_one (Members.member l e ms) k d more = ap (Members.member l e) (joined_one ms k d more)
 
-pub joined_views : (xs ys : List (Bor (List ℕ) × JerValue))
+pub joined_views : (xs ys : List (JerName × JerValue))
     → members_view (xs ++ ys) ≡ joined (members_view xs) (members_view ys)
 joined_views [] ys = refl
-joined_views (x ∷ xs) ys = ap (Members.member x.0.now (data_of x.1)) (joined_views xs ys)
+joined_views (x ∷ xs) ys = ap (Members.member (name_bytes x.0) (data_of x.1)) (joined_views xs ys)
 
 -- What stands after others is in order as they are.
 pub ordered_after : (found ms : Members) → HasOrdered (joined found ms) → HasOrdered ms

@@ -1,9 +1,9 @@
 -- The numbers of a value are whole.
-use Rattle.std.proofs.Common.{[], ◌∷◌, List, map, subst, sym, ℕ}
-use Rattle.std.specs.Borrow.{Bor}
+use Rattle.std.proofs.Common.{[], ◌∷◌, List, map, subst, sym}
 use Rattle.serde_json.specs.Data.{Data}
 use Rattle.serde_json.specs.View.{items_of}
 use Rattle.jer_values.specs.Views.{data_of, data_step, members_view}
+use Rattle.jer_values.specs.declared.name.JerName.{JerName}
 use Rattle.jer_values.specs.declared.value.JerValue.{JerValue}
 use Rattle.jer_values.specs.declared.value.JerValue.TheOpen.{JerValue-F}
 use Rattle.jer_values.specs.declared.value.JerValue.TheFolds.{fold-roll-JerValue, ind-JerValue, map-JerValue}
@@ -20,8 +20,8 @@ items_whole : (es : List Proved) → HaveWhole (items_of (map data_of (map (λ e
 items_whole [] = tt
 items_whole (e ∷ es) = (e.1, items_whole es)
 
-members_whole : (es : List (Bor (List ℕ) × Proved))
-    → MembersHaveWhole (members_view (map (λ (m : Bor (List ℕ) × Proved). (m.0, m.1.0)) es))
+members_whole : (es : List (JerName × Proved))
+    → MembersHaveWhole (members_view (map (λ (m : JerName × Proved). (m.0, m.1.0)) es))
 members_whole [] = tt
 members_whole (e ∷ es) = (e.1.1, members_whole es)
 

@@ -1,9 +1,10 @@
 //! Makes objects, whose members stand in byte order of their names.
+ghost use Rattle.jer_values.specs.Names.{name_bytes};
 ghost use Rattle.jer_values.specs.Views.{data_of, members_view};
 ghost use Rattle.serde_json.specs.Data.{Data, Members, put};
 ghost use Rattle.std.specs.Prelude.{◌≡◌, IfOk, OnOk};
 
-use crate::JerValue;
+use crate::{JerName, JerValue};
 use std::alloc::{AllocError, Global};
 use std::cmp::Ordering;
 
@@ -14,15 +15,15 @@ use std::cmp::Ordering;
 ///
 /// `AllocError` where memory is refused.
 pub fn put_member(
-    members: &mut Vec<(&'static str, JerValue)>,
-    name: &'static str,
+    members: &mut Vec<(JerName, JerValue)>,
+    name: JerName,
     value: JerValue,
 ) -> Result<(), AllocError>
     ensures { OnOk result (members_view members.new.items
-        ≡ put name.now (data_of value) (members_view members.old.items)) }
+        ≡ put (name_bytes name) (data_of value) (members_view members.old.items)) }
 {
     for place in 0..members.len() {
-        match name.cmp(members[place].0) {
+        match name.as_str().cmp(members[place].0.as_str()) {
             Ordering::Greater => {}
             Ordering::Equal => {
                 members[place].1 = value;
@@ -43,13 +44,9 @@ pub fn put_member(
 /// # Errors
 ///
 /// `AllocError` where memory is refused.
-pub fn one_member(
-    alloc: Global,
-    name: &'static str,
-    value: JerValue,
-) -> Result<JerValue, AllocError>
+pub fn one_member(alloc: Global, name: JerName, value: JerValue) -> Result<JerValue, AllocError>
     ensures { IfOk result (λ v. data_of v
-        ≡ Data.object (Members.member name.now (data_of value) Members.no_members)) }
+        ≡ Data.object (Members.member (name_bytes name) (data_of value) Members.no_members)) }
 {
     let mut members = Vec::with_capacity(alloc, 1)?;
     members.push((name, value))?;

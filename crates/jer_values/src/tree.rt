@@ -5,7 +5,7 @@ ghost use Rattle.serde_json.specs.View.{view, items_view as items_seen};
 ghost use Rattle.serde_json.specs.View.{members_view as members_seen};
 ghost use Rattle.std.specs.Prelude.{◌≡◌, IfOk};
 
-use crate::JerValue;
+use crate::{JerName, JerValue};
 use serde_json::{Map, Value};
 use std::alloc::{AllocError, Global};
 
@@ -56,7 +56,7 @@ fn array_of(alloc: Global, items: &Vec<JerValue>) -> Result<Vec<Value>, AllocErr
 #[cycle(json_of)]
 fn object_of(
     alloc: Global,
-    members: &Vec<(&'static str, JerValue)>,
+    members: &Vec<(JerName, JerValue)>,
 ) -> Result<Map<String, Value>, AllocError>
     ensures { IfOk result (λ m. HasOrdered (members_view members.now.items)
         → members_seen m.entries ≡ members_view members.now.items) }
@@ -64,7 +64,7 @@ fn object_of(
     let mut map = Map::new(alloc);
     for (name, value) in members {
         let value = json_of(alloc, value)?;
-        map.insert(String::from_str(alloc, name)?, value)?;
+        map.insert(String::from_str(alloc, name.as_str())?, value)?;
     }
     Ok(map)
 }

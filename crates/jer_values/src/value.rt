@@ -4,7 +4,7 @@ ghost use Rattle.serde_json.specs.Data.{Data};
 ghost use Rattle.serde_json.specs.Events.{SendsValue};
 ghost use Rattle.std.specs.Prelude.{OnOk};
 
-use crate::JsonInteger;
+use crate::{JerName, JsonInteger};
 use serde::{Described, Serialize, Serializer};
 
 /// Holds a JSON value.
@@ -21,7 +21,7 @@ pub enum JerValue {
     /// Is an array of values.
     List(Vec<JerValue>),
     /// Is an object of members, each a name and a value, in byte order of the names.
-    Members(Vec<(&'static str, JerValue)>),
+    Members(Vec<(JerName, JerValue)>),
 }
 
 impl Described for JerValue {
@@ -65,7 +65,7 @@ fn send_items<S: Serializer>(items: &Vec<JerValue>, out: &mut S) -> Result<(), S
 /// Sends an object.
 #[cycle(send)]
 fn send_members<S: Serializer>(
-    members: &Vec<(&'static str, JerValue)>,
+    members: &Vec<(JerName, JerValue)>,
     out: &mut S,
 ) -> Result<(), S::Error>
     ensures { OnOk result (SendsValue (Data.object (members_view members.now.items))
@@ -73,7 +73,7 @@ fn send_members<S: Serializer>(
 {
     out.begin_map(Some(members.len()))?;
     for (name, value) in members {
-        out.key(name)?;
+        out.key(name.as_str())?;
         send(value, out)?;
     }
     out.end_map()

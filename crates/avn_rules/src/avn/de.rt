@@ -14,12 +14,12 @@ ghost use Rattle.std.specs.Prelude.{◌≡◌, ◌≤◌, ◌∷◌, ◌++◌, [
 
 use super::faults::{end_of_input, mismatch, needed_list, needed_members, no_item};
 use super::leaf_nodes::leaf_of_node;
-use super::take_apart::{has_members, is_list, items_of, slots_of};
+use super::take_apart::{FieldSlots, has_members, is_list, items_of, slots_of};
 use asn_core::{Codec, Scan};
 use asn_fault::DecodeError;
 use asn_model::words;
 use asn_slots::Pending;
-use asn_traits::{Field, LeafKind, OwnedLeaf, SeqKind, place_of};
+use asn_traits::{LeafKind, NameList, Opened, OwnedLeaf, SeqKind, place_of};
 use avn_value::{AvnValue, GREATEST_LEVEL_LIMIT, LEVEL_LIMIT, NodeKind, NodeTable};
 use std::alloc::Global;
 use std::marker::Model;
@@ -228,27 +228,30 @@ impl asn_traits::Decoder for Decoder {
         Ok(count)
     }
 
-    // The slots of all fields are found first, extension additions last, and put at once; a name of
-    // a field that stands twice is refused before.
-    fn open_members(
+    // The slots of all fields are found first, and put at once; a name that stands twice is
+    // returned before.
+    fn open_members<N: NameList>(
         &mut self,
         kind: SeqKind,
-        root: &[Field],
-        additions: &[Field],
-    ) -> Result<(), DecodeError> {
+        names: &N,
+    ) -> Result<Opened, DecodeError> {
         let node = self.take()?;
         if !has_members(&self.table, node) {
             return Err(mismatch(self.alloc, &self.table, node, needed_members(kind)));
         }
-        match slots_of(self.alloc, &self.table, node, root, additions) {
-            Ok(slots) => self.put_slots(slots),
-            Err(error) => Err(error),
+        match slots_of(self.alloc, &self.table, node, names) {
+            Ok(FieldSlots::Found(slots)) => {
+                self.put_slots(slots)?;
+                Ok(Opened::Members)
+            }
+            Ok(FieldSlots::Repeated(place)) => Ok(Opened::Repeated(place)),
+            Err(_) => Err(DecodeError::out_of_memory(Codec::Avn)),
         }
     }
 
     // Where the identifier is none of the type's, an absent slot stands for the alternative, and
     // the caller refuses by the type's name.
-    fn open_choice(&mut self, identifiers: &[&'static str]) -> Result<Option<usize>, DecodeError> {
+    fn open_choice<N: NameList>(&mut self, identifiers: &N) -> Result<Option<usize>, DecodeError> {
         let node = self.take()?;
         let NodeKind::Choice = self.table.kind(node) else {
             return Err(mismatch(self.alloc, &self.table, node, words::AVN_CHOICE));

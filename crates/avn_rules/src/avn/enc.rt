@@ -11,11 +11,10 @@ ghost use Rattle.std.specs.Prelude.{◌≡◌, ◌⊎◌, ◌∷◌, [], List, N
 ghost use Rattle.std.specs.Prelude.{option_map, string_bytes};
 
 use super::faults::no_unicode;
-use super::field_names::NamesOfFields;
 use super::leaves::add_leaf;
 use asn_core::{Codec, OutOfMemory};
 use asn_fault::{AvnEncodeErrorKind, CodecEncodeError, EncodeError, EncodeErrorKind};
-use asn_traits::{Field, Leaf};
+use asn_traits::{Leaf, Name, NameList};
 use avn_frames::NodeFrames;
 use avn_value::{AvnValue, NodeTable};
 use std::alloc::Global;
@@ -162,16 +161,13 @@ impl asn_traits::Encoder for Encoder {
         in_avn(self.frames.close_set())
     }
 
-    // The slots get their names from the fields' tables, in order; absent ones stay, by name.
-    fn close_members(&mut self, root: &[Field], additions: &[Field]) -> Result<(), EncodeError> {
-        in_avn(
-            self.frames
-                .close_members(&NamesOfFields { root, additions }),
-        )
+    // The slots get their names in order; absent ones stay, by name.
+    fn close_members<N: NameList>(&mut self, names: &N) -> Result<(), EncodeError> {
+        in_avn(self.frames.close_members(names))
     }
 
     // A frame without a payload leaves an absent slot, as a scope that added nothing does.
-    fn close_choice(&mut self, identifier: &'static str) -> Result<(), EncodeError> {
-        in_avn(self.frames.close_choice(identifier))
+    fn close_choice(&mut self, identifier: Name<'_>) -> Result<(), EncodeError> {
+        in_avn(self.frames.close_choice(identifier.as_str()))
     }
 }

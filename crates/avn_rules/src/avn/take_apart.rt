@@ -2,20 +2,17 @@
 ghost use Rattle.asn_slots.specs.Trees.{trees_of};
 ghost use Rattle.asn_traits.specs.Notation.{Notation};
 ghost use Rattle.asn_traits.specs.Shape.{are_distinct};
-ghost use Rattle.asn_coding.specs.Tables.{names_of};
-ghost use Rattle.asn_traits.specs.Tree.{Slot, as_list, as_members, is_repeated};
-ghost use Rattle.avn_rules.specs.Parts.{IsEarlier, IsRepeatedOrMemory, place_of_slot};
-ghost use Rattle.avn_rules.specs.Pending.{IsPresent, IsSlot, value_at};
+ghost use Rattle.asn_names.specs.Rows.{row_names};
+ghost use Rattle.asn_traits.specs.Tree.{as_list, as_members};
+ghost use Rattle.avn_rules.specs.Parts.{AreFound, IsEarlier, place_of_slot};
+ghost use Rattle.avn_rules.specs.Pending.{IsPresent, value_at};
 ghost use Rattle.avn_nodes.specs.Preorder.{node_at, tree_at, node_count, slot_descendants};
-ghost use Rattle.asn_fault.specs.Failure.{failure_of};
-ghost use Rattle.std.specs.List.{All, slice_get};
-ghost use Rattle.std.specs.Prelude.{true, false, ◌≡◌, ◌<◌, ◌+◌, ◌++◌, List, ℕ, Some, None};
-ghost use Rattle.std.specs.Prelude.{IfErr, IfOk, IfSome, OnOk};
+ghost use Rattle.std.specs.List.{All};
+ghost use Rattle.std.specs.Prelude.{true, ◌≡◌, ◌<◌, Some, None, IfOk, IfSome};
 ghost use Rattle.std.specs.Prelude.{is_some, length, map, nat_eq, replicate};
 
-use asn_core::{Codec, OutOfMemory};
-use asn_fault::DecodeError;
-use asn_traits::{Field, place_of_field};
+use asn_core::OutOfMemory;
+use asn_traits::{NameList, place_of_field};
 use avn_value::{NodeKind, NodeTable};
 use std::alloc::Global;
 
@@ -75,77 +72,70 @@ pub fn items_of(alloc: Global, table: &NodeTable, node: usize) -> Result<Vec<usi
     Ok(items)
 }
 
-/// Returns the slot of each field, extension additions last: the node of the one present entry of
-/// its name. Absent entries and those of other names are passed over.
+/// Has what is found of fields in a SEQUENCE.
+#[derive(Drop)]
+pub enum FieldSlots {
+    /// Are the slots of the fields: the node of the one present entry of its name.
+    Found(Vec<Option<usize>>),
+    /// Is the place of a field whose name stands at two present entries, the first such field as
+    /// the type lists them.
+    Repeated(usize),
+}
+
+/// Returns the slot of each field, or the place of one that stands twice. Absent entries and those
+/// of other names are passed over.
 ///
 /// # Errors
 ///
-/// `DuplicateField` where two present entries have the name of a field, with the first such field
-/// as the type lists them; `OutOfMemory`.
-pub fn slots_of(
+/// `OutOfMemory` alone.
+pub fn slots_of<N: NameList>(
     alloc: Global,
     table: &NodeTable,
     node: usize,
-    root: &[Field],
-    additions: &[Field],
-) -> Result<Vec<Option<usize>>, DecodeError>
+    names: &N,
+) -> Result<FieldSlots, OutOfMemory>
     requires present { IsPresent table.now node }
     requires members { is_some (as_members Notation.avn (value_at table.now node)) ≡ true }
-    requires distinct { are_distinct (names_of root.now ++ names_of additions.now) ≡ true }
-    ensures slots { IfOk result (λ slots. (look : List ℕ → Slot)
-        → as_members Notation.avn (value_at table.now node) ≡ Some look
-        → trees_of (value_at table.now) slots.items
-        ≡ map look (names_of root.now ++ names_of additions.now)) }
-    ensures held { IfOk result (λ slots. All (IsSlot table.now) slots.items) }
-    ensures once { OnOk result (All (λ name.
-        is_repeated Notation.avn (value_at table.now node) name ≡ false)
-        (names_of root.now ++ names_of additions.now)) }
-    ensures refused { IfErr result (λ e. IsRepeatedOrMemory (value_at table.now node)
-        (root.now ++ additions.now) (failure_of e)) }
+    requires distinct { are_distinct (row_names (N.rows names.now)) ≡ true }
+    ensures { IfOk result (AreFound table.now node (N.rows names.now)) }
 {
-    let Ok(mut slots) = absent_slots(alloc, root.len() + additions.len()) else {
-        return Err(DecodeError::out_of_memory(Codec::Avn));
-    };
+    let mut slots = absent_slots(alloc, names.count())?;
     let mut repeated = None;
     let end = table.end(node);
     let mut entry = node + 1;
     // Each entry is looked at once, so the time is linear in their number.
     'entries: while entry < end {
-        if let Some(place) = place_of_entry(table, entry, root, additions) {
+        if let Some(place) = place_of_entry(table, entry, names) {
             // The place is one of a field, and there is a slot for each.
             if slots[place].is_some() {
-                repeated = Some(earlier(repeated, row_at(root, additions, place)));
+                repeated = Some(earlier(names, repeated, place));
             }
             slots[place] = Some(entry);
         }
         entry = table.end(entry);
     }
     match repeated {
-        Some(row) => Err(DecodeError::duplicate_field(row.name, Codec::Avn)),
-        None => Ok(slots),
+        Some(place) => Ok(FieldSlots::Repeated(place)),
+        None => Ok(FieldSlots::Found(slots)),
     }
 }
 
-/// Returns the row at a place among those of the root and then those of the additions.
-fn row_at(root: &[Field], additions: &[Field], place: usize) -> Field
-    requires { place < length root.now + length additions.now }
-    ensures { slice_get (root.now ++ additions.now) place ≡ Some result }
-{
-    if place < root.len() {
-        root[place]
-    } else {
-        additions[place - root.len()]
-    }
-}
-
-/// Returns the row that the type lists earlier: this one, or the earliest of those before, if there
-/// are any.
-fn earlier(before: Option<Field>, row: Field) -> Field
-    ensures { IsEarlier before row result }
+/// Returns the place whose field the type lists earlier: this one, or the earliest of those before,
+/// if there are any.
+fn earlier<N: NameList>(names: &N, before: Option<usize>, place: usize) -> usize
+    requires below { place < length (N.rows names.now) }
+    requires below_before { IfSome before (λ k. k < length (N.rows names.now)) }
+    ensures { IsEarlier (N.rows names.now) before place result }
 {
     match before {
-        Some(first) => { if first.index <= row.index { first } else { row } }
-        None => row,
+        Some(first) => {
+            if names.index(first) <= names.index(place) {
+                first
+            } else {
+                place
+            }
+        }
+        None => place,
     }
 }
 
@@ -166,19 +156,13 @@ fn absent_slots(alloc: Global, count: usize) -> Result<Vec<Option<usize>>, OutOf
 
 /// Returns the place of the field of an entry's name, or `None` where the entry is absent or no
 /// field has the name.
-fn place_of_entry(
-    table: &NodeTable,
-    entry: usize,
-    root: &[Field],
-    additions: &[Field],
-) -> Option<usize>
+fn place_of_entry<N: NameList>(table: &NodeTable, entry: usize, names: &N) -> Option<usize>
     requires { entry < node_count table.now }
-    ensures is { result ≡ place_of_slot (names_of root.now ++ names_of additions.now)
-        (node_at table.now entry) }
-    ensures below { IfSome result (λ k. k < length root.now + length additions.now) }
+    ensures is { result ≡ place_of_slot (row_names (N.rows names.now)) (node_at table.now entry) }
+    ensures below { IfSome result (λ k. k < length (N.rows names.now)) }
 {
     match table.kind(entry) {
         NodeKind::Absent => None,
-        _ => place_of_field(root, additions, table.name(entry)),
+        _ => place_of_field(names, table.name(entry)),
     }
 }

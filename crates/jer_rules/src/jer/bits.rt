@@ -23,7 +23,7 @@ use super::leaves::NoLeaf;
 use asn_core::{Bits, Bounded, Codec, OutOfMemory, Size};
 use asn_fault::EncodeError;
 use asn_traits::OwnedLeaf;
-use jer_values::{JerValue, JsonInteger};
+use jer_values::{JerName, JerValue, JsonInteger};
 use serde_json::Value;
 use std::alloc::Global;
 
@@ -92,13 +92,14 @@ fn members_of_bits(
     alloc: Global,
     octets: &[u8],
     size: usize,
-) -> Result<Vec<(&'static str, JerValue)>, OutOfMemory>
+) -> Result<Vec<(JerName, JerValue)>, OutOfMemory>
     ensures { IfOk result (λ ms. members_view ms.items ≡ bit_members octets.now size) }
 {
     let digits = hex::encode_upper(alloc, octets)?;
-    let mut members: Vec<(&'static str, JerValue)> = Vec::with_capacity(alloc, 2)?;
-    members.push(("length", JerValue::Integer(JsonInteger::from_usize(size))))?;
-    members.push(("value", JerValue::Text(digits)))?;
+    let length = JerValue::Integer(JsonInteger::from_usize(size));
+    let mut members = Vec::with_capacity(alloc, 2)?;
+    members.push((JerName::Constant("length"), length))?;
+    members.push((JerName::Constant("value"), JerValue::Text(digits)))?;
     Ok(members)
 }
 

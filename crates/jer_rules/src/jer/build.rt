@@ -1,21 +1,23 @@
 //! Makes JSON values of the slots that an encoder has collected. Values are moved in, and names
-//! aren't copied.
+//! that are constants aren't copied.
 ghost use Rattle.asn_core.specs.Numbers.{signed};
 ghost use Rattle.asn_slots.specs.Trees.{trees_of};
 ghost use Rattle.asn_traits.specs.Canonical.{sorted_items};
 ghost use Rattle.asn_traits.specs.Notation.{Notation};
-ghost use Rattle.asn_coding.specs.Tables.{names_of};
+ghost use Rattle.asn_names.specs.Rows.{row_names};
+ghost use Rattle.asn_names.specs.Text.{name_text};
 ghost use Rattle.asn_traits.specs.Writable.{IsEncodableInt};
 ghost use Rattle.jer_rules.specs.Holding.{members_onto};
+ghost use Rattle.jer_values.specs.Names.{name_bytes};
 ghost use Rattle.jer_values.specs.Views.{data_of, integer_num, items_view, members_view};
 ghost use Rattle.serde_json.specs.Data.{Members};
 ghost use Rattle.serde_json.specs.Find.{of_integer};
-ghost use Rattle.std.specs.Prelude.{◌≡◌, ◌++◌, IfOk, MatchOption};
+ghost use Rattle.std.specs.Prelude.{◌≡◌, IfOk, MatchOption};
 
 use asn_core::OutOfMemory;
 use asn_sorting::ByText;
-use asn_traits::{Field, field_name};
-use jer_values::{JerValue, JsonInteger, put_member};
+use asn_traits::{Name, NameList};
+use jer_values::{JerName, JerValue, JsonInteger, put_member};
 use std::alloc::Global;
 
 /// Returns the number with this sign and magnitude, or `None` exactly where it is below -2^63 or
@@ -33,28 +35,41 @@ pub fn integer_of(negative: bool, magnitude: u128) -> Option<JsonInteger>
     JsonInteger::from_i128(if negative { -number } else { number })
 }
 
-/// Returns the members of the slots that are present, each with the name of the field at its
-/// place, where extension additions come last. Absent slots are left out.
+/// Returns a name as a member has it: a constant as it is, and else a copy of the text.
 ///
 /// # Errors
 ///
 /// `OutOfMemory` alone.
-pub fn members_of(
+pub fn member_name(alloc: Global, name: Name<'_>) -> Result<JerName, OutOfMemory>
+    ensures { IfOk result (λ n. name_bytes n ≡ name_text name.entry) }
+{
+    match name {
+        Name::Constant(text) => Ok(JerName::Constant(text)),
+        Name::Borrowed(text) => Ok(JerName::Owned(String::from_str(alloc, text)?)),
+    }
+}
+
+/// Returns the members of the slots that are present, each with the name at its place. Absent slots
+/// are left out.
+///
+/// # Errors
+///
+/// `OutOfMemory` alone.
+pub fn members_of<N: NameList>(
     alloc: Global,
     slots: Vec<Option<JerValue>>,
-    root: &[Field],
-    additions: &[Field],
-) -> Result<Vec<(&'static str, JerValue)>, OutOfMemory>
+    names: &N,
+) -> Result<Vec<(JerName, JerValue)>, OutOfMemory>
     ensures { IfOk result (λ ms. members_view ms.items
-        ≡ members_onto (trees_of data_of slots.items)
-        (names_of root.now ++ names_of additions.now) Members.no_members) }
+        ≡ members_onto (trees_of data_of slots.items) (row_names (N.rows names.now))
+        Members.no_members) }
 {
     let mut slots = slots;
     let mut members = Vec::with_capacity(alloc, slots.len())?;
     // Slots come off the end, so the number of those left is the place of this one.
     while let Some(slot) = slots.pop() {
         if let Some(value) = slot {
-            let name = field_name(root, additions, slots.len());
+            let name = member_name(alloc, names.encoded_name(slots.len()))?;
             put_member(&mut members, name, value)?;
         }
     }

@@ -6,7 +6,7 @@ ghost use Rattle.asn_coding.specs.Answer.{Refuses};
 ghost use Rattle.asn_traits.specs.Notation.{Notation};
 ghost use Rattle.asn_traits.specs.Shape.{Shape, are_distinct};
 ghost use Rattle.asn_traits.specs.FailsWith.{FailsWith};
-ghost use Rattle.asn_coding.specs.Tables.{names_of};
+ghost use Rattle.asn_names.specs.Rows.{row_names};
 ghost use Rattle.asn_traits.specs.Tree.{Tree, head_slot};
 ghost use Rattle.serde_json.specs.Data.{Data};
 ghost use Rattle.serde_json.specs.View.{members_view};
@@ -22,7 +22,7 @@ use asn_core::Codec;
 use asn_fault::DecodeError;
 use asn_model::words;
 use asn_slots::Pending;
-use asn_traits::{Field, LeafKind, OwnedLeaf, SeqKind};
+use asn_traits::{LeafKind, NameList, Opened, OwnedLeaf, SeqKind};
 use json_floats::holds_float;
 use serde_json::{Map, Value};
 use std::alloc::Global;
@@ -117,25 +117,25 @@ impl Decoder {
     }
 
     /// Takes the fields out of the members by their names, and puts their slots before the pending
-    /// ones, in the order of the fields. Members of other names stay.
+    /// ones, in the order of the names. Members of other names stay.
     ///
     /// # Errors
     ///
     /// `OutOfMemory` alone.
-    fn take_fields(
+    fn take_fields<N: NameList>(
         &mut self,
         members: &mut Map<String, Value>,
-        fields: &[Field],
+        names: &N,
     ) -> Result<(), DecodeError>
-        requires { are_distinct (names_of fields.now) ≡ true }
-        ensures taken { OnOk result (TakesFields (names_of fields.now)
+        requires { are_distinct (row_names (N.rows names.now)) ≡ true }
+        ensures taken { OnOk result (TakesFields (row_names (N.rows names.now))
             (members_view members.old.entries) (members_view members.new.entries)
             (pending_of self.old) (pending_of self.new)) }
         ensures refused { IfErr result (λ e. failure_of e ≡ at_root Cause.out_of_memory Jer) }
     {
         // The last field goes first, since each is put before those that were put already.
-        for field in fields.iter().rev() {
-            let member = members.remove(field.name);
+        for place in (0..names.count()).rev() {
+            let member = members.remove(names.name(place));
             self.put(member)?;
         }
         Ok(())
@@ -200,25 +200,23 @@ impl asn_traits::Decoder for Decoder {
         }
     }
 
-    // Extension additions go in first, since the root fields come before them.
-    fn open_members(
+    // No object has a member twice once JSON is read, so no name is repeated.
+    fn open_members<N: NameList>(
         &mut self,
         kind: SeqKind,
-        root: &[Field],
-        additions: &[Field],
-    ) -> Result<(), DecodeError> {
+        names: &N,
+    ) -> Result<Opened, DecodeError> {
         let mut members = match into_members(self.take()?) {
             Ok(members) => members,
             Err(_) => return Err(no_object(self.alloc)),
         };
-        self.take_fields(&mut members, additions)?;
-        self.take_fields(&mut members, root)?;
-        Ok(())
+        self.take_fields(&mut members, names)?;
+        Ok(Opened::Members)
     }
 
     // A choice is the object's only member. Where its name is no identifier, or there is no member,
     // an absent slot stands for the payload, and the caller refuses by the type's name.
-    fn open_choice(&mut self, identifiers: &[&'static str]) -> Result<Option<usize>, DecodeError> {
+    fn open_choice<N: NameList>(&mut self, identifiers: &N) -> Result<Option<usize>, DecodeError> {
         let members = match into_members(self.take()?) {
             Ok(members) => members,
             Err(other) => return Err(mismatch(self.alloc, words::JER_OBJECT, &other)),

@@ -14,13 +14,13 @@ ghost use Rattle.serde_json.specs.View.{view};
 ghost use Rattle.std.specs.Prelude.{◌≡◌, ◌⊎◌, ◌∷◌, [], List, Option, Some, None, OnOk, IfOk};
 ghost use Rattle.std.specs.Prelude.{IfErr, IfSome, option_map, string_bytes};
 
-use super::build::{in_text_order, members_of};
+use super::build::{in_text_order, member_name, members_of};
 use super::faults::{encode_error, in_jer};
 use super::leaves::value_of_leaf;
 use asn_core::Codec;
 use asn_fault::{EncodeError, JerEncodeErrorKind, Utf8Fault};
 use asn_slots::Frames;
-use asn_traits::{Field, Leaf};
+use asn_traits::{Leaf, Name, NameList};
 use jer_values::{JerValue, one_member};
 use serde_json::Value;
 use std::alloc::Global;
@@ -175,19 +175,20 @@ impl asn_traits::Encoder for Encoder {
         self.put(Some(JerValue::List(sorted)))
     }
 
-    // The slots get their names from the fields' table, in order; absent ones are left out.
-    fn close_members(&mut self, root: &[Field], additions: &[Field]) -> Result<(), EncodeError> {
+    // The slots get their names in order; absent ones are left out.
+    fn close_members<N: NameList>(&mut self, names: &N) -> Result<(), EncodeError> {
         let slots = in_jer(self.frames.close())?;
-        let members = in_jer(members_of(self.alloc, slots, root, additions))?;
+        let members = in_jer(members_of(self.alloc, slots, names))?;
         self.put(Some(JerValue::Members(members)))
     }
 
     // A frame without a payload leaves an absent slot, as a scope that added nothing does.
-    fn close_choice(&mut self, identifier: &'static str) -> Result<(), EncodeError> {
+    fn close_choice(&mut self, identifier: Name<'_>) -> Result<(), EncodeError> {
         let Some(payload) = self.frames.close_first() else {
             return self.put(None);
         };
-        let choice = in_jer(one_member(self.alloc, identifier, payload))?;
+        let name = in_jer(member_name(self.alloc, identifier))?;
+        let choice = in_jer(one_member(self.alloc, name, payload))?;
         self.put(Some(choice))
     }
 }

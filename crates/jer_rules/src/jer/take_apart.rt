@@ -1,14 +1,15 @@
 //! Takes parts out of a JSON value by moves: nothing is copied, and no memory is taken. A value
 //! of another kind comes back as it was, so that an error can name it.
+ghost use Rattle.asn_names.specs.Rows.{row_names};
 ghost use Rattle.jer_rules.specs.Numbers.{IsWhole};
 ghost use Rattle.jer_rules.specs.Payload.{PayloadOf};
 ghost use Rattle.serde_json.specs.Data.{Data};
 ghost use Rattle.serde_json.specs.Find.{as_array, as_object};
 ghost use Rattle.serde_json.specs.View.{view, number_view, items_view, members_view};
-ghost use Rattle.std.specs.Prelude.{◌≡◌, ◌≤◌, None, MatchResult, length, map, nat_lt};
+ghost use Rattle.std.specs.Prelude.{◌≡◌, ◌≤◌, None, MatchResult, length, nat_lt};
 
 use asn_core::WholeNumber;
-use asn_traits::place_of;
+use asn_traits::{NameList, place_of};
 use serde_json::{Map, Number, Value};
 
 /// Returns the elements of an array.
@@ -51,12 +52,12 @@ pub fn has_several(members: &Map<String, Value>) -> bool
 /// Returns the place of the only member's name among the identifiers, and the member's value, or
 /// `None` exactly where there is no member, or no such identifier. The case of ASCII letters makes
 /// no difference.
-pub fn into_payload(
+pub fn into_payload<N: NameList>(
     members: Map<String, Value>,
-    identifiers: &[&'static str],
+    identifiers: &N,
 ) -> Option<(usize, Value)>
     requires { length members.entries ≤ 1 }
-    ensures { PayloadOf (members_view members.entries) (map (λ s. s.now) identifiers.now) result }
+    ensures { PayloadOf (members_view members.entries) (row_names (N.rows identifiers.now)) result }
 {
     let mut members = members;
     let (name, payload) = members.pop_first()?;

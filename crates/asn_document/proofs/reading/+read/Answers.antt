@@ -100,8 +100,8 @@ pub read_value-returns-in-Err-clause-read : goal.read_value-returns-in-Err-claus
 read_value-returns-in-Err-clause-read g t c =
     loop_refuses (closed_choice (alternatives_with (Shape.back 0))) _ _ c.in-Err.ensures
 
-pub read_entry-open_members-requires : goal.read_entry-open_members-requires
-read_entry-open_members-requires g t c =
+pub read_entry-open_fields-requires : goal.read_entry-open_fields-requires
+read_entry-open_fields-requires g t c =
     ap are_distinct (entry_names c.entry_table-table.result.now c.entry_table-table.ensures)
 
 pub read_entry-returns-in-Err-clause-read : goal.read_entry-returns-in-Err-clause-read

@@ -19,7 +19,7 @@ use Rattle.asn_document.proofs.writing.+write.Goals as goal
 
 pub write_entry-returns-clause-written : goal.write_entry-returns-clause-written
 write_entry-returns-clause-written g t c =
-    on_ok_weaker c.close_members.result (entry_closed (string_bytes c.args.key.now) (json_value c.args.member.now) _ (entry_names c.entry_table.result.now c.entry_table.ensures) c.in_ok-open_frame.ensures.opened (subst (λ k. Written g.E.Encoder.holds g.E.Encoder.notation (Shape.text Alphabet.utf8) (Value.text k) c.open_frame.new.self c.encode_utf8_string.new.self) c.as_str.ensures.value c.in_ok-encode_utf8_string.ensures.written) c.in_ok-write_value.ensures.written) c.close_members.ensures.closed
+    on_ok_weaker c.close_fields.result (entry_closed (string_bytes c.args.key.now) (json_value c.args.member.now) _ (entry_names c.entry_table.result.now c.entry_table.ensures) c.in_ok-open_frame.ensures.opened (subst (λ k. Written g.E.Encoder.holds g.E.Encoder.notation (Shape.text Alphabet.utf8) (Value.text k) c.open_frame.new.self c.encode_utf8_string.new.self) c.as_str.ensures.value c.in_ok-encode_utf8_string.ensures.written) c.in_ok-write_value.ensures.written) c.close_fields.ensures.closed
 
 pub write_items-loop-item-init : goal.write_items-loop-item-init
 write_items-loop-item-init g t c = collected-none _ _ _ _ _ _ c.in_ok-open_frame.ensures.opened

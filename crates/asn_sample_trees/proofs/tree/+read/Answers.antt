@@ -11,15 +11,15 @@ use Rattle.asn_sample_trees.specs.Tree.{tree_value}
 use Rattle.asn_sample_trees.specs.TreeShape.{tree_fields, tree_shape}
 use Rattle.asn_sample_trees.proofs.tree.+read.Goals as goal
 
-pub read_tree-open_members-requires : goal.read_tree-open_members-requires
-read_tree-open_members-requires g t c =
+pub read_tree-open_fields-requires : goal.read_tree-open_fields-requires
+read_tree-open_fields-requires g t c =
     ap are_distinct (names_told g.A.TreeAdditions.fields c.tree_table.result.now c.listed-additions.result.now c.tree_table.ensures c.listed-additions.ensures) ∙ names_distinct g.A.TreeAdditions.fields g.met.A.TreeAdditions.readable
 
 pub read_tree-read_kids-requires : goal.read_tree-read_kids-requires
 read_tree-read_kids-requires g t c κs within =
     let names = rows_told g.A.TreeAdditions.fields c.tree_table.result.now c.listed-additions.result.now c.tree_table.ensures c.listed-additions.ensures in
     let h = kids_below _ g.A.TreeAdditions.fields names c.in-Ok.ensures in
-    (subst (λ m. head_nodes (g.D.Decoder.pending c.open_members.new.self) < m) c.decreases h, within)
+    (subst (λ m. head_nodes (g.D.Decoder.pending c.open_fields.new.self) < m) c.decreases h, within)
 
 pub read_tree-returns-in-Err : goal.read_tree-returns-in-Err
 read_tree-returns-in-Err g t c =

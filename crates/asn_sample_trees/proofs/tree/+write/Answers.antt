@@ -35,6 +35,6 @@ pub write_tree-returns-clause-written : goal.write_tree-returns-clause-written
 write_tree-returns-clause-written g t c =
     let added = g.A.TreeAdditions.fields in
     let names = names_told added c.tree_table.result.now c.listed.result.now c.tree_table.ensures c.listed.ensures in
-    on_ok_weaker c.close_members.result
+    on_ok_weaker c.close_fields.result
     (λ e. tree_written added g.A.TreeAdditions.slots g.met.A.TreeAdditions.fixed c.args.tree.now _ names c.in_ok-open_frame.ensures.opened c.in_ok-write_kids.ensures.written c.in_ok-write.ensures.written e)
-    c.close_members.ensures.closed
+    c.close_fields.ensures.closed

@@ -18,6 +18,6 @@ pub returns-clause-written : goal.returns-clause-written
 returns-clause-written g c =
     let t = g.T.SequenceFields in
     let names = all_table_names (λ t. t.now) _ _ _ t.fields t.added c.listed.ensures c.listed_added.ensures c.listed-additions.ensures in
-    on_ok_weaker c.close_members.result
+    on_ok_weaker c.close_fields.result
     (λ e. framed_fields _ g.T.Kind.FieldsKind.seq_kind t.fields t.added (t.slots c.args.value.now) c.in_ok-open_frame.ensures.opened (adds_fields c.in_ok-write_fields.ensures.written)
-    (subst (λ ns. Maps g.E.Encoder.holds (close (as_members ns)) c.write_fields.new.encoder c.close_members.new.self) names e)) c.close_members.ensures.closed
+    (subst (λ ns. Maps g.E.Encoder.holds (close (as_members ns)) c.write_fields.new.encoder c.close_fields.new.self) names e)) c.close_fields.ensures.closed

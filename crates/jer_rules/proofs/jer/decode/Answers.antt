@@ -1,6 +1,7 @@
 use Rattle.std.proofs.lemmas.Result.{err_from_is_err_and}
 use Rattle.asn_traits.specs.Notation.{Notation}
 use Rattle.asn_traits.specs.Tree.{Tree}
+use Rattle.asn_fault.specs.Failure.{failure_of}
 use Rattle.asn_coding.proofs.Whole.{root_answer}
 use Rattle.jer_rules.specs.Text.{RefusesText}
 use Rattle.jer_rules.proofs.Roots.{text_refused, text_complete}
@@ -14,9 +15,9 @@ returns-in_err-decoder-clause-refused g c =
 pub returns-clause-refused : goal.returns-clause-refused
 returns-clause-refused g c =
     let t = c.in_ok-decoder.ensures.tree in
-    text_refused g.T.AsnType.shape_of g.T.AsnType.value_of c.args.input.now t.0 c.decode.result t.1 (root_answer Notation.jer g.T.AsnType.shape_of g.T.AsnType.value_of (Tree.json t.0) _ _ _ _ t.2 c.decode.ensures)
+    text_refused failure_of g.T.AsnType.shape_of g.T.AsnType.value_of c.args.input.now t.0 c.decode.result t.1 (root_answer failure_of Notation.jer g.T.AsnType.shape_of g.T.AsnType.value_of (Tree.json t.0) _ _ _ _ t.2 c.decode.ensures)
 
 pub returns-clause-complete : goal.returns-clause-complete
 returns-clause-complete g c =
     let t = c.in_ok-decoder.ensures.tree in
-    text_complete g.T.AsnType.shape_of g.T.AsnType.value_of c.args.input.now t.0 c.decode.result t.1 (root_answer Notation.jer g.T.AsnType.shape_of g.T.AsnType.value_of (Tree.json t.0) _ _ _ _ t.2 c.decode.ensures)
+    text_complete failure_of g.T.AsnType.shape_of g.T.AsnType.value_of c.args.input.now t.0 c.decode.result t.1 (root_answer failure_of Notation.jer g.T.AsnType.shape_of g.T.AsnType.value_of (Tree.json t.0) _ _ _ _ t.2 c.decode.ensures)

@@ -16,7 +16,7 @@ object_of-loop-name-preserved t c =
     λ ordered.
     inserted c.loop-name.map.entries c.insert.new.self.entries c.in_ok-from_str.field-0
     c.in_ok-value.value c.loop-name-item.result (drop i all) (drop (i + 1) all) all
-    c.in_ok-insert.ensures.entries c.in_ok-from_str.ensures.ok c.in_ok-value.ensures
+    c.in_ok-insert.ensures.entries (c.in_ok-from_str.ensures.ok ∙ c.as_str.ensures) c.in_ok-value.ensures
     (here ∙ ap (λ m. m ∷ drop (i + 1) all) (sym c.loop-name-item.is)) ordered
     (c.loop-name.invariant ordered)
 

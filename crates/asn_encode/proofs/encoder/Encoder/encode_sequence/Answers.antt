@@ -13,4 +13,4 @@ pub returns-clause-written : goal.returns-clause-written
 returns-clause-written g c =
     let t = g.C.Constructed in
     let names = all_table_names (λ t. t.items.now) _ _ _ t.fields t.added c.field_table.ensures c.extended_field_table.ensures c.listed_fields.ensures in
-    on_ok_weaker c.close_members.result (λ e. record { start = c.open_frame.new.self; end = c.encoder_scope.new.arg2; opened = c.in_ok-open_frame.ensures.opened; answered = record { shown = _; shows = refl; left = _; met = c.in_ok-encoder_scope.ensures; leaves = refl }; left = subst (λ ns. Maps g.Self.Encoder.holds (close (as_members ns)) c.encoder_scope.new.arg2 c.close_members.new.self) names e }) c.close_members.ensures.closed
+    on_ok_weaker c.close_fields.result (λ e. record { start = c.open_frame.new.self; end = c.encoder_scope.new.arg2; opened = c.in_ok-open_frame.ensures.opened; answered = record { shown = _; shows = refl; left = _; met = c.in_ok-encoder_scope.ensures; leaves = refl }; left = subst (λ ns. Maps g.Self.Encoder.holds (close (as_members ns)) c.encoder_scope.new.arg2 c.close_fields.new.self) names e }) c.close_fields.ensures.closed

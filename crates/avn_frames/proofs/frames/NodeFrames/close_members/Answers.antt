@@ -1,4 +1,5 @@
 use Rattle.std.proofs.Common.{arith, reverse}
+use Rattle.asn_names.specs.Rows.{name_at}
 use Rattle.avn_frames.proofs.Framing.{closable, only_root, place_below, members_done}
 use Rattle.avn_frames.proofs.frames.NodeFrames.close_members.Goals as goal
 
@@ -21,7 +22,7 @@ close-requires-clause-below g c =
 pub invariant_of-self : goal.invariant_of-self
 invariant_of-self g c =
     let k = closable c.self.inside.nodes (reverse c.self.inside.places.items) c.take_place-place.result (reverse c.take_place-place.new.places.items) c.put_above_root.new.self c.self.invariant c.self.view_is c.take_place-place.ensures in
-    (members_done (g.N.FieldNames.name_at c.args.names.now) c.self.inside.nodes c.name_slots.new.nodes c.close.new.self c.take_place-place.result (reverse c.take_place-place.new.places.items) c.put_above_root.new.self c.args.self.now k c.in_ok-put_above_root.ensures c.in-Ok.ensures c.close.ensures).holds
+    (members_done (name_at (g.N.NameList.rows c.args.names.now)) c.self.inside.nodes c.name_slots.new.nodes c.close.new.self c.take_place-place.result (reverse c.take_place-place.new.places.items) c.put_above_root.new.self c.args.self.now k c.in_ok-put_above_root.ensures c.in-Ok.ensures c.close.ensures).holds
 
 pub invariant_of-self-in-Err : goal.invariant_of-self-in-Err
 invariant_of-self-in-Err g c = (only_root _ _ c.start_over.ensures.nodes c.start_over.ensures.places).holds
@@ -29,4 +30,4 @@ invariant_of-self-in-Err g c = (only_root _ _ c.start_over.ensures.nodes c.start
 pub returns-in-Ok : goal.returns-in-Ok
 returns-in-Ok g c =
     let k = closable c.self.inside.nodes (reverse c.self.inside.places.items) c.take_place-place.result (reverse c.take_place-place.new.places.items) c.put_above_root.new.self c.self.invariant c.self.view_is c.take_place-place.ensures in
-    (members_done (g.N.FieldNames.name_at c.args.names.now) c.self.inside.nodes c.name_slots.new.nodes c.close.new.self c.take_place-place.result (reverse c.take_place-place.new.places.items) c.put_above_root.new.self c.args.self.now k c.in_ok-put_above_root.ensures c.in-Ok.ensures c.close.ensures).lists
+    (members_done (name_at (g.N.NameList.rows c.args.names.now)) c.self.inside.nodes c.name_slots.new.nodes c.close.new.self c.take_place-place.result (reverse c.take_place-place.new.places.items) c.put_above_root.new.self c.args.self.now k c.in_ok-put_above_root.ensures c.in-Ok.ensures c.close.ensures).lists

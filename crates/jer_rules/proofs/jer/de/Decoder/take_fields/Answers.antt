@@ -1,27 +1,22 @@
-use Rattle.std.proofs.Common.{◌≡◌, ◌++◌, ◌∷◌, [], ap, ◌∙◌, sym, append_assoc, append-nil}
-use Rattle.std.proofs.lemmas.List.{nil_from_length}
-use Rattle.asn_traits.specs.Shape.{are_distinct}
-use Rattle.asn_coding.specs.Tables.{names_of}
-use Rattle.jer_rules.proofs.Taken.{takes_none, takes_more, none_later}
+use Rattle.std.proofs.Common.{◌≡◌, ◌<◌, ◌-◌, arith, length, suc, subst, sym}
+use Rattle.std.proofs.lemmas.List.{drop_all, length-map}
+use Rattle.asn_names.specs.Rows.{row_names}
+use Rattle.serde_json.specs.View.{members_view}
+use Rattle.jer_rules.specs.Pending.{pending_of, TakesFields}
+use Rattle.jer_rules.proofs.Taken.{takes_none, takes_more}
 use Rattle.jer_rules.proofs.jer.de.Decoder.take_fields.Goals as goal
 
-pub loop-field-init : goal.loop-field-init
-loop-field-init c =
-    let rest = ap (λ r. r.iter.rest.now) c.into_iter-field-iterator.ensures.into_iter_gives ∙ ap (λ i. i.rest.now) c.rev-field-items.ensures.source ∙ c.iter.ensures.rest in
-    ([], sym (append-nil _ ∙ rest), takes_none _ _)
+pub loop-place-init : goal.loop-place-init
+loop-place-init g c =
+    let rows = g.N.NameList.rows c.args.names.now in
+    let all = members_view c.args.members.now.entries in
+    let before = pending_of c.args.self.now in
+    subst (λ l. TakesFields l all all before before) (sym (drop_all c.count-place.result (row_names rows) (omega (arith, length-map rows (λ r. r.name), c.count-place.ensures)))) (takes_none all before)
 
-pub loop-field-preserved : goal.loop-field-preserved
-loop-field-preserved c =
-    let f = c.in-Some.field.now in
-    let fs = c.next.new.self.iter.rest.now in
-    let inv = c.loop-field.invariant in
-    let later = inv.0 in
-    let all : c.args.fields.now ≡ fs ++ f ∷ later = inv.1 ∙ ap (λ l. l ++ later) c.in-Some.ensures.steps ∙ append_assoc fs (f ∷ []) later in
-    let apart = none_later fs f later (ap (λ l. are_distinct (names_of l)) (sym all) ∙ c.requires) in
-    (f ∷ later, all, takes_more _ _ _ c.loop-field.members c.remove-member.new.self _ _ _ _ apart inv.2 c.remove-member.ensures.value c.remove-member.ensures.updates c.in_ok-put.ensures)
-
-pub returns-clause-taken : goal.returns-clause-taken
-returns-clause-taken c =
-    let inv = c.loop-field.invariant in
-    let all : inv.0 ≡ c.args.fields.now = sym (inv.1 ∙ ap (λ l. l ++ inv.0) (nil_from_length _ c.in-None.ensures.steps.0)) in
-    rw all at inv.2
+pub loop-place-preserved : goal.loop-place-preserved
+loop-place-preserved g c =
+    let rows = g.N.NameList.rows c.args.names.now in
+    let below : c.loop-place.place - 1 < length (row_names rows) = omega (arith, length-map rows (λ r. r.name), c.count-place.ensures, c.loop-place.auto.place, c.loop-place-test.true) in
+    let step : c.loop-place.place ≡ suc (c.loop-place.place - 1) = omega (arith, c.loop-place-test.true) in
+    takes_more (row_names rows) (c.loop-place.place - 1) c.loop-place.place c.name.result.now (members_view c.args.members.now.entries) c.loop-place.members c.remove-member.new.self c.remove-member.result (pending_of c.args.self.now) (pending_of c.loop-place.self) (pending_of c.put.new.self)
+    below step c.requires c.name.ensures c.loop-place.invariant c.remove-member.ensures.value c.remove-member.ensures.updates c.in_ok-put.ensures

@@ -1,0 +1,6 @@
+use Rattle.std.proofs.Common.{◌++◌}
+use Rattle.asn_coding.proofs.NameRows.{index-field}
+use Rattle.asn_coding.proofs.name_tables.TableNamesNameList.index.Goals as goal
+
+pub returns : goal.returns
+returns c = index-field (c.args.self.now.root.now ++ c.args.self.now.additions.now) c.args.place c.field.result.now c.field.ensures

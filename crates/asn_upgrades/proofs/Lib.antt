@@ -1,2 +1,2 @@
-mod Refusing
-mod Reading
+pub mod Refusing
+pub mod Reading

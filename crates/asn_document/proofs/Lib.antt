@@ -1,4 +1,3 @@
-pub mod DecimalTexts
 pub mod Elements
 pub mod Entries
 pub mod Puts

@@ -6,11 +6,11 @@ ghost use Rattle.asn_traits.specs.ShapeView.{shape_view};
 ghost use Rattle.asn_traits.specs.Value.{Value, values};
 ghost use Rattle.std.specs.Prelude.{◌≡◌, IfOk, refl};
 
-use crate::decimal::Decimal;
 use crate::reading::{read_members, read_payload, read_value};
 use crate::writing::{ARRAY, DECIMAL, OBJECT, VARIANTS, write_members, write_value};
 use crate::{Document, DocumentMap};
 use asn_core::{Constraints, Identifier, OutOfMemory, Tag};
+use asn_decimal::Decimal;
 use asn_fault::{DecodeError, EncodeError};
 use asn_fields::{AlternativeShapes, FieldShapes};
 use asn_traits::{AsnType, Choice, Decode, DecodeChoice, Decoder, Encode, Encoder, Shape, TagTree};

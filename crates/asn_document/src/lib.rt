@@ -3,7 +3,6 @@
 //! other type.
 #![tactic(auto)]
 
-mod decimal;
 mod document;
 mod document_map;
 mod equality;

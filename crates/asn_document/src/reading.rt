@@ -11,10 +11,10 @@ ghost use Rattle.serde_json.specs.Written.{has_float, items_have_float, members_
 ghost use Rattle.std.specs.Prelude.{◌≡◌, ◌^◌, ◌≤◌, IfOk, codes, decimal, false};
 
 use crate::Document;
-use crate::decimal::Decimal;
 use crate::document_map::put_member;
 use crate::writing::{ARRAY, DECIMAL, OBJECT, entry_table};
 use asn_core::{Constraints, Tag};
+use asn_decimal::Decimal;
 use asn_fault::DecodeError;
 use asn_fields::{read_field, within_field};
 use asn_traits::{Decoder, FieldNames, SeqKind};

@@ -14,8 +14,8 @@ ghost use Rattle.serde_json.specs.Written.{has_float, items_have_float, members_
 ghost use Rattle.serde_json.specs.Written.{number_text};
 ghost use Rattle.std.specs.Prelude.{◌≡◌, ◌^◌, ◌≤◌, IfErr, OnOk, codes, decimal, false};
 
-use crate::decimal::Decimal;
 use asn_core::{Class, Constraints, Identifier, Tag, TagTree};
+use asn_decimal::Decimal;
 use asn_fault::EncodeError;
 use asn_traits::{EncodeText, Encoder, Field, Name, Presence, required};
 use serde_json::{Map, Number, Value};

@@ -1,10 +1,10 @@
 -- The order of values by the parts of their rows.
-use Rattle.std.specs.Prelude.{ℕ, Option, Some, None}
+use Rattle.std.specs.Prelude.{ℕ, Bool, true, false, Option, Some, None}
 use Rattle.std.specs.declared.cmp.Ordering.{Ordering}
 use Rattle.std.specs.declared.cmp.Ordering.TheVariants.{Less, Equal, Greater}
 use Rattle.std.specs.Cmp.Lexicographic.{slice_cmp}
-use Rattle.std.specs.Ordering.{bool_cmp, int_cmp, nat_cmp, ordering_then}
-use Rattle.asn_model.specs.Value.{Value, Values, Slots, value_cmp}
+use Rattle.std.specs.Ordering.{bool_cmp, int_cmp, match_ordering, nat_cmp, ordering_then}
+use Rattle.asn_model.specs.Value.{Value, Values, Slots, key_of, value_cmp}
 
 -- The number of a value's kind, by which kinds are ordered.
 abbrev pub kind_number : Value → ℕ
@@ -67,3 +67,8 @@ contents_cmp (Value.list vs) (Value.list ws) = elements_cmp vs ws
 contents_cmp (Value.bag vs) (Value.bag ws) = elements_cmp vs ws
 contents_cmp (Value.choice i v) (Value.choice j w) = ordering_then (slice_cmp nat_cmp i j) (value_cmp v w)
 contents_cmp _ _ = Equal
+
+-- There is an entry before, and it has the key of this one.
+abbrev pub ties_with : Option Value → Value → Bool
+ties_with None e = false
+ties_with (Some v) e = match_ordering (slice_cmp nat_cmp (key_of v) (key_of e)) false true false

@@ -3,8 +3,12 @@
 #![tactic(auto)]
 
 mod copies;
+mod entries;
 mod order;
+mod plain;
 mod value;
 
 pub use copies::bag;
+pub use entries::table;
+pub use plain::is_plain;
 pub use value::DynValue;

@@ -91,7 +91,7 @@ impl DynValue {
 }
 
 /// Compares two whole numbers.
-fn compare_numbers(left: WholeNumber, right: WholeNumber) -> Ordering
+pub fn compare_numbers(left: WholeNumber, right: WholeNumber) -> Ordering
     ensures { result ≡ int_cmp (signed left.negative left.magnitude)
         (signed right.negative right.magnitude) }
 {

@@ -1,0 +1,4 @@
+pub mod NameRows
+pub mod ShapeViews
+pub mod Orders
+pub mod Chains

@@ -23,12 +23,6 @@ abbrev pub module_fault_of : ReadFault → ModuleFault
 module_fault_of read.Syntax = fault.Syntax
 module_fault_of read.OutOfMemory = fault.OutOfMemory
 
--- The text is these assignments, whose names are distinct, and each name that they refer to is assigned.
-pub record IsModule (limit : ℕ) (text : List ℕ) (assignments : List Assignment) : Type 0 where
-  pub parses : ModuleParses limit text assignments
-  pub distinct : first_repeated assignments ≡ None
-  pub assigned : first_unassigned assignments ≡ None
-
 -- The text is assignments of which the first one whose name was assigned before has this name.
 pub record IsDuplicate (limit : ℕ) (text name : List ℕ) : Type 0 where
   pub assignments : List Assignment

@@ -1,5 +1,6 @@
 //! Reads a text as a module.
-ghost use Rattle.asn_module.specs.Faults.{IsModule, IsRefusal, NamesFail};
+ghost use Rattle.asn_module.specs.Faults.{IsRefusal, NamesFail};
+ghost use Rattle.asn_module_text.specs.Modules.{IsModule, IsProper};
 ghost use Rattle.asn_notation.specs.Names.{first_repeated, first_unassigned};
 ghost use Rattle.asn_notation.specs.View.{module_view};
 ghost use Rattle.std.specs.Prelude.{◌≡◌, None, OnOk, IfOk, IfErr};
@@ -42,6 +43,7 @@ fn check_names(alloc: Global, candidate: &Module) -> Result<(), ModuleFault>
 /// not assigned, with the first such name. `OutOfMemory` may come in place of any answer.
 pub fn read_module(alloc: Global, input: &str) -> Result<Module, ModuleFault>
     ensures ok { IfOk result (λ m. IsModule NESTING_LIMIT (chars input.now) (module_view m)) }
+    ensures proper { IfOk result (λ m. IsProper NESTING_LIMIT (module_view m)) }
     ensures refused { IfErr result (λ e. IsRefusal NESTING_LIMIT (chars input.now) e) }
 {
     let module = read_assignments(alloc, input)?;

@@ -1,6 +1,8 @@
-//! Tests modules by direct calls: texts of the profile, refusals, and that calls succeed where
-//! there is memory.
+//! Tests modules by direct calls: texts of the profile, refusals, printed texts, and that calls
+//! succeed where there is memory.
 #![tactic(auto)]
 
+#[cfg(test)]
+mod printed;
 #[cfg(test)]
 mod texts;

@@ -3,7 +3,7 @@ use Rattle.asn_module.specs.Places.{is_placed}
 use Rattle.asn_notation.specs.Names.{element_references, first_failing}
 use Rattle.asn_notation.specs.Notation.{elements_of}
 use Rattle.asn_notation.specs.View.{component_view}
-use Rattle.asn_module.proofs.References.{failing-root, failing-added, failing-none, failing-here, failing-behind}
+use Rattle.asn_module_text.proofs.References.{failing-root, failing-added, failing-none, failing-here, failing-behind}
 use Rattle.asn_module.proofs.names.+unplaced.Goals as goal
 
 pub first_unplaced_among-returns-in-Some : goal.first_unplaced_among-returns-in-Some

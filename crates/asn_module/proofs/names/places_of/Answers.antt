@@ -3,7 +3,8 @@ use Rattle.asn_model.specs.Shape.{is_item}
 use Rattle.asn_module.specs.Places.{ArePlaces}
 use Rattle.asn_notation.specs.Names.{assigned_names}
 use Rattle.asn_notation.specs.View.{assignment_view}
-use Rattle.asn_module.proofs.Placed.{names_more, names_count, repeated_here, repeated_behind, placed_before, places_more}
+use Rattle.asn_module.proofs.Placed.{placed_before, places_more}
+use Rattle.asn_module_text.proofs.Repeated.{names_more, names_count, repeated_here, repeated_behind}
 use Rattle.asn_module.proofs.names.places_of.Goals as goal
 
 pub returns-then-is_some-clause-repeated : goal.returns-then-is_some-clause-repeated

@@ -4,7 +4,7 @@ use Rattle.asn_module.specs.Places.{ArePlaces, is_placed}
 use Rattle.asn_notation.specs.Names.{assigned_names, first_failing, first_repeated, module_references}
 use Rattle.asn_notation.specs.View.{assignment_view, module_view}
 use Rattle.asn_module.proofs.Placed.{unassigned_by}
-use Rattle.asn_module.proofs.References.{unassigned-here, unassigned-behind}
+use Rattle.asn_module_text.proofs.References.{unassigned-here, unassigned-behind}
 use Rattle.asn_module.proofs.read.check_names.Goals as goal
 
 pub returns-in-Some-clause-fault : goal.returns-in-Some-clause-fault

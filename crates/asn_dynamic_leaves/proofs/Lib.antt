@@ -1,0 +1,3 @@
+pub mod IntLeaves
+pub mod Viewed
+pub mod Outside

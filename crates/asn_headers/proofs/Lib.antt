@@ -1,0 +1,4 @@
+pub mod Groups
+pub mod Names
+pub mod Imports
+pub mod HeadersRead

@@ -1,0 +1,9 @@
+use Rattle.std.proofs.Common.{◌∙◌}
+use Rattle.asn_headers.proofs.Names.{name_goes}
+use Rattle.asn_headers.proofs.name.read_names.Goals as goal
+
+pub names-preserved : goal.names-preserved
+names-preserved c =
+    let n = c.in-Some.ensures in
+    let m = c.in-Some-take_mark.ensures in
+    c.names.invariant ∙ name_goes c.in-Some.name c.in-Some-take_mark.behind.now c.names.rest.now c.in-Some.after.now c.names.names.items c.push.new.self.items n.0 n.1 m.0 m.1 c.in_ok-push.ensures.items

@@ -1,0 +1,5 @@
+pub mod Fronts
+pub mod Marks
+pub mod Groups
+pub mod Headers
+pub mod Views

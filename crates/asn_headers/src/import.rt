@@ -1,0 +1,71 @@
+//! Reads what a module imports.
+ghost use Rattle.asn_headers.specs.Fronts.{Answers, IsSyntax};
+ghost use Rattle.asn_headers.specs.Headers.{ImportsParse, import_at};
+ghost use Rattle.asn_headers.specs.Views.{import_view};
+ghost use Rattle.asn_lexer.specs.declared.token.Token.{Token};
+ghost use Rattle.std.specs.Prelude.{◌≡◌, IfErr, IfOk, List, map};
+
+use crate::fault::{Expected, SyntaxFault, unexpected};
+use crate::group::past_optional_braces;
+use crate::mark::{Mark, take_mark};
+use crate::name::{read_names, take_name};
+use asn_lexer::Token;
+use std::alloc::Global;
+
+/// Holds names that are imported from a module.
+#[derive(Drop)]
+pub struct Import {
+    /// Lists the names.
+    pub names: Vec<Token>,
+    /// Is the name of the module.
+    pub module: Token,
+}
+
+/// Returns names and the module that they are imported from, and what follows them.
+///
+/// # Errors
+///
+/// `Unexpected` where no name or `FROM` stands where one has to, or a brace isn't closed, and
+/// `OutOfMemory`.
+fn read_import(alloc: Global, tokens: &[Token]) -> Result<(Import, &[Token]), SyntaxFault>
+    ensures { Answers import_view (import_at tokens.now) result }
+{
+    let (names, behind) = read_names(alloc, tokens)?;
+    let Some(rest) = take_mark(Mark::From, behind) else {
+        return Err(unexpected(behind, Expected::CommaOrFrom));
+    };
+    let Some((module, after)) = take_name(rest) else {
+        return Err(unexpected(rest, Expected::Name));
+    };
+    let rest = past_optional_braces(alloc, after)?;
+    Ok((Import { names, module }, rest))
+}
+
+/// Returns the imports, of which there may be none, and what follows them.
+///
+/// # Errors
+///
+/// `Unexpected` where they aren't in the grammar, and `OutOfMemory`.
+pub(crate) fn read_imports(
+    alloc: Global,
+    tokens: &[Token],
+) -> Result<(Vec<Import>, &[Token]), SyntaxFault>
+    ensures ok { IfOk result (λ found.
+        ImportsParse tokens.now (map import_view found.0.items) found.1.now) }
+    ensures none { IfErr result (λ e. IsSyntax e → (imports : List (List Token × Token))
+        (rest : List Token) → ImportsParse tokens.now imports rest → ⊥) }
+{
+    let mut imports = Vec::new(alloc);
+    let Some(first) = take_mark(Mark::Imports, tokens) else {
+        return Ok((imports, tokens));
+    };
+    let mut rest = first;
+    'imports: loop {
+        if let Some(after) = take_mark(Mark::Semicolon, rest) {
+            return Ok((imports, after));
+        }
+        let (import, after) = read_import(alloc, rest)?;
+        imports.push(import)?;
+        rest = after;
+    }
+}

@@ -1,0 +1,6 @@
+pub mod Fronts
+pub mod Comments
+pub mod Words
+pub mod Shorter
+pub mod Reading
+pub mod Places

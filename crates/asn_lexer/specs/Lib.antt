@@ -1,0 +1,9 @@
+pub mod Fronts
+pub mod Blanks
+pub mod Runs
+pub mod Words
+pub mod Keywords
+pub mod Signs
+pub mod Pieces
+pub mod Tokens
+pub mod Places

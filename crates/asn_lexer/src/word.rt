@@ -1,0 +1,98 @@
+//! Passes over words, numbers and strings.
+ghost use Rattle.asn_lexer.specs.Words.{continues_word, is_word_char, past_number, past_string};
+ghost use Rattle.asn_lexer.specs.Words.{past_word, quoted_at, word_front};
+ghost use Rattle.std.specs.Option.{option_map};
+ghost use Rattle.std.specs.Prelude.{◌≡◌};
+
+use crate::kind::Kind;
+use crate::run::{Run, passes, past_run};
+
+/// Returns whether the byte is a letter, a digit or `_`.
+fn is_word_char(byte: u8) -> bool
+    ensures { result ≡ is_word_char byte }
+{
+    byte.is_ascii_alphanumeric() || byte == b'_'
+}
+
+/// Returns whether a word goes on with the first byte.
+fn continues_word(text: &[u8]) -> bool
+    ensures { result ≡ continues_word text.now }
+{
+    match text {
+        [first, rest @ ..] => {
+            is_word_char(*first) || (*first == b'-' && !rest.is_empty() && is_word_char(rest[0]))
+        }
+        [] => false,
+    }
+}
+
+/// Returns what follows the word at the front of the text.
+#[tactic(auto, using(crate::proofs::Words::word_steps))]
+fn past_word(text: &[u8]) -> &[u8]
+    ensures { result.now ≡ past_word text.now }
+{
+    let mut rest = text;
+    while continues_word(rest) {
+        rest = &rest[1..];
+    }
+    rest
+}
+
+/// Returns the word at the front of the text, and what follows it.
+pub fn word_at(text: &[u8]) -> (&str, &[u8])
+    ensures word { result.0.now ≡ word_front text.now }
+    ensures rest { result.1.now ≡ past_word text.now }
+{
+    let rest = past_word(text);
+    match str::from_utf8(&text[..text.len() - rest.len()]) {
+        Ok(word) => (word, rest),
+        Err(_) => unreachable!(),
+    }
+}
+
+/// Returns what follows the number at the front of the text.
+pub fn past_number(text: &[u8]) -> &[u8]
+    ensures { result.now ≡ past_number text.now }
+{
+    match text.strip_prefix(b"0x".as_slice()) {
+        Some(digits) if !digits.is_empty() && passes(Run::HexDigits, digits[0]) => {
+            past_run(Run::HexDigits, digits)
+        }
+        _ => past_run(Run::Digits, text),
+    }
+}
+
+/// Returns what follows the string whose opening quote was read, or `None` where it has no end.
+#[tactic(auto, using(crate::proofs::Words::string_steps))]
+pub fn past_string(text: &[u8]) -> Option<&[u8]>
+    ensures { option_map (λ rest. rest.now) result ≡ past_string text.now }
+{
+    let mut rest = text;
+    'chars: loop {
+        if let Some(after) = rest.strip_prefix(b"\"\"".as_slice()) {
+            rest = after;
+        } else if let Some(after) = rest.strip_prefix(b"\"".as_slice()) {
+            return Some(after);
+        } else {
+            match rest {
+                [_, after @ ..] => rest = after,
+                [] => return None,
+            }
+        }
+    }
+}
+
+/// Returns what the digits are whose opening apostrophe was read, and what follows them, or `None`
+/// where they don't end with `'B` or `'H`.
+#[tactic(auto, unfolding(crate::specs::Words::quoted_at))]
+pub fn quoted_at(text: &[u8]) -> Option<(Kind, &[u8])>
+    ensures { option_map (λ found. (found.0, found.1.now)) result ≡ quoted_at text.now }
+{
+    if let Some(rest) = past_run(Run::Bits, text).strip_prefix(b"'B".as_slice()) {
+        return Some((Kind::Bstring, rest));
+    }
+    if let Some(rest) = past_run(Run::Octets, text).strip_prefix(b"'H".as_slice()) {
+        return Some((Kind::Hstring, rest));
+    }
+    None
+}

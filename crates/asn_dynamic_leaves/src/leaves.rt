@@ -61,8 +61,8 @@ fn read_null<D: Decoder>(decoder: &mut D) -> Result<DynValue, DecodeError>
 
 /// Reads a BOOLEAN.
 fn read_bool<D: Decoder>(decoder: &mut D) -> Result<DynValue, DecodeError>
-    ensures answer { Answer D.notation AbstractShape.boolean dyn_value (D.pending decoder.old) result
-        (D.pending decoder.new) }
+    ensures answer { Answer D.notation AbstractShape.boolean dyn_value (D.pending decoder.old)
+        result (D.pending decoder.new) }
     ensures held { IfOk result (λ v. IsHeldValue (dyn_value v)) }
 {
     match decoder.decode_bool(Tag::BOOL) {
@@ -73,8 +73,8 @@ fn read_bool<D: Decoder>(decoder: &mut D) -> Result<DynValue, DecodeError>
 
 /// Reads a BIT STRING, of this size where the type fixes one.
 fn read_bits<D: Decoder>(decoder: &mut D, fixed: Option<usize>) -> Result<DynValue, DecodeError>
-    ensures answer { Answer D.notation (AbstractShape.bits fixed) dyn_value (D.pending decoder.old) result
-        (D.pending decoder.new) }
+    ensures answer { Answer D.notation (AbstractShape.bits fixed) dyn_value
+        (D.pending decoder.old) result (D.pending decoder.new) }
     ensures held { IfOk result (λ v. IsHeldValue (dyn_value v)) }
 {
     match decoder.take_leaf(LeafKind::Bits(fixed))? {

@@ -61,8 +61,8 @@ fn read_within<D: Decoder, C: NamedSet, T: TextType>(
     decoder: &mut D,
 ) -> Result<DynValue, DecodeError>
     requires { T.shape ≡ AbstractShape.text C.name }
-    ensures answer { Answer D.notation (AbstractShape.text C.name) dyn_value (D.pending decoder.old) result
-        (D.pending decoder.new) }
+    ensures answer { Answer D.notation (AbstractShape.text C.name) dyn_value
+        (D.pending decoder.old) result (D.pending decoder.new) }
     ensures held { IfOk result (λ v. IsHeldValue (dyn_value v)) }
 {
     match decoder.take_leaf(LeafKind::Text)? {
@@ -78,7 +78,8 @@ fn string_of<C: NamedSet, T: TextType>(
     codec: Codec,
 ) -> Result<DynValue, DecodeError>
     requires { T.shape ≡ AbstractShape.text C.name }
-    ensures made { MakesOfText (AbstractShape.text C.name) dyn_value codec (string_bytes text) result }
+    ensures made { MakesOfText (AbstractShape.text C.name) dyn_value codec (string_bytes text)
+        result }
     ensures held { IfOk result (λ v. IsHeldValue (dyn_value v)) }
 {
     match first_outside::<C>(text.as_str()) {
@@ -96,8 +97,8 @@ fn string_of<C: NamedSet, T: TextType>(
 ///
 /// `Custom` where the text is no such digits; those of `Decoder`.
 pub fn read_decimal<D: Decoder>(decoder: &mut D) -> Result<DynValue, DecodeError>
-    ensures answer { Answer D.notation AbstractShape.decimal dyn_value (D.pending decoder.old) result
-        (D.pending decoder.new) }
+    ensures answer { Answer D.notation AbstractShape.decimal dyn_value (D.pending decoder.old)
+        result (D.pending decoder.new) }
     ensures held { IfOk result (λ v. IsHeldValue (dyn_value v)) }
 {
     match decoder.take_leaf(LeafKind::Text)? {

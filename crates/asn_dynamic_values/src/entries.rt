@@ -47,7 +47,8 @@ fn key_of(entry: &DynValue) -> &[u8]
 
 /// Returns whether there is a last entry, and it has the key of this one.
 fn has_key(last: Option<&DynValue>, entry: &DynValue) -> bool
-    ensures { result ≡ ties_with (option_map (λ v. dyn_value v.now) last.entry) (dyn_value entry.now) }
+    ensures { result ≡ ties_with (option_map (λ v. dyn_value v.now) last.entry)
+        (dyn_value entry.now) }
 {
     match last {
         Some(last) => key_of(last).cmp(key_of(entry)) == Ordering::Equal,

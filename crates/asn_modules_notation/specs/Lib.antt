@@ -1,0 +1,11 @@
+pub mod Kinds
+pub mod Lists
+pub mod Numbers
+pub mod Tags
+pub mod Sizes
+pub mod Values
+pub mod Starts
+pub mod Notation
+pub mod Grammar
+pub mod Modules
+pub mod View

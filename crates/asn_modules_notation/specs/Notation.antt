@@ -1,0 +1,62 @@
+-- The types that stand in modules, with their parts.
+use Rattle.std.specs.Prelude.{List, [], ◌∷◌, Bool, true, false, Option}
+use Rattle.asn_lexer.specs.declared.token.Token.{Token}
+use Rattle.asn_model.specs.Shape.{SeqKind}
+use Rattle.asn_modules_notation.specs.declared.leaf.Leaf.{Leaf}
+use Rattle.asn_modules_notation.specs.declared.notation.Presence.{Presence}
+use Rattle.asn_modules_notation.specs.declared.number.Item.{Item}
+use Rattle.asn_modules_notation.specs.declared.number.NamedNumber.{NamedNumber}
+use Rattle.asn_modules_notation.specs.declared.size.Size.{Size}
+use Rattle.asn_modules_notation.specs.declared.tag.TagNotation.{TagNotation}
+
+mutual
+  -- What stands for a type: its tags, the outermost first, what they tag, and the sizes that its constraints state.
+  pub data Notation : Type 0 where
+    notation : List TagNotation → Base → List Size → Notation
+
+  -- What stands for a type without its tags and constraints.
+  pub data Base : Type 0 where
+    -- A type without parts.
+    leaf : Leaf → Base
+    -- INTEGER, with its named numbers.
+    integer : List NamedNumber → Base
+    -- BIT STRING, with its named bits.
+    bit_string : List NamedNumber → Base
+    -- ENUMERATED, with its items, of which `None` is the extension marker.
+    enumerated : List (Option Item) → Base
+    -- SEQUENCE or SET, with its members.
+    members : SeqKind → Members → Base
+    -- SEQUENCE OF or SET OF.
+    list_of : SeqKind → Notation → Base
+    -- CHOICE, with its alternatives.
+    choice : Members → Base
+    -- The name of a type, behind that of its module where it is stated.
+    reference : Option Token → Token → Base
+
+  -- An entry between the braces of SEQUENCE, SET and CHOICE.
+  pub data Member : Type 0 where
+    -- The name of a component or alternative, its type, and whether it may be absent.
+    component : Token → Notation → Presence → Member
+    -- The components of this type.
+    components_of : Notation → Member
+    -- Those between version brackets.
+    group : Members → Member
+    -- An extension marker.
+    marker : Member
+
+  -- The entries between braces, in order.
+  pub data Members : Type 0 where
+    no_members : Members
+    member : Member → Members → Members
+
+-- The entries of a list, in order.
+abbrev pub members_of : List Member → Members
+members_of [] = no_members
+members_of (m ∷ ms) = member m (members_of ms)
+
+-- The entry is an extension marker.
+abbrev pub is_marker : Member → Bool
+is_marker (component name n presence) = false
+is_marker (components_of n) = false
+is_marker (group ms) = false
+is_marker marker = true

@@ -1,0 +1,35 @@
+//! Defines modules as they stand in a text.
+use crate::notation::Notation;
+use crate::value::Value;
+use asn_headers::Header;
+use asn_lexer::Token;
+
+/// Assigns a type or a value to a name (X.680, section 16).
+#[derive(Drop)]
+pub enum Assignment {
+    /// Assigns a type.
+    Type {
+        /// Is the name.
+        name: Token,
+        /// Describes the type.
+        notation: Notation,
+    },
+    /// Assigns a value.
+    Value {
+        /// Is the name.
+        name: Token,
+        /// Describes the type of the value.
+        notation: Notation,
+        /// Is the value.
+        value: Value,
+    },
+}
+
+/// Holds a module.
+#[derive(Drop)]
+pub struct Module {
+    /// Holds what stands before its assignments; `None` where a text has assignments alone.
+    pub header: Option<Header>,
+    /// Lists its assignments, in the order of the text.
+    pub assignments: Vec<Assignment>,
+}

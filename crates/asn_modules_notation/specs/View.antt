@@ -67,17 +67,9 @@ notation_step n = spec.notation n.tags.items n.base n.sizes.items
 abbrev pub notation_view : Notation → spec.Notation
 notation_view = fold-Notation spec.Base spec.Member spec.Member (List spec.Member) (List spec.Member) spec.Notation base_step component_step member_step extension_step members_step notation_step
 
--- What it is without its tags and constraints.
-abbrev pub base_view : Base → spec.Base
-base_view = fold-Base spec.Base spec.Member spec.Member (List spec.Member) (List spec.Member) spec.Notation base_step component_step member_step extension_step members_step notation_step
-
 -- The entry that a `Component` is.
 abbrev pub component_view : Component → spec.Member
 component_view = fold-Component spec.Base spec.Member spec.Member (List spec.Member) (List spec.Member) spec.Notation base_step component_step member_step extension_step members_step notation_step
-
--- The entry that a `Member` is.
-abbrev pub member_view : Member → spec.Member
-member_view = fold-Member spec.Base spec.Member spec.Member (List spec.Member) (List spec.Member) spec.Notation base_step component_step member_step extension_step members_step notation_step
 
 -- The entries that `Members` are, with the extension markers among them.
 abbrev pub members_view : Members → List spec.Member

@@ -71,8 +71,8 @@ pub struct Members {
 pub struct Extension {
     /// Lists the extension additions.
     pub additions: Vec<Member>,
-    /// Lists what stands behind the second marker, and belongs to the root; `None` where there is no
-    /// second marker.
+    /// Lists what stands behind the second marker, and belongs to the root; `None` where there is
+    /// no second marker.
     pub tail: Option<Vec<Member>>,
 }
 

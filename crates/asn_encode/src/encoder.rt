@@ -164,6 +164,7 @@ pub trait Encoder {
     }
 
     /// Encodes a NULL.
+    #[inline(always)]
     final fn encode_null(&mut self, tag: Tag, identifier: Identifier) -> Result<(), EncodeError>
         ensures written { OnOk result
             (Written holds notation Shape.null Value.null self.old self.new) }
@@ -173,6 +174,7 @@ pub trait Encoder {
     }
 
     /// Encodes an INTEGER, whose constraints are not checked.
+    #[inline(always)]
     final fn encode_integer<I: IntegerType>(
         &mut self,
         tag: Tag,

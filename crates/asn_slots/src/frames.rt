@@ -89,7 +89,8 @@ impl<V: Drop> Frames<V> {
         ensures added { OnOk result (self.new ≡ push slot self.old) }
         ensures kept { OnErr result (self.new ≡ self.old) }
     {
-        self.slots.push(slot)?;
+        self.slots.reserve(1)?;
+        self.slots.push_reserved(slot);
         Ok(())
     }
 

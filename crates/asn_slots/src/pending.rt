@@ -150,6 +150,21 @@ impl<V: Drop> Pending<V> {
         ensures { MatchOption result ((self.old ≡ []) × (self.new ≡ self.old))
             (λ slot. self.old ≡ slot ∷ self.new) }
     {
+        // A value of a list moves alone: what is left of its run stays where it is.
+        if let Some(run) = &mut self.next {
+            if let Some(value) = run.later.next() {
+                return Some(mem::replace(&mut run.first, Some(value)));
+            }
+        }
+        self.take_between_runs()
+    }
+
+    /// Takes the next slot as `take` does, wherever the run stands that it begins.
+    #[inline(never)]
+    fn take_between_runs(&mut self) -> Option<Option<V>>
+        ensures { MatchOption result ((self.old ≡ []) × (self.new ≡ self.old))
+            (λ slot. self.old ≡ slot ∷ self.new) }
+    {
         let run = match self.next.take() {
             Some(run) => run,
             None => self.runs.pop()?,

@@ -28,7 +28,12 @@ fn items_hold_float(items: &Vec<Value>) -> bool
     ensures { result ≡ items_have_float (items_view items.now.items) }
 {
     for item in items {
-        if holds_float(item) {
+        // A number is looked at without a call.
+        let holds = match item {
+            Value::Number(number) => number.is_f64(),
+            _ => holds_float(item),
+        };
+        if holds {
             return true;
         }
     }

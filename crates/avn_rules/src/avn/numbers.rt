@@ -3,7 +3,7 @@
 ghost use Rattle.asn_core.specs.Numbers.{signed};
 ghost use Rattle.asn_traits.specs.Digits.{digits, signed_number};
 ghost use Rattle.avn_rules.specs.Numbers.{Counts, ReadsDigits, ReadsNumber};
-ghost use Rattle.std.specs.Prelude.{◌≡◌, option_map, ℕ, ◌+◌, ◌*◌};
+ghost use Rattle.std.specs.Prelude.{◌≡◌, ◌<◌, option_map, ℕ, ◌+◌, ◌*◌, length, IfSome, Some};
 
 use asn_core::WholeNumber;
 
@@ -46,6 +46,9 @@ fn magnitude_of(digits: &[u8]) -> Option<Option<u128>>
     if digits.is_empty() {
         return None;
     }
+    if let Some(magnitude) = short_magnitude(digits) {
+        return Some(Some(magnitude as u128));
+    }
     // A number that is too large stays so, but the digits after it are still looked at.
     let mut magnitude = Some(0);
     for &digit in digits {
@@ -53,6 +56,23 @@ fn magnitude_of(digits: &[u8]) -> Option<Option<u128>>
             return None;
         }
         magnitude = with_digit(magnitude, digit - b'0');
+    }
+    Some(magnitude)
+}
+
+/// Returns the number of one or more digits, if there are at most 19 from the first one on that
+/// isn't 0. So most numbers are counted in 64 bits.
+fn short_magnitude(digits: &[u8]) -> Option<u64>
+    requires { 0 < length digits.now }
+    ensures { IfSome result (λ n. ReadsDigits digits.now (Some (Some n))) }
+{
+    let mut magnitude: u64 = 0;
+    for &digit in digits {
+        // With one digit more the number stays below 10^19, which 64 bits hold.
+        if digit < b'0' || digit > b'9' || magnitude >= 1_000_000_000_000_000_000 {
+            return None;
+        }
+        magnitude = magnitude * 10 + (digit - b'0') as u64;
     }
     Some(magnitude)
 }

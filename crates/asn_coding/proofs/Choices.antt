@@ -19,7 +19,7 @@ use Rattle.asn_coding.specs.Scopes.{AlternativeAnswer, NoAlternative, TagAnswer}
 use Rattle.asn_coding.proofs.Steps.{refuses_by, same_head, same_tail}
 
 -- The alternative of that name is the one at the place.
-record Found (alts : Alternatives) (named : Option (List ℕ × Shape)) (k : ℕ) : Type 0 where
+pub record Found (alts : Alternatives) (named : Option (List ℕ × Shape)) (k : ℕ) : Type 0 where
   pub a : List ℕ × Shape
   pub by_name : named ≡ Some a
   pub by_place : alternative_at alts k ≡ Some a
@@ -37,7 +37,7 @@ found_at false i t s alts named (suc k) (Some j) f e =
     record { a = h.a; by_name = h.by_name; by_place = subst (λ x. alternative_at alts x ≡ Some h.a) same h.by_place }
 found_at false i t s alts named k None f e = let d : ◌≡◌ {A = Option ℕ} None (Some k) = e in cc d
 
-found : (alts : Alternatives) (name : List ℕ) (k : ℕ) → place_named same_identifier (identifiers alts) name ≡ Some k → Found alts (alternative_named same_identifier alts name) k
+pub found : (alts : Alternatives) (name : List ℕ) (k : ℕ) → place_named same_identifier (identifiers alts) name ≡ Some k → Found alts (alternative_named same_identifier alts name) k
 found Alternatives.no_alternatives name k e = let d : ◌≡◌ {A = Option ℕ} None (Some k) = e in cc d
 found (Alternatives.alternative i t s alts) name k e = found_at (same_identifier name i) i t s alts _ k _ (found alts name) e
 
@@ -47,7 +47,7 @@ lost_at true i s named place f e = let d : ◌≡◌ {A = Option ℕ} (Some 0) N
 lost_at false i s named (Some j) f e = let d : ◌≡◌ {A = Option ℕ} (Some (suc j)) None = e in cc d
 lost_at false i s named None f e = f refl
 
-lost : (alts : Alternatives) (name : List ℕ) → place_named same_identifier (identifiers alts) name ≡ None → alternative_named same_identifier alts name ≡ None
+pub lost : (alts : Alternatives) (name : List ℕ) → place_named same_identifier (identifiers alts) name ≡ None → alternative_named same_identifier alts name ≡ None
 lost Alternatives.no_alternatives name e = refl
 lost (Alternatives.alternative i t s alts) name e = lost_at (same_identifier name i) i s _ _ (lost alts name) e
 

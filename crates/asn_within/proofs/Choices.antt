@@ -4,6 +4,7 @@ use Rattle.std.specs.Prelude.{option_map}
 use Rattle.asn_coding.specs.Answer.{AnswerBy, Refuses}
 use Rattle.asn_coding.specs.Opening.{IsChoice, OpensChoice}
 use Rattle.asn_coding.specs.Scopes.{NoAlternative}
+use Rattle.asn_coding.proofs.Choices.{Found, found, lost}
 use Rattle.asn_coding.proofs.Steps.{refuses_by, same_head, same_tail}
 use Rattle.asn_core.specs.declared.tag.Tag.{Tag}
 use Rattle.asn_fault.specs.Failure.{Cause, Failure}
@@ -18,38 +19,6 @@ use Rattle.asn_model.proofs.Readables.{and-left, and-right}
 use Rattle.asn_within.specs.Closed.{closed, closed_alternatives, closed_added_alternatives, IsPart}
 use Rattle.asn_within.specs.Listed.{PayloadBy}
 use Rattle.asn_within.proofs.Costs.{cost, alternatives_cost, added_alternatives_cost, more-nodes}
-
-record Found (alts : Alternatives) (named : Option (List ℕ × Shape)) (k : ℕ) : Type 0 where
-  pub a : List ℕ × Shape
-  pub by_name : named ≡ Some a
-  pub by_place : alternative_at alts k ≡ Some a
-
-found_at : (b : Bool) (i : List ℕ) (t : Tag) (s : Shape) (alts : Alternatives) (named : Option (List ℕ × Shape)) (k : ℕ) (place : Option ℕ)
-    → ((j : ℕ) → place ≡ Some j → Found alts named j) → (if b then Some 0 else option_map suc place) ≡ Some k
-    → Found (Alternatives.alternative i t s alts) (if b then Some (i, s) else named) k
-found_at true i t s alts named zero place f e = record { a = (i, s); by_name = refl; by_place = refl }
-found_at true i t s alts named (suc k) place f e = let d : ◌≡◌ {A = Option ℕ} (Some 0) (Some (suc k)) = e in cc d
-found_at false i t s alts named zero (Some j) f e = let d : ◌≡◌ {A = Option ℕ} (Some (suc j)) (Some 0) = e in cc d
-found_at false i t s alts named (suc k) (Some j) f e =
-    let d : ◌≡◌ {A = Option ℕ} (Some (suc j)) (Some (suc k)) = e in
-    let same : j ≡ k = cc d in
-    let h = f j refl in
-    record { a = h.a; by_name = h.by_name; by_place = subst (λ x. alternative_at alts x ≡ Some h.a) same h.by_place }
-found_at false i t s alts named k None f e = let d : ◌≡◌ {A = Option ℕ} None (Some k) = e in cc d
-
-found : (alts : Alternatives) (name : List ℕ) (k : ℕ) → place_named same_identifier (identifiers alts) name ≡ Some k → Found alts (alternative_named same_identifier alts name) k
-found Alternatives.no_alternatives name k e = let d : ◌≡◌ {A = Option ℕ} None (Some k) = e in cc d
-found (Alternatives.alternative i t s alts) name k e = found_at (same_identifier name i) i t s alts _ k _ (found alts name) e
-
-lost_at : (b : Bool) (i : List ℕ) (s : Shape) (named : Option (List ℕ × Shape)) (place : Option ℕ) → (place ≡ None → named ≡ None)
-    → (if b then Some 0 else option_map suc place) ≡ None → (if b then Some (i, s) else named) ≡ None
-lost_at true i s named place f e = let d : ◌≡◌ {A = Option ℕ} (Some 0) None = e in cc d
-lost_at false i s named (Some j) f e = let d : ◌≡◌ {A = Option ℕ} (Some (suc j)) None = e in cc d
-lost_at false i s named None f e = f refl
-
-lost : (alts : Alternatives) (name : List ℕ) → place_named same_identifier (identifiers alts) name ≡ None → alternative_named same_identifier alts name ≡ None
-lost Alternatives.no_alternatives name e = refl
-lost (Alternatives.alternative i t s alts) name e = lost_at (same_identifier name i) i s _ _ (lost alts name) e
 
 same-some : {A : Type 0} (x y : A) → Some x ≡ Some y → x ≡ y
 same-some x y e = cc e
@@ -89,15 +58,15 @@ joined-closed : (env : List Shape) (alts more : Alternatives) → join_alternati
 joined-closed env Alternatives.no_alternatives more = refl
 joined-closed env (Alternatives.alternative i t s alts) more = ap (Alternatives.alternative i t (closed env s)) (joined-closed env alts more)
 
-all-closed : (env : List Shape) (alts : Alternatives) (added : AlternativeAdditions) → all_alternatives (closed_alternatives 0 env alts) (closed_added_alternatives 0 env added) ≡ closed_alternatives 0 env (all_alternatives alts added)
+pub all-closed : (env : List Shape) (alts : Alternatives) (added : AlternativeAdditions) → all_alternatives (closed_alternatives 0 env alts) (closed_added_alternatives 0 env added) ≡ closed_alternatives 0 env (all_alternatives alts added)
 all-closed env alts AlternativeAdditions.closed_alternatives = refl
 all-closed env alts (AlternativeAdditions.extended_alternatives more) = joined-closed env alts more
 
-names-closed : (env : List Shape) (alts : Alternatives) → identifiers alts ≡ identifiers (closed_alternatives 0 env alts)
+pub names-closed : (env : List Shape) (alts : Alternatives) → identifiers alts ≡ identifiers (closed_alternatives 0 env alts)
 names-closed env Alternatives.no_alternatives = refl
 names-closed env (Alternatives.alternative i t s alts) = ap (λ l. i ∷ l) (names-closed env alts)
 
-closed-at : (env : List Shape) (alts : Alternatives) (k : ℕ) (a : List ℕ × Shape) → alternative_at alts k ≡ Some a → alternative_at (closed_alternatives 0 env alts) k ≡ Some (a.0, closed env a.1)
+pub closed-at : (env : List Shape) (alts : Alternatives) (k : ℕ) (a : List ℕ × Shape) → alternative_at alts k ≡ Some a → alternative_at (closed_alternatives 0 env alts) k ≡ Some (a.0, closed env a.1)
 closed-at env Alternatives.no_alternatives k a e = let d : ◌≡◌ {A = Option (List ℕ × Shape)} None (Some a) = e in cc d
 closed-at env (Alternatives.alternative i t s alts) zero a e = ap (λ (b : List ℕ × Shape). Some (b.0, closed env b.1)) (same-some (i, s) a e)
 closed-at env (Alternatives.alternative i t s alts) (suc k) a e = closed-at env alts k a e

@@ -52,7 +52,7 @@ component-closed env [] k c e = let d : ◌≡◌ {A = Option Component} None (S
 component-closed env (d ∷ cs) zero c e = ap (λ x. Some (closed_component env x)) (same-some e)
 component-closed env (d ∷ cs) (suc k) c e = component-closed env cs k c e
 
-fields-listed : (fs : Fields) (added : FieldAdditions) → fields_from (listed_components fs added) ≡ all_fields fs added
+pub fields-listed : (fs : Fields) (added : FieldAdditions) → fields_from (listed_components fs added) ≡ all_fields fs added
 fields-listed fs added = ap fields_from (sym (with-additions (components Standing.root fs) added)) ∙ fields-read fs added
 
 component-readable : (cs : List Component) (k : ℕ) (c : Component) → are_fields_readable 0 (fields_from cs) ≡ true → component_at cs k ≡ Some c → is_readable c.shape ≡ true
@@ -76,7 +76,7 @@ all-cost f fs FieldAdditions.closed_fields = omega arith
 all-cost f fs (FieldAdditions.extended_fields more) = joined-cost f fs more
 
 -- A field costs less than the SEQUENCE or SET.
-field-costs : (m n : ℕ) (kind : SeqKind) (fs : Fields) (added : FieldAdditions) (k : ℕ) (c : Component) → m < n → component_at (listed_components fs added) k ≡ Some c → cost m c.shape < cost n (Shape.seq kind fs added)
+pub field-costs : (m n : ℕ) (kind : SeqKind) (fs : Fields) (added : FieldAdditions) (k : ℕ) (c : Component) → m < n → component_at (listed_components fs added) k ≡ Some c → cost m c.shape < cost n (Shape.seq kind fs added)
 field-costs m zero kind fs added k c h e = absurd (omega (arith, h))
 field-costs m (suc n) kind fs added k c h e =
     let q = component-costs (cost n) (listed_components fs added) k c e in

@@ -199,7 +199,7 @@ placed-closed : (env : List Shape) (k : ℕ) (cs : List Component) → placed k 
 placed-closed env k [] = refl
 placed-closed env k (c ∷ cs) = ap (λ l. (k, closed_component env c) ∷ l) (placed-closed env (suc k) cs)
 
-names-closed : (env : List Shape) (fs : Fields) → length (field_names (closed_fields 0 env fs)) ≡ length (field_names fs)
+pub names-closed : (env : List Shape) (fs : Fields) → length (field_names (closed_fields 0 env fs)) ≡ length (field_names fs)
 names-closed env Fields.no_fields = refl
 names-closed env (Fields.field n t p s fs) = ap suc (names-closed env fs)
 

@@ -27,6 +27,50 @@ pub enum Expected {
     CommaOrSemicolon,
     /// `,` or `FROM`.
     CommaOrFrom,
+    /// A number.
+    Number,
+    /// A number or a name.
+    NumberOrName,
+    /// A word.
+    Word,
+    /// A word or `...`.
+    Item,
+    /// `(`.
+    OpenParen,
+    /// `)`.
+    CloseParen,
+    /// `]`.
+    CloseBracket,
+    /// `{`.
+    OpenBrace,
+    /// `,` or `}`.
+    CommaOrBrace,
+    /// `,` or `]]`.
+    CommaOrVersion,
+    /// A component or an alternative.
+    Component,
+    /// `{`, `OF`, or a size before `OF`.
+    BraceOrOf,
+    /// `OF`.
+    Of,
+    /// `STRING`.
+    String,
+    /// `IDENTIFIER`.
+    Identifier,
+    /// `PDV`.
+    Pdv,
+    /// `BY`.
+    By,
+    /// A type.
+    Type,
+    /// A type at a level that types may stand at.
+    HigherType,
+    /// A value.
+    Value,
+    /// A name or `END`.
+    NameOrEnd,
+    /// A name or the end of the text.
+    NameOrNothing,
 }
 
 /// States why tokens are not read.
@@ -66,7 +110,7 @@ impl<T: Drop> From<AllocFailed<T>> for SyntaxFault {
 }
 
 /// Returns the fault of what stands first in place of what is expected.
-pub(crate) fn unexpected(tokens: &[Token], expected: Expected) -> SyntaxFault
+pub fn unexpected(tokens: &[Token], expected: Expected) -> SyntaxFault
     ensures { result ≡ Unexpected (first_of tokens.now) expected }
 {
     let met = match tokens {

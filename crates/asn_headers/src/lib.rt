@@ -14,7 +14,7 @@ mod name;
 mod opening;
 mod tagging;
 
-pub use fault::{Expected, SyntaxFault};
+pub use fault::{Expected, SyntaxFault, unexpected};
 pub use group::{Group, past_group, past_optional_braces};
 pub use header::{Header, read_header};
 pub use import::Import;

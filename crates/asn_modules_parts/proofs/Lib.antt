@@ -1,0 +1,10 @@
+pub mod Runs
+pub mod Repeats
+pub mod SignsTaken
+pub mod Groups
+pub mod Openings
+pub mod ValuesRead
+pub mod EntriesSeen
+pub mod ItemsRead
+pub mod SizesRead
+pub mod NumbersRead

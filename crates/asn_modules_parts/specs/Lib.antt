@@ -1,0 +1,7 @@
+pub mod Marks
+pub mod Signs
+pub mod Reading
+pub mod EntryLists
+pub mod Sizes
+pub mod Starts
+pub mod Values

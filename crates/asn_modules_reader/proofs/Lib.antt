@@ -1,0 +1,7 @@
+pub mod Viewing
+pub mod Notations
+pub mod BasesRead
+pub mod MembersRead
+pub mod BracesRead
+pub mod HeadersShorter
+pub mod ModulesRead

@@ -1,0 +1,37 @@
+//! Makes types without tags of what they hold.
+ghost use Rattle.asn_model.specs.ShapeView.{kind_view};
+ghost use Rattle.asn_modules_notation.specs.Notation as spec;
+ghost use Rattle.asn_modules_notation.specs.View.{members_view, notation_view};
+ghost use Rattle.asn_modules_reader.specs.Views.{base_view};
+ghost use Rattle.std.specs.Prelude.{◌≡◌, IfOk};
+
+use asn_model::SeqKind;
+use asn_modules_notation::{Base, Members, Notation};
+use std::alloc::{AllocError, Global};
+
+/// Returns the SEQUENCE or SET of the members.
+pub(crate) fn fields_of(kind: SeqKind, members: Members) -> Base
+    ensures { base_view result
+        ≡ spec.members (kind_view kind) (spec.members_of (members_view members)) }
+{
+    match kind {
+        SeqKind::Sequence => Base::Sequence(members),
+        SeqKind::Set => Base::Set(members),
+    }
+}
+
+/// Returns the SEQUENCE OF or SET OF elements of the type.
+///
+/// # Errors
+///
+/// Where memory runs out.
+pub(crate) fn list_of(alloc: Global, kind: SeqKind, element: Notation) -> Result<Base, AllocError>
+    ensures { IfOk result (λ base.
+        base_view base ≡ spec.list_of (kind_view kind) (notation_view element)) }
+{
+    let element = Box::new(alloc, element)?;
+    match kind {
+        SeqKind::Sequence => Ok(Base::SequenceOf(element)),
+        SeqKind::Set => Ok(Base::SetOf(element)),
+    }
+}

@@ -1,0 +1,16 @@
+//! Reads the modules of published files: one function for each production of the grammar of
+//! `asn_modules_notation`, over tokens that it goes over once and never back. One token decides
+//! what stands at a place.
+#![tactic(auto)]
+
+mod assignment;
+mod bases;
+pub mod limits;
+mod members;
+mod module;
+mod notation;
+mod version;
+
+pub use assignment::{read_assignment, read_assignments};
+pub use module::{read_module, read_text};
+pub use notation::read_notation;

@@ -1,0 +1,130 @@
+//! Reads modules, and whole texts.
+ghost use Rattle.asn_headers.specs.Fronts.{IsSyntax};
+ghost use Rattle.asn_modules_notation.specs.Modules as spec;
+ghost use Rattle.asn_modules_notation.specs.Modules.{ModulesParse, TextParses, begins_module};
+ghost use Rattle.asn_modules_notation.specs.View.{module_view};
+ghost use Rattle.asn_modules_parts.specs.Reading.{Reads};
+ghost use Rattle.asn_modules_reader.specs.Modules.{ModuleParses};
+ghost use Rattle.std.specs.Prelude.{◌≡◌, ◌<◌, [], IfErr, IfOk, List, MatchOption, false, length, map};
+
+use crate::assignment::read_assignments;
+use crate::limits::NESTING_LIMIT;
+use asn_headers::{Expected, SyntaxFault, read_header, unexpected};
+use asn_lexer::{Keyword, Kind, Token};
+use asn_modules_notation::Module;
+use asn_modules_parts::{Mark, Sign, take, take_sign};
+use std::alloc::Global;
+
+/// Returns a module, and what follows it.
+///
+/// # Errors
+///
+/// `Unexpected` where none stands here, and `OutOfMemory`.
+pub fn read_module(alloc: Global, tokens: &[Token]) -> Result<(Module, &[Token]), SyntaxFault>
+    ensures found { Reads module_view (ModuleParses NESTING_LIMIT tokens.now) result }
+    ensures shorter { IfOk result (λ found. length found.1.now < length tokens.now) }
+{
+    let (header, assigned) = read_header(alloc, tokens)?;
+    let (assignments, behind) = read_assignments(alloc, assigned)?;
+    let Some(rest) = take_sign(Sign::End, behind) else {
+        return Err(unexpected(behind, Expected::NameOrEnd));
+    };
+    let module = Module {
+        header: Some(header),
+        assignments,
+    };
+    Ok((module, rest))
+}
+
+/// Returns the first token, if there is one.
+fn first_of(tokens: &[Token]) -> Option<Token>
+    ensures { MatchOption result (tokens.now ≡ []) (λ _first. tokens.now ≡ [] → ⊥) }
+{
+    match tokens {
+        [first, ..] => Some(*first),
+        [] => None,
+    }
+}
+
+/// Returns the modules that all of the tokens are.
+///
+/// # Errors
+///
+/// `Unexpected` where they aren't in the grammar, and `OutOfMemory`.
+fn read_modules(alloc: Global, tokens: &[Token]) -> Result<Vec<Module>, SyntaxFault>
+    ensures ok { IfOk result (λ modules.
+        ModulesParse NESTING_LIMIT tokens.now (map module_view modules.items)) }
+    ensures none { IfErr result (λ e. IsSyntax e → (modules : List spec.Module)
+        → ModulesParse NESTING_LIMIT tokens.now modules → ⊥) }
+{
+    let mut modules = Vec::new(alloc);
+    let mut rest = tokens;
+    'modules: loop {
+        let Some(_first) = first_of(rest) else {
+            return Ok(modules);
+        };
+        let (module, after) = read_module(alloc, rest)?;
+        modules.push(module)?;
+        rest = after;
+    }
+}
+
+/// Returns the module without a header of the assignments that all of the tokens are.
+///
+/// # Errors
+///
+/// `Unexpected` where they aren't in the grammar, and `OutOfMemory`.
+fn read_bare(alloc: Global, tokens: &[Token]) -> Result<Vec<Module>, SyntaxFault>
+    requires { begins_module tokens.now ≡ false }
+    ensures ok { IfOk result (λ modules.
+        TextParses NESTING_LIMIT tokens.now (map module_view modules.items)) }
+    ensures none { IfErr result (λ e. IsSyntax e → (modules : List spec.Module)
+        → TextParses NESTING_LIMIT tokens.now modules → ⊥) }
+{
+    let (assignments, rest) = read_assignments(alloc, tokens)?;
+    if let Some(_first) = first_of(rest) {
+        return Err(unexpected(rest, Expected::NameOrNothing));
+    }
+    let module = Module {
+        header: None,
+        assignments,
+    };
+    let mut modules = Vec::new(alloc);
+    modules.push(module)?;
+    Ok(modules)
+}
+
+/// Returns whether a module begins here.
+fn begins_module(tokens: &[Token]) -> bool
+    ensures { result ≡ begins_module tokens.now }
+{
+    let Some((_name, behind)) = take(Mark::Name, tokens) else {
+        return false;
+    };
+    match behind {
+        [second, ..] => matches!(
+            second.kind,
+            Kind::OpenBrace | Kind::Reserved(Keyword::Definitions)
+        ),
+        [] => false,
+    }
+}
+
+/// Returns the modules that the tokens of a whole text stand for: a list of them, or assignments
+/// alone. The names in them are not compared.
+///
+/// # Errors
+///
+/// `Unexpected` exactly where the tokens stand for none, at the first token that fits nothing,
+/// unless memory runs out, and `OutOfMemory`.
+pub fn read_text(alloc: Global, tokens: &[Token]) -> Result<Vec<Module>, SyntaxFault>
+    ensures ok { IfOk result (λ modules.
+        TextParses NESTING_LIMIT tokens.now (map module_view modules.items)) }
+    ensures none { IfErr result (λ e. IsSyntax e → (modules : List spec.Module)
+        → TextParses NESTING_LIMIT tokens.now modules → ⊥) }
+{
+    if begins_module(tokens) {
+        return read_modules(alloc, tokens);
+    }
+    read_bare(alloc, tokens)
+}

@@ -1,19 +1,15 @@
 -- The places of names.
-use Rattle.std.proofs.Common.{◌≡◌, ℕ, suc, ◌+◌, ◌<◌, List, [], ◌∷◌, ◌++◌, Bool, true, false, if◌then◌else◌, Option, Some, None, refl, sym, ap, subst, ◌∙◌, length, is_some, inl, inr, option_map, map, take, drop, get_or, string_bytes, ◌≤◌, arith}
+use Rattle.std.proofs.Common.{◌≡◌, ℕ, suc, List, [], ◌∷◌, ◌++◌, Bool, true, false, if◌then◌else◌, Option, Some, None, refl, sym, ap, subst, ◌∙◌, length, is_some, inl, inr, option_map}
 use Rattle.std.proofs.lemmas.Bool.{cases_Bool}
-use Rattle.std.proofs.lemmas.List.{take_more, map-append, length-map, length-take-le}
 use Rattle.std.proofs.lemmas.Map.Text.{hash_map_updates_str}
 use Rattle.std.proofs.lemmas.Slice.Eq.{bytes_eq-Decides}
 use Rattle.std.specs.Borrow.{Bor}
 use Rattle.std.specs.HashMap.{HashMap, UpdatesBy}
 use Rattle.std.specs.Str.{bytes_eq}
 use Rattle.asn_model.specs.Shape.{is_item, place_named}
-use Rattle.asn_notation.specs.Names.{assigned_names, first_repeated_in, first_failing, first_unassigned, module_references}
+use Rattle.asn_notation.specs.Names.{assigned_names, first_failing, first_unassigned, module_references}
 use Rattle.asn_notation.specs.Notation.{Assignment}
-use Rattle.asn_notation.specs.View.{assignment_view}
-use Rattle.asn_notation.specs.declared.notation.Assignment as code
-use Rattle.asn_module.specs.Places.{ArePlaces, place_in, is_placed}
-use Rattle.asn_module_text.proofs.References.{drop_at}
+use Rattle.asn_expansion.specs.Places.{ArePlaces, place_in, is_placed}
 
 placed_if : (b : Bool) (o : Option ℕ) (p : Bool) → is_some o ≡ p → is_some (if b then Some 0 else option_map suc o) ≡ (if b then true else p)
 placed_if true o p e = refl

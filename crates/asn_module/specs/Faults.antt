@@ -1,7 +1,12 @@
 -- Why a text is no module.
-use Rattle.std.specs.Prelude.{◌≡◌, ℕ, List, ◌++◌, codes, Option, None, Some, string_bytes}
+use Rattle.std.specs.Prelude.{◌≡◌, ◌≤◌, ℕ, List, ◌++◌, true, false, codes, Option, None, Some, string_bytes}
+use Rattle.asn_expansion.specs.Expansion.{type_shape}
+use Rattle.asn_expansion.specs.Large.{HasMore}
+use Rattle.asn_growth.specs.Parts.{node_count}
+use Rattle.asn_model.specs.Readable.{is_readable}
+use Rattle.asn_model.specs.Shape.{Shape, is_item}
 use Rattle.asn_notation.specs.Grammar.{ModuleParses}
-use Rattle.asn_notation.specs.Names.{first_repeated, first_unassigned}
+use Rattle.asn_notation.specs.Names.{assigned_names, first_repeated, first_unassigned}
 use Rattle.asn_notation.specs.Notation.{Assignment}
 use Rattle.asn_module_reader.specs.declared.fault.ReadFault.{ReadFault}
 use Rattle.asn_module_reader.specs.declared.fault.ReadFault.TheVariants as read
@@ -52,3 +57,18 @@ NamesFail assignments (fault.Duplicate name) = first_repeated assignments ≡ So
 NamesFail assignments (fault.Unknown name) = (first_repeated assignments ≡ None) × (first_unassigned assignments ≡ Some (string_bytes name))
 NamesFail assignments fault.OutOfMemory = Unit {0}
 NamesFail assignments e = ⊥
+
+-- The shape is there, has no more nodes than the limit, and can't be read.
+pub record IsNotReadable (nodes : ℕ) (s : Option Shape) : Type 0 where
+  pub shape : Shape
+  pub made : s ≡ Some shape
+  pub few : node_count shape ≤ nodes
+  pub unreadable : is_readable shape ≡ false
+
+-- The fault is the reason why the name has no shape, of these limits on open names and nodes. Want of memory is none, and may come at any name.
+abbrev pub HasNoShape : ℕ → ℕ → List Assignment → List ℕ → ModuleFault → Type 0
+HasNoShape names nodes assignments name (fault.NoSuchName n) = (string_bytes n ≡ name) × (is_item (assigned_names assignments) name ≡ false)
+HasNoShape names nodes assignments name (fault.TooLarge n) = (string_bytes n ≡ name) × (is_item (assigned_names assignments) name ≡ true) × HasMore node_count nodes (type_shape names assignments name)
+HasNoShape names nodes assignments name (fault.NotReadable n) = (string_bytes n ≡ name) × IsNotReadable nodes (type_shape names assignments name)
+HasNoShape names nodes assignments name fault.OutOfMemory = Unit {0}
+HasNoShape names nodes assignments name e = ⊥

@@ -1,6 +1,6 @@
 //! Finds assignments by the names of their types.
 ghost use Rattle.asn_module.specs.Faults.{NamesFail};
-ghost use Rattle.asn_module.specs.Places.{ArePlaces, is_placed};
+ghost use Rattle.asn_expansion.specs.Places.{ArePlaces, is_placed};
 ghost use Rattle.asn_notation.specs.Names.{assigned_names, element_references, first_failing};
 ghost use Rattle.asn_notation.specs.Names.{first_repeated, references};
 ghost use Rattle.asn_notation.specs.Notation.{elements_of};
@@ -9,12 +9,10 @@ ghost use Rattle.asn_notation.specs.View.{notation_view};
 ghost use Rattle.std.specs.Prelude.{◌≡◌, map, None, OnOk, IfOk, IfErr, option_map};
 
 use crate::fault::ModuleFault;
+use asn_expansion::Places;
 use asn_notation::{Assignment, Component, Components, Notation};
 use std::alloc::Global;
 use std::collections::HashMap;
-
-/// Holds the place of each assignment beside the name of its type.
-pub type Places<'a> = HashMap<&'a str, usize>;
 
 /// Returns the places of the assignments.
 ///

@@ -1,5 +1,5 @@
 use Rattle.std.proofs.Common.{◌≡◌, map, drop}
-use Rattle.asn_module.specs.Places.{is_placed}
+use Rattle.asn_expansion.specs.Places.{is_placed}
 use Rattle.asn_notation.specs.Names.{element_references, first_failing}
 use Rattle.asn_notation.specs.Notation.{elements_of}
 use Rattle.asn_notation.specs.View.{component_view}

@@ -1,6 +1,6 @@
-use Rattle.std.proofs.Common.{◌≡◌, Some, ◌++◌, ◌∷◌, [], sym, ap, subst, ◌∙◌, map, take, ◌+◌, string_bytes, true, false}
+use Rattle.std.proofs.Common.{◌≡◌, Some, ◌++◌, ◌∷◌, [], sym, ap, subst, ◌∙◌, map, take, string_bytes, true, false}
 use Rattle.asn_model.specs.Shape.{is_item}
-use Rattle.asn_module.specs.Places.{ArePlaces}
+use Rattle.asn_expansion.specs.Places.{ArePlaces}
 use Rattle.asn_notation.specs.Names.{assigned_names}
 use Rattle.asn_notation.specs.View.{assignment_view}
 use Rattle.asn_module.proofs.Placed.{placed_before, places_more}

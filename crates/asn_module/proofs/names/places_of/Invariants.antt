@@ -1,5 +1,5 @@
 use Rattle.std.proofs.Common.{◌≡◌, map, take, drop}
-use Rattle.asn_module.specs.Places.{ArePlaces}
+use Rattle.asn_expansion.specs.Places.{ArePlaces}
 use Rattle.asn_notation.specs.Names.{assigned_names, first_repeated, first_repeated_in}
 use Rattle.asn_notation.specs.View.{assignment_view}
 use Rattle.asn_module.proofs.names.places_of.Given as goal

@@ -1,8 +1,8 @@
-use Rattle.std.proofs.Common.{◌≡◌, ◌<◌, ◌≤◌, Some, None, refl, sym, ap, subst, ◌∙◌, map, drop, length, get_or, arith}
+use Rattle.std.proofs.Common.{◌≡◌, ◌<◌, ◌≤◌, Some, sym, ap, subst, ◌∙◌, map, length, get_or, arith}
 use Rattle.std.proofs.lemmas.List.{drop_all}
-use Rattle.asn_module.specs.Places.{ArePlaces, is_placed}
+use Rattle.asn_expansion.specs.Places.{ArePlaces, is_placed}
 use Rattle.asn_notation.specs.Names.{assigned_names, first_failing, first_repeated, module_references}
-use Rattle.asn_notation.specs.View.{assignment_view, module_view}
+use Rattle.asn_notation.specs.View.{assignment_view}
 use Rattle.asn_module.proofs.Placed.{unassigned_by}
 use Rattle.asn_module_text.proofs.References.{unassigned-here, unassigned-behind}
 use Rattle.asn_module.proofs.read.check_names.Goals as goal

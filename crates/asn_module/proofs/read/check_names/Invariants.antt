@@ -1,5 +1,5 @@
 use Rattle.std.proofs.Common.{◌≡◌, map, drop}
-use Rattle.asn_module.specs.Places.{is_placed}
+use Rattle.asn_expansion.specs.Places.{is_placed}
 use Rattle.asn_notation.specs.Names.{first_failing, module_references}
 use Rattle.asn_notation.specs.View.{assignment_view}
 use Rattle.asn_module.proofs.read.check_names.Given as goal

@@ -1,0 +1,5 @@
+pub mod Expanding
+pub mod Opening
+pub mod Items
+pub mod Fields
+pub mod Alternatives

@@ -1,0 +1,5 @@
+pub mod Places
+pub mod OpenNames
+pub mod Expansion
+pub mod Large
+pub mod Resolving

@@ -1,0 +1,7 @@
+//! Reports on the module that a text stands for: its printed text, and whether one of its types is
+//! a later version of another.
+#![tactic(auto)]
+
+mod report;
+
+pub use report::{growth_report, printed_module};

@@ -7,3 +7,4 @@ mod texts;
 mod values;
 
 pub use leaves::read_leaf;
+pub use numbers::is_between;

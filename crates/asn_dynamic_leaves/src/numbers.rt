@@ -42,7 +42,7 @@ pub fn read_int<D: Decoder>(
 }
 
 /// Returns whether the number is from the least to the greatest.
-fn is_between(least: i128, greatest: u128, number: WholeNumber) -> bool
+pub fn is_between(least: i128, greatest: u128, number: WholeNumber) -> bool
     ensures { result ≡ is_between least (pos greatest) (signed number.negative number.magnitude) }
 {
     if number.negative && number.magnitude > 0 {

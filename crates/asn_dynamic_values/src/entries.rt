@@ -33,7 +33,7 @@ pub fn table(alloc: Global, entries: Vec<DynValue>) -> Result<DynValue, OutOfMem
 }
 
 /// Returns the key of an entry: the text of its first member. It is empty where there is none.
-fn key_of(entry: &DynValue) -> &[u8]
+pub fn key_of(entry: &DynValue) -> &[u8]
     ensures { result.now ≡ key_of (dyn_value entry.now) }
 {
     match entry {

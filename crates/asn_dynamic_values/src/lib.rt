@@ -9,6 +9,6 @@ mod plain;
 mod value;
 
 pub use copies::bag;
-pub use entries::table;
+pub use entries::{key_of, table};
 pub use plain::is_plain;
 pub use value::DynValue;

@@ -1,0 +1,11 @@
+pub mod Alternatives
+pub mod Chosen
+pub mod Costs
+pub mod Elements
+pub mod Having
+pub mod Meant
+pub mod Members
+pub mod Neighbours
+pub mod Ordered
+pub mod Sequences
+pub mod Utf8

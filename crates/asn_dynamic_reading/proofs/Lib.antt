@@ -1,0 +1,11 @@
+pub mod Telling
+pub mod Repeating
+pub mod Plains
+pub mod FieldSteps
+pub mod Held
+pub mod Sets
+pub mod Steps
+pub mod Sequences
+pub mod SetSteps
+pub mod ChoiceSteps
+pub mod Payloads

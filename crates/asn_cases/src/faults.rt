@@ -28,6 +28,11 @@ impl Faults {
         }
     }
 
+    /// Returns whether no read and no write fails, and the sink has the usual room.
+    pub fn is_none(&self) -> bool {
+        self.failing_reads.is_empty() && self.failing_writes.is_empty() && self.room == ROOM
+    }
+
     /// Reads a column of faults, each `read N`, `write N` or `room N`, parted by commas. An empty
     /// column has none.
     ///

@@ -17,15 +17,13 @@ ghost use Rattle.asn_names.specs.Rows.{row_names};
 ghost use Rattle.asn_names.specs.Text.{name_text};
 ghost use Rattle.asn_types.specs.TextTypes.{IsEncodeFailure, no_teletex};
 ghost use Rattle.asn_model.specs.Value.{Value, bag_of, values};
-ghost use Rattle.asn_coding.specs.Writing.{Frame, push, close, as_list, as_members, as_choice};
-ghost use Rattle.asn_coding.specs.Writing.{ClosesSet, Written, WrittenUnder, FailsToEncode};
+ghost use Rattle.asn_coding.specs.Writing.{Frame, push, close, as_list, as_members, as_choice, Maps};
+ghost use Rattle.asn_coding.specs.Writing.{ClosesSet, Written, WrittenUnder, FailsToEncode, Puts, ScopeRan};
 ghost use Rattle.asn_coding.specs.Writing.{FailsToEncodeUnder, FailsToFill, IsOutOfMemory};
-ghost use Rattle.asn_coding.specs.Writing.{Maps, Puts, ScopeRan};
 ghost use Rattle.std.specs.Fn.{FnOnceReturnsAtMut};
 ghost use Rattle.std.specs.Prelude.{◌≡◌, ◌⊎◌, pos, ◌∷◌, ◌++◌, [], ℕ, List, Option, Some, None, Ok};
 ghost use Rattle.std.specs.Prelude.{Err, true, map, option_map, OnOk, IfErr, IfOk, IfSome, IsErr};
-ghost use Rattle.std.specs.Prelude.{IsOk};
-ghost use Rattle.std.specs.Prelude.{IsSome, ⊤};
+ghost use Rattle.std.specs.Prelude.{IsOk, IsSome, ⊤};
 
 use crate::EncodeText;
 use asn_coding::{Field, Name, NameList, TableNames, identifier_of, listed, listed_fields};

@@ -318,7 +318,7 @@ differing : (alts : Alternatives) (added : AlternativeAdditions) → is_readable
 differing alts added a =
     let whole = all_alternatives alts added in
     let named = are_identifiers (identifiers whole) && differ_ignoring_case (identifiers whole) in
-    let told = and-right (has_alternative alts) (are_distinguishable whole) (and-left (has_alternative alts && are_distinguishable whole) (are_alternatives_readable 0 alts && are_added_alternatives_readable 0 added) a) in
+    let told = and-right (has_alternative whole) (are_distinguishable whole) (and-left (has_alternative whole && are_distinguishable whole) (are_alternatives_readable 0 alts && are_added_alternatives_readable 0 added) a) in
     and-right (are_identifiers (identifiers whole)) (differ_ignoring_case (identifiers whole)) (and-left named (tags_distinct (tags whole) && not (has_tag (tags whole) end_tag)) told)
 
 here-taken : (n : Notation) (i : List ℕ) (t : Tag) (s r : Shape) (alts bs : Alternatives) (v : Value) → Taken n s r v → AlternativeTaken n (Alternatives.alternative i t s alts) (Alternatives.alternative i t r bs) i v

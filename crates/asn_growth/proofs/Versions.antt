@@ -62,7 +62,7 @@ alternatives-joined (GrowsAlternatives.grows_alternative g h) m = BeginsAlternat
 -- The alternatives of a choice that can be read can be read.
 pub readable-alternatives : (alts : Alternatives) (added : AlternativeAdditions) → is_readable (Shape.choice alts added) ≡ true → are_alternatives_readable 0 (all_alternatives alts added) ≡ true
 readable-alternatives alts added a =
-    let names = has_alternative alts && are_distinguishable (all_alternatives alts added) in
+    let names = has_alternative (all_alternatives alts added) && are_distinguishable (all_alternatives alts added) in
     let parts = and-right names (are_alternatives_readable 0 alts && are_added_alternatives_readable 0 added) a in
     all_readable alts added (and-left (are_alternatives_readable 0 alts) (are_added_alternatives_readable 0 added) parts) (and-right (are_alternatives_readable 0 alts) (are_added_alternatives_readable 0 added) parts)
 

@@ -81,6 +81,9 @@ has_alternative-fill : (alts : Alternatives) (k : ℕ) (r : Shape) → has_alter
 has_alternative-fill Alternatives.no_alternatives k r = refl
 has_alternative-fill (Alternatives.alternative n t s alts) k r = refl
 
+has-fill : (alts : Alternatives) (added : AlternativeAdditions) (k : ℕ) (r : Shape) → has_alternative (all_alternatives (fill_alternatives alts k r) (fill_added_alternatives added k r)) ≡ has_alternative (all_alternatives alts added)
+has-fill alts added k r = ap has_alternative (all_alternatives-fill alts added k r) ∙ has_alternative-fill (all_alternatives alts added) k r
+
 no_default : {P : Type 0} (b : Bool) → b ≡ false → b ≡ true → P
 no_default true e h = let d : true ≡ false = e in cc d
 no_default false e h = let d : false ≡ true = h in cc d
@@ -127,7 +130,7 @@ mutual
   loosen (Shape.set_of s) l e = loosen s (within_part l) e
   loosen (Shape.table s) {loops} {bare} l e = and-both _ _ (and-left (is_entry s) (is_readable_in loops 0 s) e) (loosen s (within_part l) (and-right (is_entry s) (is_readable_in loops 0 s) e))
   loosen (Shape.choice alts added) {loops} {bare} {loops2} {bare2} l e =
-      let names = has_alternative alts && are_distinguishable (all_alternatives alts added) in
+      let names = has_alternative (all_alternatives alts added) && are_distinguishable (all_alternatives alts added) in
       let parts = and-right names (are_alternatives_readable loops alts && are_added_alternatives_readable loops added) e in
       and-both _ _ (and-left names (are_alternatives_readable loops alts && are_added_alternatives_readable loops added) e)
       (and-both _ _ (loosen_alternatives alts l (and-left (are_alternatives_readable loops alts) (are_added_alternatives_readable loops added) parts))
@@ -184,11 +187,11 @@ mutual
   fill-readable (Shape.table s) k bare bare2 r h l e =
       and-both _ _ (entry-filled s k r (and-left (is_entry s) (is_readable_in (suc k) 0 s) e)) (fill-readable s k 0 0 r h (omega arith) (and-right (is_entry s) (is_readable_in (suc k) 0 s) e))
   fill-readable (Shape.choice alts added) k bare bare2 r h l e =
-      let names = has_alternative alts && are_distinguishable (all_alternatives alts added) in
+      let names = has_alternative (all_alternatives alts added) && are_distinguishable (all_alternatives alts added) in
       let parts = and-right names (are_alternatives_readable (suc k) alts && are_added_alternatives_readable (suc k) added) e in
       let told = and-left names (are_alternatives_readable (suc k) alts && are_added_alternatives_readable (suc k) added) e in
-      and-both _ _ (and-both _ _ (has_alternative-fill alts k r ∙ and-left (has_alternative alts) (are_distinguishable (all_alternatives alts added)) told)
-      (told-fill alts added k r ∙ and-right (has_alternative alts) (are_distinguishable (all_alternatives alts added)) told))
+      and-both _ _ (and-both _ _ (has-fill alts added k r ∙ and-left (has_alternative (all_alternatives alts added)) (are_distinguishable (all_alternatives alts added)) told)
+      (told-fill alts added k r ∙ and-right (has_alternative (all_alternatives alts added)) (are_distinguishable (all_alternatives alts added)) told))
       (and-both _ _ (alternatives-readable alts k r h (and-left (are_alternatives_readable (suc k) alts) (are_added_alternatives_readable (suc k) added) parts))
       (added_alternatives-readable added k r h (and-right (are_alternatives_readable (suc k) alts) (are_added_alternatives_readable (suc k) added) parts)))
   fill-readable (Shape.loop s) k bare bare2 r h l e = fill-readable s (suc k) (suc bare) (suc bare2) r h (omega (arith, l)) e
@@ -271,7 +274,7 @@ names_distinct s kind fs added e o = let read = fields_read kind fs added (subst
 distinguished : (s : Shape) (alts : Alternatives) (added : AlternativeAdditions) → is_readable s ≡ true → opened s ≡ Shape.choice alts added → are_distinguishable (all_alternatives alts added) ≡ true
 distinguished s alts added e o =
     let read = subst (λ x. is_readable x ≡ true) o (opened-readable s e) in
-    and-right (has_alternative alts) _ (and-left (has_alternative alts && are_distinguishable (all_alternatives alts added)) _ read)
+    and-right (has_alternative (all_alternatives alts added)) _ (and-left (has_alternative (all_alternatives alts added) && are_distinguishable (all_alternatives alts added)) _ read)
 
 -- Their tags are distinct.
 pub tags_distinguished : (s : Shape) (alts : Alternatives) (added : AlternativeAdditions) → is_readable s ≡ true → opened s ≡ Shape.choice alts added → tags_distinct (tags (all_alternatives alts added)) ≡ true

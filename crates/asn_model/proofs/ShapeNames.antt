@@ -87,7 +87,7 @@ sequence_readable loops bare k fs added =
 
 -- A choice can be read where it has alternatives, they are distinguishable, and they can be read.
 pub choice_readable : (loops bare : ℕ) (alts : Vec AlternativeShape) (added : Option (Vec AlternativeShape))
-    → is_readable_in loops bare (shape_view (Choice alts added)) ≡ ((has_alternative (alternative_views alts.items) && are_distinguishable (join_alternatives (alternative_views alts.items) (alternative_views (entries_of added))))
+    → is_readable_in loops bare (shape_view (Choice alts added)) ≡ ((has_alternative (join_alternatives (alternative_views alts.items) (alternative_views (entries_of added))) && are_distinguishable (join_alternatives (alternative_views alts.items) (alternative_views (entries_of added))))
     && (are_alternatives_readable loops (alternative_views alts.items) && are_alternatives_readable loops (alternative_views (entries_of added))))
 choice_readable loops bare alts added =
     ap (is_readable_in loops bare) (choice_viewed alts added) ∙ rw (all_alternatives_viewed alts.items added, added_alternatives_viewed loops added) refl

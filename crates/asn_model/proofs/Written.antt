@@ -120,8 +120,8 @@ module _ (n : Notation) (tree : Value → Tree) (w : Writes n tree) where
         (DecodesTo.decodes_table s _ vs (DecodesTo.decodes_list s _ _ vs (w.list vs) (each-decodes n tree s vs entries)))
     decodes_written a (Fits.fits_choice {alts} {added} {i} {v} fit) can =
         let whole = all_alternatives alts added in
-        let names = has_alternative alts && are_distinguishable whole in
-        let told = and-right (has_alternative alts) (are_distinguishable whole) (and-left names (are_alternatives_readable 0 alts && are_added_alternatives_readable 0 added) a) in
+        let names = has_alternative whole && are_distinguishable whole in
+        let told = and-right (has_alternative whole) (are_distinguishable whole) (and-left names (are_alternatives_readable 0 alts && are_added_alternatives_readable 0 added) a) in
         let apart = and-right (are_identifiers (identifiers whole)) (differ_ignoring_case (identifiers whole)) (and-left (are_identifiers (identifiers whole) && differ_ignoring_case (identifiers whole)) (tags_distinct (tags whole) && not (has_tag (tags whole) end_tag)) told) in
         let read = and-right names (are_alternatives_readable 0 alts && are_added_alternatives_readable 0 added) a in
         let parts = all_readable alts added (and-left (are_alternatives_readable 0 alts) (are_added_alternatives_readable 0 added) read) (and-right (are_alternatives_readable 0 alts) (are_added_alternatives_readable 0 added) read) in

@@ -236,8 +236,8 @@ mutual
   well-formed a (Fits.fits_table {s} {vs} fit rise) can = trees-formed vs (each-formed (and-right (is_entry s) (is_readable s) a) fit can)
   well-formed a (Fits.fits_choice {alts} {added} {i} {v} fit) can =
       let whole = all_alternatives alts added in
-      let names = has_alternative alts && are_distinguishable whole in
-      let told = and-right (has_alternative alts) (are_distinguishable whole) (and-left names (are_alternatives_readable 0 alts && are_added_alternatives_readable 0 added) a) in
+      let names = has_alternative whole && are_distinguishable whole in
+      let told = and-right (has_alternative whole) (are_distinguishable whole) (and-left names (are_alternatives_readable 0 alts && are_added_alternatives_readable 0 added) a) in
       let spelled = and-left (are_identifiers (identifiers whole)) (differ_ignoring_case (identifiers whole)) (and-left (are_identifiers (identifiers whole) && differ_ignoring_case (identifiers whole)) (tags_distinct (tags whole) && not (has_tag (tags whole) end_tag)) told) in
       let read = and-right names (are_alternatives_readable 0 alts && are_added_alternatives_readable 0 added) a in
       let parts = all_readable alts added (and-left (are_alternatives_readable 0 alts) (are_added_alternatives_readable 0 added) read) (and-right (are_alternatives_readable 0 alts) (are_added_alternatives_readable 0 added) read) in

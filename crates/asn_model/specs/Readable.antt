@@ -99,7 +99,7 @@ abbrev mutual
   is_readable_in loops bare (Shape.set_of s) = is_readable_in loops 0 s
   is_readable_in loops bare (Shape.table s) = is_entry s && is_readable_in loops 0 s
   is_readable_in loops bare (Shape.choice alts added) =
-      (has_alternative alts && are_distinguishable (all_alternatives alts added)) && (are_alternatives_readable loops alts && are_added_alternatives_readable loops added)
+      (has_alternative (all_alternatives alts added) && are_distinguishable (all_alternatives alts added)) && (are_alternatives_readable loops alts && are_added_alternatives_readable loops added)
   is_readable_in loops bare (Shape.loop s) = is_readable_in (suc loops) (suc bare) s
   is_readable_in loops bare (Shape.back k) = nat_le bare k && nat_lt k loops
   is_readable_in loops bare s = true

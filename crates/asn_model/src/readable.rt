@@ -93,7 +93,7 @@ fn is_readable_in(shape: &Shape, around: &Enclosing<'_>) -> bool
             added,
         } => {
             let added = entries(added);
-            has_alternative(alternatives)
+            has_alternative(alternatives, added)
                 && are_distinguishable(alternatives, added)
                 && are_alternatives_readable(alternatives, &*around)
                 && are_alternatives_readable(added, &*around)
@@ -322,13 +322,17 @@ fn is_utf8(text: &str) -> bool
     true
 }
 
-/// Returns whether there is an alternative.
-fn has_alternative(alternatives: &[AlternativeShape]) -> bool
-    ensures { result ≡ has_alternative (alternative_views alternatives.now) }
+/// Returns whether one of the lists has an alternative.
+fn has_alternative(alternatives: &[AlternativeShape], added: &[AlternativeShape]) -> bool
+    ensures { result ≡ has_alternative
+        (join_alternatives (alternative_views alternatives.now) (alternative_views added.now)) }
 {
     match alternatives.split_first() {
         Some(_) => true,
-        None => false,
+        None => match added.split_first() {
+            Some(_) => true,
+            None => false,
+        },
     }
 }
 

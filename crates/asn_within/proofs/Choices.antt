@@ -139,7 +139,7 @@ module _ (n : Notation) (env : List Shape) (alts : Alternatives) (added : Altern
   payload-part k a p e =
       let read = are_alternatives_readable 0 C in
       let more = are_added_alternatives_readable 0 A in
-      let parts = and-right (has_alternative C && are_distinguishable (all_alternatives C A)) (read && more) p.1 in
+      let parts = and-right (has_alternative (all_alternatives C A) && are_distinguishable (all_alternatives C A)) (read && more) p.1 in
       (p.0, part-at (all_alternatives C A) k (a.0, closed env a.1) (all-readable C A (and-left read more parts) (and-right read more parts)) (at-closed k a e))
 
   module _ (before mid : List Slot) where

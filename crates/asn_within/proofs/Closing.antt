@@ -25,7 +25,7 @@ mutual
   fill-beyond (Shape.set_of s) loops bare k r e h = ap Shape.set_of (fill-beyond s loops 0 k r e h)
   fill-beyond (Shape.table s) loops bare k r e h = ap Shape.table (fill-beyond s loops 0 k r (and-right (is_entry s) (is_readable_in loops 0 s) e) h)
   fill-beyond (Shape.choice alts added) loops bare k r e h =
-      let names = has_alternative alts && are_distinguishable (all_alternatives alts added) in
+      let names = has_alternative (all_alternatives alts added) && are_distinguishable (all_alternatives alts added) in
       let parts = and-right names (are_alternatives_readable loops alts && are_added_alternatives_readable loops added) e in
       let f = alternatives-beyond alts loops k r (and-left (are_alternatives_readable loops alts) (are_added_alternatives_readable loops added) parts) h in
       let g = added_alternatives-beyond added loops k r (and-right (are_alternatives_readable loops alts) (are_added_alternatives_readable loops added) parts) h in

@@ -1,7 +1,7 @@
 #!/usr/bin/env python3
 """Runs the program, and the reader and the printer of AVN, beside peers on large inputs.
 
-usage: bench/run.py [-n RUNS] [-k PART] [-p PROGRAM DIR]
+usage: bench/run.py [-n RUNS] [-k PART] [-s | -p PROGRAM DIR]
 
 Each input whose name has PART in it is run RUNS times (3 unless given) by either program in turn, and the least time
 counts. Times are processor times. Both outputs have to be equal. A speed is the peer's time by ours, so that more than
@@ -16,6 +16,9 @@ the input takes.
 
 With -p, the inputs are the files *.in in DIR, each a request line and a text, and the peer is PROGRAM, which takes the
 same requests: seconds and peak memory of both, and ours by its.
+
+With -s, the table is of asn_by_shape, which converts by a shape that it holds as data, beside the program: seconds and
+peak memory of both, the first by the second, and how many times as long by a shape twice the input takes.
 
 The third table is of the string types, from and to either notation: seconds of each on one ASCII text, by those of
 UTF8String on the same text. The fourth is of a SET OF a million numbers, from and to either notation: seconds for
@@ -68,6 +71,31 @@ INPUTS = {
         lambda: b'jer jer OctetString\n"' + b"00ff5A17" * 625_000 + b'"',
         OCTETS,
     ),
+}
+
+BY_SHAPE = os.path.join(TOP, "crates", "asn_by_shape", "out", "asn_by_shape")
+PART_JSON, PART_AVN = '{"text":"b"},{"code":7}', 'text : "b", code : 7'
+SHAPED = {
+    "numbers, JSON": lambda size: "jer jer SequenceOf<u8>\n[" + "7,213," * (1_000_000 * size) + "1]",
+    "numbers, AVN": lambda size: "avn avn SequenceOf<u8>\n{" + "7,213," * (1_000_000 * size) + "1}",
+    "choices, JSON": lambda size: "jer jer SequenceOf<SimpleChoice>\n["
+    + '{"Test1":17},{"Test2":"x"},' * (175_000 * size)
+    + '{"Test1":1}]',
+    "choices, AVN": lambda size: "avn avn SequenceOf<SimpleChoice>\n{"
+    + 'Test1 : 17, Test2 : "x",' * (175_000 * size)
+    + "Test1 : 1}",
+    "report, JSON": lambda size: 'jer jer NewReport\n{"id":1,"owner":"o","parts":['
+    + f"{PART_JSON}," * (150_000 * size)
+    + f"{PART_JSON}]}}",
+    "report, AVN": lambda size: 'avn avn NewReport\n{ id 1, owner "o", parts {'
+    + f"{PART_AVN}, " * (150_000 * size)
+    + f"{PART_AVN}}}}}",
+    "document, JSON": lambda size: 'jer jer Document\n{"array":['
+    + '{"bool":true},{"string":"xy"},' * (150_000 * size)
+    + '{"null":null}]}',
+    "document, AVN": lambda size: "avn avn Document\narray : {"
+    + 'bool : TRUE, string : "xy", ' * (150_000 * size)
+    + "null : NULL}",
 }
 
 WAYS = ("jer jer", "jer avn", "avn jer", "avn avn")
@@ -151,6 +179,20 @@ def compare_peer(program, path, runs):
     print(
         f"{os.path.basename(path)[:-3]:24} {os.path.getsize(path) / 1e6:5.1f}  | {ours[0]:7.2f} {theirs[0]:7.2f}"
         f" {ours[0] / theirs[0]:6.2f}  | {ours[1]:7.0f} {theirs[1]:7.0f} {ours[1] / theirs[1]:6.2f}",
+        flush=True,
+    )
+
+
+def compare_shape(name, runs):
+    """Prints the row of one input by a shape, beside the program."""
+    path = os.path.join(OUT, "input")
+    write_input(lambda: SHAPED[name](2).encode(), path)
+    twice = min(measure([BY_SHAPE], path)[0] for _ in range(runs))
+    size = write_input(lambda: SHAPED[name](1).encode(), path)
+    typed, shaped = least_runs(name, [BY_SHAPE], path, runs)
+    print(
+        f"{name:24} {size:5.1f}  | {shaped[0]:7.2f} {typed[0]:7.2f} {shaped[0] / typed[0]:6.2f}"
+        f"  | {shaped[1]:7.0f} {typed[1]:7.0f} {shaped[1] / typed[1]:6.2f}  | {twice / shaped[0]:5.2f}",
         flush=True,
     )
 
@@ -239,20 +281,37 @@ def run_peer(program, folder, part, runs):
             compare_peer(program, os.path.join(folder, name), runs)
 
 
+def run_shapes(part, runs):
+    """The table of conversions by a shape."""
+    os.makedirs(OUT, exist_ok=True)
+    for program in ("asn_convert_main", "asn_by_shape"):
+        subprocess.run([os.path.join(TOP, ".ci", "prove"), program], stdout=subprocess.DEVNULL, check=True)
+    columns = f"{'shape':>7} {'typed':>7} {'ratio':>6}"
+    print(f"{'by a shape':24} {'MB':>5}  | {'seconds':^22}  | {'peak MB':^22}  | twice")
+    print(f"{'':30}  | {columns}  | {columns}  |")
+    for name in SHAPED:
+        if part in name:
+            compare_shape(name, runs)
+
+
 def main():
-    arguments, runs, part, peer = sys.argv[1:], 3, "", None
+    arguments, runs, part, peer, shapes = sys.argv[1:], 3, "", None, False
     while arguments:
         option = arguments.pop(0)
         if option == "-n":
             runs = int(arguments.pop(0))
         elif option == "-k":
             part = arguments.pop(0)
+        elif option == "-s":
+            shapes = True
         elif option == "-p":
             peer = arguments.pop(0), arguments.pop(0)
         else:
             sys.exit(__doc__)
     if peer:
         return run_peer(*peer, part, runs)
+    if shapes:
+        return run_shapes(part, runs)
     os.makedirs(OUT, exist_ok=True)
     program_inputs = [name for name in INPUTS if part in name]
     avn_inputs = [name for name in AVN_INPUTS if part in name]

@@ -1,0 +1,4 @@
+pub mod Floats
+pub mod Reasons
+pub mod Refusals
+pub mod Blocks

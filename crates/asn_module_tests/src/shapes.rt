@@ -57,8 +57,8 @@ fn expands_a_type_that_names_itself(rt: HostRuntime) -> Result<(), Fail> {
     Ok(())
 }
 
-/// Lists texts and names of types with the refusals.
-const REFUSED: [(&str, &str, &str); 5] = [
+/// Lists texts and names of types with the refusals, which are empty where there is none.
+const REFUSED: [(&str, &str, &str); 7] = [
     (
         "Pair ::= SEQUENCE { a INTEGER, b Pair OPTIONAL, ... }",
         "Pear",
@@ -72,6 +72,8 @@ const REFUSED: [(&str, &str, &str); 5] = [
         "type A isn't readable",
     ),
     ("A ::= SEQUENCE OF A B ::= CHOICE { a A, b B }", "B", ""),
+    ("A ::= CHOICE { ... }", "A", "type A isn't readable"),
+    ("A ::= CHOICE { ..., a NULL }", "A", ""),
 ];
 
 /// Names without a type and types that can't be read have no shape.

@@ -1,5 +1,5 @@
 -- Two reasons for which a value isn't written are the same.
-use Rattle.std.proofs.Common.{◌≡◌, ℕ, ap, sym, subst, ◌∙◌, inl, inr, length, codes, Option, Some, None, refl}
+use Rattle.std.proofs.Common.{◌≡◌, ℕ, sym, subst, ◌∙◌, inl, inr, length, Option, Some, None, refl}
 use Rattle.asn_core.specs.declared.codec.Codec.{Codec}
 use Rattle.asn_codec.specs.Texts.{IsUnencodable}
 use Rattle.asn_coding.proofs.Whole.{not_blocked}
@@ -17,10 +17,10 @@ one_length Notation.avn size k x y = absurd x
 one_length Notation.other size k x y = absurd x
 
 -- Where all can be written, none can't.
-none_blocks : (n : Notation) (vs : Values) {a : EncodeCause} → WritableEach n vs → SomeUnencodable n vs a → ⊥
-none_blocks n Values.no_values can x = x
-none_blocks n (Values.value v vs) {a} can (inl x) = not_blocked n v a can.0 x
-none_blocks n (Values.value v vs) can (inr x) = none_blocks n vs can.1 x
+none_blocks : (n : Notation) (vs : Values) (a : EncodeCause) → WritableEach n vs → SomeUnencodable n vs a → ⊥
+none_blocks n Values.no_values a can x = x
+none_blocks n (Values.value v vs) a can (inl x) = not_blocked n v a can.0 x
+none_blocks n (Values.value v vs) a can (inr x) = none_blocks n vs a can.1 x
 
 mutual
   one_block : (n : Notation) (v : Value) {a b : EncodeCause} → BagsBlockOnce n v → FirstUnencodable n v a → FirstUnencodable n v b → a ≡ b
@@ -47,11 +47,11 @@ mutual
   one_of_set : (n : Notation) (vs : Values) {a b : EncodeCause} → BlocksOnce n vs → EachBlocksOnce n vs → SomeUnencodable n vs a → SomeUnencodable n vs b → a ≡ b
   one_of_set n Values.no_values alone once x y = absurd x
   one_of_set n (Values.value v vs) alone once (inl x) (inl y) = one_block n v once.0 x y
-  one_of_set n (Values.value v vs) {a} (inl rest) once (inl x) (inr y) = absurd (none_blocks n vs rest y)
+  one_of_set n (Values.value v vs) {a} (inl rest) once (inl x) (inr y) = absurd (none_blocks n vs _ rest y)
   one_of_set n (Values.value v vs) {a} (inr first) once (inl x) (inr y) = absurd (not_blocked n v a first.0 x)
-  one_of_set n (Values.value v vs) {a} {b} (inl rest) once (inr x) (inl y) = absurd (none_blocks n vs rest x)
+  one_of_set n (Values.value v vs) {a} {b} (inl rest) once (inr x) (inl y) = absurd (none_blocks n vs _ rest x)
   one_of_set n (Values.value v vs) {a} {b} (inr first) once (inr x) (inl y) = absurd (not_blocked n v b first.0 y)
-  one_of_set n (Values.value v vs) (inl rest) once (inr x) (inr y) = absurd (none_blocks n vs rest x)
+  one_of_set n (Values.value v vs) (inl rest) once (inr x) (inr y) = absurd (none_blocks n vs _ rest x)
   one_of_set n (Values.value v vs) (inr first) once (inr x) (inr y) = one_of_set n vs first.1 once.1 x y
 
   one_slot : (n : Notation) (ms : Slots) {a b : EncodeCause} → SlotsBlockOnce n ms → SlotsFirstUnencodable n ms a → SlotsFirstUnencodable n ms b → a ≡ b

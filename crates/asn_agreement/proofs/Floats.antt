@@ -1,5 +1,5 @@
 -- A tree without a float has parts without one.
-use Rattle.std.proofs.Common.{◌≡◌, ℕ, List, [], ◌∷◌, map, Option, Some, None, option_map, if◌then◌else◌, Bool, true, false, Ordering, Less, Equal, Greater, subst}
+use Rattle.std.proofs.Common.{◌≡◌, ℕ, List, [], ◌∷◌, map, Option, Some, None, option_map, if◌then◌else◌, Bool, true, false, Ordering, Less, Equal, Greater, ap, subst}
 use Rattle.std.proofs.lemmas.Bool.{or_parts}
 use Rattle.std.specs.List.{AllByRecursion}
 use Rattle.std.specs.Str.{bytes_eq}
@@ -73,9 +73,11 @@ slots-whole look (name ∷ names) h = (h name, slots-whole look names h)
 -- The payload of a choice.
 pub payload-whole : (n : Notation) (t : Tree) (name : List ℕ) (u : Tree) → IsWhole t → as_choice n t ≡ Some (Some (name, u)) → IsWhole u
 payload-whole Notation.jer (Tree.json (Data.object (Members.member k d Members.no_members))) name u w e =
-    let s : Tree.json d ≡ u = cc e in
+    let m : ◌≡◌ {A = List ℕ × Tree} (k, Tree.json d) (name, u) = cc e in
     let (first, others) = or_parts (has_float d) false w in
-    subst IsWhole s first
-payload-whole Notation.avn (Tree.avn (AvnTree.choice k t)) name u w e = let s : Tree.avn t ≡ u = cc e in subst IsWhole s tt
+    subst IsWhole (ap (λ (r : List ℕ × Tree). r.1) m) first
+payload-whole Notation.avn (Tree.avn (AvnTree.choice k t)) name u w e =
+    let m : ◌≡◌ {A = List ℕ × Tree} (k, Tree.avn t) (name, u) = cc e in
+    subst IsWhole (ap (λ (r : List ℕ × Tree). r.1) m) tt
 payload-whole Notation.jer (Tree.json (Data.object Members.no_members)) name u w e = let d : ◌≡◌ {A = Option (Option (List ℕ × Tree))} (Some None) (Some (Some (name, u))) = e in cc d
 payload-whole n t name u w e = let d : ◌≡◌ {A = Option (Option (List ℕ × Tree))} None (Some (Some (name, u))) = e in cc d

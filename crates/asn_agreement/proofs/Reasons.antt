@@ -1,5 +1,5 @@
 -- A slot that decodes to no value by a shape has one reason, but for the name of a CHOICE type.
-use Rattle.std.proofs.Common.{◌≡◌, ℕ, List, [], ◌∷◌, map, Option, Some, None, Result, Ok, Err, Bool, true, false, ap, refl, sym, subst, ◌∙◌}
+use Rattle.std.proofs.Common.{◌≡◌, ℕ, List, [], ◌∷◌, map, Option, Some, None, Result, Err, Bool, true, false, ap, refl, sym, subst, ◌∙◌}
 use Rattle.std.specs.List.{AllByRecursion}
 use Rattle.asn_core.specs.declared.codec.Codec.{Codec}
 use Rattle.asn_core.specs.declared.codec.Codec.TheVariants.{Jer, Avn}
@@ -180,14 +180,10 @@ mutual
   one-reason text whole (FailsWith.fails_loop body t p w h) (FailsWith.fails_leaf s2 t2 c x f blamed2) = absurd (none_some refl f)
   one-reason text whole (FailsWith.fails_loop body t p w h) (FailsWith.fails_loop body2 t2 q x k) = one-reason text whole h k
 
-  -- So has a slot.
-  one-slot-reason : {n : Notation} {s : Shape} (slot : Slot) {p q : Path} {w x : Cause} → IsText n → IsWholeSlot slot → FailsWith n s slot p w → FailsWith n s slot q x → AreOne p q w x
-  one-slot-reason None text whole h k = absent-one text h k
-  one-slot-reason (Some t) text whole h k = one-reason text whole h k
-
   -- So have elements: that of the first one that fails.
   one-element-reason : {n : Notation} {s : Shape} {slots : List Slot} {p q : Path} {w x : Cause} → IsText n → AllByRecursion IsWholeSlot slots → EachFailsWith n s slots p w → EachFailsWith n s slots q x → AreOne p q w x
-  one-element-reason text whole (EachFailsWith.fails_here s slot rest p w h) (EachFailsWith.fails_here s2 slot2 rest2 q x k) = one-slot-reason slot text whole.0 h k
+  one-element-reason text whole (EachFailsWith.fails_here s None rest p w h) (EachFailsWith.fails_here s2 slot2 rest2 q x k) = absent-one text h k
+  one-element-reason text whole (EachFailsWith.fails_here s (Some t) rest p w h) (EachFailsWith.fails_here s2 slot2 rest2 q x k) = one-reason text whole.0 h k
   one-element-reason text whole (EachFailsWith.fails_here s slot rest p w h) (EachFailsWith.fails_later s2 slot2 rest2 v q x d k) = absurd (apart text d h)
   one-element-reason text whole (EachFailsWith.fails_later s slot rest v p w d h) (EachFailsWith.fails_here s2 slot2 rest2 q x k) = absurd (apart text d k)
   one-element-reason text whole (EachFailsWith.fails_later s slot rest v p w d h) (EachFailsWith.fails_later s2 slot2 rest2 v2 q x d2 k) = one-element-reason text whole.1 h k

@@ -1,5 +1,5 @@
 -- A text that is refused by a shape is refused in one way, but for the name of a CHOICE type.
-use Rattle.std.proofs.Common.{◌≡◌, ℕ, List, [], ◌∷◌, map, Option, Some, None, Bool, true, false, ap, refl, sym, subst, ◌∙◌, codes}
+use Rattle.std.proofs.Common.{◌≡◌, ℕ, List, [], ◌∷◌, map, Option, Some, None, true, false, ap, refl, sym, subst, ◌∙◌}
 use Rattle.std.specs.Str.{chars}
 use Rattle.serde_json.specs.Data.{Data}
 use Rattle.serde_json.specs.Read.{read}
@@ -11,7 +11,7 @@ use Rattle.avn_grammar.proofs.OneAnswer.{reads-deep, reads-unread, same_unread, 
 use Rattle.asn_core.specs.declared.codec.Codec.{Codec}
 use Rattle.asn_core.specs.declared.codec.Codec.TheVariants.{Ber, Jer, Avn}
 use Rattle.asn_coding.specs.Answer.{OfLevels, OfPlace}
-use Rattle.asn_fault.specs.Failure.{Failure, Level, Cause, at_root}
+use Rattle.asn_fault.specs.Failure.{Failure, Level, Cause}
 use Rattle.asn_model.specs.FailsWith.{FailsWith}
 use Rattle.asn_model.specs.Leaf.{codec_of}
 use Rattle.asn_model.specs.Notation.{Notation, IsText, notation_of}
@@ -24,18 +24,18 @@ use Rattle.avn_rules.specs.Text.{IsAvn}
 use Rattle.jer_rules.specs.Text.{IsJer}
 use Rattle.asn_agreement.specs.Alike.{AreAlike, without_name}
 use Rattle.asn_agreement.proofs.Floats.{IsWhole}
-use Rattle.asn_agreement.proofs.Reasons.{AreOne, codec_known, one-reason}
+use Rattle.asn_agreement.proofs.Reasons.{codec_known, one-reason}
 
 -- The tree of a text has no float.
 text-whole : {limit : ℕ} {n : Notation} {text : List ℕ} {t : Tree} → HasTree limit n text t → IsWhole t
 text-whole (HasTree.json_tree h) = h.1
 text-whole (HasTree.avn_tree h) = tt
 
-same_names : {l m : Level} {ls ms : List Level} → l.name ∷ map (λ k. k.name) ls ≡ m.name ∷ map (λ k. k.name) ms → map (λ k. k.name) ls ≡ map (λ k. k.name) ms
-same_names e = cc e
+same_names : (l m : Level) (ls ms : List Level) → l.name ∷ map (λ k. k.name) ls ≡ m.name ∷ map (λ k. k.name) ms → map (λ k. k.name) ls ≡ map (λ k. k.name) ms
+same_names l m ls ms e = cc e
 
-same_name : {l m : Level} {ls ms : List Level} → l.name ∷ map (λ k. k.name) ls ≡ m.name ∷ map (λ k. k.name) ms → l.name ≡ m.name
-same_name e = cc e
+same_name : (l m : Level) (ls ms : List Level) → l.name ∷ map (λ k. k.name) ls ≡ m.name ∷ map (λ k. k.name) ms → l.name ≡ m.name
+same_name l m ls ms e = cc e
 
 level-one : (l m : Level) → l.name ≡ m.name → l.codec ≡ m.codec → l ≡ m
 level-one l m e f = (λ i. record { name = e i; codec = f i })
@@ -46,8 +46,8 @@ levels-one n [] [] text a b e = refl
 levels-one n [] (m ∷ ms) text a b e = cc e
 levels-one n (l ∷ ls) [] text a b e = cc e
 levels-one n (l ∷ ls) (m ∷ ms) text a b e =
-    ap (λ k. k ∷ ls) (level-one l m (same_name {l} {m} {ls} {ms} e) (codec_known n l.codec text a.0 ∙ sym (codec_known n m.codec text b.0)))
-    ∙ ap (λ ks. m ∷ ks) (levels-one n ls ms text a.1 b.1 (same_names {l} {m} {ls} {ms} e))
+    ap (λ k. k ∷ ls) (level-one l m (same_name l m ls ms e) (codec_known n l.codec text a.0 ∙ sym (codec_known n m.codec text b.0)))
+    ∙ ap (λ ks. m ∷ ks) (levels-one n ls ms text a.1 b.1 (same_names l m ls ms e))
 
 -- The codec at a place, by what is wrong there.
 abbrev place_codec : Notation → Cause → Codec
@@ -110,8 +110,8 @@ module _ {limit : ℕ} {codec : Codec} {text : List ℕ} {t : Tree} (has : HasTr
   tree-shallow : codec ≡ Avn → ExceedsDepth limit 0 (chars text) → ⊥
   tree-shallow e deep = let is = avn_of (subst (λ c. HasTree limit (notation_of c) text t) e has) in reads-deep is.1 deep
 
-  tree-text : notation_of codec ≡ Notation.other → ⊥
-  tree-text e = subst IsText e (is_text has)
+tree-text : {limit : ℕ} {n : Notation} {text : List ℕ} {t : Tree} → HasTree limit n text t → n ≡ Notation.other → ⊥
+tree-text has e = subst IsText e (is_text has)
 
 -- A text that has a tree is refused for one reason.
 tree-alike : (limit : ℕ) (codec : Codec) (s : Shape) (text : List ℕ) (t : Tree) (f g : Failure) → HasTree limit (notation_of codec) text t → FailsWith (notation_of codec) s (Some t) (map (λ l. l.name) f.path) f.cause

@@ -1,4 +1,3 @@
-use Rattle.std.specs.Prelude.{◌≡◌}
 use Rattle.asn_agreement.proofs.Blocks.{one_cause, written-unrefused}
 use Rattle.asn_agreement.proofs.writing.one_writing.Goals as goal
 

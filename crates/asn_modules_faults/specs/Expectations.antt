@@ -1,0 +1,37 @@
+-- What was expected, in the words of X.680.
+use Rattle.std.specs.Prelude.{ℕ, List, codes}
+use Rattle.asn_headers.specs.declared.fault.Expected.{Expected}
+use Rattle.asn_headers.specs.declared.fault.Expected.TheVariants as expected
+
+abbrev pub expected_text : Expected → List ℕ
+expected_text expected.Name = codes "a name"
+expected_text expected.Closing = codes "the bracket that closes"
+expected_text expected.Definitions = codes "DEFINITIONS"
+expected_text expected.Tags = codes "TAGS"
+expected_text expected.Implied = codes "IMPLIED"
+expected_text expected.Assignment = codes "`::=`"
+expected_text expected.Begin = codes "BEGIN"
+expected_text expected.CommaOrSemicolon = codes "`,` or `;`"
+expected_text expected.CommaOrFrom = codes "`,` or FROM"
+expected_text expected.Number = codes "a number"
+expected_text expected.NumberOrName = codes "a number or a name"
+expected_text expected.Word = codes "an identifier"
+expected_text expected.Item = codes "an item or `...`"
+expected_text expected.OpenParen = codes "`(`"
+expected_text expected.CloseParen = codes "`)`"
+expected_text expected.CloseBracket = codes "`]`"
+expected_text expected.OpenBrace = codes "`{`"
+expected_text expected.CommaOrBrace = codes "`,` or `}`"
+expected_text expected.CommaOrVersion = codes "`,` or `]]`"
+expected_text expected.Component = codes "a component or an alternative"
+expected_text expected.BraceOrOf = codes "`{`, OF or a size before OF"
+expected_text expected.Of = codes "OF"
+expected_text expected.String = codes "STRING"
+expected_text expected.Identifier = codes "IDENTIFIER"
+expected_text expected.Pdv = codes "PDV"
+expected_text expected.By = codes "BY"
+expected_text expected.Type = codes "a type"
+expected_text expected.HigherType = codes "a type at a higher level"
+expected_text expected.Value = codes "a value"
+expected_text expected.NameOrEnd = codes "an assignment or END"
+expected_text expected.NameOrNothing = codes "an assignment or the end of the text"

@@ -1,0 +1,5 @@
+pub mod Homes
+pub mod Entries
+pub mod Views
+pub mod Lookup
+pub mod Indexes

@@ -1,0 +1,129 @@
+//! Lists the names of modules and of the types that they assign.
+ghost use Rattle.asn_modules_lookup.specs.Entries.{keys_in, module_entries, numbered, type_keys};
+ghost use Rattle.asn_modules_lookup.specs.Entries.{type_name};
+ghost use Rattle.asn_modules_lookup.specs.Homes.{home_view};
+ghost use Rattle.asn_modules_lookup.specs.Views.{entry_view, key_view};
+ghost use Rattle.asn_modules_names.specs.Assigned.{module_name};
+ghost use Rattle.asn_modules_notation.specs.View.{assignment_view, module_view};
+ghost use Rattle.std.specs.Prelude.{◌≡◌, ◌++◌, IfOk, OnOk, map};
+
+use crate::home::Home;
+use asn_lexer::Token;
+use asn_modules_faults::text_of;
+use asn_modules_notation::{Assignment, Module};
+use std::alloc::{AllocError, Global};
+
+/// Is a name behind the number of its module.
+pub type Key<'t> = (usize, &'t [u8]);
+
+/// Returns the name of the module, if it has one.
+fn module_name(parsed: &Module) -> Option<Token>
+    ensures { result ≡ module_name (module_view parsed.now) }
+{
+    match &parsed.header {
+        Some(header) => Some(header.opening.name),
+        None => None,
+    }
+}
+
+/// Returns the names of the modules, each with its number.
+///
+/// # Errors
+///
+/// Where memory runs out.
+pub fn module_entries<'t>(
+    alloc: Global,
+    homes: &[Home<'_, 't>],
+) -> Result<Vec<(&'t [u8], usize)>, AllocError>
+    ensures { IfOk result (λ entries.
+        map entry_view entries.items ≡ module_entries 0 (map home_view homes.now)) }
+{
+    let mut entries = Vec::new(alloc);
+    for (number, home) in homes.iter().enumerate() {
+        if let Some(name) = module_name(home.parsed) {
+            entries.push((text_of(home.source.text, name), number))?;
+        }
+    }
+    Ok(entries)
+}
+
+/// Returns the name of the type that is assigned, if it is one.
+fn type_name(assignment: &Assignment) -> Option<Token>
+    ensures { result ≡ type_name (assignment_view assignment.now) }
+{
+    match assignment {
+        Assignment::Type { name, .. } => Some(*name),
+        Assignment::Value { .. } => None,
+    }
+}
+
+/// Appends the names of the types that these assignments of the module of the number assign.
+///
+/// # Errors
+///
+/// Where memory runs out.
+fn add_keys<'t>(
+    keys: &mut Vec<Key<'t>>,
+    number: usize,
+    home: Home<'_, 't>,
+    assignments: &[Assignment],
+) -> Result<(), AllocError>
+    ensures { OnOk result (map key_view keys.new.items ≡ map key_view keys.old.items
+        ++ keys_in number (home_view home.entry) (map assignment_view assignments.now)) }
+{
+    for assignment in assignments {
+        if let Some(name) = type_name(assignment) {
+            keys.push((number, text_of(home.source.text, name)))?;
+        }
+    }
+    Ok(())
+}
+
+/// Returns the names of the types that the modules assign.
+///
+/// # Errors
+///
+/// Where memory runs out.
+pub fn type_keys<'t>(alloc: Global, homes: &[Home<'_, 't>]) -> Result<Vec<Key<'t>>, AllocError>
+    ensures { IfOk result (λ keys.
+        map key_view keys.items ≡ type_keys 0 (map home_view homes.now)) }
+{
+    let mut keys = Vec::new(alloc);
+    for (number, home) in homes.iter().enumerate() {
+        add_keys(&mut keys, number, *home, home.parsed.assignments.as_slice())?;
+    }
+    Ok(keys)
+}
+
+/// Returns the names with their numbers.
+///
+/// # Errors
+///
+/// Where memory runs out.
+pub fn numbered<'t>(alloc: Global, keys: &[Key<'t>]) -> Result<Vec<(Key<'t>, usize)>, AllocError>
+    ensures { IfOk result (λ entries. entries.items ≡ numbered 0 keys.now) }
+{
+    let mut entries = Vec::new(alloc);
+    for (number, key) in keys.iter().enumerate() {
+        entries.push((*key, number))?;
+    }
+    Ok(entries)
+}
+
+/// Returns the entries by their names alone.
+///
+/// # Errors
+///
+/// Where memory runs out.
+pub fn by_name<'t>(
+    alloc: Global,
+    types: &[(Key<'t>, usize)],
+) -> Result<Vec<(&'t [u8], usize)>, AllocError>
+    ensures { IfOk result (λ entries. entries.items ≡ map (λ e. (e.0.1, e.1)) types.now) }
+{
+    let mut entries = Vec::new(alloc);
+    for entry in types {
+        entries.push((entry.0.1, entry.1))?;
+    }
+    Ok(entries)
+}

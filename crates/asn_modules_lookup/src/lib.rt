@@ -1,0 +1,13 @@
+//! Finds the types that modules name, over all texts that were read together. Modules are numbered
+//! from 0 in the order of the texts, and so are the types that they assign, over all modules.
+#![tactic(auto)]
+
+mod entries;
+mod find;
+mod home;
+mod imports;
+mod index;
+mod table;
+
+pub use home::{Home, homes_of};
+pub use index::{Index, index_of};

@@ -1,0 +1,5 @@
+pub mod Mentions
+pub mod Faults
+pub mod Repeats
+pub mod Assigned
+pub mod Names

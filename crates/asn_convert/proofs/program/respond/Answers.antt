@@ -1,0 +1,15 @@
+use Rattle.asn_convert.specs.Requests.{Request}
+use Rattle.asn_convert.proofs.program.respond.Goals as goal
+
+pub returns-in-Module-clause-answer : goal.returns-in-Module-clause-answer
+returns-in-Module-clause-answer g c = rw c.in-Module.is (c.pass_on.ensures.answer Request.printing c.args.text.now c.printing_reply.ensures.reply)
+
+pub returns-in-Module-clause-complete : goal.returns-in-Module-clause-complete
+returns-in-Module-clause-complete g c = rw c.in-Module.is (λ stands. c.pass_on.ensures.complete (c.printing_reply.ensures.complete stands))
+
+pub returns-in-Grows-clause-answer : goal.returns-in-Grows-clause-answer
+returns-in-Grows-clause-answer g c =
+    rw c.in-Grows.is (c.pass_on-in-Grows.ensures.answer (Request.growth c.in-Grows.old.now c.in-Grows.new.now) c.args.text.now c.growth_reply.ensures.reply)
+
+pub returns-in-Grows-clause-complete : goal.returns-in-Grows-clause-complete
+returns-in-Grows-clause-complete g c = rw c.in-Grows.is (λ types. c.pass_on-in-Grows.ensures.complete (c.growth_reply.ensures.complete types))

@@ -4,9 +4,8 @@ use Rattle.std.specs.Io.KnownBytes.{Consumes, IsAtEnd}
 use Rattle.asn_convert.specs.Input.{IsWholeInput, input_limit}
 use Rattle.asn_convert.specs.Transfer.{Transfer}
 use Rattle.asn_convert.specs.Lines.{request_line, text_part, words}
-use Rattle.asn_convert.specs.Requests.{before_text, request_of, request_of_words}
+use Rattle.asn_convert.specs.Requests.{Request, before_text, request_of, request_of_words}
 use Rattle.asn_convert.specs.Run.{IsAnswerable, RequestsValue}
-use Rattle.asn_convert.specs.declared.request.Request.{Request}
 
 known_input : (old new : Option (List ℕ)) (input taken : List ℕ) → old ≡ Some input → Consumes old new taken → IsAtEnd new → input ≡ taken
 known_input None new input taken told h end = let none : ◌≡◌ {A = Option (List ℕ)} None (Some input) = told in cc none

@@ -1,5 +1,5 @@
 -- What is expected for an input, and when it was written.
-use Rattle.std.specs.Prelude.{◌≡◌, ◌⊎◌, ℕ, List, [], ◌∷◌, ◌++◌, codes}
+use Rattle.std.specs.Prelude.{◌≡◌, ◌⊎◌, ℕ, List, [], ◌∷◌, ◌++◌, codes, Result, IfOk}
 use Rattle.std.specs.Io.KnownBytes.{Appends, Keeps}
 use Rattle.asn_core.specs.declared.codec.Codec.{Codec}
 use Rattle.asn_traits.specs.Shape.{Shape}
@@ -7,8 +7,10 @@ use Rattle.asn_codec.specs.Conversion.{Converts, Refuses, refusal_of, error_text
 use Rattle.asn_convert.specs.Faults.{Increased, AppendsFront}
 use Rattle.asn_convert.specs.Made.{report}
 use Rattle.asn_convert.specs.Transfer.{Transfer}
-use Rattle.asn_convert.specs.declared.request.Request.{Request}
-use Rattle.asn_convert.specs.declared.request.Request.TheVariants.{Convert, Make}
+use Rattle.asn_convert.specs.Requests.{Request}
+use Rattle.asn_module_reports.specs.Replies.{IsReply}
+use Rattle.asn_module_reports.specs.Reports.{IsGrowthRefusal, IsGrowthReport, IsPrinting, IsPrintingRefusal}
+use Rattle.asn_module_reports.specs.declared.reply.Reply.{Reply}
 use Rattle.asn_samples.specs.Samples.{sample_shape}
 use Rattle.asn_convert.specs.declared.status.Status.{Status}
 use Rattle.asn_convert.specs.declared.status.Status.TheVariants.{Done, Refused, WriteFault, WantOfMemory}
@@ -46,15 +48,19 @@ pub record WroteFront (sink : Transfer) (P : List ℕ → Type 0) : Type 0 where
   pub has : P bytes
   pub appended : AppendsFront sink.bytes_before sink.bytes_after bytes
 
--- the bytes are what is expected for the request: the answer to its text, or the report on its document
+-- the bytes are what is expected for the request: the answer to its text, the report on its document, the printed text of the module that its text stands for, or the line on two types of that module
 abbrev pub IsAnswerTo : Request → List ℕ → List ℕ → Type 0
-IsAnswerTo (Convert from to sample limit) text due = IsAnswer limit from to (sample_shape sample) text due
-IsAnswerTo (Make n) text due = due ≡ report n
+IsAnswerTo (Request.conversion from to sample limit) text due = IsAnswer limit from to (sample_shape sample) text due
+IsAnswerTo (Request.document n) text due = due ≡ report n
+IsAnswerTo Request.printing text due = IsPrinting text due
+IsAnswerTo (Request.growth old new) text due = IsGrowthReport old new text due
 
 -- the bytes are the line of a fault for which the text is refused; a document that is made is never refused
 abbrev pub IsRefusalTo : Request → List ℕ → List ℕ → Type 0
-IsRefusalTo (Convert from to sample limit) text due = IsRefusal limit from to (sample_shape sample) text due
-IsRefusalTo (Make n) text due = ⊥
+IsRefusalTo (Request.conversion from to sample limit) text due = IsRefusal limit from to (sample_shape sample) text due
+IsRefusalTo (Request.document n) text due = ⊥
+IsRefusalTo Request.printing text due = IsPrintingRefusal text due
+IsRefusalTo (Request.growth old new) text due = IsGrowthRefusal old new text due
 
 -- the bytes are what is expected for the request, an answer or a refusal
 abbrev pub IsOutputTo : Request → List ℕ → List ℕ → Type 0
@@ -81,3 +87,7 @@ AnswersTo asked text sink Refused = Wrote sink (IsRefusalTo asked text)
 AnswersTo asked text sink WriteFault = Increased sink.faults_before sink.faults_after × WroteFront sink (IsOutputTo asked text)
 AnswersTo asked text sink WantOfMemory = Keeps sink.bytes_before sink.bytes_after
 AnswersTo asked text sink _ = ⊥
+
+-- what is written of a reply answers each request that it is a reply to
+abbrev pub RepliesTo : {E : Type 0} → Result Reply E → Transfer → Status → Type 0
+RepliesTo reply sink status = (asked : Request) (text : List ℕ) → IfOk reply (IsReply (IsAnswerTo asked text) (IsRefusalTo asked text)) → AnswersTo asked text sink status

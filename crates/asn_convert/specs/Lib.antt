@@ -5,6 +5,7 @@ pub mod Input
 pub mod Lines
 pub mod Made
 pub mod Memory
+pub mod RequestView
 pub mod Requests
 pub mod Run
 pub mod Status

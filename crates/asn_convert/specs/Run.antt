@@ -4,12 +4,11 @@ use Rattle.asn_convert.specs.Faults.{Increased}
 use Rattle.asn_convert.specs.Input.{input_limit}
 use Rattle.asn_convert.specs.Lines.{text_part}
 use Rattle.asn_samples.specs.Samples.{sample_shape}
-use Rattle.asn_convert.specs.Requests.{request_of}
+use Rattle.asn_convert.specs.Requests.{Request, request_of}
+use Rattle.asn_module_reports.specs.Reports.{AreTypesOf, IsModuleText}
 use Rattle.asn_codec.specs.Conversion.{IsConvertible}
 use Rattle.asn_convert.specs.ExpectedOutput.{Wrote, WroteFront, IsOutputTo}
 use Rattle.asn_convert.specs.Transfer.{Transfer}
-use Rattle.asn_convert.specs.declared.request.Request.{Request}
-use Rattle.asn_convert.specs.declared.request.Request.TheVariants.{Convert, Make}
 
 -- the input is a request, and bytes that are expected for its text in this way were written
 pub record Answered (sink : Transfer) (ExpectedOutput : Request → List ℕ → List ℕ → Type 0) (input : List ℕ) : Type 0 where
@@ -31,10 +30,12 @@ pub record IsRead (source : Transfer) (input : List ℕ) : Type 0 where
   pub within : length input ≤ input_limit
   pub steady : Increased source.faults_before source.faults_after → ⊥
 
--- the text decodes to a value that can be written as the request asks, or a document is made
+-- the text decodes to a value that can be written as the request asks, a document is made, or the text stands for a module, and both types have shapes where two are compared
 abbrev pub IsAnswerable : Request → List ℕ → Type 0
-IsAnswerable (Convert from to sample limit) text = IsConvertible limit from to (sample_shape sample) text
-IsAnswerable (Make n) text = Unit {0}
+IsAnswerable (Request.conversion from to sample limit) text = IsConvertible limit from to (sample_shape sample) text
+IsAnswerable (Request.document n) text = Unit {0}
+IsAnswerable Request.printing text = IsModuleText text
+IsAnswerable (Request.growth old new) text = AreTypesOf old new text
 
 -- the input is a request that is answered, and not refused
 pub record RequestsValue (input : List ℕ) : Type 0 where

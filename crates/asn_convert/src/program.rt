@@ -1,17 +1,19 @@
-//! Runs the program: reads an input, decides what it asks for, converts the text at the Rust type
-//! of the sample that it names, and writes the result. Each step below `run` is one function, and
-//! returns a `Status`.
+//! Runs the program: reads an input, decides what it asks for, does it, and writes the result. A
+//! text is converted at the Rust type of the sample that the request names. Each step below `run`
+//! is one function, and returns a `Status`.
 ghost use Rattle.std.specs.Prelude.{◌≡◌, ◌≢◌, ◌≤◌, ◌<◌, ◌⊎◌, ◌++◌, ◌∷◌, [], ℕ, List, length, IsUtf8};
-ghost use Rattle.std.specs.Prelude.{Some, None, true, string_bytes};
+ghost use Rattle.std.specs.Prelude.{Some, None, true, string_bytes, IfOk};
 ghost use Rattle.std.specs.Io.KnownBytes.{Keeps};
 ghost use Rattle.asn_convert.specs.Faults.{Increased};
 ghost use Rattle.asn_convert.specs.Made.{report};
+ghost use Rattle.asn_convert.specs.RequestView.{request_view};
 ghost use Rattle.asn_convert.specs.Requests.{KeepsLimits, request_of};
 ghost use Rattle.asn_samples.specs.Samples.{sample_shape};
 ghost use Rattle.asn_convert.specs.ExpectedOutput.{Answers, AnswersTo, IsAnswerTo, IsRefusalTo};
-ghost use Rattle.asn_convert.specs.ExpectedOutput.{Outcome, refusal_line};
+ghost use Rattle.asn_convert.specs.ExpectedOutput.{Outcome, RepliesTo, refusal_line};
 ghost use Rattle.asn_convert.specs.Input.{ReadPastLimit, ReadWhole, input_limit};
 ghost use Rattle.asn_convert.specs.Transfer.{transfer_of};
+ghost use Rattle.asn_module_reports.specs.Replies.{IsAnswered};
 ghost use Rattle.asn_codec.specs.Conversion.{IsConvertible, refusal_of, is_refusal_out_of_memory};
 ghost use Rattle.asn_convert.specs.Run.{Answered, CutShort, IsAnswerable, IsRead, RequestsValue};
 ghost use Rattle.avn_grammar.specs.declared.limits.TheConstants.{GREATEST_LEVEL_LIMIT};
@@ -29,20 +31,23 @@ use crate::request::{Request, requested};
 use crate::status::Status;
 use asn_codec::{TranscodeError, transcode_within};
 use asn_core::{Codec, OutOfMemory};
+use asn_module_reports::{Reply, growth_reply, printing_reply};
 use asn_samples::{Sample, SampleVisitor};
 use asn_traits::{Decode, Encode};
 use avn_grammar::limits::LEVEL_LIMIT;
 use std::alloc::Global;
 
-/// Reads the whole input, and writes the canonical text of the value that its text decodes to, or
-/// the line of the error; or makes a document, and writes the report on its texts. It looks for a
-/// request only in an input that was read to its end.
+/// Reads the whole input, and writes the canonical text of the value that its text decodes to; or
+/// makes a document, and writes the report on its texts; or prints the module that its text stands
+/// for, or says whether one type of that module is a later version of another; or writes the line
+/// of an error. It looks for a request only in an input that was read to its end.
 ///
 /// Statuses are decided in the order `ReadFault`, `TooLong`, `NotText`, `BadRequest`, `Refused`,
 /// `WriteFault`; `WantOfMemory` may come anywhere, and then nothing was written.
 pub fn run<S: Source, K: Sink>(alloc: Global, source: &mut S, sink: &mut K) -> Status
     // Each status comes only under its cause. `Done` means that the input is a request, and that
-    // the canonical text and a line feed were written, or the report on the document.
+    // what it asks for was written: the canonical text and a line feed, the report on the document,
+    // the printed module, or the line on two types of it.
     ensures done { result ≡ Done
         → ReadWhole (transfer_of S.left S.faults source.old source.new)
         (Answered (transfer_of K.written K.faults sink.old sink.new) IsAnswerTo) }
@@ -81,7 +86,7 @@ pub fn run<S: Source, K: Sink>(alloc: Global, source: &mut S, sink: &mut K) -> S
         sink.new)
         → (result ≡ Done) ⊎ (result ≡ Refused) ⊎ (result ≡ WantOfMemory) }
     // A request whose text decodes to a value that can be encoded is done, and so is one to make a
-    // document.
+    // document, and one whose text stands for a module that has the types to compare.
     ensures answers_values { (input : List ℕ)
         → IsRead (transfer_of S.left S.faults source.old source.new) input
         → IsUtf8 input → RequestsValue input → ¬ Increased (K.faults sink.old) (K.faults sink.new)
@@ -117,12 +122,12 @@ pub fn run<S: Source, K: Sink>(alloc: Global, source: &mut S, sink: &mut K) -> S
 }
 
 /// Does what a request asks for, with the text after it.
-#[tactic(auto, using(crate::proofs::Answering::conversion_answers, crate::proofs::Answering::report_answers))]
-fn respond<K: Sink>(alloc: Global, request: Request, text: &str, sink: &mut K) -> Status
-    requires { KeepsLimits request }
-    ensures answer { AnswersTo request text.now
+#[tactic(auto, using(crate::proofs::Answering::report_answers))]
+fn respond<K: Sink>(alloc: Global, request: Request<'_>, text: &str, sink: &mut K) -> Status
+    requires { KeepsLimits (request_view request) }
+    ensures answer { AnswersTo (request_view request.entry) text.now
         (transfer_of K.written K.faults sink.old sink.new) result }
-    ensures complete { IsAnswerable request text.now → result ≢ Refused }
+    ensures complete { IsAnswerable (request_view request.entry) text.now → result ≢ Refused }
 {
     match request {
         Request::Convert {
@@ -132,6 +137,21 @@ fn respond<K: Sink>(alloc: Global, request: Request, text: &str, sink: &mut K) -
             limit,
         } => convert(alloc, from, to, sample, limit, text, sink),
         Request::Make { entries } => make(alloc, entries, sink),
+        Request::Module => pass_on(printing_reply(alloc, text), sink),
+        Request::Grows { old, new } => pass_on(growth_reply(alloc, old, new, text), sink),
+    }
+}
+
+/// Writes a reply on a module. The status is `Done` where all of an answer is written, and
+/// `Refused` where all of a refusal is.
+fn pass_on<K: Sink>(reply: Result<Reply, OutOfMemory>, sink: &mut K) -> Status
+    ensures answer { RepliesTo reply (transfer_of K.written K.faults sink.old sink.new) result }
+    ensures complete { IfOk reply IsAnswered → result ≢ Refused }
+{
+    match reply {
+        Ok(Reply::Answer(text)) => written(sink, text.as_bytes(), Status::Done),
+        Ok(Reply::Refusal(line)) => written(sink, line.as_bytes(), Status::Refused),
+        Err(OutOfMemory) => Status::WantOfMemory,
     }
 }
 

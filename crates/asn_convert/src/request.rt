@@ -1,21 +1,28 @@
 //! Reads a request line: `<from> <to> <type>`, three words, of which the first two name a text
-//! notation and the third a sample type; the same with a limit on the levels of AVN after them; or
-//! `make <n>`, with a number of entries.
-ghost use Rattle.std.specs.Prelude.{◌≡◌};
+//! notation and the third a sample type; the same with a limit on the levels of AVN after them;
+//! `make <n>`, with a number of entries; `module`; or `grows <Old> <New>`, with the names of two
+//! types of the module that follows.
+ghost use Rattle.std.specs.Option.{option_map};
+ghost use Rattle.std.specs.Prelude.{◌≡◌, ◌∷◌, [], MatchOption, None, Some};
 ghost use Rattle.asn_convert.specs.Lines.{words};
-ghost use Rattle.asn_convert.specs.Requests.{before_text, count_of, limit_of, short_number};
-ghost use Rattle.asn_convert.specs.Requests.{notation_named, request_for, request_of_words};
+ghost use Rattle.asn_convert.specs.RequestView.{request_view};
+ghost use Rattle.asn_convert.specs.Requests.{before_text, conversion_for, count_of, growth_for};
+ghost use Rattle.asn_convert.specs.Requests.{limit_of, names_type, notation_named};
+ghost use Rattle.asn_convert.specs.Requests.{request_of_words, short_number};
 ghost use Rattle.asn_samples.specs.Samples.{sample_named};
 
 use crate::limits::MOST_ENTRIES;
 use crate::lines::next_word;
 use asn_core::Codec;
+use asn_notation::is_type_name;
 use asn_samples::Sample;
 use avn_grammar::limits::{GREATEST_LEVEL_LIMIT, LEVEL_LIMIT};
+use avn_grammar::names::is_identifier;
 
-/// Holds what an input asks for.
-#[derive(Clone, Copy, Debug, PartialEq, Eq, Drop)]
-pub enum Request {
+/// Holds what an input asks for. Contracts see it as the `Request` of `specs/Requests.antt`
+/// (`request_view`).
+#[derive(Clone, Copy, Drop)]
+pub enum Request<'a> {
     /// Asks to convert a value of the sample type from one text notation to another.
     Convert {
         /// Names the notation of the text that is read.
@@ -33,6 +40,15 @@ pub enum Request {
         /// Counts the entries, at most `MOST_ENTRIES`.
         entries: u32,
     },
+    /// Asks to print the module that the text stands for.
+    Module,
+    /// Asks whether a type of the module that the text stands for is a later version of another.
+    Grows {
+        /// Names the older type.
+        old: &'a str,
+        /// Names the newer type.
+        new: &'a str,
+    },
 }
 
 /// Returns the text notation of that name, `jer` or `avn`, and `None` for any other.
@@ -48,9 +64,9 @@ fn notation(name: &str) -> Option<Codec>
 
 /// Returns the request to convert by these three words and the limit, or `None` where one of the
 /// words is no name or there is no limit.
-fn conversion(from: &str, to: &str, name: &str, limit: Option<usize>) -> Option<Request>
-    ensures { result ≡ request_for (notation_named from.now) (notation_named to.now)
-        (sample_named name.now) limit }
+fn conversion<'a>(from: &str, to: &str, name: &str, limit: Option<usize>) -> Option<Request<'a>>
+    ensures { option_map request_view result ≡ conversion_for (notation_named from.now)
+        (notation_named to.now) (sample_named name.now) limit }
 {
     match (notation(from), notation(to), Sample::named(name), limit) {
         (Some(from), Some(to), Some(sample), Some(limit)) => Some(Request::Convert {
@@ -102,23 +118,72 @@ fn level_limit(word: &str) -> Option<usize>
     }
 }
 
-/// Returns the request of a line, or `None` where it makes none: where it has more words than four
-/// or fewer than two, or one of them is not what stands there in a request.
-fn of_line(line: &str) -> Option<Request>
-    ensures { result ≡ request_of_words (words line.now) }
+/// Returns whether the word is the name of a type of a module.
+fn names_type(word: &str) -> bool
+    ensures { result ≡ names_type word.now }
+{
+    is_identifier(word) && is_type_name(word)
+}
+
+/// Returns the request to compare the types of these names, or `None` where one of the words is no
+/// name of a type.
+fn growth<'a>(old: &'a str, new: &'a str) -> Option<Request<'a>>
+    ensures { option_map request_view result ≡ growth_for old.now new.now }
+{
+    if names_type(old) && names_type(new) {
+        Some(Request::Grows { old, new })
+    } else {
+        None
+    }
+}
+
+/// Returns the request that one word is, or `None` where it is none.
+fn of_one_word<'a>(word: &str) -> Option<Request<'a>>
+    ensures { option_map request_view result ≡ request_of_words (word.now ∷ []) }
+{
+    match word {
+        "module" => Some(Request::Module),
+        _ => None,
+    }
+}
+
+/// Returns the request that two words are, or `None` where they are none.
+fn of_two_words<'a>(first: &str, second: &str) -> Option<Request<'a>>
+    ensures { option_map request_view result ≡ request_of_words (first.now ∷ second.now ∷ []) }
+{
+    if first != "make" {
+        return None;
+    }
+    Some(Request::Make {
+        entries: count(second)?,
+    })
+}
+
+/// Returns the request that three words are, or `None` where they are none.
+fn of_three_words<'a>(first: &str, second: &'a str, third: &'a str) -> Option<Request<'a>>
+    ensures { option_map request_view result
+        ≡ request_of_words (first.now ∷ second.now ∷ third.now ∷ []) }
+{
+    match first {
+        "grows" => growth(second, third),
+        _ => conversion(first, second, third, Some(LEVEL_LIMIT)),
+    }
+}
+
+/// Returns the request of a line, or `None` where it makes none: where it has no word or more than
+/// four, or one of them is not what stands there in a request.
+fn of_line(line: &str) -> Option<Request<'_>>
+    ensures { option_map request_view result ≡ request_of_words (words line.now) }
 {
     let (first, rest) = next_word(line)?;
-    let (second, rest) = next_word(rest)?;
+    let Some((second, rest)) = next_word(rest) else {
+        return of_one_word(first);
+    };
     let Some((third, rest)) = next_word(rest) else {
-        if first != "make" {
-            return None;
-        }
-        return Some(Request::Make {
-            entries: count(second)?,
-        });
+        return of_two_words(first, second);
     };
     let Some((fourth, rest)) = next_word(rest) else {
-        return conversion(first, second, third, Some(LEVEL_LIMIT));
+        return of_three_words(first, second, third);
     };
     if next_word(rest).is_some() {
         return None;
@@ -128,11 +193,13 @@ fn of_line(line: &str) -> Option<Request>
 
 /// Returns the request that a line makes before a text, or `None` where it makes none: a document
 /// is made without a text.
-pub fn requested(line: &str, text: &str) -> Option<Request>
-    ensures { result ≡ before_text (request_of_words (words line.now)) text.now }
+pub fn requested<'a>(line: &'a str, text: &str) -> Option<Request<'a>>
+    ensures { MatchOption result
+        (before_text (request_of_words (words line.now)) text.now ≡ None)
+        (λ r. before_text (request_of_words (words line.now)) text.now ≡ Some (request_view r)) }
 {
     match of_line(line)? {
-        Request::Make { entries } if !text.is_empty() => None,
+        Request::Make { .. } if !text.is_empty() => None,
         request => Some(request),
     }
 }

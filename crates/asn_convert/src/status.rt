@@ -4,7 +4,7 @@ ghost use Rattle.std.specs.Prelude.{◌≡◌};
 /// States how a run ended. Its number is the exit status of the program.
 #[derive(Clone, Copy, Debug, PartialEq, Eq, Drop)]
 pub enum Status {
-    /// The canonical text, or the report of `make`, was written whole.
+    /// What the request asks for was written whole.
     Done,
     /// The text was refused, and the line that states why was written whole.
     Refused,

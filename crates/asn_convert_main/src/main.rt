@@ -1,7 +1,6 @@
-//! Converts a value between the text notations: a request line and a text on standard input, the
-//! value's canonical text, the line of its error or the report on a document that is made on
-//! standard output, and the status as the exit status. All of the work, and its contract, is
-//! `asn_convert::run`.
+//! Converts a value between the text notations, and prints and compares types: a request line and a
+//! text on standard input, what is answered or the line of an error on standard output, and the
+//! status as the exit status. All of the work, and its contract, is `asn_convert::run`.
 #![tactic(auto)]
 
 use asn_convert::{StdSink, StdSource, run};

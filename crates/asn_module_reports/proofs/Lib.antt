@@ -1,1 +1,2 @@
 mod Completing
+mod Replying

@@ -1,5 +1,5 @@
 -- What is reported on the module that a text stands for.
-use Rattle.std.specs.Prelude.{◌≡◌, ◌≤◌, ℕ, List, [], ◌∷◌, ◌++◌, codes, decimal, Some, true}
+use Rattle.std.specs.Prelude.{◌≡◌, ◌≢◌, ◌≤◌, ℕ, List, [], ◌∷◌, ◌++◌, codes, decimal, Some, true}
 use Rattle.std.specs.Str.{chars}
 use Rattle.asn_expansion.specs.Expansion.{type_shape}
 use Rattle.asn_expansion.specs.declared.limits.TheConstants.{NODE_LIMIT, OPEN_LIMIT}
@@ -9,8 +9,9 @@ use Rattle.asn_growth.specs.declared.reasons.Growth.{Growth}
 use Rattle.asn_growth.specs.declared.reasons.Growth.TheVariants.{Differs, Grows}
 use Rattle.asn_model.specs.Readable.{is_readable}
 use Rattle.asn_model.specs.Shape.{Shape}
-use Rattle.asn_module.specs.Faults.{HasNoShape, IsRefusal}
+use Rattle.asn_module.specs.Faults.{HasNoShape, IsRefusal, module_fault_text}
 use Rattle.asn_module.specs.declared.fault.ModuleFault.{ModuleFault}
+use Rattle.asn_module.specs.declared.fault.ModuleFault.TheVariants.{OutOfMemory}
 use Rattle.asn_module_text.specs.Modules.{IsModule}
 use Rattle.asn_notation.specs.Notation.{Assignment}
 use Rattle.asn_notation.specs.Printed.{module_text}
@@ -26,6 +27,17 @@ pub record IsPrinting (text due : List ℕ) : Type 0 where
   pub assignments : List Assignment
   pub stands : IsModule NESTING_LIMIT (chars text) assignments
   pub is : due ≡ module_text assignments
+
+-- The line that states a fault.
+abbrev pub fault_line : ModuleFault → List ℕ
+fault_line fault = codes "refused: " ++ module_fault_text fault ++ 10 ∷ []
+
+-- The bytes are the line of a fault for which the text stands for no module.
+pub record IsPrintingRefusal (text due : List ℕ) : Type 0 where
+  pub fault : ModuleFault
+  pub reason : IsRefusal NESTING_LIMIT (chars text) fault
+  pub stated : fault ≢ OutOfMemory
+  pub is : due ≡ fault_line fault
 
 -- The type of this name has this shape, which isn't too large and can be read.
 pub record IsType (assignments : List Assignment) (name : List ℕ) (s : Shape) : Type 0 where
@@ -59,3 +71,10 @@ pub data GrowthFails (old new text : List ℕ) : ModuleFault → Type 0 where
       → HasNoShape OPEN_LIMIT NODE_LIMIT assignments old fault → GrowthFails old new text fault
   no_newer : (fault : ModuleFault) (assignments : List Assignment) (older : Shape) → IsModule NESTING_LIMIT (chars text) assignments
       → IsType assignments old older → HasNoShape OPEN_LIMIT NODE_LIMIT assignments new fault → GrowthFails old new text fault
+
+-- The bytes are the line of such a fault.
+pub record IsGrowthRefusal (old new text due : List ℕ) : Type 0 where
+  pub fault : ModuleFault
+  pub reason : GrowthFails old new text fault
+  pub stated : fault ≢ OutOfMemory
+  pub is : due ≡ fault_line fault

@@ -2,6 +2,8 @@
 //! a later version of another.
 #![tactic(auto)]
 
+mod reply;
 mod report;
 
+pub use reply::{Reply, growth_reply, printing_reply};
 pub use report::{growth_report, printed_module};

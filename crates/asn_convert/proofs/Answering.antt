@@ -1,5 +1,5 @@
 -- What a status says, from what was put into the sink.
-use Rattle.std.proofs.Common.{◌≡◌, ◌≢◌, refl, ◌++◌, ◌∷◌, [], ℕ, List, true, ◌⊎◌, inl, inr, Result, Ok, IfOk, String, Global, string_bytes}
+use Rattle.std.proofs.Common.{◌≡◌, ◌≢◌, refl, sym, subst, ◌++◌, ◌∷◌, [], ℕ, List, true, ◌⊎◌, inl, inr, Result, Ok, IfOk, String, Global, string_bytes}
 use Rattle.std.proofs.lemmas.Result.{IfOk-at_ok}
 use Rattle.asn_core.specs.declared.codec.Codec.{Codec}
 use Rattle.asn_traits.specs.Shape.{Shape}
@@ -67,14 +67,14 @@ put_as_refusal asked text due t r h (Outcome.cut rose front) = (rose, record { b
 put_as_refusal asked text due t r h (Outcome.unwritten keeps) = keeps
 
 -- so an answer that is put as one replies
-pub answer_replies : {E : Type 0} (reply : Result Reply E) (text : String Global) (t : Transfer) (r : Status) → reply ≡ Ok (Answer text) → Outcome (string_bytes text) Done t r → RepliesTo reply t r
-answer_replies reply text t r is o asked input h =
-    put_as_answer asked input (string_bytes text) t r (IfOk-at_ok (IsReply (IsAnswerTo asked input) (IsRefusalTo asked input)) is h) o
+pub answer_replies : {E : Type 0} (reply : Result Reply E) (text : String Global) (due : List ℕ) (t : Transfer) (r : Status) → reply ≡ Ok (Answer text) → due ≡ string_bytes text → Outcome due Done t r → RepliesTo reply t r
+answer_replies reply text due t r is same o asked input h =
+    put_as_answer asked input due t r (subst (IsAnswerTo asked input) (sym same) (IfOk-at_ok (IsReply (IsAnswerTo asked input) (IsRefusalTo asked input)) is h)) o
 
 -- and a refusal that is put as one
-pub refusal_replies : {E : Type 0} (reply : Result Reply E) (line : String Global) (t : Transfer) (r : Status) → reply ≡ Ok (Refusal line) → Outcome (string_bytes line) Refused t r → RepliesTo reply t r
-refusal_replies reply line t r is o asked input h =
-    put_as_refusal asked input (string_bytes line) t r (IfOk-at_ok (IsReply (IsAnswerTo asked input) (IsRefusalTo asked input)) is h) o
+pub refusal_replies : {E : Type 0} (reply : Result Reply E) (line : String Global) (due : List ℕ) (t : Transfer) (r : Status) → reply ≡ Ok (Refusal line) → due ≡ string_bytes line → Outcome due Refused t r → RepliesTo reply t r
+refusal_replies reply line due t r is same o asked input h =
+    put_as_refusal asked input due t r (subst (IsRefusalTo asked input) (sym same) (IfOk-at_ok (IsReply (IsAnswerTo asked input) (IsRefusalTo asked input)) is h)) o
 
 -- a refusal is no answer
 pub none_answered : {E : Type 0} (reply : Result Reply E) (line : String Global) → reply ≡ Ok (Refusal line) → IfOk reply IsAnswered → ⊥

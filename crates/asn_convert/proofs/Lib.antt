@@ -1,5 +1,6 @@
 pub mod Asking
 pub mod Counting
+pub mod Forms
 pub mod Limited
 pub mod Relaying
 pub mod MadeTexts

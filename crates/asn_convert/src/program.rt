@@ -129,9 +129,9 @@ pub fn run<S: Source, K: Sink>(alloc: Global, source: &mut S, sink: &mut K) -> S
 #[tactic(auto, using(crate::proofs::Answering::conversion_answers, crate::proofs::Answering::report_answers))]
 fn respond<K: Sink>(alloc: Global, request: Request<'_>, text: &str, sink: &mut K) -> Status
     requires { KeepsLimits (request_view request) }
-    ensures answer { AnswersTo (request_view request) text.now
+    ensures answer { AnswersTo (request_view request.entry) text.now
         (transfer_of K.written K.faults sink.old sink.new) result }
-    ensures complete { IsAnswerable (request_view request) text.now → result ≢ Refused }
+    ensures complete { IsAnswerable (request_view request.entry) text.now → result ≢ Refused }
 {
     match request {
         Request::Convert {

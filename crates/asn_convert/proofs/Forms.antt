@@ -1,0 +1,16 @@
+-- Words that no form begins with.
+use Rattle.std.proofs.Common.{◌≡◌, ℕ, List, [], ◌∷◌, Bool, false, if◌then◌else◌, Some, ap, bytes_eq, codes}
+use Rattle.std.proofs.lemmas.Bool.{false_from_ne_true}
+use Rattle.std.proofs.lemmas.Slice.Eq.{bytes_eq-Decides}
+use Rattle.asn_samples.specs.Samples.{sample_named}
+use Rattle.avn_grammar.specs.declared.limits.TheConstants.{LEVEL_LIMIT}
+use Rattle.asn_convert.specs.Requests.{conversion_for, growth_for, notation_named, request_of_words}
+
+other_word : (word form : List ℕ) → (word ≡ form → ⊥) → bytes_eq word form ≡ false
+other_word word form other = false_from_ne_true (bytes_eq word form) (λ e. other ((bytes_eq-Decides word form).0 e))
+
+-- three words of which the first isn't `grows` are those of a conversion
+pub no_growth : (first second third : List ℕ) → (first ≡ codes "grows" → ⊥)
+    → request_of_words (first ∷ second ∷ third ∷ []) ≡ conversion_for (notation_named first) (notation_named second) (sample_named third) (Some LEVEL_LIMIT)
+no_growth first second third other =
+    ap (λ b. if b then growth_for second third else conversion_for (notation_named first) (notation_named second) (sample_named third) (Some LEVEL_LIMIT)) (other_word first (codes "grows") other)

@@ -126,7 +126,7 @@ pub fn run<S: Source, K: Sink>(alloc: Global, source: &mut S, sink: &mut K) -> S
 }
 
 /// Does what a request asks for, with the text after it.
-#[tactic(auto, using(crate::proofs::Answering::conversion_answers, crate::proofs::Answering::report_answers))]
+#[tactic(auto, using(crate::proofs::Answering::report_answers))]
 fn respond<K: Sink>(alloc: Global, request: Request<'_>, text: &str, sink: &mut K) -> Status
     requires { KeepsLimits (request_view request) }
     ensures answer { AnswersTo (request_view request.entry) text.now

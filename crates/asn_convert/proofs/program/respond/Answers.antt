@@ -1,5 +1,10 @@
 use Rattle.asn_convert.specs.Requests.{Request}
+use Rattle.asn_convert.proofs.Answering.{conversion_answers}
 use Rattle.asn_convert.proofs.program.respond.Goals as goal
+
+pub returns-in-Convert-clause-answer : goal.returns-in-Convert-clause-answer
+returns-in-Convert-clause-answer g c =
+    rw c.in-Convert.is (conversion_answers c.in-Convert.from c.in-Convert.to c.in-Convert.sample c.in-Convert.limit c.args.text.now _ _ c.convert.ensures.answer)
 
 pub returns-in-Module-clause-answer : goal.returns-in-Module-clause-answer
 returns-in-Module-clause-answer g c = rw c.in-Module.is (c.pass_on.ensures.answer Request.printing c.args.text.now c.printing_reply.ensures.reply)

@@ -1,10 +1,12 @@
 use Rattle.asn_convert.specs.Requests.{Request}
+use Rattle.asn_convert.specs.Transfer.{transfer_of}
 use Rattle.asn_convert.proofs.Answering.{conversion_answers}
 use Rattle.asn_convert.proofs.program.respond.Goals as goal
 
 pub returns-in-Convert-clause-answer : goal.returns-in-Convert-clause-answer
 returns-in-Convert-clause-answer g c =
-    rw c.in-Convert.is (conversion_answers c.in-Convert.from c.in-Convert.to c.in-Convert.sample c.in-Convert.limit c.args.text.now _ _ c.convert.ensures.answer)
+    let passed = transfer_of g.K.Sink.written g.K.Sink.faults c.args.sink.now c.convert.new.sink in
+    rw c.in-Convert.is (conversion_answers c.in-Convert.from c.in-Convert.to c.in-Convert.sample c.in-Convert.limit c.args.text.now passed c.convert.result c.convert.ensures.answer)
 
 pub returns-in-Module-clause-answer : goal.returns-in-Module-clause-answer
 returns-in-Module-clause-answer g c = rw c.in-Module.is (c.pass_on.ensures.answer Request.printing c.args.text.now c.printing_reply.ensures.reply)

@@ -3,11 +3,13 @@ use Rattle.std.proofs.Common.{◌≡◌, ◌≤◌, ℕ, List, [], ◌∷◌, le
 use Rattle.std.proofs.lemmas.Bool.{leb-true}
 use Rattle.std.specs.Option.{option_and_then, option_map}
 use Rattle.asn_core.specs.declared.codec.Codec.{Codec}
+use Rattle.asn_core.specs.declared.codec.Codec.TheVariants.{Jer, Avn}
+use Rattle.asn_model.specs.Notation.{IsText, notation_of}
 use Rattle.asn_samples.specs.Samples.{sample_named}
 use Rattle.asn_samples.specs.declared.sample.Sample.{Sample}
 use Rattle.asn_traits.specs.Digits.{digits}
 use Rattle.avn_grammar.specs.declared.limits.TheConstants.{LEVEL_LIMIT, GREATEST_LEVEL_LIMIT}
-use Rattle.asn_convert.specs.Requests.{KeepsLimits, Request, before_text, conversion_for, count_of, growth_for, if_at_most, limit_of, names_type, notation_named, request_of_words, short_number}
+use Rattle.asn_convert.specs.Requests.{KeepsLimits, Request, before_text, conversion_for, count_of, growth_for, if_at_most, keeping_for, limit_of, names_type, notation_named, request_of_words, short_number}
 use Rattle.asn_convert.specs.declared.limits.TheConstants.{MOST_ENTRIES}
 
 number_small : (width most : ℕ) (word : List ℕ) → IfSome (short_number width most word) (λ n. n ≤ most)
@@ -43,6 +45,20 @@ growth_limited old new = by (names_type old && names_type new)
     by true = tt
     by false = tt
 
+named_is_text : (word : List ℕ) → IfSome (notation_named word) (λ c. IsText (notation_of c))
+named_is_text word = by (bytes_eq word (codes "jer")) (bytes_eq word (codes "avn"))
+  where
+    by : (jer avn : Bool) → IfSome (if jer then Some Jer else (if avn then Some Avn else None)) (λ c. IsText (notation_of c))
+    by true avn = tt
+    by false true = tt
+    by false false = tt
+
+keeping_limited : (from : Option Codec) (old new : Option Sample) → IfSome from (λ c. IsText (notation_of c)) → IfSome (keeping_for from old new) KeepsLimits
+keeping_limited None old new text = tt
+keeping_limited (Some from) None new text = tt
+keeping_limited (Some from) (Some old) None text = tt
+keeping_limited (Some from) (Some old) (Some new) text = text
+
 words_limited : (ws : List (List ℕ)) → IfSome (request_of_words ws) KeepsLimits
 words_limited [] = tt
 words_limited (first ∷ []) = by (bytes_eq first (codes "module"))
@@ -60,7 +76,11 @@ words_limited (first ∷ second ∷ third ∷ []) = by (bytes_eq first (codes "g
     by : (b : Bool) → IfSome (if b then growth_for second third else conversion_for (notation_named first) (notation_named second) (sample_named third) (Some LEVEL_LIMIT)) KeepsLimits
     by true = growth_limited second third
     by false = converted_limited (notation_named first) (notation_named second) (sample_named third) (Some LEVEL_LIMIT) (leb-true LEVEL_LIMIT GREATEST_LEVEL_LIMIT refl)
-words_limited (from ∷ to ∷ name ∷ limit ∷ []) = converted_limited (notation_named from) (notation_named to) (sample_named name) (limit_of limit) (number_small 3 GREATEST_LEVEL_LIMIT limit)
+words_limited (first ∷ second ∷ third ∷ fourth ∷ []) = by (bytes_eq first (codes "keep"))
+  where
+    by : (b : Bool) → IfSome (if b then keeping_for (notation_named second) (sample_named third) (sample_named fourth) else conversion_for (notation_named first) (notation_named second) (sample_named third) (limit_of fourth)) KeepsLimits
+    by true = keeping_limited (notation_named second) (sample_named third) (sample_named fourth) (named_is_text second)
+    by false = converted_limited (notation_named first) (notation_named second) (sample_named third) (limit_of fourth) (number_small 3 GREATEST_LEVEL_LIMIT fourth)
 words_limited (from ∷ to ∷ name ∷ limit ∷ other ∷ more) = tt
 
 before_limited : (o : Option Request) (text : List ℕ) → IfSome o KeepsLimits → IfSome (before_text o text) KeepsLimits
@@ -70,6 +90,7 @@ before_limited (Some (Request.document n)) [] few = few
 before_limited (Some (Request.document n)) (b ∷ bs) few = tt
 before_limited (Some Request.printing) text small = tt
 before_limited (Some (Request.growth old new)) text small = tt
+before_limited (Some (Request.keeping from old new)) text small = small
 
 -- a request that words make before a text keeps the limits
 pub limits_kept : (ws : List (List ℕ)) (text : List ℕ) (request : Request) → before_text (request_of_words ws) text ≡ Some request → KeepsLimits request

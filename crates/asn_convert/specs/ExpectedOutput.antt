@@ -8,6 +8,7 @@ use Rattle.asn_convert.specs.Faults.{Increased, AppendsFront}
 use Rattle.asn_convert.specs.Made.{report}
 use Rattle.asn_convert.specs.Transfer.{Transfer}
 use Rattle.asn_convert.specs.Requests.{Request}
+use Rattle.asn_filter_reports.specs.Reports.{IsKeeping, IsKeepingRefusal}
 use Rattle.asn_module_reports.specs.Replies.{IsReply}
 use Rattle.asn_module_reports.specs.Reports.{IsGrowthRefusal, IsGrowthReport, IsPrinting, IsPrintingRefusal}
 use Rattle.asn_module_reports.specs.declared.reply.Reply.{Reply}
@@ -48,19 +49,21 @@ pub record WroteFront (sink : Transfer) (P : List ℕ → Type 0) : Type 0 where
   pub has : P bytes
   pub appended : AppendsFront sink.bytes_before sink.bytes_after bytes
 
--- the bytes are what is expected for the request: the answer to its text, the report on its document, the printed text of the module that its text stands for, or the line on two types of that module
+-- the bytes are what is expected for the request: the answer to its text, the report on its document, the printed text of the module that its text stands for, the line on two types of that module, or the lines of a stream, all of which are kept
 abbrev pub IsAnswerTo : Request → List ℕ → List ℕ → Type 0
 IsAnswerTo (Request.conversion from to sample limit) text due = IsAnswer limit from to (sample_shape sample) text due
 IsAnswerTo (Request.document n) text due = due ≡ report n
 IsAnswerTo Request.printing text due = IsPrinting text due
 IsAnswerTo (Request.growth old new) text due = IsGrowthReport old new text due
+IsAnswerTo (Request.keeping from old new) text due = IsKeeping from (sample_shape old) (sample_shape new) text due
 
--- the bytes are the line of a fault for which the text is refused; a document that is made is never refused
+-- the bytes are the line of a fault for which the text is refused, or what is kept of a stream and why the rest isn't; a document that is made is never refused
 abbrev pub IsRefusalTo : Request → List ℕ → List ℕ → Type 0
 IsRefusalTo (Request.conversion from to sample limit) text due = IsRefusal limit from to (sample_shape sample) text due
 IsRefusalTo (Request.document n) text due = ⊥
 IsRefusalTo Request.printing text due = IsPrintingRefusal text due
 IsRefusalTo (Request.growth old new) text due = IsGrowthRefusal old new text due
+IsRefusalTo (Request.keeping from old new) text due = IsKeepingRefusal from (sample_shape old) (sample_shape new) text due
 
 -- the bytes are what is expected for the request, an answer or a refusal
 abbrev pub IsOutputTo : Request → List ℕ → List ℕ → Type 0

@@ -3,6 +3,7 @@ use Rattle.std.specs.Prelude.{ℕ, List, [], ◌∷◌, Bool, ◌&&◌, bytes_eq
 use Rattle.std.specs.Option.{option_and_then, option_map}
 use Rattle.asn_core.specs.declared.codec.Codec.{Codec}
 use Rattle.asn_core.specs.declared.codec.Codec.TheVariants.{Jer, Avn}
+use Rattle.asn_model.specs.Notation.{IsText, notation_of}
 use Rattle.asn_notation.specs.Starts.{is_type_name}
 use Rattle.asn_samples.specs.Samples.{sample_named}
 use Rattle.asn_samples.specs.declared.sample.Sample.{Sample}
@@ -22,6 +23,8 @@ pub data Request : Type 0 where
   printing : Request
   -- To compare two types of the module that the text stands for: of these names, the older one first.
   growth : List ℕ → List ℕ → Request
+  -- To cut a stream in this notation, of values of the second sample type, to what the first one knows.
+  keeping : Codec → Sample → Sample → Request
 
 -- the text notation of that name
 abbrev pub notation_named : List ℕ → Option Codec
@@ -39,6 +42,11 @@ names_type word = is_identifier word && is_type_name word
 -- the request to compare the types of these names, where both are names of types
 abbrev pub growth_for : List ℕ → List ℕ → Option Request
 growth_for old new = if names_type old && names_type new then Some (Request.growth old new) else None
+
+-- the request to cut a stream in a notation to what the older of two samples knows, where all three are there
+abbrev pub keeping_for : Option Codec → Option Sample → Option Sample → Option Request
+keeping_for (Some from) (Some old) (Some new) = Some (Request.keeping from old new)
+keeping_for _ _ _ = None
 
 -- the number, if it is at most the other
 abbrev pub if_at_most : ℕ → ℕ → Option ℕ
@@ -62,7 +70,7 @@ request_of_words [] = None
 request_of_words (first ∷ []) = if bytes_eq first (codes "module") then Some Request.printing else None
 request_of_words (first ∷ second ∷ []) = if bytes_eq first (codes "make") then option_map Request.document (count_of second) else None
 request_of_words (first ∷ second ∷ third ∷ []) = if bytes_eq first (codes "grows") then growth_for second third else conversion_for (notation_named first) (notation_named second) (sample_named third) (Some LEVEL_LIMIT)
-request_of_words (from ∷ to ∷ name ∷ limit ∷ []) = conversion_for (notation_named from) (notation_named to) (sample_named name) (limit_of limit)
+request_of_words (first ∷ second ∷ third ∷ fourth ∷ []) = if bytes_eq first (codes "keep") then keeping_for (notation_named second) (sample_named third) (sample_named fourth) else conversion_for (notation_named first) (notation_named second) (sample_named third) (limit_of fourth)
 request_of_words (from ∷ to ∷ name ∷ limit ∷ other ∷ more) = None
 
 -- the request, unless it is one to make a document and stands before a text
@@ -74,9 +82,10 @@ before_text asked text = asked
 abbrev pub request_of : List ℕ → Option Request
 request_of input = before_text (request_of_words (words (request_line input))) (text_part input)
 
--- the request names no limit on levels above the greatest, and no document with more entries than one may have
+-- the request names no limit on levels above the greatest, no document with more entries than one may have, and no stream in another notation than those of texts
 abbrev pub KeepsLimits : Request → Type 0
 KeepsLimits (Request.conversion from to sample limit) = limit ≤ GREATEST_LEVEL_LIMIT
 KeepsLimits (Request.document n) = n ≤ MOST_ENTRIES
 KeepsLimits Request.printing = Unit {0}
 KeepsLimits (Request.growth old new) = Unit {0}
+KeepsLimits (Request.keeping from old new) = IsText (notation_of from)

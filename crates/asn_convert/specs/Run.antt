@@ -5,6 +5,7 @@ use Rattle.asn_convert.specs.Input.{input_limit}
 use Rattle.asn_convert.specs.Lines.{text_part}
 use Rattle.asn_samples.specs.Samples.{sample_shape}
 use Rattle.asn_convert.specs.Requests.{Request, request_of}
+use Rattle.asn_filter_reports.specs.Reports.{CanKeepAll}
 use Rattle.asn_module_reports.specs.Reports.{AreTypesOf, IsModuleText}
 use Rattle.asn_codec.specs.Conversion.{IsConvertible}
 use Rattle.asn_convert.specs.ExpectedOutput.{Wrote, WroteFront, IsOutputTo}
@@ -30,12 +31,13 @@ pub record IsRead (source : Transfer) (input : List ℕ) : Type 0 where
   pub within : length input ≤ input_limit
   pub steady : Increased source.faults_before source.faults_after → ⊥
 
--- the text decodes to a value that can be written as the request asks, a document is made, or the text stands for a module, and both types have shapes where two are compared
+-- the text decodes to a value that can be written as the request asks, a document is made, the text stands for a module, and both types have shapes where two are compared, or each line of a stream can be kept
 abbrev pub IsAnswerable : Request → List ℕ → Type 0
 IsAnswerable (Request.conversion from to sample limit) text = IsConvertible limit from to (sample_shape sample) text
 IsAnswerable (Request.document n) text = Unit {0}
 IsAnswerable Request.printing text = IsModuleText text
 IsAnswerable (Request.growth old new) text = AreTypesOf old new text
+IsAnswerable (Request.keeping from old new) text = CanKeepAll from (sample_shape old) (sample_shape new) text
 
 -- the input is a request that is answered, and not refused
 pub record RequestsValue (input : List ℕ) : Type 0 where

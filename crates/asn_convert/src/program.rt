@@ -25,6 +25,7 @@ ghost use Rattle.asn_convert.specs.declared.status.Status.TheVariants.{NotText};
 
 use crate::io::{Sink, Source};
 use crate::io_all::{Stopped, read_to_end, write_all};
+use crate::kept::keeping_reply;
 use crate::lines::split_request;
 use crate::made::report_on;
 use crate::request::{Request, requested};
@@ -39,19 +40,21 @@ use std::alloc::Global;
 
 /// Reads the whole input, and writes the canonical text of the value that its text decodes to; or
 /// makes a document, and writes the report on its texts; or prints the module that its text stands
-/// for, or says whether one type of that module is a later version of another; or writes the line
-/// of an error. It looks for a request only in an input that was read to its end.
+/// for, or says whether one type of that module is a later version of another; or cuts a stream of
+/// values to what an older type knows; or writes the line of an error. It looks for a request only
+/// in an input that was read to its end.
 ///
 /// Statuses are decided in the order `ReadFault`, `TooLong`, `NotText`, `BadRequest`, `Refused`,
 /// `WriteFault`; `WantOfMemory` may come anywhere, and then nothing was written.
 pub fn run<S: Source, K: Sink>(alloc: Global, source: &mut S, sink: &mut K) -> Status
     // Each status comes only under its cause. `Done` means that the input is a request, and that
     // what it asks for was written: the canonical text and a line feed, the report on the document,
-    // the printed module, or the line on two types of it.
+    // the printed module, the line on two types of it, or the lines of the stream.
     ensures done { result ≡ Done
         → ReadWhole (transfer_of S.left S.faults source.old source.new)
         (Answered (transfer_of K.written K.faults sink.old sink.new) IsAnswerTo) }
-    // The input is a request, and the line of an error by which its text is refused was written.
+    // The input is a request, and the line of an error by which its text is refused was written, or
+    // the lines of a stream that are kept and why the others are not.
     ensures refused { result ≡ Refused
         → ReadWhole (transfer_of S.left S.faults source.old source.new)
         (Answered (transfer_of K.written K.faults sink.old sink.new) IsRefusalTo) }
@@ -86,7 +89,8 @@ pub fn run<S: Source, K: Sink>(alloc: Global, source: &mut S, sink: &mut K) -> S
         sink.new)
         → (result ≡ Done) ⊎ (result ≡ Refused) ⊎ (result ≡ WantOfMemory) }
     // A request whose text decodes to a value that can be encoded is done, and so is one to make a
-    // document, and one whose text stands for a module that has the types to compare.
+    // document, one whose text stands for a module that has the types to compare, and one whose
+    // stream can be kept whole.
     ensures answers_values { (input : List ℕ)
         → IsRead (transfer_of S.left S.faults source.old source.new) input
         → IsUtf8 input → RequestsValue input → ¬ Increased (K.faults sink.old) (K.faults sink.new)
@@ -139,11 +143,14 @@ fn respond<K: Sink>(alloc: Global, request: Request<'_>, text: &str, sink: &mut 
         Request::Make { entries } => make(alloc, entries, sink),
         Request::Module => pass_on(printing_reply(alloc, text), sink),
         Request::Grows { old, new } => pass_on(growth_reply(alloc, old, new, text), sink),
+        Request::Keep { from, old, new } => {
+            pass_on(keeping_reply(alloc, from, old, new, text), sink)
+        }
     }
 }
 
-/// Writes a reply on a module. The status is `Done` where all of an answer is written, and
-/// `Refused` where all of a refusal is.
+/// Writes a reply. The status is `Done` where all of an answer is written, and `Refused` where all
+/// of a refusal is.
 fn pass_on<K: Sink>(reply: Result<Reply, OutOfMemory>, sink: &mut K) -> Status
     ensures answer { RepliesTo reply (transfer_of K.written K.faults sink.old sink.new) result }
     ensures complete { IfOk reply IsAnswered → result ≢ Refused }

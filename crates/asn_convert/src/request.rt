@@ -1,13 +1,13 @@
 //! Reads a request line: `<from> <to> <type>`, three words, of which the first two name a text
 //! notation and the third a sample type; the same with a limit on the levels of AVN after them;
-//! `make <n>`, with a number of entries; `module`; or `grows <Old> <New>`, with the names of two
-//! types of the module that follows.
+//! `make <n>`, with a number of entries; `module`; `grows <Old> <New>`, with the names of two types
+//! of the module that follows; or `keep <from> <old> <new>`, with a notation and two sample types.
 ghost use Rattle.std.specs.Option.{option_map};
 ghost use Rattle.std.specs.Prelude.{◌≡◌, ◌∷◌, [], MatchOption, None, Some};
 ghost use Rattle.asn_convert.specs.Lines.{words};
 ghost use Rattle.asn_convert.specs.RequestView.{request_view};
 ghost use Rattle.asn_convert.specs.Requests.{before_text, conversion_for, count_of, growth_for};
-ghost use Rattle.asn_convert.specs.Requests.{limit_of, names_type, notation_named};
+ghost use Rattle.asn_convert.specs.Requests.{keeping_for, limit_of, names_type, notation_named};
 ghost use Rattle.asn_convert.specs.Requests.{request_of_words, short_number};
 ghost use Rattle.asn_samples.specs.Samples.{sample_named};
 
@@ -48,6 +48,16 @@ pub enum Request<'a> {
         old: &'a str,
         /// Names the newer type.
         new: &'a str,
+    },
+    /// Asks to cut a stream of values of the newer sample type, one a line, to what the older one
+    /// knows.
+    Keep {
+        /// Names the notation of the stream, one of the two of texts.
+        from: Codec,
+        /// Names the older type.
+        old: Sample,
+        /// Names the newer type.
+        new: Sample,
     },
 }
 
@@ -137,6 +147,18 @@ fn growth<'a>(old: &'a str, new: &'a str) -> Option<Request<'a>>
     }
 }
 
+/// Returns the request to cut a stream by these three words, or `None` where one of the words is no
+/// name.
+fn keeping<'a>(from: &str, old: &str, new: &str) -> Option<Request<'a>>
+    ensures { option_map request_view result ≡ keeping_for (notation_named from.now)
+        (sample_named old.now) (sample_named new.now) }
+{
+    match (notation(from), Sample::named(old), Sample::named(new)) {
+        (Some(from), Some(old), Some(new)) => Some(Request::Keep { from, old, new }),
+        _ => None,
+    }
+}
+
 /// Returns the request that one word is, or `None` where it is none.
 fn of_one_word<'a>(word: &str) -> Option<Request<'a>>
     ensures { option_map request_view result ≡ request_of_words (word.now ∷ []) }
@@ -170,6 +192,17 @@ fn of_three_words<'a>(first: &str, second: &'a str, third: &'a str) -> Option<Re
     }
 }
 
+/// Returns the request that four words are, or `None` where they are none.
+fn of_four_words<'a>(first: &str, second: &str, third: &str, fourth: &str) -> Option<Request<'a>>
+    ensures { option_map request_view result
+        ≡ request_of_words (first.now ∷ second.now ∷ third.now ∷ fourth.now ∷ []) }
+{
+    match first {
+        "keep" => keeping(second, third, fourth),
+        _ => conversion(first, second, third, level_limit(fourth)),
+    }
+}
+
 /// Returns the request of a line, or `None` where it makes none: where it has no word or more than
 /// four, or one of them is not what stands there in a request.
 fn of_line(line: &str) -> Option<Request<'_>>
@@ -188,7 +221,7 @@ fn of_line(line: &str) -> Option<Request<'_>>
     if next_word(rest).is_some() {
         return None;
     }
-    conversion(first, second, third, level_limit(fourth))
+    of_four_words(first, second, third, fourth)
 }
 
 /// Returns the request that a line makes before a text, or `None` where it makes none: a document

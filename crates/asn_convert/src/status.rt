@@ -6,7 +6,7 @@ ghost use Rattle.std.specs.Prelude.{◌≡◌};
 pub enum Status {
     /// What the request asks for was written whole.
     Done,
-    /// The text was refused, and the line that states why was written whole.
+    /// The text was refused, or lines of it, and why was written whole.
     Refused,
     /// The first line is no request, or it is one to make a document and a text follows.
     BadRequest,

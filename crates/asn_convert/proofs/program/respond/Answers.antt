@@ -20,3 +20,10 @@ returns-in-Grows-clause-answer g c =
 
 pub returns-in-Grows-clause-complete : goal.returns-in-Grows-clause-complete
 returns-in-Grows-clause-complete g c = rw c.in-Grows.is (λ types. c.pass_on-in-Grows.ensures.complete (c.growth_reply.ensures.complete types))
+
+pub returns-in-Keep-clause-answer : goal.returns-in-Keep-clause-answer
+returns-in-Keep-clause-answer g c =
+    rw c.in-Keep.is (c.pass_on-in-Keep.ensures.answer (Request.keeping c.in-Keep.from c.in-Keep.old c.in-Keep.new) c.args.text.now c.keeping_reply.ensures.reply)
+
+pub returns-in-Keep-clause-complete : goal.returns-in-Keep-clause-complete
+returns-in-Keep-clause-complete g c = rw c.in-Keep.is (λ kept. c.pass_on-in-Keep.ensures.complete (c.keeping_reply.ensures.complete kept))

@@ -1,0 +1,5 @@
+mod Parting
+mod Outcomes
+mod Gathering
+mod Stating
+pub mod OneCut

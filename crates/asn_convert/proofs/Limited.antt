@@ -3,8 +3,6 @@ use Rattle.std.proofs.Common.{◌≡◌, ◌≤◌, ℕ, List, [], ◌∷◌, le
 use Rattle.std.proofs.lemmas.Bool.{leb-true}
 use Rattle.std.specs.Option.{option_and_then, option_map}
 use Rattle.asn_core.specs.declared.codec.Codec.{Codec}
-use Rattle.asn_core.specs.declared.codec.Codec.TheVariants.{Jer, Avn}
-use Rattle.asn_model.specs.Notation.{IsText, notation_of}
 use Rattle.asn_samples.specs.Samples.{sample_named}
 use Rattle.asn_samples.specs.declared.sample.Sample.{Sample}
 use Rattle.asn_traits.specs.Digits.{digits}
@@ -45,19 +43,11 @@ growth_limited old new = by (names_type old && names_type new)
     by true = tt
     by false = tt
 
-named_is_text : (word : List ℕ) → IfSome (notation_named word) (λ c. IsText (notation_of c))
-named_is_text word = by (bytes_eq word (codes "jer")) (bytes_eq word (codes "avn"))
-  where
-    by : (jer avn : Bool) → IfSome (if jer then Some Jer else (if avn then Some Avn else None)) (λ c. IsText (notation_of c))
-    by true avn = tt
-    by false true = tt
-    by false false = tt
-
-keeping_limited : (from : Option Codec) (old new : Option Sample) → IfSome from (λ c. IsText (notation_of c)) → IfSome (keeping_for from old new) KeepsLimits
-keeping_limited None old new text = tt
-keeping_limited (Some from) None new text = tt
-keeping_limited (Some from) (Some old) None text = tt
-keeping_limited (Some from) (Some old) (Some new) text = text
+keeping_limited : (from : Option Codec) (old new : Option Sample) → IfSome (keeping_for from old new) KeepsLimits
+keeping_limited None old new = tt
+keeping_limited (Some from) None new = tt
+keeping_limited (Some from) (Some old) None = tt
+keeping_limited (Some from) (Some old) (Some new) = tt
 
 words_limited : (ws : List (List ℕ)) → IfSome (request_of_words ws) KeepsLimits
 words_limited [] = tt
@@ -79,7 +69,7 @@ words_limited (first ∷ second ∷ third ∷ []) = by (bytes_eq first (codes "g
 words_limited (first ∷ second ∷ third ∷ fourth ∷ []) = by (bytes_eq first (codes "keep"))
   where
     by : (b : Bool) → IfSome (if b then keeping_for (notation_named second) (sample_named third) (sample_named fourth) else conversion_for (notation_named first) (notation_named second) (sample_named third) (limit_of fourth)) KeepsLimits
-    by true = keeping_limited (notation_named second) (sample_named third) (sample_named fourth) (named_is_text second)
+    by true = keeping_limited (notation_named second) (sample_named third) (sample_named fourth)
     by false = converted_limited (notation_named first) (notation_named second) (sample_named third) (limit_of fourth) (number_small 3 GREATEST_LEVEL_LIMIT fourth)
 words_limited (from ∷ to ∷ name ∷ limit ∷ other ∷ more) = tt
 

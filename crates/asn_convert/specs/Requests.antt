@@ -3,7 +3,6 @@ use Rattle.std.specs.Prelude.{ℕ, List, [], ◌∷◌, Bool, ◌&&◌, bytes_eq
 use Rattle.std.specs.Option.{option_and_then, option_map}
 use Rattle.asn_core.specs.declared.codec.Codec.{Codec}
 use Rattle.asn_core.specs.declared.codec.Codec.TheVariants.{Jer, Avn}
-use Rattle.asn_model.specs.Notation.{IsText, notation_of}
 use Rattle.asn_notation.specs.Starts.{is_type_name}
 use Rattle.asn_samples.specs.Samples.{sample_named}
 use Rattle.asn_samples.specs.declared.sample.Sample.{Sample}
@@ -82,10 +81,10 @@ before_text asked text = asked
 abbrev pub request_of : List ℕ → Option Request
 request_of input = before_text (request_of_words (words (request_line input))) (text_part input)
 
--- the request names no limit on levels above the greatest, no document with more entries than one may have, and no stream in another notation than those of texts
+-- the request names no limit on levels above the greatest, and no document with more entries than one may have
 abbrev pub KeepsLimits : Request → Type 0
 KeepsLimits (Request.conversion from to sample limit) = limit ≤ GREATEST_LEVEL_LIMIT
 KeepsLimits (Request.document n) = n ≤ MOST_ENTRIES
 KeepsLimits Request.printing = Unit {0}
 KeepsLimits (Request.growth old new) = Unit {0}
-KeepsLimits (Request.keeping from old new) = IsText (notation_of from)
+KeepsLimits (Request.keeping from old new) = Unit {0}

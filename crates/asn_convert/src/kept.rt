@@ -1,6 +1,5 @@
 //! Replies with what is kept of a stream of values that is cut to what an older type knows.
 ghost use Rattle.asn_filter_reports.specs.Reports.{CanKeepAll, IsKeeping, IsKeepingRefusal};
-ghost use Rattle.asn_model.specs.Notation.{IsText, notation_of};
 ghost use Rattle.asn_module_reports.specs.Replies.{IsAnswered, IsReply};
 ghost use Rattle.asn_samples.specs.Samples.{sample_shape};
 ghost use Rattle.std.specs.Prelude.{IfOk};
@@ -25,7 +24,6 @@ pub fn keeping_reply(
     new: Sample,
     stream: &str,
 ) -> Result<Reply, OutOfMemory>
-    requires { IsText (notation_of from) }
     ensures reply { IfOk result (IsReply
         (IsKeeping from (sample_shape old) (sample_shape new) stream.now)
         (IsKeepingRefusal from (sample_shape old) (sample_shape new) stream.now)) }

@@ -17,7 +17,8 @@ const CHECKED: [(&str, &str); 4] = [
         "f:1:30: `B` is neither assigned nor imported",
     ),
     (
-        "M DEFINITIONS ::= BEGIN IMPORTS B FROM N; A ::= SET { COMPONENTS OF B, a A } v C ::= 5 END",
+        "M DEFINITIONS ::= BEGIN IMPORTS B FROM N; A ::= SET { COMPONENTS OF B, a A } \
+v C ::= 5 END",
         "f:1:80: `C` is neither assigned nor imported",
     ),
 ];

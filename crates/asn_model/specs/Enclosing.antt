@@ -6,7 +6,7 @@ use Rattle.asn_model.specs.declared.readable.Enclosing.TheOpen.{Enclosing-F}
 
 -- The number of loops, of the number of those further out.
 abbrev pub loops_step : Enclosing-F ℕ → ℕ
-loops_step Enclosing-F.Nothing = 0
+loops_step (Enclosing-F.Loops n) = n
 loops_step (Enclosing-F.Loop outer) = suc outer.now
 loops_step (Enclosing-F.Part outer) = outer.now
 
@@ -16,7 +16,7 @@ loops_of = fold-Enclosing ℕ loops_step
 
 -- The number of innermost loops with nothing else between, of that number further out.
 abbrev pub unguarded_step : Enclosing-F ℕ → ℕ
-unguarded_step Enclosing-F.Nothing = 0
+unguarded_step (Enclosing-F.Loops n) = n
 unguarded_step (Enclosing-F.Loop outer) = suc outer.now
 unguarded_step (Enclosing-F.Part outer) = 0
 

@@ -18,7 +18,7 @@ pub mod words;
 pub use arcs::{arc_of, joined_arcs};
 pub use fixed::fixed_size;
 pub use leaves::{Leaf, LeafKind, OwnedLeaf, are_arcs, are_octets};
-pub use readable::is_readable;
+pub use readable::{is_readable, is_readable_within};
 pub use shape_type::{
     Alphabet, AlternativeShape, FieldShape, Plain, PresenceShape, SeqKind, Shape,
 };

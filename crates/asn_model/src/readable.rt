@@ -31,8 +31,8 @@ use asn_strings::character_sets::{
 /// the stack: no count of loops can overflow, and none takes memory.
 #[derive(Drop)]
 pub enum Enclosing<'a> {
-    /// The part is the whole shape.
-    Nothing,
+    /// So many loops are around, and nothing else. The whole shape has none around it.
+    Loops(usize),
     /// The part is the body of a type that its own parts name.
     Loop(&'a Enclosing<'a>),
     /// The part stands in a list, sequence, set, table or choice.
@@ -50,7 +50,16 @@ pub enum Enclosing<'a> {
 pub fn is_readable(shape: &Shape) -> bool
     ensures { result ≡ is_readable (shape_view shape.now) }
 {
-    is_readable_in(shape, &Enclosing::Nothing)
+    is_readable_within(shape, 0)
+}
+
+/// Returns whether a shape can be read that is the innermost body of so many loops, each of which
+/// holds the next one directly, by the conditions of `is_readable`: so a `Back` may mean one of them
+/// where it stands in a list, sequence, set, table or choice. It takes no memory.
+pub fn is_readable_within(shape: &Shape, loops: usize) -> bool
+    ensures { result ≡ is_readable_in loops loops (shape_view shape.now) }
+{
+    is_readable_in(shape, &Enclosing::Loops(loops))
 }
 
 /// Returns whether a part of a shape can be read within what stands around it.
@@ -236,7 +245,7 @@ fn means_loop(around: &Enclosing<'_>, number: u32) -> bool
         around.now)) }
 {
     match around {
-        Enclosing::Nothing => false,
+        Enclosing::Loops(_) => false,
         // A loop with nothing between is not meant, whatever its number; those further out may be.
         Enclosing::Loop(outer) => number > 0 && means_loop(outer, number - 1),
         Enclosing::Part(outer) => has_loop(outer, number),
@@ -248,7 +257,7 @@ fn has_loop(around: &Enclosing<'_>, number: u32) -> bool
     ensures { result ≡ nat_lt number (loops_of around.now) }
 {
     match around {
-        Enclosing::Nothing => false,
+        Enclosing::Loops(count) => (number as usize) < *count,
         Enclosing::Loop(outer) => number == 0 || has_loop(outer, number - 1),
         Enclosing::Part(outer) => has_loop(outer, number),
     }

@@ -1,0 +1,4 @@
+pub mod Linking
+pub mod Expanding
+pub mod Seen
+pub mod Within

@@ -30,8 +30,9 @@ impl<'t> Place<'t> {
     /// Returns the place of the type of a number, or `None` where there is no such type.
     pub fn of_type(types: &'t [Shape], number: u32) -> Option<Place<'t>>
         requires { length types.now < TYPE_LIMIT }
-        ensures { MatchOption result (length types.now ≤ number) (λ place.
-            place_shape [] place
+        ensures there { MatchOption result (length types.now ≤ number) (λ _.
+            number < length types.now) }
+        ensures is { IfSome result (λ place. place_shape [] place
             ≡ expansion (map shape_view types.now) (length types.now) [] number) }
     {
         if number as usize >= types.len() {

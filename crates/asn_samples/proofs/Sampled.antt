@@ -4,8 +4,8 @@ use Rattle.std.proofs.Common.{◌≡◌, ◌<◌, ◌^◌, ℕ, List, [], ◌∷
 use Rattle.std.proofs.lemmas.Bool.{ltb-true}
 use Rattle.asn_growth.specs.Parts.{node_count}
 use Rattle.asn_model.proofs.Readables.{and-left, and-right}
-use Rattle.asn_model.specs.Readable.{is_readable}
-use Rattle.asn_model.specs.Shape.{Shape}
+use Rattle.asn_traits.specs.Readable.{is_readable}
+use Rattle.asn_traits.specs.Shape.{Shape}
 use Rattle.asn_samples.specs.Samples.{sample_shape, samples, shape_beside}
 use Rattle.asn_samples.specs.contracts.sample.Sample.{the_type}
 use Rattle.asn_samples.specs.declared.sample.Sample.{Sample}

@@ -5,7 +5,7 @@ ghost use Rattle.std.specs.Prelude.{◌≡◌, ◌≤◌, ◌<◌, ◌+◌, ◌-
 ghost use Rattle.std.specs.Prelude.{None, vec_len, vec_capacity, IfOk, IsErr, IsTrue, Contains};
 ghost use Rattle.std.specs.Io.{ReadsAtMost, WritesAtMost};
 ghost use Rattle.std.specs.Io.KnownBytes.{ReadConsumes, WriteAppends};
-ghost use Rattle.asn_convert.specs.Faults.{HasCause, next_count};
+ghost use Rattle.asn_streams.specs.Faults.{HasCause, next_count};
 
 use crate::io::{Failed, Sink, Source};
 use asn_core::OutOfMemory;
@@ -24,7 +24,7 @@ pub struct SteadySource {
 
 /// Makes a source of bytes.
 impl SteadySource {
-    ghost use Rattle.asn_convert.specs.Memory.{bytes_left};
+    ghost use Rattle.asn_streams.specs.Memory.{bytes_left};
 
     /// Returns a source that has all of the bytes left.
     pub fn new(bytes: Vec<u8>) -> SteadySource
@@ -36,7 +36,7 @@ impl SteadySource {
 
 /// Copies bytes from `at` on, and lets contracts see those that are left.
 impl Source for SteadySource {
-    ghost use Rattle.asn_convert.specs.Memory.{bytes_left};
+    ghost use Rattle.asn_streams.specs.Memory.{bytes_left};
 
     ghost left = { λ s. Some (bytes_left s) };
 
@@ -64,7 +64,7 @@ pub struct SteadySink;
 
 /// Makes such a sink.
 impl SteadySink {
-    ghost use Rattle.asn_convert.specs.declared.memory.SteadySink.{SteadySink};
+    ghost use Rattle.asn_streams.specs.declared.memory.SteadySink.{SteadySink};
 
     /// Returns a sink that has one state alone, which no write changes.
     pub fn new() -> SteadySink
@@ -104,7 +104,7 @@ struct Calls {
 
 /// Counts the calls of a source or a sink.
 impl Calls {
-    ghost use Rattle.asn_convert.specs.Calls.{IsToFail, next_number};
+    ghost use Rattle.asn_streams.specs.Calls.{IsToFail, next_number};
 
     /// Returns the state before the first call.
     fn new(failing: Vec<u64>) -> Calls
@@ -152,7 +152,7 @@ pub struct MemorySource {
 
 /// Makes a source of bytes that fails at the listed calls.
 impl MemorySource {
-    ghost use Rattle.asn_convert.specs.Memory.{bytes_left};
+    ghost use Rattle.asn_streams.specs.Memory.{bytes_left};
 
     /// Returns a source that has all of the bytes left, and of which no call was made.
     pub fn new(bytes: Vec<u8>, piece: usize, failing: Vec<u64>) -> MemorySource
@@ -173,8 +173,8 @@ impl MemorySource {
 /// the trait's three state exactly when a call fails (`fails`), how much it gives (`gives`), and
 /// what it leaves for the next one (`piece`, `calls`).
 impl Source for MemorySource {
-    ghost use Rattle.asn_convert.specs.Memory.{bytes_left};
-    ghost use Rattle.asn_convert.specs.Calls.{IsToFail, calls_after};
+    ghost use Rattle.asn_streams.specs.Memory.{bytes_left};
+    ghost use Rattle.asn_streams.specs.Calls.{IsToFail, calls_after};
 
     ghost left = { λ s. Some (bytes_left s.bytes) };
 
@@ -263,7 +263,7 @@ impl MemorySink {
 /// trait's four state exactly when a call fails (`fails`), how much it takes (`takes`), and what it
 /// leaves for the next one (`piece`, `room`, `calls`).
 impl Sink for MemorySink {
-    ghost use Rattle.asn_convert.specs.Calls.{IsToFail, calls_after};
+    ghost use Rattle.asn_streams.specs.Calls.{IsToFail, calls_after};
 
     ghost written = { λ s. Some s.bytes.items };
 

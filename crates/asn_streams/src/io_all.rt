@@ -2,11 +2,11 @@
 //! and writes of the program go through.
 ghost use Rattle.std.specs.Prelude.{◌≡◌, ◌≤◌, IfOk, OnOk, OnErr, IsErrOf};
 ghost use Rattle.std.specs.Io.KnownBytes.{Appends};
-ghost use Rattle.asn_convert.specs.Faults.{Increased, HasCause, AppendsFront};
-ghost use Rattle.asn_convert.specs.Input.{IsWholeInput, ReadPastLimit};
-ghost use Rattle.asn_convert.specs.Transfer.{transfer_of};
-ghost use Rattle.asn_convert.specs.declared.io_all.Stopped.TheVariants.{Fault, TooLong};
-ghost use Rattle.asn_convert.specs.declared.io_all.Stopped.TheVariants.{OutOfMemory};
+ghost use Rattle.asn_streams.specs.Faults.{Increased, HasCause, AppendsFront};
+ghost use Rattle.asn_streams.specs.Input.{IsWholeInput, ReadPastLimit};
+ghost use Rattle.asn_streams.specs.Transfer.{transfer_of};
+ghost use Rattle.asn_streams.specs.declared.io_all.Stopped.TheVariants.{Fault, TooLong};
+ghost use Rattle.asn_streams.specs.declared.io_all.Stopped.TheVariants.{OutOfMemory};
 
 use crate::io::{Failed, Sink, Source};
 use crate::limits::MOST_BYTES;

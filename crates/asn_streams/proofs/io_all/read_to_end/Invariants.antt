@@ -1,7 +1,7 @@
 use Rattle.std.proofs.Common.{◌≤◌, ◌+◌, ◌-◌, vec_len}
 use Rattle.std.specs.Io.KnownBytes.{Consumes}
-use Rattle.asn_convert.specs.Input.{input_limit}
-use Rattle.asn_convert.proofs.io_all.read_to_end.Given as goal
+use Rattle.asn_streams.specs.Input.{input_limit}
+use Rattle.asn_streams.proofs.io_all.read_to_end.Given as goal
 
 abbrev pub invariant-pieces : goal.invariant-pieces
 invariant-pieces g l =

@@ -4,7 +4,7 @@
 ghost use Rattle.std.specs.Prelude.{◌<◌, ℕ, List, Option, length, IfOk};
 ghost use Rattle.std.specs.Io.{ReadsAtMost, WritesAtMost};
 ghost use Rattle.std.specs.Io.KnownBytes.{ReadConsumes, WriteAppends};
-ghost use Rattle.asn_convert.specs.Faults.{HasCause};
+ghost use Rattle.asn_streams.specs.Faults.{HasCause};
 
 /// Reports that a read or a write failed. Why it did is not kept.
 #[derive(Clone, Copy, Debug, PartialEq, Eq, Drop)]

@@ -1,6 +1,6 @@
 use Rattle.std.proofs.Common.{◌≡◌, ◌≤◌, length, ◌-◌, take}
 use Rattle.std.specs.Io.KnownBytes.{Appends}
-use Rattle.asn_convert.proofs.io_all.write_all.Given as goal
+use Rattle.asn_streams.proofs.io_all.write_all.Given as goal
 
 abbrev pub invariant-pieces : goal.invariant-pieces
 invariant-pieces g l =

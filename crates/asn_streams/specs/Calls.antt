@@ -1,7 +1,7 @@
 -- The number of a call, whether it is to fail, and what it leaves.
 use Rattle.std.specs.Prelude.{ℕ, Contains, Result, Ok, Err}
-use Rattle.asn_convert.specs.Faults.{next_count}
-use Rattle.asn_convert.specs.declared.memory.Calls.{Calls}
+use Rattle.asn_streams.specs.Faults.{next_count}
+use Rattle.asn_streams.specs.declared.memory.Calls.{Calls}
 
 -- one more than the calls that were made, as far as a u64 counts
 abbrev pub next_number : Calls → ℕ

@@ -1,8 +1,8 @@
 -- A counted fault is a cause.
 use Rattle.std.proofs.Common.{◌≡◌, ◌≤◌, ℕ, Err, ap, ◌∙◌, subst, sym, arith}
-use Rattle.asn_convert.specs.Faults.{HasCause, next_count}
-use Rattle.asn_convert.specs.declared.memory.Calls.{Calls}
-use Rattle.asn_convert.specs.declared.io.Failed.{Failed}
+use Rattle.asn_streams.specs.Faults.{HasCause, next_count}
+use Rattle.asn_streams.specs.declared.memory.Calls.{Calls}
+use Rattle.asn_streams.specs.declared.io.Failed.{Failed}
 
 pub counted_cause : (old mid new : Calls) (f : Failed) (made : ℕ) → mid ≡ record old { made = made } → new ≡ record mid { faults = next_count mid.faults } → mid.faults ≤ new.faults → HasCause {T = ℕ} old.faults new.faults (Err f)
 counted_cause old mid new f made e k later =

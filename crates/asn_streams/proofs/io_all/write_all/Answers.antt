@@ -1,7 +1,7 @@
 use Rattle.std.proofs.Common.{arith, subst, sym, ◌∙◌}
 use Rattle.std.specs.Io.KnownBytes.{Appends}
-use Rattle.asn_convert.proofs.Known.{Appends-more, next_front}
-use Rattle.asn_convert.proofs.io_all.write_all.Goals as goal
+use Rattle.asn_streams.proofs.Known.{Appends-more, next_front}
+use Rattle.asn_streams.proofs.io_all.write_all.Goals as goal
 
 pub pieces-preserved : goal.pieces-preserved
 pieces-preserved g c =

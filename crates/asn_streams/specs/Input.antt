@@ -1,8 +1,8 @@
 -- How far an input was read.
 use Rattle.std.specs.Prelude.{◌≡◌, ◌≤◌, ◌+◌, ℕ, List, length}
 use Rattle.std.specs.Io.KnownBytes.{Consumes, IsAtEnd}
-use Rattle.asn_convert.specs.Transfer.{Transfer}
-use Rattle.asn_convert.specs.declared.limits.TheConstants.{MOST_BYTES}
+use Rattle.asn_streams.specs.Transfer.{Transfer}
+use Rattle.asn_streams.specs.declared.limits.TheConstants.{MOST_BYTES}
 
 -- the most bytes that an input may have
 abbrev pub input_limit : ℕ

@@ -1,6 +1,6 @@
 use Rattle.std.proofs.Common.{◌≡◌, ◌-◌, take, drop, arith, ap, ◌∙◌, length}
-use Rattle.asn_convert.proofs.Known.{copied_front, none_left, past_len}
-use Rattle.asn_convert.proofs.memory.SteadySourceSource.read.Goals as goal
+use Rattle.asn_streams.proofs.Known.{copied_front, none_left, past_len}
+use Rattle.asn_streams.proofs.memory.SteadySourceSource.read.Goals as goal
 
 pub returns-clause-bytes : goal.returns-clause-bytes
 returns-clause-bytes c =

@@ -1,0 +1,9 @@
+pub mod Scopes
+pub mod Numbers
+pub mod Lists
+pub mod Leaves
+pub mod Defaults
+pub mod Types
+pub mod Assigned
+pub mod Linked
+pub mod Known

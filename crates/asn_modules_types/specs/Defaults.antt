@@ -1,10 +1,10 @@
 -- The values that DEFAULT states.
-use Rattle.std.specs.Prelude.{ℕ, ℤ, List, [], ◌∷◌, Bool, true, false, codes, if◌then◌else◌, Option, Some, None}
-use Rattle.std.specs.Option.{option_and_then, option_map, option_or}
+use Rattle.std.specs.Prelude.{ℕ, ℤ, List, true, false, codes, if◌then◌else◌, Option, Some, None}
+use Rattle.std.specs.Option.{option_map}
 use Rattle.std.specs.Str.{bytes_eq}
-use Rattle.asn_lexer.specs.declared.token.Token.{Token}
 use Rattle.asn_model.specs.Readable.{is_of_shape}
 use Rattle.asn_model.specs.Shape.{Plain, Shape}
+use Rattle.asn_modules_names.specs.Assigned.{first_found}
 use Rattle.asn_modules_notation.specs.declared.value.Value.{Value}
 use Rattle.asn_modules_notation.specs.declared.value.Value.TheVariants as value
 use Rattle.asn_modules_types.specs.Numbers.{signed_in}
@@ -20,7 +20,7 @@ word_plain numbers (Shape.int least greatest width) word = option_map (λ n. Pla
 word_plain numbers (Shape.enum items added) word = Some (Plain.item word)
 word_plain numbers s word = None
 
--- What a value in its text is as one of the shape. First version: no string is read.
+-- What a value in its text is as one of the shape. No string is read in this version.
 abbrev pub plain_in : (List ℕ → Option ℤ) → Shape → List ℕ → Value → Option Plain
 plain_in numbers shape text (value.Number n) = option_map (λ k. Plain.int k) (signed_in text n)
 plain_in numbers shape text (value.Word t) = word_plain numbers shape (name_in text t)
@@ -31,12 +31,6 @@ abbrev pub suited : Shape → Option Plain → Option Plain
 suited shape None = None
 suited shape (Some p) = if is_of_shape shape p then Some p else None
 
--- The value that is assigned to what this value names, and its text, if it is a name.
-abbrev pub assigned_to : Scope → Value → Option (List ℕ × Value)
-assigned_to s (value.Word t) = s.value_named None t
-assigned_to s (value.Qualified home t) = s.value_named (Some home) t
-assigned_to s v = None
-
--- The value of the shape that a DEFAULT states: itself, or the one that is assigned to its name.
+-- The value of the shape that a DEFAULT states: of those that its value leads to, the first that is one of the shape.
 abbrev pub default_of : Scope → (List ℕ → Option ℤ) → Shape → Value → Option Plain
-default_of s numbers shape v = option_or (suited shape (plain_in numbers shape s.text v)) (option_and_then (λ x. suited shape (plain_in numbers shape x.0 x.1)) (assigned_to s v))
+default_of s numbers shape v = first_found (λ x. suited shape (plain_in numbers shape x.0 x.1)) (s.values v)

@@ -1,7 +1,8 @@
 -- The shapes of types without parts.
-use Rattle.std.specs.Prelude.{ℕ, pos, negsuc, ◌-◌, ◌^◌, List, [], map, Option}
+use Rattle.std.specs.Prelude.{ℕ, pos, negsuc, ◌-◌, ◌^◌, List, map, Option}
 use Rattle.std.specs.Option.{option_map}
-use Rattle.asn_model.specs.Shape.{Alphabet, Shape, closed_enum}
+use Rattle.asn_linked_types.specs.Expansion.{no_values}
+use Rattle.asn_model.specs.Shape.{Alphabet, Shape}
 use Rattle.asn_model.specs.ShapeView.{alphabet_view}
 use Rattle.asn_modules_notation.specs.declared.leaf.Closed.{Closed}
 use Rattle.asn_modules_notation.specs.declared.leaf.Closed.TheVariants as closed
@@ -10,10 +11,6 @@ use Rattle.asn_modules_notation.specs.declared.leaf.Leaf.TheVariants as leaf
 use Rattle.asn_modules_notation.specs.declared.number.Item.{Item}
 use Rattle.asn_modules_types.specs.Lists.{added_of, implied, root_of}
 use Rattle.asn_modules_types.specs.Scopes.{Scope, name_in}
-
--- A type without values, in the place of one that isn't known or isn't read: an ENUMERATED without items.
-abbrev pub no_values : Shape
-no_values = closed_enum []
 
 -- ANY has any octets; no value of another one of these is read.
 abbrev pub closed_shape : Closed → Shape

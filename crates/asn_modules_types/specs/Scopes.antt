@@ -16,8 +16,8 @@ pub record Scope : Type 0 where
   pub type_named : Option Token → Token → Shape
   -- The number that a word names in the type of that name, where it is an INTEGER.
   pub number_named : Option Token → Token → List ℕ → Option ℤ
-  -- The value that is assigned to a name, and the text that it stands in.
-  pub value_named : Option Token → Token → Option (List ℕ × Value)
+  -- The values that a value here leads to, each with its text: itself, and where it is a name, those that the value leads to that is assigned to it.
+  pub values : Value → List (List ℕ × Value)
 
 -- These bytes, if they are ASCII, and else none.
 abbrev pub ascii_of : List ℕ → List ℕ

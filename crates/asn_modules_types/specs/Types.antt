@@ -1,15 +1,17 @@
 -- The shapes of types as modules state them. Tags are by place; those that are stated aren't read in this version.
 use Rattle.std.specs.Prelude.{ℕ, ℤ, suc, List, [], ◌∷◌, ◌++◌, length, Bool, true, false, if◌then◌else◌, Option, Some, None, option_map}
 use Rattle.asn_expansion.specs.Expansion.{context_tag, list_shape, of_both}
+use Rattle.asn_linked_types.specs.Expansion.{no_values}
 use Rattle.asn_model.specs.Shape.{Alternatives, AlternativeAdditions, Fields, FieldAdditions, Presence, SeqKind, Shape}
 use Rattle.asn_modules_notation.specs.Notation.{Base, Member, Members, Notation, bit_string, choice, component, components_of, enumerated, group, integer, leaf, list_of, marker, member, members, no_members, notation, reference}
 use Rattle.asn_modules_notation.specs.declared.notation.Presence as stated
 use Rattle.asn_modules_notation.specs.declared.notation.Presence.TheVariants.{Default, Optional, Required}
 use Rattle.asn_modules_types.specs.Defaults.{default_of}
-use Rattle.asn_modules_types.specs.Leaves.{enumerated_shape, integer_shape, leaf_shape, no_values}
+use Rattle.asn_modules_types.specs.Leaves.{enumerated_shape, integer_shape, leaf_shape}
 use Rattle.asn_modules_types.specs.Lists.{added_of, implied, root_of}
-use Rattle.asn_modules_types.specs.Numbers.{named_number, sized}
+use Rattle.asn_modules_types.specs.Numbers.{named_number}
 use Rattle.asn_modules_types.specs.Scopes.{Scope, name_in}
+use Rattle.asn_modules_types.specs.Sizes.{sized}
 
 -- A component of a SEQUENCE or SET, or an alternative of a CHOICE.
 pub record Part : Type 0 where

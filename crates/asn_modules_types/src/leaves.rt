@@ -2,28 +2,17 @@
 ghost use Rattle.asn_model.specs.ShapeView.{shape_view};
 ghost use Rattle.asn_modules_notation.specs.View.{items_view};
 ghost use Rattle.asn_modules_types.specs.Known.{scope_view};
-ghost use Rattle.asn_modules_types.specs.Leaves as spec;
 ghost use Rattle.asn_modules_types.specs.Leaves.{enumerated_shape, integer_shape, item_names};
 ghost use Rattle.asn_modules_types.specs.Leaves.{leaf_shape};
-ghost use Rattle.asn_modules_types.specs.Lists.{implied};
-ghost use Rattle.std.specs.Prelude.{◌≡◌, ℕ, IfOk, map, option_map, string_bytes};
+ghost use Rattle.std.specs.Prelude.{◌≡◌, ℕ, IfOk, map, string_bytes};
 
 use crate::fault::LinkFault;
 use crate::scope::{Scope, is_extensible};
 use crate::words::name_in;
+use asn_linked_types::no_values;
 use asn_model::{Alphabet, Shape};
 use asn_modules_notation::{Closed, Item, Leaf};
 use std::alloc::{AllocError, Global};
-
-/// Returns the type without values, an ENUMERATED without items.
-pub fn no_values(alloc: Global) -> Shape
-    ensures { shape_view result ≡ spec.no_values }
-{
-    Shape::Enum {
-        items: Vec::new(alloc),
-        added: None,
-    }
-}
 
 /// Returns the shape of INTEGER.
 pub fn integer_shape() -> Shape

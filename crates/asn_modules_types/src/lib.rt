@@ -14,6 +14,8 @@ mod numbers;
 mod parts;
 mod scope;
 mod shapes;
+mod sizes;
+mod values;
 mod words;
 
 pub use fault::LinkFault;

@@ -1,23 +1,24 @@
-//! Follows the names of types.
+//! Holds what names stand for, and follows the names of types.
 ghost use Rattle.asn_model.specs.ShapeView.{shape_view};
 ghost use Rattle.asn_modules_reader.specs.Views.{base_view};
-ghost use Rattle.asn_modules_types.specs.Known.{KnowsTypes, scope_view, sources_of};
+ghost use Rattle.asn_modules_types.specs.Known.{KnowsNames, scope_view, sources_of};
 ghost use Rattle.asn_modules_types.specs.Linked.{has_parts, named_type};
 ghost use Rattle.asn_modules_types.specs.Types.{base_shape};
 ghost use Rattle.std.specs.Prelude.{◌≡◌, IfOk, MatchOption, false, true};
 
-use crate::assigned::Assigned;
+use crate::assigned::{Assigned, notation_of};
 use crate::fault::LinkFault;
-use crate::leaves::{enumerated_shape, integer_shape, leaf_shape, no_values};
-use crate::numbers::sized;
+use crate::leaves::{enumerated_shape, integer_shape, leaf_shape};
 use crate::scope::{Scope, find};
+use crate::sizes::sized;
+use asn_linked_types::no_values;
 use asn_model::Shape;
 use asn_modules_lookup::Index;
 use asn_modules_notation::Base;
 use asn_modules_text::Source;
 use std::alloc::Global;
 
-/// Holds the types that names stand for.
+/// Holds the types and values that names stand for.
 #[derive(Drop)]
 pub struct Names<'s, 't> {
     /// Provides memory.
@@ -25,9 +26,13 @@ pub struct Names<'s, 't> {
     /// Lists the texts.
     pub sources: &'s [Source<'t>],
     /// Holds the numbers of types beside their names.
-    pub index: &'s Index<'t>,
+    pub type_index: &'s Index<'t>,
+    /// Holds the numbers of values beside their names.
+    pub value_index: &'s Index<'t>,
     /// Lists the types that are assigned.
     pub types: &'s [Assigned<'s, 't>],
+    /// Lists the values that are assigned.
+    pub values: &'s [Assigned<'s, 't>],
 }
 
 /// Returns what the name of the type of the number stands for, past at most so many names: its
@@ -38,7 +43,7 @@ pub struct Names<'s, 't> {
 /// `OutOfMemory` alone.
 #[cycle(follow)]
 pub fn named_type(names: &Names<'_, '_>, more: usize, number: usize) -> Result<Shape, LinkFault>
-    requires known { KnowsTypes names.now }
+    requires known { KnowsNames names.now }
     ensures { IfOk result (λ s.
         shape_view s ≡ named_type (sources_of names.now) more number) }
 {
@@ -52,8 +57,9 @@ pub fn named_type(names: &Names<'_, '_>, more: usize, number: usize) -> Result<S
                 number: assigned.number,
                 home: assigned.home,
             };
-            match unit_shape(&scope, more - 1, &assigned.notation.base)? {
-                Some(shape) => Ok(sized(&scope, assigned.notation.sizes.as_slice(), shape)),
+            let notation = notation_of(assigned.assignment);
+            match unit_shape(&scope, more - 1, &notation.base)? {
+                Some(shape) => Ok(sized(&scope, notation.sizes.as_slice(), shape)),
                 None => Ok(Shape::Back(number as u32)),
             }
         }
@@ -73,7 +79,7 @@ pub fn unit_shape(
     more: usize,
     base: &Base,
 ) -> Result<Option<Shape>, LinkFault>
-    requires known { KnowsTypes scope.now.names.now }
+    requires known { KnowsNames scope.now.names.now }
     ensures { IfOk result (λ o. MatchOption o (has_parts (base_view base.now) ≡ true) (λ s.
         (has_parts (base_view base.now) ≡ false)
         × (shape_view s ≡ base_shape (scope_view more scope.now) (base_view base.now)))) }

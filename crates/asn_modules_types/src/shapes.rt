@@ -3,7 +3,7 @@ ghost use Rattle.asn_model.specs.ShapeView.{kind_view, shape_view};
 ghost use Rattle.asn_modules_notation.specs.Notation.{members_of};
 ghost use Rattle.asn_modules_notation.specs.View.{component_view, members_view, notation_view};
 ghost use Rattle.asn_modules_reader.specs.Views.{base_view, member_view};
-ghost use Rattle.asn_modules_types.specs.Known.{KnowsTypes, extension_view, listed};
+ghost use Rattle.asn_modules_types.specs.Known.{KnowsNames, extension_view, listed};
 ghost use Rattle.asn_modules_types.specs.Known.{listed_behind, lists_view, part_view};
 ghost use Rattle.asn_modules_types.specs.Known.{scope_view, unmarked_view};
 ghost use Rattle.asn_modules_types.specs.Types as spec;
@@ -14,13 +14,13 @@ ghost use Rattle.std.specs.Prelude.{option_map, true};
 
 use crate::defaults::presence_of;
 use crate::fault::LinkFault;
-use crate::leaves::no_values;
 use crate::limits::NAME_LIMIT;
 use crate::names::unit_shape;
-use crate::numbers::sized;
 use crate::parts::{Lists, Part, alternatives_of, fields_of};
 use crate::scope::{Scope, is_extensible};
+use crate::sizes::sized;
 use crate::words::name_in;
+use asn_linked_types::no_values;
 use asn_model::{SeqKind, Shape};
 use asn_modules_notation::{Base, Component, Extension, Member, Members, Notation};
 
@@ -31,7 +31,7 @@ use asn_modules_notation::{Base, Component, Extension, Member, Members, Notation
 /// `TooMany` where it has 2^32 parts in a list, and `OutOfMemory`.
 #[cycle(shapes)]
 pub fn shape_of(scope: &Scope<'_, '_, '_>, notation: &Notation) -> Result<Shape, LinkFault>
-    requires known { KnowsTypes scope.now.names.now }
+    requires known { KnowsNames scope.now.names.now }
     ensures { IfOk result (λ s. shape_view s
         ≡ notation_shape (scope_view NAME_LIMIT scope.now) (notation_view notation.now)) }
 {
@@ -46,7 +46,7 @@ pub fn shape_of(scope: &Scope<'_, '_, '_>, notation: &Notation) -> Result<Shape,
 /// Those of `shape_of`.
 #[cycle(shapes)]
 fn base_shape_of(scope: &Scope<'_, '_, '_>, base: &Base) -> Result<Shape, LinkFault>
-    requires known { KnowsTypes scope.now.names.now }
+    requires known { KnowsNames scope.now.names.now }
     ensures { IfOk result (λ s. shape_view s
         ≡ base_shape (scope_view NAME_LIMIT scope.now) (base_view base.now)) }
 {
@@ -135,7 +135,7 @@ fn choice_shape(scope: &Scope<'_, '_, '_>, lists: Option<Lists>) -> Result<Shape
 /// Those of `shape_of`.
 #[cycle(shapes)]
 fn lists_of(scope: &Scope<'_, '_, '_>, members: &Members) -> Result<Option<Lists>, LinkFault>
-    requires known { KnowsTypes scope.now.names.now }
+    requires known { KnowsNames scope.now.names.now }
     ensures { IfOk result (λ o. option_map lists_view o
         ≡ listed (scope_view NAME_LIMIT scope.now).extensible
         (parts (scope_view NAME_LIMIT scope.now) false (members_of (members_view members.now)))) }
@@ -168,7 +168,7 @@ fn lists_behind(
     mut root: Vec<Part>,
     extension: &Extension,
 ) -> Result<Option<Lists>, LinkFault>
-    requires known { KnowsTypes scope.now.names.now }
+    requires known { KnowsNames scope.now.names.now }
     ensures { IfOk result (λ o. option_map lists_view o ≡ listed_behind
         (map part_view root.items) (parts (scope_view NAME_LIMIT scope.now) false
         (members_of (extension_view extension.now)))) }
@@ -195,7 +195,7 @@ fn lists_behind(
 /// Those of `shape_of`.
 #[cycle(shapes)]
 fn parts_of(scope: &Scope<'_, '_, '_>, entries: &[Member]) -> Result<Option<Vec<Part>>, LinkFault>
-    requires known { KnowsTypes scope.now.names.now }
+    requires known { KnowsNames scope.now.names.now }
     ensures { IfOk result (λ o. unmarked_view o
         ≡ parts (scope_view NAME_LIMIT scope.now) false
         (members_of (map member_view entries.now))) }
@@ -226,7 +226,7 @@ fn group_of(
     scope: &Scope<'_, '_, '_>,
     components: &[Component],
 ) -> Result<Option<Vec<Part>>, LinkFault>
-    requires known { KnowsTypes scope.now.names.now }
+    requires known { KnowsNames scope.now.names.now }
     ensures { IfOk result (λ o. unmarked_view o
         ≡ parts (scope_view NAME_LIMIT scope.now) true
         (members_of (map component_view components.now))) }
@@ -253,7 +253,7 @@ fn part_of(
     grouped: bool,
     component: &Component,
 ) -> Result<Option<Part>, LinkFault>
-    requires known { KnowsTypes scope.now.names.now }
+    requires known { KnowsNames scope.now.names.now }
     ensures { IfOk result (λ o. option_map (λ p. Some (part_view p) ∷ []) o
         ≡ entry_parts (scope_view NAME_LIMIT scope.now) grouped (component_view component.now)) }
 {

@@ -1,18 +1,17 @@
 -- A slot that decodes to no value by a shape has one reason, but for the name of a CHOICE type.
-use Rattle.std.proofs.Common.{◌≡◌, ℕ, List, [], ◌∷◌, map, Option, Some, None, Result, Err, Bool, true, false, ap, refl, sym, subst, ◌∙◌}
+use Rattle.std.proofs.Common.{◌≡◌, ℕ, List, [], ◌∷◌, map, Option, Some, None, Result, Err, ap, refl, sym, subst, ◌∙◌}
 use Rattle.std.specs.List.{AllByRecursion}
 use Rattle.asn_core.specs.declared.codec.Codec.{Codec}
 use Rattle.asn_core.specs.declared.codec.Codec.TheVariants.{Jer, Avn}
 use Rattle.asn_fault.specs.Failure.{Cause}
 use Rattle.asn_model.specs.Components.{Component, Standing, component_names, reading_order}
-use Rattle.asn_model.specs.DecodesTo.{DecodesTo}
 use Rattle.asn_model.specs.FailsWith.{FailsWith, EachFailsWith, FieldsFailWith, Path}
 use Rattle.asn_model.specs.Leaf.{LeafFailure, IsFailureOf, IsFound, codec_of}
 use Rattle.asn_model.specs.Notation.{Notation, IsText, notation_of}
 use Rattle.asn_model.specs.Shape.{Shape}
 use Rattle.asn_model.specs.Tree.{Tree, Slot}
-use Rattle.asn_model.specs.Value.{Value, may_lack}
-use Rattle.asn_model.proofs.Meanings.{apart, not_other}
+use Rattle.asn_model.specs.Value.{may_lack}
+use Rattle.asn_model.proofs.Meanings.{Member, apart, empty_named, named, none_some, not_both, not_other, nothing, some_same}
 use Rattle.asn_agreement.specs.Alike.{without_name}
 use Rattle.asn_agreement.proofs.Floats.{IsWhole, IsWholeSlot, list-whole, members-whole, slots-whole, payload-whole}
 
@@ -37,20 +36,8 @@ at-root e = record { path = refl; cause = ap without_name e }
 below : {p q : Path} {w x : Cause} (name : List ℕ) → AreOne p q w x → AreOne (name ∷ p) (name ∷ q) w x
 below name one = record { path = ap (λ r. name ∷ r) one.path; cause = one.cause }
 
-none_some : {A : Type 0} {x : A} {o : Option A} → o ≡ None → o ≡ Some x → ⊥
-none_some {A} {x} e f = let d : ◌≡◌ {A = Option A} None (Some x) = sym e ∙ f in cc d
-
-some_same : {A : Type 0} {x y : A} {o : Option A} → o ≡ Some x → o ≡ Some y → x ≡ y
-some_same {A} {x} {y} e f = let d : ◌≡◌ {A = Option A} (Some x) (Some y) = sym e ∙ f in cc d
-
 err_same : {A E : Type 0} {x y : E} {o : Option (Result A E)} → o ≡ Some (Err x) → o ≡ Some (Err y) → x ≡ y
 err_same {A} {E} {x} {y} e f = let d : ◌≡◌ {A = Option (Result A E)} (Some (Err x)) (Some (Err y)) = sym e ∙ f in cc d
-
-empty_named : {A : Type 0} {y : A} {o : Option (Option A)} → o ≡ Some None → o ≡ Some (Some y) → ⊥
-empty_named {A} {y} e f = let d : ◌≡◌ {A = Option (Option A)} (Some None) (Some (Some y)) = sym e ∙ f in cc d
-
-not_both : (b : Bool) → b ≡ true → b ≡ false → ⊥
-not_both b e f = let d : true ≡ false = sym e ∙ f in cc d
 
 root_added : (s : Standing) → s ≡ Standing.root → s ≡ Standing.addition → ⊥
 root_added s e f = let d : ◌≡◌ {A = Standing} Standing.root Standing.addition = sym e ∙ f in cc d
@@ -69,16 +56,6 @@ failure-one {n} {t} whole same (IsFailureOf.is_mismatch needed found a) (IsFailu
 failure-one whole same (IsFailureOf.is_because w) (IsFailureOf.is_because x) = cc same
 failure-one whole same (IsFailureOf.is_mismatch needed found a) (IsFailureOf.is_because x) = cc same
 failure-one whole same (IsFailureOf.is_because w) (IsFailureOf.is_mismatch needed found b) = cc same
-
-abbrev Member : Type 0
-Member = List ℕ × Tree
-
-named : {x y : Member} {o : Option (Option Member)} → o ≡ Some (Some x) → o ≡ Some (Some y) → x ≡ y
-named {x} {y} e f = let d : ◌≡◌ {A = Option (Option Member)} (Some (Some x)) (Some (Some y)) = sym e ∙ f in cc d
-
--- An absent slot decodes to nothing.
-nothing : {n : Notation} {s : Shape} {v : Value} → IsText n → DecodesTo n s None v → ⊥
-nothing {n} t (DecodesTo.decodes_free s slot v e) = not_other n t e
 
 -- An absent slot fails at once, for want of input.
 absent-one : {n : Notation} {s : Shape} {p q : Path} {w x : Cause} → IsText n → FailsWith n s None p w → FailsWith n s None q x → AreOne p q w x

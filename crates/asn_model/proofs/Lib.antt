@@ -21,6 +21,7 @@ pub mod WrittenAvn
 pub mod JerTexts
 pub mod Nesting
 pub mod SameText
+pub mod Repeats
 pub mod ShapeNames
 pub mod Ranges
 pub mod SetTexts

@@ -18,28 +18,28 @@ not_other Notation.avn h e = cc e
 not_other Notation.other h e = absurd h
 
 -- An absent slot decodes to nothing.
-nothing : {n : Notation} {s : Shape} {v : Value} → IsText n → DecodesTo n s None v → ⊥
+pub nothing : {n : Notation} {s : Shape} {v : Value} → IsText n → DecodesTo n s None v → ⊥
 nothing {n} t (DecodesTo.decodes_free s slot v e) = not_other n t e
 
-some_same : {A : Type 0} {x y : A} {o : Option A} → o ≡ Some x → o ≡ Some y → x ≡ y
+pub some_same : {A : Type 0} {x y : A} {o : Option A} → o ≡ Some x → o ≡ Some y → x ≡ y
 some_same {A} {x} {y} e f = let d : Some x ≡ Some y = sym e ∙ f in cc d
 
 ok_same : {A E : Type 0} {x y : A} {o : Option (Result A E)} → o ≡ Some (Ok x) → o ≡ Some (Ok y) → x ≡ y
 ok_same {A} {E} {x} {y} e f = let d : ◌≡◌ {A = Option (Result A E)} (Some (Ok x)) (Some (Ok y)) = sym e ∙ f in cc d
 
-none_some : {A : Type 0} {x : A} {o : Option A} → o ≡ None → o ≡ Some x → ⊥
+pub none_some : {A : Type 0} {x : A} {o : Option A} → o ≡ None → o ≡ Some x → ⊥
 none_some {A} {x} e f = let d : ◌≡◌ {A = Option A} None (Some x) = sym e ∙ f in cc d
 
 ok_err : {A E : Type 0} {x : A} {w : E} {o : Option (Result A E)} → o ≡ Some (Ok x) → o ≡ Some (Err w) → ⊥
 ok_err {A} {E} {x} {w} e f = let d : ◌≡◌ {A = Option (Result A E)} (Some (Ok x)) (Some (Err w)) = sym e ∙ f in cc d
 
-abbrev Member : Type 0
+abbrev pub Member : Type 0
 Member = List ℕ × Tree
 
-named : {x y : Member} {o : Option (Option Member)} → o ≡ Some (Some x) → o ≡ Some (Some y) → x ≡ y
+pub named : {x y : Member} {o : Option (Option Member)} → o ≡ Some (Some x) → o ≡ Some (Some y) → x ≡ y
 named {x} {y} e f = let d : ◌≡◌ {A = Option (Option Member)} (Some (Some x)) (Some (Some y)) = sym e ∙ f in cc d
 
-empty_named : {y : Member} {o : Option (Option Member)} → o ≡ Some None → o ≡ Some (Some y) → ⊥
+pub empty_named : {y : Member} {o : Option (Option Member)} → o ≡ Some None → o ≡ Some (Some y) → ⊥
 empty_named {y} e f = let d : ◌≡◌ {A = Option (Option Member)} (Some None) (Some (Some y)) = sym e ∙ f in cc d
 
 same_elements : {vs ws : Values} → Value.list vs ≡ Value.list ws → vs ≡ ws
@@ -165,7 +165,7 @@ absent-lacks : (n : Notation) (c : Component) → IsText n → IsFine n c None �
 absent-lacks n c x (inl d) = absurd (nothing x d.1)
 absent-lacks n c x (inr a) = a.1
 
-not_both : (b : Bool) → b ≡ true → b ≡ false → ⊥
+pub not_both : (b : Bool) → b ≡ true → b ≡ false → ⊥
 not_both b e f = let d : true ≡ false = sym e ∙ f in cc d
 
 mutual

@@ -6,6 +6,7 @@
 #![tactic(auto)]
 
 mod arcs;
+mod distinct;
 mod fixed;
 pub mod laws;
 mod leaves;
@@ -18,7 +19,7 @@ pub mod words;
 pub use arcs::{arc_of, joined_arcs};
 pub use fixed::fixed_size;
 pub use leaves::{Leaf, LeafKind, OwnedLeaf, are_arcs, are_octets};
-pub use readable::{is_readable, is_readable_within};
+pub use readable::{is_of_shape, is_readable, is_readable_with, is_readable_within};
 pub use shape_type::{
     Alphabet, AlternativeShape, FieldShape, Plain, PresenceShape, SeqKind, Shape,
 };

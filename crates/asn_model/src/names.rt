@@ -1,6 +1,7 @@
 //! Tests the names of the parts of shapes. Each test goes over two lists, the names of the root
 //! and those of the extension additions, as over one: no list of both is made, and no memory is
-//! taken. The cost of a test that compares names is the square of their number.
+//! taken. The time of a test that compares names with one another grows with the square of their
+//! number; `distinct` has tests that take memory instead.
 ghost use Rattle.avn_grammar.specs.WellFormed.{is_identifier};
 ghost use Rattle.asn_model.specs.Readable.{differ_ignoring_case, are_identifiers, are_no_keywords};
 ghost use Rattle.asn_model.specs.Readable.{has_identifier};

@@ -7,25 +7,25 @@ ghost use Rattle.asn_model.specs.Readable.{are_alternatives_readable, has_128_bi
 ghost use Rattle.asn_model.specs.Readable.{suits, has_alternative, are_distinguishable};
 ghost use Rattle.asn_model.specs.Readable.{are_key_and_value, is_entry, is_required};
 ghost use Rattle.asn_model.specs.Readable.{has_no_additions, is_sequence, is_utf8_string};
-ghost use Rattle.asn_model.specs.Shape.{has_tag, tags_distinct, join_alternatives};
+ghost use Rattle.asn_model.specs.Shape.{join_alternatives};
 ghost use Rattle.asn_model.specs.ShapeView.{alphabet_view, shape_view, plain_view, presence_view};
 ghost use Rattle.asn_model.specs.ShapeView.{added_field_views, alternative_views};
 ghost use Rattle.asn_model.specs.ShapeView.{field_views, kind_view};
 ghost use Rattle.avn_grammar.specs.Chars.{all};
 ghost use Rattle.avn_grammar.specs.WellFormed.{is_octet};
-ghost use Rattle.std.specs.Prelude.{◌≡◌, ◌++◌, ◌&&◌, map, nat_le, nat_lt, pos, string_bytes};
+ghost use Rattle.std.specs.Prelude.{◌≡◌, ◌&&◌, nat_le, nat_lt, pos, string_bytes};
 ghost use Rattle.std.specs.Str.{bytes_eq, is_utf8};
 
+use crate::distinct::{have_distinct_identifiers, have_distinct_names, have_distinct_tags};
 use crate::leaves::are_octets;
-use crate::names::{
-    are_distinct, are_identifiers, are_no_keywords, differ_ignoring_case, has_name,
-};
-use crate::tags::same_tag;
+use crate::names::{are_identifiers, are_no_keywords, has_name};
+use crate::tags::has_tag;
 use crate::{Alphabet, AlternativeShape, FieldShape, Plain, PresenceShape, SeqKind, Shape};
 use asn_core::Tag;
 use asn_strings::character_sets::{
     Graphic, Ia5, Numeric, Printable, Visible, are_within, is_within,
 };
+use std::alloc::Global;
 
 /// Holds what stands around a part of a shape, the innermost first, as a chain of references on
 /// the stack: no count of loops can overflow, and none takes memory.
@@ -53,19 +53,30 @@ pub fn is_readable(shape: &Shape) -> bool
     is_readable_within(shape, 0)
 }
 
+/// Returns whether a shape can be read, by the conditions of `is_readable`. Names, identifiers and
+/// tags are compared by sets of them, in time that grows with the shape. Where memory runs out they
+/// are compared one by one as `is_readable` does, with the same answer, so that nothing is refused
+/// for want of memory.
+pub fn is_readable_with(alloc: Global, shape: &Shape) -> bool
+    ensures { result ≡ is_readable (shape_view shape.now) }
+{
+    is_readable_in(Some(alloc), shape, &Enclosing::Loops(0))
+}
+
 /// Returns whether a shape can be read that is the innermost body of so many loops, each of which
 /// holds the next one directly, by the conditions of `is_readable`: so a `Back` may mean one of them
 /// where it stands in a list, sequence, set, table or choice. It takes no memory.
 pub fn is_readable_within(shape: &Shape, loops: usize) -> bool
     ensures { result ≡ is_readable_in loops loops (shape_view shape.now) }
 {
-    is_readable_in(shape, &Enclosing::Loops(loops))
+    is_readable_in(None, shape, &Enclosing::Loops(loops))
 }
 
-/// Returns whether a part of a shape can be read within what stands around it.
+/// Returns whether a part of a shape can be read within what stands around it. Where memory is
+/// given, names and tags are compared by sets of them.
 #[cycle(readable)]
 #[tactic(auto, using(crate::proofs::ShapeNames::sequence_readable, crate::proofs::ShapeNames::choice_readable))]
-fn is_readable_in(shape: &Shape, around: &Enclosing<'_>) -> bool
+fn is_readable_in(memory: Option<Global>, shape: &Shape, around: &Enclosing<'_>) -> bool
     ensures { result ≡ is_readable_in (loops_of around.now) (unguarded_of around.now)
         (shape_view shape.now) }
 {
@@ -78,7 +89,7 @@ fn is_readable_in(shape: &Shape, around: &Enclosing<'_>) -> bool
         } => has_128_bits(*least, *greatest),
         Shape::Enum { items, added } => {
             let added = entries(added);
-            are_no_keywords(items, added) && are_distinct(items, added)
+            are_no_keywords(items, added) && have_distinct_names(memory, items, added)
         }
         Shape::Seq {
             kind: _,
@@ -88,14 +99,14 @@ fn is_readable_in(shape: &Shape, around: &Enclosing<'_>) -> bool
             let added = entries(added);
             // Names first, which are cheap beside the shapes of the fields.
             are_identifiers(fields, added)
-                && are_distinct(fields, added)
-                && are_fields_readable(fields, &*around)
-                && are_fields_readable(added, &*around)
+                && have_distinct_names(memory, fields, added)
+                && are_fields_readable(memory, fields, &*around)
+                && are_fields_readable(memory, added, &*around)
         }
-        Shape::ListOf(element) => is_readable_in(element, &Enclosing::Part(&*around)),
-        Shape::SetOf(element) => is_readable_in(element, &Enclosing::Part(&*around)),
+        Shape::ListOf(element) => is_readable_in(memory, element, &Enclosing::Part(&*around)),
+        Shape::SetOf(element) => is_readable_in(memory, element, &Enclosing::Part(&*around)),
         Shape::Table(entry) => {
-            is_entry(entry) && is_readable_in(entry, &Enclosing::Part(&*around))
+            is_entry(entry) && is_readable_in(memory, entry, &Enclosing::Part(&*around))
         }
         Shape::Choice {
             alternatives,
@@ -103,11 +114,11 @@ fn is_readable_in(shape: &Shape, around: &Enclosing<'_>) -> bool
         } => {
             let added = entries(added);
             has_alternative(alternatives, added)
-                && are_distinguishable(alternatives, added)
-                && are_alternatives_readable(alternatives, &*around)
-                && are_alternatives_readable(added, &*around)
+                && are_distinguishable(memory, alternatives, added)
+                && are_alternatives_readable(memory, alternatives, &*around)
+                && are_alternatives_readable(memory, added, &*around)
         }
-        Shape::Loop(body) => is_readable_in(body, &Enclosing::Loop(&*around)),
+        Shape::Loop(body) => is_readable_in(memory, body, &Enclosing::Loop(&*around)),
         Shape::Back(number) => means_loop(around, *number),
         Shape::Null => true,
         Shape::Bool => true,
@@ -126,14 +137,18 @@ fn is_readable_in(shape: &Shape, around: &Enclosing<'_>) -> bool
 
 /// Returns whether the shapes of the fields can be read, and their defaults are values of them.
 #[cycle(readable)]
-fn are_fields_readable(fields: &[FieldShape], around: &Enclosing<'_>) -> bool
+fn are_fields_readable(
+    memory: Option<Global>,
+    fields: &[FieldShape],
+    around: &Enclosing<'_>,
+) -> bool
     ensures { result ≡ are_fields_readable (loops_of around.now) (field_views fields.now) }
 {
     for field in fields {
         if !suits(&field.presence, &field.shape) {
             return false;
         }
-        if !is_readable_in(&field.shape, &Enclosing::Part(&*around)) {
+        if !is_readable_in(memory, &field.shape, &Enclosing::Part(&*around)) {
             return false;
         }
     }
@@ -142,12 +157,16 @@ fn are_fields_readable(fields: &[FieldShape], around: &Enclosing<'_>) -> bool
 
 /// Returns whether the shapes of the alternatives can be read.
 #[cycle(readable)]
-fn are_alternatives_readable(alternatives: &[AlternativeShape], around: &Enclosing<'_>) -> bool
+fn are_alternatives_readable(
+    memory: Option<Global>,
+    alternatives: &[AlternativeShape],
+    around: &Enclosing<'_>,
+) -> bool
     ensures { result ≡ are_alternatives_readable (loops_of around.now)
         (alternative_views alternatives.now) }
 {
     for alternative in alternatives {
-        if !is_readable_in(&alternative.shape, &Enclosing::Part(&*around)) {
+        if !is_readable_in(memory, &alternative.shape, &Enclosing::Part(&*around)) {
             return false;
         }
     }
@@ -273,9 +292,12 @@ fn suits(presence: &PresenceShape, shape: &Shape) -> bool
     }
 }
 
-/// Returns whether the value of a DEFAULT is one of the shape. Defaults are of BOOLEAN, INTEGER,
-/// UTF8String and ENUMERATED alone.
-fn is_of_shape(shape: &Shape, plain: &Plain) -> bool
+/// Returns whether the value of a DEFAULT is one of the shape (X.680, section 25). Such values are
+/// of BOOLEAN, INTEGER, ENUMERATED and the character string types alone. A number lies from the
+/// least to the greatest one, a text has characters of its alphabet alone, and an item is one of
+/// the root or of the additions. A value of another type than the shape's is none of it. It takes
+/// no memory.
+pub fn is_of_shape(shape: &Shape, plain: &Plain) -> bool
     ensures { result ≡ is_of_shape (shape_view shape.now) (plain_view plain.now) }
 {
     match (shape, plain) {
@@ -347,32 +369,16 @@ fn has_alternative(alternatives: &[AlternativeShape], added: &[AlternativeShape]
 
 /// Returns whether the alternatives of both lists are distinguishable by identifiers and by tags.
 #[tactic(auto, using(crate::proofs::ShapeNames::identifiers_viewed, crate::proofs::ShapeNames::tags_viewed))]
-fn are_distinguishable(alternatives: &[AlternativeShape], added: &[AlternativeShape]) -> bool
+fn are_distinguishable(
+    memory: Option<Global>,
+    alternatives: &[AlternativeShape],
+    added: &[AlternativeShape],
+) -> bool
     ensures { result ≡ are_distinguishable
         (join_alternatives (alternative_views alternatives.now) (alternative_views added.now)) }
 {
     are_identifiers(alternatives, added)
-        && differ_ignoring_case(alternatives, added)
-        && are_tags_distinct(alternatives, added)
+        && have_distinct_identifiers(memory, alternatives, added)
+        && have_distinct_tags(memory, alternatives, added)
         && !has_tag(alternatives, added, Tag::EOC)
-}
-
-/// Returns whether the tag is one of those of both lists.
-fn has_tag(list: &[AlternativeShape], more: &[AlternativeShape], tag: Tag) -> bool
-    ensures { result ≡ has_tag (map (λ a. a.tag) list.now ++ map (λ a. a.tag) more.now) tag }
-{
-    match list.split_first() {
-        Some((first, rest)) => same_tag(first.tag, tag) || has_tag(rest, more, tag),
-        None => !more.is_empty() && has_tag(more, &[], tag),
-    }
-}
-
-/// Returns whether no tag stands twice in both lists.
-fn are_tags_distinct(list: &[AlternativeShape], more: &[AlternativeShape]) -> bool
-    ensures { result ≡ tags_distinct (map (λ a. a.tag) list.now ++ map (λ a. a.tag) more.now) }
-{
-    match list.split_first() {
-        Some((first, rest)) => !has_tag(rest, more, first.tag) && are_tags_distinct(rest, more),
-        None => more.is_empty() || are_tags_distinct(more, &[]),
-    }
 }

@@ -12,7 +12,7 @@ use crate::fault::ModuleFault;
 use crate::names::places_of;
 use asn_expansion::limits::{NODE_LIMIT, OPEN_LIMIT};
 use asn_expansion::{ExpansionFault, expand};
-use asn_model::{Shape, is_readable};
+use asn_model::{Shape, is_readable_with};
 use asn_notation::Module;
 use asn_notation::limits::NESTING_LIMIT;
 use std::alloc::Global;
@@ -41,7 +41,7 @@ pub fn module_shape(alloc: Global, module: &Module, name: &str) -> Result<Shape,
     }
     match expand(alloc, assignments, &places, name) {
         Ok(shape) => {
-            if is_readable(&shape) {
+            if is_readable_with(alloc, &shape) {
                 Ok(shape)
             } else {
                 Err(ModuleFault::NotReadable(String::from_str(alloc, name)?))

@@ -25,8 +25,8 @@ returns-then-not-contains_key-clause-refused c =
       item_placed c.in_ok-places.places _ c.args.name.now false are (sym c.contains_key.ensures ∙ c.if-not-contains_key.true),
     )
 
-pub returns-then-is_readable-clause-ok : goal.returns-then-is_readable-clause-ok
-returns-then-is_readable-clause-ok c = ap (λ xs. type_shape 64 (map assignment_view xs) c.args.name.now) (sym c.as_slice-assignments.ensures.value) ∙ c.in-Ok.ensures.ok
+pub returns-then-is_readable_with-clause-ok : goal.returns-then-is_readable_with-clause-ok
+returns-then-is_readable_with-clause-ok c = ap (λ xs. type_shape 64 (map assignment_view xs) c.args.name.now) (sym c.as_slice-assignments.ensures.value) ∙ c.in-Ok.ensures.ok
 
 pub returns-in-Err-TooLarge-clause-refused : goal.returns-in-Err-TooLarge-clause-refused
 returns-in-Err-TooLarge-clause-refused c =

@@ -1,5 +1,5 @@
 use Rattle.std.proofs.Common.{◌+◌, ◌*◌, length}
-use Rattle.asn_model.proofs.readable.+are_tags_distinct.Given as goal
+use Rattle.asn_model.proofs.tags.+are_tags_distinct.Given as goal
 
 -- Each step leaves the first list, or one of its alternatives.
 abbrev pub decreases-are_tags_distinct : goal.decreases-are_tags_distinct

@@ -1,5 +1,5 @@
 use Rattle.std.proofs.Common.{◌+◌, ◌*◌, length}
-use Rattle.asn_model.proofs.readable.+has_tag.Given as goal
+use Rattle.asn_model.proofs.tags.+has_tag.Given as goal
 
 -- Each step leaves the first list, or one of its alternatives.
 abbrev pub decreases-has_tag : goal.decreases-has_tag

@@ -1,0 +1,9 @@
+mod Examples
+mod Ascii
+mod Digits
+mod Listing
+mod Tagged
+mod Naming
+mod Following
+mod Seen
+mod Separated

@@ -1,7 +1,9 @@
-//! Tests reading texts of modules whole, checking their names, by the text of each refusal, and
-//! finding types by their names.
+//! Tests reading texts of modules whole, checking their names and numbers, by the text of each
+//! refusal, and finding types and values by their names.
 #![tactic(auto)]
 
+#[cfg(test)]
+mod checks;
 #[cfg(test)]
 mod imports;
 #[cfg(test)]
@@ -10,6 +12,8 @@ mod lists;
 mod lookup;
 #[cfg(test)]
 mod names;
+#[cfg(test)]
+mod numbers;
 #[cfg(test)]
 mod references;
 #[cfg(test)]

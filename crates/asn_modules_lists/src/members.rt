@@ -1,5 +1,5 @@
 //! Collects the names of components and alternatives.
-ghost use Rattle.asn_modules_lists.specs.Extensions.{extension_names};
+ghost use Rattle.asn_modules_lists.specs.Extensions.{entries_names, in_extension};
 ghost use Rattle.asn_modules_lists.specs.Listed.{member_names, members_names};
 ghost use Rattle.asn_modules_notation.specs.Notation.{members_of};
 ghost use Rattle.asn_modules_notation.specs.View.{component_view, members_view};
@@ -80,7 +80,7 @@ fn add_entries(names: &mut Vec<Token>, entries: &[Member]) -> Result<(), AllocEr
 /// Where memory runs out.
 fn add_extension(names: &mut Vec<Token>, extension: &Extension) -> Result<(), AllocError>
     ensures { OnOk result (names.new.items ≡ names.old.items
-        ++ extension_names (Some extension.now)) }
+        ++ in_extension entries_names (Some extension.now)) }
 {
     add_entries(names, &extension.additions)?;
     if let Some(tail) = &extension.tail {

@@ -1,5 +1,5 @@
 //! Collects the types within types.
-ghost use Rattle.asn_modules_lists.specs.Extensions.{extension_bases};
+ghost use Rattle.asn_modules_lists.specs.Extensions.{entries_written, in_extension};
 ghost use Rattle.asn_modules_lists.specs.Written.{bases, member_bases, members_bases};
 ghost use Rattle.asn_modules_lists.specs.Written.{written_in, written_view};
 ghost use Rattle.asn_modules_names.specs.Mentions.{source_view};
@@ -73,7 +73,7 @@ fn add_extension<'s, 't>(
     extension: &'s Extension,
 ) -> Result<(), AllocError>
     ensures { OnOk result (map written_view found.new.items ≡ map written_view found.old.items
-        ++ map (written_in (source_view source.now)) (extension_bases (Some extension.now))) }
+        ++ in_extension (entries_written (source_view source.now)) (Some extension.now)) }
 {
     add_entries(found, source, &extension.additions)?;
     if let Some(tail) = &extension.tail {

@@ -6,7 +6,8 @@ ghost use Rattle.asn_modules_types.specs.Assigned.{assigned_in, assigned_of, not
 ghost use Rattle.asn_modules_types.specs.Assigned.{value_of};
 ghost use Rattle.asn_modules_types.specs.Known.{assigned_view};
 ghost use Rattle.std.specs.List.{slice_get};
-ghost use Rattle.std.specs.Prelude.{◌≡◌, ◌++◌, IfOk, OnOk, is_some, map, option_map};
+ghost use Rattle.std.specs.Prelude.{◌≡◌, ◌<◌, ◌++◌, IfOk, IfSome, OnOk, is_some, length, map};
+ghost use Rattle.std.specs.Prelude.{option_map};
 
 use asn_modules_lookup::{Home, Sort};
 use asn_modules_notation::{Assignment, Notation, Value};
@@ -94,7 +95,9 @@ pub fn assigned_of<'s, 't>(
 
 /// Returns the one at the place, or `None` past the last one.
 pub fn assigned_at<'s, 't>(assigned: &[Assigned<'s, 't>], place: usize) -> Option<Assigned<'s, 't>>
-    ensures { option_map assigned_view result ≡ slice_get (map assigned_view assigned.now) place }
+    ensures there { option_map assigned_view result
+        ≡ slice_get (map assigned_view assigned.now) place }
+    ensures within { IfSome result (λ _. place < length assigned.now) }
 {
     match assigned.get(place) {
         Some(found) => Some(*found),

@@ -6,9 +6,9 @@ use Rattle.asn_traits.specs.Shape.{Shape}
 use Rattle.asn_codec.specs.Conversion.{Converts, IsMemoryRefusal, Refuses, refusal_of, is_refusal_out_of_memory}
 use Rattle.asn_codec.proofs.Passing.{memory_refused}
 use Rattle.asn_convert.specs.ExpectedOutput.{Answers, AnswersTo, IsAnswerTo, IsRefusalTo, Outcome, RepliesTo, refusal_line}
-use Rattle.asn_convert.specs.Faults.{Increased}
+use Rattle.asn_streams.specs.Faults.{Increased}
 use Rattle.asn_convert.specs.Made.{report}
-use Rattle.asn_convert.specs.Transfer.{Transfer}
+use Rattle.asn_streams.specs.Transfer.{Transfer}
 use Rattle.asn_convert.specs.Requests.{Request}
 use Rattle.asn_module_reports.specs.Replies.{IsAnswered, IsReply}
 use Rattle.asn_module_reports.specs.declared.reply.Reply.{Reply}

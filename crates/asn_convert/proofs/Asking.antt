@@ -1,8 +1,8 @@
 -- What an input asks for, from its bytes as they were read.
 use Rattle.std.proofs.Common.{◌≡◌, sym, ap, ◌∙◌, subst, ℕ, List, ◌++◌, Option, Some, None, append-nil, length, ◌<◌, arith}
 use Rattle.std.specs.Io.KnownBytes.{Consumes, IsAtEnd}
-use Rattle.asn_convert.specs.Input.{IsWholeInput, input_limit}
-use Rattle.asn_convert.specs.Transfer.{Transfer}
+use Rattle.asn_streams.specs.Input.{IsWholeInput, input_limit}
+use Rattle.asn_streams.specs.Transfer.{Transfer}
 use Rattle.asn_convert.specs.Lines.{request_line, text_part, words}
 use Rattle.asn_convert.specs.Requests.{Request, before_text, request_of, request_of_words}
 use Rattle.asn_convert.specs.Run.{IsAnswerable, RequestsValue}

@@ -5,7 +5,5 @@ pub mod Limited
 pub mod Relaying
 pub mod MadeTexts
 pub mod Answering
-pub mod CallsLemmas
-pub mod Known
 pub mod Places
 pub mod Words

@@ -4,9 +4,9 @@ use Rattle.std.specs.Io.KnownBytes.{Appends, Keeps}
 use Rattle.asn_core.specs.declared.codec.Codec.{Codec}
 use Rattle.asn_traits.specs.Shape.{Shape}
 use Rattle.asn_codec.specs.Conversion.{Converts, Refuses, refusal_of, error_text}
-use Rattle.asn_convert.specs.Faults.{Increased, AppendsFront}
+use Rattle.asn_streams.specs.Faults.{Increased, AppendsFront}
 use Rattle.asn_convert.specs.Made.{report}
-use Rattle.asn_convert.specs.Transfer.{Transfer}
+use Rattle.asn_streams.specs.Transfer.{Transfer}
 use Rattle.asn_convert.specs.Requests.{Request}
 use Rattle.asn_filter_reports.specs.Reports.{IsKeeping, IsKeepingRefusal}
 use Rattle.asn_module_reports.specs.Replies.{IsReply}

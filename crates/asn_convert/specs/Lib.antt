@@ -1,12 +1,7 @@
-pub mod Calls
 pub mod ExpectedOutput
-pub mod Faults
-pub mod Input
 pub mod Lines
 pub mod Made
-pub mod Memory
 pub mod RequestView
 pub mod Requests
 pub mod Run
 pub mod Status
-pub mod Transfer

@@ -1,7 +1,7 @@
 -- What the program reads and writes.
 use Rattle.std.specs.Prelude.{◌≡◌, ◌≤◌, ℕ, List, length, Some, IsUtf8}
-use Rattle.asn_convert.specs.Faults.{Increased}
-use Rattle.asn_convert.specs.Input.{input_limit}
+use Rattle.asn_streams.specs.Faults.{Increased}
+use Rattle.asn_streams.specs.Input.{input_limit}
 use Rattle.asn_convert.specs.Lines.{text_part}
 use Rattle.asn_samples.specs.Samples.{sample_shape}
 use Rattle.asn_convert.specs.Requests.{Request, request_of}
@@ -9,7 +9,7 @@ use Rattle.asn_filter_reports.specs.Reports.{CanKeepAll}
 use Rattle.asn_module_reports.specs.Reports.{AreTypesOf, IsModuleText}
 use Rattle.asn_codec.specs.Conversion.{IsConvertible}
 use Rattle.asn_convert.specs.ExpectedOutput.{Wrote, WroteFront, IsOutputTo}
-use Rattle.asn_convert.specs.Transfer.{Transfer}
+use Rattle.asn_streams.specs.Transfer.{Transfer}
 
 -- the input is a request, and bytes that are expected for its text in this way were written
 pub record Answered (sink : Transfer) (ExpectedOutput : Request → List ℕ → List ℕ → Type 0) (input : List ℕ) : Type 0 where

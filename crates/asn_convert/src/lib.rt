@@ -5,21 +5,17 @@
 //! program (`asn_convert_main`) over standard input and output.
 #![tactic(auto)]
 
-mod io;
-mod io_all;
 mod kept;
 mod limits;
 mod lines;
 mod made;
-mod memory;
 mod program;
 mod request;
-mod standard;
 mod status;
 
-pub use io::{Failed, Sink, Source};
+pub use asn_streams::{
+    Failed, MemorySink, MemorySource, Sink, Source, StdSink, StdSource, SteadySink, SteadySource,
+};
 pub use limits::stated_limits;
-pub use memory::{MemorySink, MemorySource, SteadySink, SteadySource};
 pub use program::{convert_as, convert_within, run};
-pub use standard::{StdSink, StdSource};
 pub use status::Status;

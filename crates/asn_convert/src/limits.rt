@@ -1,8 +1,7 @@
-//! Sets the limits of an input, and of a document that is made.
+//! Sets the limit of a document that is made, and states that of an input.
 ghost use Rattle.std.specs.Prelude.{◌≡◌};
 
-/// Limits the bytes of an input, to 16 MiB.
-pub const MOST_BYTES: usize = 16_777_216;
+use asn_streams::MOST_BYTES;
 
 /// Limits the entries of a document that is made.
 pub const MOST_ENTRIES: u32 = 100_000;

@@ -4,15 +4,15 @@
 ghost use Rattle.std.specs.Prelude.{◌≡◌, ◌≢◌, ◌≤◌, ◌<◌, ◌⊎◌, ◌++◌, ◌∷◌, [], ℕ, List, length, IsUtf8};
 ghost use Rattle.std.specs.Prelude.{Some, None, true, string_bytes, IfOk};
 ghost use Rattle.std.specs.Io.KnownBytes.{Keeps};
-ghost use Rattle.asn_convert.specs.Faults.{Increased};
+ghost use Rattle.asn_streams.specs.Faults.{Increased};
 ghost use Rattle.asn_convert.specs.Made.{report};
 ghost use Rattle.asn_convert.specs.RequestView.{request_view};
 ghost use Rattle.asn_convert.specs.Requests.{KeepsLimits, request_of};
 ghost use Rattle.asn_samples.specs.Samples.{sample_shape};
 ghost use Rattle.asn_convert.specs.ExpectedOutput.{Answers, AnswersTo, IsAnswerTo, IsRefusalTo};
 ghost use Rattle.asn_convert.specs.ExpectedOutput.{Outcome, RepliesTo, refusal_line};
-ghost use Rattle.asn_convert.specs.Input.{ReadPastLimit, ReadWhole, input_limit};
-ghost use Rattle.asn_convert.specs.Transfer.{transfer_of};
+ghost use Rattle.asn_streams.specs.Input.{ReadPastLimit, ReadWhole, input_limit};
+ghost use Rattle.asn_streams.specs.Transfer.{transfer_of};
 ghost use Rattle.asn_module_reports.specs.Replies.{IsAnswered};
 ghost use Rattle.asn_codec.specs.Conversion.{IsConvertible, refusal_of, is_refusal_out_of_memory};
 ghost use Rattle.asn_convert.specs.Run.{Answered, CutShort, IsAnswerable, IsRead, RequestsValue};
@@ -23,8 +23,6 @@ ghost use Rattle.asn_convert.specs.declared.status.Status.TheVariants.{ReadFault
 ghost use Rattle.asn_convert.specs.declared.status.Status.TheVariants.{WantOfMemory, TooLong};
 ghost use Rattle.asn_convert.specs.declared.status.Status.TheVariants.{NotText};
 
-use crate::io::{Sink, Source};
-use crate::io_all::{Stopped, read_to_end, write_all};
 use crate::kept::keeping_reply;
 use crate::lines::split_request;
 use crate::made::report_on;
@@ -34,6 +32,7 @@ use asn_codec::{TranscodeError, transcode_within};
 use asn_core::{Codec, OutOfMemory};
 use asn_module_reports::{Reply, growth_reply, printing_reply};
 use asn_samples::{Sample, SampleVisitor};
+use asn_streams::{Sink, Source, Stopped, read_to_end, write_all};
 use asn_traits::{Decode, Encode};
 use avn_grammar::limits::LEVEL_LIMIT;
 use std::alloc::Global;

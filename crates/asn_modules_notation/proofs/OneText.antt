@@ -4,12 +4,11 @@ use Rattle.asn_lexer.specs.declared.keyword.Keyword.TheVariants as keyword
 use Rattle.asn_lexer.specs.declared.kind.Kind.{Kind}
 use Rattle.asn_lexer.specs.declared.kind.Kind.TheVariants as kind
 use Rattle.asn_lexer.specs.declared.token.Token.{Token}
-use Rattle.asn_headers.specs.Fronts.{first_is, is_name}
 use Rattle.asn_headers.specs.Headers.{HeaderParses}
 use Rattle.asn_headers.proofs.HeadersRead.{same_header}
 use Rattle.asn_headers.proofs.Imports.{some_same}
 use Rattle.asn_modules_notation.specs.Grammar.{NotationParses, notation_parses, BaseParses, leaf_parses, reference_parses, integer_parses, bit_string_parses, enumerated_parses, members_parse, list_parses, choice_parses, MemberParses, component_parses, components_of_parses, marker_parses, group_parses, MembersParse, last_member, next_member, BracesParse, no_members_parse, some_members_parse, sizes_of}
-use Rattle.asn_modules_notation.specs.Kinds.{first_kind, token_at, name_at, is_component_word}
+use Rattle.asn_modules_notation.specs.Kinds.{assigned_at, first_kind, token_at, is_component_word}
 use Rattle.asn_modules_notation.specs.Lists.{Repeated, no_more, one_more, Listed, last_entry, next_entry}
 use Rattle.asn_modules_notation.specs.Modules.{Assignment, type_assignment, value_assignment, Module, AssignmentParses, type_parses, value_parses, AssignmentsParse, no_assignments, next_assignment, ModulesParse, no_modules, next_module, TextParses, modules_parse, assignments_parse}
 use Rattle.asn_modules_notation.specs.Notation.{Notation, Base, Member, notation, integer, bit_string, enumerated, members, list_of, choice, component, components_of, group, members_of}
@@ -182,14 +181,10 @@ same_assignment {limit = limit} (value_parses {n = n} {x = x} a h d k b) (value_
     let g = some_same b (subst (λ y. value_at (drop 1 y) ≡ Some (x', rest')) (sym f.1) b') in
     (ap (λ y. value_assignment y.0 n x) e ∙ ap (λ y. value_assignment name' y x) f.0 ∙ ap (λ y. value_assignment name' n' y.0) g, ap (λ y. y.1) g)
 
--- An assignment begins with a name.
-no_name : {x : Token × List Token} (u : List Token) → first_is is_name u ≡ false → name_at u ≡ Some x → ⊥
-no_name {x = x} [] h a = let e : ◌≡◌ {A = Option (Token × List Token)} None (Some x) = a in let y : ⊥ = cc in y
-no_name (t ∷ u) h a = none_some (ap (λ b. if b then Some (t, u) else None) h) a
-
-named : {limit : ℕ} {u r : List Token} {a : Assignment} → AssignmentParses limit u a r → first_is is_name u ≡ false → ⊥
-named {u = u} (type_parses a h d) n = no_name u n a
-named {u = u} (value_parses a h d k x) n = no_name u n a
+-- An assignment begins with what something is assigned to.
+named : {limit : ℕ} {u r : List Token} {a : Assignment} → AssignmentParses limit u a r → assigned_at u ≡ None → ⊥
+named (type_parses a h d) n = none_some n a
+named (value_parses a h d k x) n = none_some n a
 
 pub same_assignments : {limit : ℕ} {u r s : List Token} {xs ys : List Assignment} → AssignmentsParse limit u xs r → AssignmentsParse limit u ys s → (xs ≡ ys) × (r ≡ s)
 same_assignments (no_assignments a) (no_assignments b) = (refl, refl)

@@ -1,5 +1,5 @@
 -- The kinds that decide what stands in a text.
-use Rattle.std.specs.Prelude.{List, [], ◌∷◌, drop, Bool, true, false, if◌then◌else◌, Option, Some, None}
+use Rattle.std.specs.Prelude.{List, [], ◌∷◌, drop, Bool, true, false, ◌&&◌, ◌||◌, if◌then◌else◌, Option, Some, None}
 use Rattle.std.specs.Option.{option_map}
 use Rattle.asn_lexer.specs.declared.keyword.Keyword.TheVariants as keyword
 use Rattle.asn_lexer.specs.declared.kind.Kind.{Kind}
@@ -108,3 +108,37 @@ is_identifier k = false
 abbrev pub is_pdv : Kind → Bool
 is_pdv (kind.Reserved keyword.Pdv) = true
 is_pdv k = false
+
+abbrev pub is_assignment : Kind → Bool
+is_assignment kind.Assignment = true
+is_assignment k = false
+
+abbrev pub is_universal : Kind → Bool
+is_universal (kind.Reserved keyword.Universal) = true
+is_universal k = false
+
+-- The word of a type of character strings.
+abbrev pub is_string_type : Kind → Bool
+is_string_type (kind.Reserved keyword.Utf8String) = true
+is_string_type (kind.Reserved keyword.NumericString) = true
+is_string_type (kind.Reserved keyword.PrintableString) = true
+is_string_type (kind.Reserved keyword.VisibleString) = true
+is_string_type (kind.Reserved keyword.Ia5String) = true
+is_string_type (kind.Reserved keyword.GeneralString) = true
+is_string_type (kind.Reserved keyword.GraphicString) = true
+is_string_type (kind.Reserved keyword.BmpString) = true
+is_string_type (kind.Reserved keyword.UniversalString) = true
+is_string_type (kind.Reserved keyword.Iso646String) = true
+is_string_type (kind.Reserved keyword.TeletexString) = true
+is_string_type (kind.Reserved keyword.T61String) = true
+is_string_type k = false
+
+-- A type with a universal tag is assigned here.
+abbrev pub assigns_universal : List Token → Bool
+assigns_universal (a ∷ b ∷ c ∷ u) = is_assignment a.kind && (is_open_bracket b.kind && is_universal c.kind)
+assigns_universal u = false
+
+-- What something is assigned to, and what follows it: a name; or the word of a type of character strings, to which modules assign what is built in, by its universal tag.
+abbrev pub assigned_at : List Token → Option (Token × List Token)
+assigned_at [] = None
+assigned_at (t ∷ u) = if is_name t.kind || (is_string_type t.kind && assigns_universal u) then Some (t, u) else None

@@ -6,7 +6,7 @@ use Rattle.asn_lexer.specs.declared.token.Token.{Token}
 use Rattle.asn_headers.specs.Fronts.{first_is, is_name}
 use Rattle.asn_headers.specs.Headers.{Header, HeaderParses}
 use Rattle.asn_modules_notation.specs.Grammar.{NotationParses}
-use Rattle.asn_modules_notation.specs.Kinds.{first_kind, name_at, is_definitions, is_open_brace}
+use Rattle.asn_modules_notation.specs.Kinds.{assigned_at, first_kind, is_definitions, is_open_brace}
 use Rattle.asn_modules_notation.specs.Notation.{Notation}
 use Rattle.asn_modules_notation.specs.Values.{value_at}
 use Rattle.asn_modules_notation.specs.declared.value.Value.{Value}
@@ -24,13 +24,13 @@ pub record Module : Type 0 where
 
 -- The assignment stands at the front of the tokens, and the rest follows it. The token behind its name tells its kind.
 pub data AssignmentParses (limit : ℕ) : List Token → Assignment → List Token → Type 0 where
-  type_parses : {u v rest : List Token} {name : Token} {n : Notation} → name_at u ≡ Some (name, v) → first_kind v ≡ Some kind.Assignment → NotationParses limit 0 (drop 1 v) n rest → AssignmentParses limit u (type_assignment name n) rest
-  value_parses : {u v w rest : List Token} {name : Token} {n : Notation} {x : Value} → name_at u ≡ Some (name, v) → first_kind v ≢ Some kind.Assignment → NotationParses limit 0 v n w → first_kind w ≡ Some kind.Assignment
+  type_parses : {u v rest : List Token} {name : Token} {n : Notation} → assigned_at u ≡ Some (name, v) → first_kind v ≡ Some kind.Assignment → NotationParses limit 0 (drop 1 v) n rest → AssignmentParses limit u (type_assignment name n) rest
+  value_parses : {u v w rest : List Token} {name : Token} {n : Notation} {x : Value} → assigned_at u ≡ Some (name, v) → first_kind v ≢ Some kind.Assignment → NotationParses limit 0 v n w → first_kind w ≡ Some kind.Assignment
       → value_at (drop 1 w) ≡ Some (x, rest) → AssignmentParses limit u (value_assignment name n x) rest
 
--- These assignments stand up to the first token that isn't a name.
+-- These assignments stand up to the first place where nothing is assigned.
 pub data AssignmentsParse (limit : ℕ) : List Token → List Assignment → List Token → Type 0 where
-  no_assignments : {u : List Token} → first_is is_name u ≡ false → AssignmentsParse limit u [] u
+  no_assignments : {u : List Token} → assigned_at u ≡ None → AssignmentsParse limit u [] u
   next_assignment : {u v rest : List Token} {a : Assignment} {more : List Assignment} → AssignmentParses limit u a v → AssignmentsParse limit v more rest → AssignmentsParse limit u (a ∷ more) rest
 
 -- The modules are all that the tokens stand for: each is a header, assignments and END.

@@ -3,11 +3,10 @@ use Rattle.std.proofs.Common.{◌≡◌, ◌≢◌, ℕ, List, [], ◌∷◌, �
 use Rattle.asn_lexer.specs.declared.keyword.Keyword.TheVariants as keyword
 use Rattle.asn_lexer.specs.declared.kind.Kind.TheVariants as kind
 use Rattle.asn_lexer.specs.declared.token.Token.{Token}
-use Rattle.asn_headers.specs.Fronts.{first_is, is_name}
 use Rattle.asn_headers.specs.Headers.{Header, HeaderParses}
 use Rattle.asn_headers.proofs.HeadersRead.{same_header}
 use Rattle.asn_modules_notation.specs.Grammar.{NotationParses}
-use Rattle.asn_modules_notation.specs.Kinds.{first_kind, name_at}
+use Rattle.asn_modules_notation.specs.Kinds.{assigned_at, first_kind}
 use Rattle.asn_modules_notation.specs.Modules.{Assignment, type_assignment, value_assignment, Module, AssignmentParses, type_parses, value_parses, AssignmentsParse, no_assignments, next_assignment, ModulesParse, no_modules, next_module, TextParses, modules_parse, assignments_parse, begins_module}
 use Rattle.asn_modules_notation.specs.Notation.{Notation}
 use Rattle.asn_modules_notation.specs.Values.{value_at}
@@ -17,65 +16,58 @@ use Rattle.asn_modules_parts.proofs.Repeats.{true_false, some_same, none_some}
 use Rattle.asn_modules_parts.proofs.Runs.{Step}
 use Rattle.asn_modules_reader.specs.Modules.{ModuleParses, module_parses}
 
-name_here : (u v : List Token) (t : Token) → u ≡ t ∷ v → is_name t.kind ≡ true → name_at u ≡ Some (t, v)
-name_here u v t e h = ap name_at e ∙ ap (λ b. if b then Some (t, v) else None) h
-
-name_first : {x : Token × List Token} (u : List Token) → name_at u ≡ Some x → first_is is_name u ≡ false → ⊥
-name_first {x = x} [] a h = let e : ◌≡◌ {A = Option (Token × List Token)} None (Some x) = a in let y : ⊥ = cc in y
-name_first (t ∷ u) a h = none_some (ap (λ b. if b then Some (t, u) else None) h) a
-
 -- What stands behind the same name.
-behind_name : {x : Token × List Token} {u v : List Token} {t : Token} → u ≡ t ∷ v → is_name t.kind ≡ true → name_at u ≡ Some x → v ≡ x.1
-behind_name {u = u} {v = v} {t = t} e h a = ap (λ y. y.1) (some_same (name_here u v t e h) a)
+behind_name : {x : Token × List Token} {u v : List Token} {t : Token} → assigned_at u ≡ Some (t, v) → assigned_at u ≡ Some x → v ≡ x.1
+behind_name e a = ap (λ y. y.1) (some_same e a)
 
-pub unnamed : (limit : ℕ) (u : List Token) → first_is is_name u ≡ false → (a : Assignment) (rest : List Token) → AssignmentParses limit u a rest → ⊥
-unnamed limit u h a rest (type_parses n k d) = name_first u n h
-unnamed limit u h a rest (value_parses n k d l x) = name_first u n h
+pub unnamed : (limit : ℕ) (u : List Token) → assigned_at u ≡ None → (a : Assignment) (rest : List Token) → AssignmentParses limit u a rest → ⊥
+unnamed limit u h a rest (type_parses n k d) = none_some h n
+unnamed limit u h a rest (value_parses n k d l x) = none_some h n
 
-pub type_read : (limit : ℕ) (u v w rest : List Token) (name : Token) (n : Notation) → u ≡ name ∷ v → is_name name.kind ≡ true → first_kind v ≡ Some kind.Assignment → w ≡ drop 1 v → NotationParses limit 0 w n rest
+pub type_read : (limit : ℕ) (u v w rest : List Token) (name : Token) (n : Notation) → assigned_at u ≡ Some (name, v) → first_kind v ≡ Some kind.Assignment → w ≡ drop 1 v → NotationParses limit 0 w n rest
     → AssignmentParses limit u (type_assignment name n) rest
-type_read limit u v w rest name n e h k f d = type_parses (name_here u v name e h) k (subst (λ z. NotationParses limit 0 z n rest) f d)
+type_read limit u v w rest name n e k f d = type_parses e k (subst (λ z. NotationParses limit 0 z n rest) f d)
 
-pub type_none : (limit : ℕ) (u v w : List Token) (name : Token) → u ≡ name ∷ v → is_name name.kind ≡ true → first_kind v ≡ Some kind.Assignment → w ≡ drop 1 v → ((n : Notation) (rest : List Token) → NotationParses limit 0 w n rest → ⊥)
+pub type_none : (limit : ℕ) (u v w : List Token) (name : Token) → assigned_at u ≡ Some (name, v) → first_kind v ≡ Some kind.Assignment → w ≡ drop 1 v → ((n : Notation) (rest : List Token) → NotationParses limit 0 w n rest → ⊥)
     → (a : Assignment) (rest : List Token) → AssignmentParses limit u a rest → ⊥
-type_none limit u v w name e h k f none a rest (type_parses {n = n} i j d) =
-    none n rest (subst (λ z. NotationParses limit 0 z n rest) (sym (f ∙ ap (drop 1) (behind_name e h i))) d)
-type_none limit u v w name e h k f none a rest (value_parses i j d l x) = j (ap first_kind (sym (behind_name e h i)) ∙ k)
+type_none limit u v w name e k f none a rest (type_parses {n = n} i j d) =
+    none n rest (subst (λ z. NotationParses limit 0 z n rest) (sym (f ∙ ap (drop 1) (behind_name e i))) d)
+type_none limit u v w name e k f none a rest (value_parses i j d l x) = j (ap first_kind (sym (behind_name e i)) ∙ k)
 
-pub value_read : (limit : ℕ) (u v w x rest : List Token) (name : Token) (n : Notation) (value : Value) → u ≡ name ∷ v → is_name name.kind ≡ true → first_kind v ≢ Some kind.Assignment → NotationParses limit 0 v n w
+pub value_read : (limit : ℕ) (u v w x rest : List Token) (name : Token) (n : Notation) (value : Value) → assigned_at u ≡ Some (name, v) → first_kind v ≢ Some kind.Assignment → NotationParses limit 0 v n w
     → first_kind w ≡ Some kind.Assignment → x ≡ drop 1 w → value_at x ≡ Some (value, rest) → AssignmentParses limit u (value_assignment name n value) rest
-value_read limit u v w x rest name n value e h k d l f p = value_parses (name_here u v name e h) k d l (ap value_at (sym f) ∙ p)
+value_read limit u v w x rest name n value e k d l f p = value_parses e k d l (ap value_at (sym f) ∙ p)
 
-pub value_untyped : (limit : ℕ) (u v : List Token) (name : Token) → u ≡ name ∷ v → is_name name.kind ≡ true → first_kind v ≢ Some kind.Assignment → ((n : Notation) (rest : List Token) → NotationParses limit 0 v n rest → ⊥)
+pub value_untyped : (limit : ℕ) (u v : List Token) (name : Token) → assigned_at u ≡ Some (name, v) → first_kind v ≢ Some kind.Assignment → ((n : Notation) (rest : List Token) → NotationParses limit 0 v n rest → ⊥)
     → (a : Assignment) (rest : List Token) → AssignmentParses limit u a rest → ⊥
-value_untyped limit u v name e h k none a rest (type_parses i j d) = k (ap first_kind (behind_name e h i) ∙ j)
-value_untyped limit u v name e h k none a rest (value_parses {w = w} {n = n} i j d l x) = none n w (subst (λ z. NotationParses limit 0 z n w) (sym (behind_name e h i)) d)
+value_untyped limit u v name e k none a rest (type_parses i j d) = k (ap first_kind (behind_name e i) ∙ j)
+value_untyped limit u v name e k none a rest (value_parses {w = w} {n = n} i j d l x) = none n w (subst (λ z. NotationParses limit 0 z n w) (sym (behind_name e i)) d)
 
-pub value_unassigned : (limit : ℕ) (u v w : List Token) (name : Token) (n : Notation) → u ≡ name ∷ v → is_name name.kind ≡ true → first_kind v ≢ Some kind.Assignment → NotationParses limit 0 v n w → first_kind w ≢ Some kind.Assignment
+pub value_unassigned : (limit : ℕ) (u v w : List Token) (name : Token) (n : Notation) → assigned_at u ≡ Some (name, v) → first_kind v ≢ Some kind.Assignment → NotationParses limit 0 v n w → first_kind w ≢ Some kind.Assignment
     → (a : Assignment) (rest : List Token) → AssignmentParses limit u a rest → ⊥
-value_unassigned limit u v w name n e h k d l a rest (type_parses i j c) = k (ap first_kind (behind_name e h i) ∙ j)
-value_unassigned limit u v w name n e h k d l a rest (value_parses {w = w'} {n = n'} i j c m x) =
-    l (ap first_kind (same_notation d (subst (λ z. NotationParses limit 0 z n' w') (sym (behind_name e h i)) c)).1 ∙ m)
+value_unassigned limit u v w name n e k d l a rest (type_parses i j c) = k (ap first_kind (behind_name e i) ∙ j)
+value_unassigned limit u v w name n e k d l a rest (value_parses {w = w'} {n = n'} i j c m x) =
+    l (ap first_kind (same_notation d (subst (λ z. NotationParses limit 0 z n' w') (sym (behind_name e i)) c)).1 ∙ m)
 
-pub value_none : (limit : ℕ) (u v w x : List Token) (name : Token) (n : Notation) → u ≡ name ∷ v → is_name name.kind ≡ true → first_kind v ≢ Some kind.Assignment → NotationParses limit 0 v n w → x ≡ drop 1 w → value_at x ≡ None
+pub value_none : (limit : ℕ) (u v w x : List Token) (name : Token) (n : Notation) → assigned_at u ≡ Some (name, v) → first_kind v ≢ Some kind.Assignment → NotationParses limit 0 v n w → x ≡ drop 1 w → value_at x ≡ None
     → (a : Assignment) (rest : List Token) → AssignmentParses limit u a rest → ⊥
-value_none limit u v w x name n e h k d f none a rest (type_parses i j c) = k (ap first_kind (behind_name e h i) ∙ j)
-value_none limit u v w x name n e h k d f none a rest (value_parses {w = w'} {n = n'} i j c m p) =
-    let g = (same_notation d (subst (λ z. NotationParses limit 0 z n' w') (sym (behind_name e h i)) c)).1 in
+value_none limit u v w x name n e k d f none a rest (type_parses i j c) = k (ap first_kind (behind_name e i) ∙ j)
+value_none limit u v w x name n e k d f none a rest (value_parses {w = w'} {n = n'} i j c m p) =
+    let g = (same_notation d (subst (λ z. NotationParses limit 0 z n' w') (sym (behind_name e i)) c)).1 in
     none_some (ap value_at (sym (f ∙ ap (drop 1) g)) ∙ none) p
 
 -- Assignments in turn.
-assignments_behind : {limit : ℕ} {u v rest : List Token} {a : Assignment} {ys : List Assignment} → first_is is_name u ≡ true → AssignmentParses limit u a v → AssignmentsParse limit u ys rest
+assignments_behind : {limit : ℕ} {u v rest : List Token} {a : Assignment} {ys : List Assignment} → (assigned_at u ≡ None → ⊥) → AssignmentParses limit u a v → AssignmentsParse limit u ys rest
     → (xs : List Assignment) × AssignmentsParse limit v xs rest × (ys ≡ a ∷ xs)
-assignments_behind h p (no_assignments k) = absurd (true_false (sym h ∙ k))
+assignments_behind h p (no_assignments k) = absurd (h k)
 assignments_behind {limit = limit} {rest = rest} h p (next_assignment {more = xs} q qs) =
     let e = same_assignment p q in (xs, subst (λ z. AssignmentsParse limit z xs rest) (sym e.1) qs, ap (λ a. a ∷ xs) (sym e.0))
 
-pub assignments_step : (limit : ℕ) (u v : List Token) (a : Assignment) → first_is is_name u ≡ true → AssignmentParses limit u a v → Step (AssignmentsParse limit) u v a
+pub assignments_step : (limit : ℕ) (u v : List Token) (a : Assignment) → (assigned_at u ≡ None → ⊥) → AssignmentParses limit u a v → Step (AssignmentsParse limit) u v a
 assignments_step limit u v a h p = record { forward = λ xs rest q. next_assignment p q; backward = λ ys rest q. assignments_behind h p q }
 
-pub assignments_none : (limit : ℕ) (u : List Token) → first_is is_name u ≡ true → ((a : Assignment) (rest : List Token) → AssignmentParses limit u a rest → ⊥) → (xs : List Assignment) (rest : List Token) → AssignmentsParse limit u xs rest → ⊥
-assignments_none limit u h none xs rest (no_assignments k) = true_false (sym h ∙ k)
+pub assignments_none : (limit : ℕ) (u : List Token) → (assigned_at u ≡ None → ⊥) → ((a : Assignment) (rest : List Token) → AssignmentParses limit u a rest → ⊥) → (xs : List Assignment) (rest : List Token) → AssignmentsParse limit u xs rest → ⊥
+assignments_none limit u h none xs rest (no_assignments k) = h k
 assignments_none limit u h none xs rest (next_assignment {v = v} {a = a} p ps) = none a v p
 
 -- A module by its parts.

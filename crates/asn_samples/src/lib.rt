@@ -3,7 +3,6 @@
 //! on; `docs/YOUR-OWN-TYPE.md` goes through the files to copy.
 #![tactic(auto)]
 
-mod held;
 mod sample;
 mod visitor;
 
@@ -18,6 +17,5 @@ pub use asn_sample_fields::{
 pub use asn_sample_trees::{
     Nest, NewTree, NewTreeAdditions, OldTree, OldTreeAdditions, Tree, TreeAdditions, Wrap1, Wrap2,
 };
-pub use held::shape_of;
-pub use sample::{Sample, is_sample_name};
+pub use sample::{Sample, is_sample_name, shape_of};
 pub use visitor::SampleVisitor;

@@ -1,10 +1,13 @@
 //! Lists the sample types by their names. `Sample::accept` is the one place that joins a name, a
 //! Rust type and a shape, so a new sample is a row in each of the three lists here and one in
 //! `specs/Samples.antt`.
+ghost use Rattle.asn_growth.specs.Parts.{node_count};
 ghost use Rattle.asn_samples.specs.Samples.{described_samples, plain_samples};
 ghost use Rattle.asn_samples.specs.Samples.{sample_beside, sample_named, sample_shape};
+ghost use Rattle.asn_traits.specs.Readable.{is_readable};
 ghost use Rattle.asn_traits.specs.ShapeView.{shape_view};
-ghost use Rattle.std.specs.Prelude.{◌≡◌, IfOk, is_some};
+ghost use Rattle.std.specs.Option.{option_map};
+ghost use Rattle.std.specs.Prelude.{◌≡◌, ◌<◌, ◌^◌, IfOk, IfSome, is_some, true};
 
 use crate::SampleVisitor;
 use asn_base::{Any, BitString, Integer, ObjectIdentifier, OctetString, OutOfMemory, SetOf};
@@ -214,7 +217,9 @@ impl Sample {
     ///
     /// `OutOfMemory` alone.
     pub fn shape(self, alloc: Global) -> Result<Shape, OutOfMemory>
-        ensures { IfOk result (λ s. shape_view s ≡ sample_shape self) }
+        ensures is { IfOk result (λ s. shape_view s ≡ sample_shape self) }
+        ensures readable { IfOk result (λ s. is_readable (shape_view s) ≡ true) }
+        ensures few { IfOk result (λ s. node_count (shape_view s) < 2 ^ 32) }
     {
         self.accept(ShapeOf { alloc }, &mut ())
     }
@@ -307,6 +312,25 @@ impl SampleVisitor<()> for ShapeOf {
 
     fn visit<T: Encode + Decode>(self, _state: &mut ()) -> Result<Shape, OutOfMemory> {
         T::shape(self.alloc)
+    }
+}
+
+/// Returns the shape of the sample type of that name, or `None` where no sample type has it. Names
+/// are those of the program's request line, as `SequenceOf<u8>`; case counts.
+///
+/// # Errors
+///
+/// `OutOfMemory` alone.
+pub fn shape_of(alloc: Global, name: &str) -> Result<Option<Shape>, OutOfMemory>
+    ensures is { IfOk result (λ found.
+        option_map shape_view found ≡ option_map sample_shape (sample_named name.now)) }
+    ensures readable { IfOk result (λ found.
+        IfSome found (λ s. is_readable (shape_view s) ≡ true)) }
+    ensures few { IfOk result (λ found. IfSome found (λ s. node_count (shape_view s) < 2 ^ 32)) }
+{
+    match Sample::named(name) {
+        Some(sample) => Ok(Some(sample.shape(alloc)?)),
+        None => Ok(None),
     }
 }
 

@@ -1,6 +1,6 @@
 use Rattle.std.proofs.Common.{ap, Ok, ◌∙◌}
 use Rattle.asn_convert.proofs.Answering.{answer_replies, no_refusal, none_answered, refusal_replies}
-use Rattle.asn_convert.proofs.Known.{Keeps-same}
+use Rattle.asn_streams.proofs.Known.{Keeps-same}
 use Rattle.asn_convert.proofs.program.pass_on.Goals as goal
 
 pub returns-in-Ok-Answer-clause-answer : goal.returns-in-Ok-Answer-clause-answer

@@ -1,5 +1,5 @@
 use Rattle.asn_convert.specs.ExpectedOutput.{Outcome}
-use Rattle.asn_convert.proofs.Known.{Keeps-same}
+use Rattle.asn_streams.proofs.Known.{Keeps-same}
 use Rattle.asn_convert.proofs.program.refuse.Goals as goal
 
 pub returns-then-is_out_of_memory-clause-line : goal.returns-then-is_out_of_memory-clause-line

@@ -1,5 +1,5 @@
 use Rattle.asn_convert.specs.Requests.{Request}
-use Rattle.asn_convert.specs.Transfer.{transfer_of}
+use Rattle.asn_streams.specs.Transfer.{transfer_of}
 use Rattle.asn_convert.proofs.Answering.{conversion_answers}
 use Rattle.asn_convert.proofs.program.respond.Goals as goal
 

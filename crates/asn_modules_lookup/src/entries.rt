@@ -18,7 +18,7 @@ use std::alloc::{AllocError, Global};
 pub type Key<'t> = (usize, &'t [u8]);
 
 /// Returns the name of the module, if it has one.
-fn module_name(parsed: &Module) -> Option<Token>
+pub fn module_name(parsed: &Module) -> Option<Token>
     ensures { result ≡ module_name (module_view parsed.now) }
 {
     match &parsed.header {

@@ -11,6 +11,8 @@ mod index;
 mod sort;
 mod table;
 
+pub use entries::module_name;
 pub use home::{Home, homes_of};
+pub use imports::imports_of;
 pub use index::{Index, index_of};
 pub use sort::Sort;

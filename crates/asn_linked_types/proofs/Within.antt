@@ -1,13 +1,17 @@
 -- The types of a list.
-use Rattle.std.proofs.Common.{◌≡◌, refl, ap, sym, ◌∙◌, arith, ℕ, suc, zero, ◌+◌, ◌<◌, List, [], ◌∷◌, ◌++◌, map, take, get_or, length, Bool, true, false, ◌&&◌, nat_lt}
+use Rattle.std.proofs.Common.{◌≡◌, refl, ap, sym, ◌∙◌, arith, ℕ, suc, zero, ◌+◌, ◌<◌, List, [], ◌∷◌, ◌++◌, map, take, get_or, length, Bool, true, false, ◌&&◌, nat_lt, Option, String, option_map, string_bytes}
 use Rattle.std.proofs.lemmas.Bool.{lt-ltb}
 use Rattle.std.proofs.lemmas.List.{take_more}
+use Rattle.std.specs.Global.{Global, Vec}
 use Rattle.asn_linked_types.specs.Linked.{are_linked, are_readable_among}
 use Rattle.asn_linked_types.specs.declared.limits.TheConstants.{TYPE_LIMIT}
 use Rattle.asn_model.specs.Readable.{is_readable_in}
 use Rattle.asn_model.specs.Shape as spec
-use Rattle.asn_model.specs.ShapeView.{shape_view}
+use Rattle.asn_model.specs.ShapeView.{alternative_step, field_step, shape_step, shape_view}
 use Rattle.asn_model.specs.declared.shape_type.Shape.{Shape}
+use Rattle.asn_model.specs.declared.shape_type.Shape.TheFolds.{fold-roll-Shape}
+use Rattle.asn_model.specs.declared.shape_type.Shape.TheOpen as layer
+use Rattle.asn_model.specs.declared.shape_type.Shape.TheVariants.{Enum, rolls-Enum}
 use Rattle.asn_model.proofs.Readables.{and-both, and-left, and-right}
 use Rattle.asn_model.proofs.ShapeNames.{and-false}
 
@@ -16,6 +20,11 @@ among-push count [] s e h = and-both _ _ h refl
 among-push count (t ∷ ss) s e h =
     let first = is_readable_in count count (shape_view t) in
     and-both _ _ (and-left first (are_readable_among count (map shape_view ss)) e) (among-push count ss s (and-right first (are_readable_among count (map shape_view ss)) e) h)
+
+-- An ENUMERATED, by its items.
+pub enum-viewed : (items : Vec (String Global)) (added : Option (Vec (String Global))) → shape_view (Enum items added) ≡ spec.Shape.enum (map string_bytes items.items) (option_map (λ v. map string_bytes v.items) added)
+enum-viewed items added =
+    ap shape_view (sym (rolls-Enum items added)) ∙ fold-roll-Shape spec.Shape (spec.Alternatives → spec.Alternatives) (spec.Fields → spec.Fields) shape_step alternative_step field_step (layer.Enum items added)
 
 -- One more type.
 pub among-more : (count : ℕ) (ss : List Shape) (i : ℕ) (s : Shape) → i < length ss → are_readable_among count (map shape_view (take i ss)) ≡ true → is_readable_in count count (shape_view (get_or ss i s)) ≡ true

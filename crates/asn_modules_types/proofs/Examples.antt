@@ -4,6 +4,7 @@ use Rattle.asn_expansion.specs.Expansion.{context_tag}
 use Rattle.asn_lexer.specs.declared.kind.Kind.{Kind}
 use Rattle.asn_lexer.specs.declared.kind.Kind.TheVariants as kind
 use Rattle.asn_lexer.specs.declared.token.Token.{Token}
+use Rattle.asn_linked_types.specs.Expansion.{no_values}
 use Rattle.asn_model.specs.Shape.{Alternatives, AlternativeAdditions, Fields, FieldAdditions, Plain, Presence, SeqKind, Shape}
 use Rattle.asn_modules_notation.specs.Notation.{Base, Member, Notation, bit_string, choice, component, components_of, enumerated, group, integer, leaf, list_of, marker, members, members_of, notation, reference}
 use Rattle.asn_modules_notation.specs.declared.leaf.Leaf.TheVariants.{Boolean, Null}
@@ -11,9 +12,8 @@ use Rattle.asn_modules_notation.specs.declared.notation.Presence.TheVariants.{De
 use Rattle.asn_modules_notation.specs.declared.number.Constant.TheVariants as constant
 use Rattle.asn_modules_notation.specs.declared.value.Value.{Value}
 use Rattle.asn_modules_notation.specs.declared.value.Value.TheVariants as value
-use Rattle.asn_modules_types.specs.Leaves.{integer_shape, no_values}
+use Rattle.asn_modules_types.specs.Leaves.{integer_shape}
 use Rattle.asn_modules_types.specs.Lists.{added_of, root_of}
-use Rattle.asn_modules_types.specs.Numbers.{fixed_by}
 use Rattle.asn_modules_types.specs.Scopes.{Scope}
 use Rattle.asn_modules_types.specs.Types.{notation_shape}
 
@@ -21,14 +21,18 @@ use Rattle.asn_modules_types.specs.Types.{notation_shape}
 abbrev letters : List ℕ
 letters = codes "abcdefgh0123456789"
 
--- A module of this text, where names of types stand for the type of number 7, words for the number 5, and values are the number at place 11, which is 3.
+-- The number at place 11, which is 3.
+abbrev number_three : Value
+number_three = value.Number (record { negative = false; digits = record { kind = kind.Number; start = 11; end = 12 } })
+
+-- A module of this text, where names of types stand for the type of number 7, words for the number 5, and each value leads to that number.
 abbrev example : Bool → Scope
 example extensible = record {
   text = letters;
   extensible = extensible;
   type_named = λ home name. Shape.back 7;
   number_named = λ home name word. Some (pos 5);
-  value_named = λ home name. Some (letters, value.Number (record { negative = false; digits = record { kind = kind.Number; start = 11; end = 12 } }));
+  values = λ v. (letters, v) ∷ (letters, number_three) ∷ [];
 }
 
 -- The token of the kind at the place.
@@ -56,9 +60,12 @@ eight = refl
 three : notation_shape (example false) (notation [] (bit_string []) (record { low = word 0; high = at kind.Number 11 } ∷ [])) ≡ Shape.bits (Some 3)
 three = refl
 
--- BIT STRING (SIZE (3..8)) has none, and no other type has one.
+-- BIT STRING (SIZE (3..8)) has none, and around BIT STRING (SIZE (3)) it changes none.
 many : notation_shape (example false) (notation [] (bit_string []) (record { low = at kind.Number 11; high = at kind.Number 16 } ∷ [])) ≡ Shape.bits None
 many = refl
+
+within : notation_shape (example false) (notation [] (bit_string []) (record { low = at kind.Number 11; high = at kind.Number 11 } ∷ record { low = at kind.Number 11; high = at kind.Number 16 } ∷ [])) ≡ Shape.bits (Some 3)
+within = refl
 
 -- SEQUENCE { a BOOLEAN, ..., [[ b NULL ]], ..., c T OPTIONAL }
 abbrev both_markers : List Member

@@ -4,6 +4,9 @@ mod Digits
 mod Listing
 mod Tagged
 mod Naming
+mod Leading
+mod Sizing
 mod Following
 mod Seen
 mod Separated
+mod Linking

@@ -1,14 +1,19 @@
--- Fields and alternatives that were made of parts so far.
-use Rattle.std.proofs.Common.{◌≡◌, ℕ, suc, ◌+◌, List, [], ◌∷◌, ◌++◌, map, refl, sym, ap, ◌∙◌, length, string_bytes, arith}
+-- Fields and alternatives that are made of parts.
+use Rattle.std.proofs.Common.{◌≡◌, ℕ, suc, ◌+◌, List, [], ◌∷◌, ◌++◌, map, Bool, Option, Some, None, refl, sym, ap, ◌∙◌, length, string_bytes, arith}
 use Rattle.std.proofs.lemmas.List.{length-map, map-append}
+use Rattle.std.proofs.lemmas.Option.{some_pair_parts}
+use Rattle.std.specs.Global.{Vec}
+use Rattle.std.specs.Option.{option_map}
 use Rattle.asn_expansion.specs.Expansion.{context_tag}
-use Rattle.asn_model.specs.Shape.{Alternatives, Fields, join_alternatives, join_fields}
-use Rattle.asn_model.specs.ShapeView.{alternative_views, field_views, presence_view, shape_view}
+use Rattle.asn_model.proofs.Viewing.{added_alternative_views}
+use Rattle.asn_model.specs.Shape.{AlternativeAdditions, Alternatives, FieldAdditions, Fields, SeqKind, Shape, join_alternatives, join_fields}
+use Rattle.asn_model.specs.ShapeView.{added_field_views, alternative_views, field_views, presence_view, shape_view}
 use Rattle.asn_model.specs.declared.shape_type.AlternativeShape.{AlternativeShape}
 use Rattle.asn_model.specs.declared.shape_type.FieldShape.{FieldShape}
-use Rattle.asn_modules_types.specs.Known.{part_view}
+use Rattle.asn_modules_types.specs.Known.{listed, part_view}
+use Rattle.asn_modules_types.specs.Lists.{added_of, implied, root_of}
 use Rattle.asn_modules_types.specs.Types as spec
-use Rattle.asn_modules_types.specs.Types.{alternatives_from, fields_from}
+use Rattle.asn_modules_types.specs.Types.{added_alternatives_from, added_fields_from, alternatives_from, choice_shape, fields_from, members_shape}
 use Rattle.asn_modules_types.specs.declared.parts.Part.{Part}
 
 fields_joined : (fs gs : List FieldShape) → field_views (fs ++ gs) ≡ join_fields (field_views fs) (field_views gs)
@@ -40,3 +45,42 @@ pub alternatives_more : (first tag : ℕ) (fs new : List AlternativeShape) (f : 
 alternatives_more first tag fs new f ps p so t one n =
     ap alternative_views n ∙ alternatives_joined fs (f ∷ []) ∙ ap (λ x. join_alternatives x (alternative_views (f ∷ []))) so ∙ ap (join_alternatives (alternatives_from first (map part_view ps))) one
     ∙ sym (ap (alternatives_from first) (map-append part_view ps (p ∷ [])) ∙ alternatives_apart first tag (map part_view ps) (part_view p ∷ []) (omega (arith, t, length-map ps part_view)))
+
+-- The extension additions that were made of parts.
+abbrev pub parts_added : Option (Vec Part) → Option (List spec.Part)
+parts_added o = option_map (λ v. map part_view v.items) o
+
+pub fields_extended : (tag : ℕ) (root : List Part) (o : Option (Vec Part)) (ps : Vec Part) (made : Option (Vec FieldShape)) (fs : Vec FieldShape) → tag ≡ 0 + length root → o ≡ Some ps → made ≡ Some fs → field_views fs.items ≡ fields_from tag (map part_view ps.items)
+    → added_field_views made ≡ added_fields_from (length (map part_view root)) (parts_added o)
+fields_extended tag root o ps made fs t is m e =
+    let place : tag ≡ length (map part_view root) = omega (arith, t, length-map root part_view) in
+    ap added_field_views m ∙ ap FieldAdditions.extended_fields (e ∙ ap (λ k. fields_from k (map part_view ps.items)) place) ∙ sym (ap (λ x. added_fields_from (length (map part_view root)) (parts_added x)) is)
+
+pub fields_closed : (n : ℕ) (o : Option (Vec Part)) (made : Option (Vec FieldShape)) → o ≡ None → made ≡ None → added_field_views made ≡ added_fields_from n (parts_added o)
+fields_closed n o made is m = ap added_field_views m ∙ sym (ap (λ x. added_fields_from n (parts_added x)) is)
+
+pub alternatives_extended : (tag : ℕ) (root : List Part) (o : Option (Vec Part)) (ps : Vec Part) (made : Option (Vec AlternativeShape)) (fs : Vec AlternativeShape) → tag ≡ 0 + length root → o ≡ Some ps → made ≡ Some fs → alternative_views fs.items ≡ alternatives_from tag (map part_view ps.items)
+    → added_alternative_views made ≡ added_alternatives_from (length (map part_view root)) (parts_added o)
+alternatives_extended tag root o ps made fs t is m e =
+    let place : tag ≡ length (map part_view root) = omega (arith, t, length-map root part_view) in
+    ap added_alternative_views m ∙ ap AlternativeAdditions.extended_alternatives (e ∙ ap (λ k. alternatives_from k (map part_view ps.items)) place) ∙ sym (ap (λ x. added_alternatives_from (length (map part_view root)) (parts_added x)) is)
+
+pub alternatives_closed : (n : ℕ) (o : Option (Vec Part)) (made : Option (Vec AlternativeShape)) → o ≡ None → made ≡ None → added_alternative_views made ≡ added_alternatives_from n (parts_added o)
+alternatives_closed n o made is m = ap added_alternative_views m ∙ sym (ap (λ x. added_alternatives_from n (parts_added x)) is)
+
+-- A SEQUENCE or SET of these parts, and a CHOICE.
+pub sequence_made : (extensible : Bool) (kind : SeqKind) (ps : Option (List (Option spec.Part))) (root : List spec.Part) (added : Option (List spec.Part)) → ◌≡◌ {A = Option (List spec.Part × Option (List spec.Part))} (Some (root, added)) (listed extensible ps)
+    → Shape.seq kind (fields_from 0 root) (added_fields_from (length root) added) ≡ members_shape extensible kind ps
+sequence_made extensible kind None root added e = cc e
+sequence_made extensible kind (Some xs) root added e =
+    let both = some_pair_parts root (root_of xs) added (implied extensible (added_of xs)) e in
+    ap (λ r. Shape.seq kind (fields_from 0 r) (added_fields_from (length r) added)) both.0
+    ∙ ap (λ a. Shape.seq kind (fields_from 0 (root_of xs)) (added_fields_from (length (root_of xs)) a)) both.1
+
+pub choice_made : (extensible : Bool) (ps : Option (List (Option spec.Part))) (root : List spec.Part) (added : Option (List spec.Part)) → ◌≡◌ {A = Option (List spec.Part × Option (List spec.Part))} (Some (root, added)) (listed extensible ps)
+    → Shape.choice (alternatives_from 0 root) (added_alternatives_from (length root) added) ≡ choice_shape extensible ps
+choice_made extensible None root added e = cc e
+choice_made extensible (Some xs) root added e =
+    let both = some_pair_parts root (root_of xs) added (implied extensible (added_of xs)) e in
+    ap (λ r. Shape.choice (alternatives_from 0 r) (added_alternatives_from (length r) added)) both.0
+    ∙ ap (λ a. Shape.choice (alternatives_from 0 (root_of xs)) (added_alternatives_from (length (root_of xs)) a)) both.1

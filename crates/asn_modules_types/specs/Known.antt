@@ -1,5 +1,5 @@
 -- What contracts see of types and values and of where they stand.
-use Rattle.std.specs.Prelude.{◌≡◌, ◌<◌, ℕ, List, ◌++◌, length, map, string_bytes, Bool, Option, Some, None}
+use Rattle.std.specs.Prelude.{◌≡◌, ◌<◌, ℕ, List, [], ◌∷◌, ◌++◌, length, map, string_bytes, Bool, Option, Some, None}
 use Rattle.std.specs.Global.{Vec}
 use Rattle.std.specs.Option.{option_map}
 use Rattle.asn_linked_types.specs.declared.limits.TheConstants.{TYPE_LIMIT}
@@ -9,9 +9,10 @@ use Rattle.asn_modules_lookup.specs.Indexes.{IsIndexOf}
 use Rattle.asn_modules_lookup.specs.declared.sort.Sort.TheVariants.{Types, Values}
 use Rattle.asn_modules_names.specs.Mentions.{Source, source_view}
 use Rattle.asn_modules_notation.specs.Notation as notation
-use Rattle.asn_modules_notation.specs.View.{assignment_view, base_step, component_step, extension_step, member_step, members_step, notation_step}
-use Rattle.asn_modules_notation.specs.declared.notation.Base.TheFolds.{fold-Extension}
-use Rattle.asn_modules_notation.specs.declared.notation.Extension.{Extension}
+use Rattle.asn_modules_notation.specs.View.{assignment_view}
+use Rattle.asn_modules_notation.specs.declared.notation.Extension.{Extension, out-Extension}
+use Rattle.asn_modules_notation.specs.declared.notation.Member.{Member}
+use Rattle.asn_modules_reader.specs.Views.{member_view}
 use Rattle.asn_modules_types.specs.Assigned as spec
 use Rattle.asn_modules_types.specs.Linked.{scope_of}
 use Rattle.asn_modules_types.specs.Lists.{added_of, behind, front, front_of, implied, root_of}
@@ -69,6 +70,11 @@ listed extensible ps = option_map (λ xs. (root_of xs, implied extensible (added
 abbrev pub listed_behind : List types.Part → Option (List (Option types.Part)) → Option (List types.Part × Option (List types.Part))
 listed_behind root ps = option_map (λ xs. (root ++ front_of (behind xs), Some (front xs))) ps
 
+-- Entries behind the second extension marker, with it.
+abbrev pub tail_view : Option (Vec Member) → List notation.Member
+tail_view None = []
+tail_view (Some ms) = notation.marker ∷ map member_view ms.items
+
 -- The entries that an `Extension` is.
 abbrev pub extension_view : Extension → List notation.Member
-extension_view = fold-Extension notation.Base notation.Member notation.Member (List notation.Member) (List notation.Member) notation.Notation base_step component_step member_step extension_step members_step notation_step
+extension_view e = map member_view (out-Extension e).additions.items ++ tail_view (out-Extension e).tail

@@ -14,7 +14,7 @@ use Rattle.asn_modules_notation.specs.Notation.{Base, Notation, choice, list_of,
 use Rattle.asn_modules_types.specs.Assigned.{Assigned, assigned, notation_of}
 use Rattle.asn_modules_types.specs.Scopes.{Scope}
 use Rattle.asn_modules_types.specs.Types.{notation_shape, number_in_type}
-use Rattle.asn_modules_types.specs.Values.{found_in, values_from}
+use Rattle.asn_modules_types.specs.Values.{found_in, value_in, values_from}
 use Rattle.asn_modules_types.specs.declared.limits.TheConstants.{NAME_LIMIT}
 
 -- EXTENSIBILITY IMPLIED stands in the header, if there is one.
@@ -34,7 +34,7 @@ scope_in ss k h shapes numbers = record {
   extensible = is_extensible h.parsed.header;
   type_named = λ home name. shape_or shapes (found_in Types ss k h home name);
   number_named = λ home name word. option_and_then (λ n. numbers n word) (found_in Types ss k h home name);
-  values = λ v. values_from ss NAME_LIMIT (record { number = k; home = h; value = v });
+  values = λ v. values_from ss NAME_LIMIT (value_in k h v);
 }
 
 -- The type has parts, and is named by its number.

@@ -22,6 +22,9 @@ pub record StatedValue : Type 0 where
   pub home : Home
   pub value : Value
 
+abbrev pub value_in : ℕ → Home → Value → StatedValue
+value_in k h v = record { number = k; home = h; value = v }
+
 -- The value and the text that it stands in.
 abbrev pub in_text : StatedValue → List ℕ × Value
 in_text v = (v.home.source.text, v.value)
@@ -34,7 +37,7 @@ number_named ss k h v = None
 
 -- The value that is assigned, as it stands in its module.
 abbrev pub stated : Assigned → Option StatedValue
-stated a = option_map (λ v. record { number = a.number; home = a.home; value = v }) (value_of a.assignment)
+stated a = option_map (value_in a.number a.home) (value_of a.assignment)
 
 -- The value that is assigned to the name that this one is, if it is a name.
 abbrev pub next_value : List Source → StatedValue → Option StatedValue

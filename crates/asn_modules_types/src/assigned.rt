@@ -5,7 +5,9 @@ ghost use Rattle.asn_modules_notation.specs.View.{assignment_view, notation_view
 ghost use Rattle.asn_modules_types.specs.Assigned.{assigned_in, assigned_of, notation_of};
 ghost use Rattle.asn_modules_types.specs.Assigned.{value_of};
 ghost use Rattle.asn_modules_types.specs.Known.{assigned_view};
-ghost use Rattle.std.specs.Prelude.{◌≡◌, ◌++◌, IfOk, OnOk, is_some, map};
+ghost use Rattle.std.specs.List.{slice_get};
+ghost use Rattle.std.specs.Prelude.{◌≡◌, ◌<◌, ◌++◌, IfOk, IfSome, OnOk, is_some, length, map};
+ghost use Rattle.std.specs.Prelude.{option_map};
 
 use asn_modules_lookup::{Home, Sort};
 use asn_modules_notation::{Assignment, Notation, Value};
@@ -89,6 +91,18 @@ pub fn assigned_of<'s, 't>(
         )?;
     }
     Ok(found)
+}
+
+/// Returns the one at the place, or `None` past the last one.
+pub fn assigned_at<'s, 't>(assigned: &[Assigned<'s, 't>], place: usize) -> Option<Assigned<'s, 't>>
+    ensures there { option_map assigned_view result
+        ≡ slice_get (map assigned_view assigned.now) place }
+    ensures within { IfSome result (λ _. place < length assigned.now) }
+{
+    match assigned.get(place) {
+        Some(found) => Some(*found),
+        None => None,
+    }
 }
 
 /// Returns the type that is assigned, or that of the value.

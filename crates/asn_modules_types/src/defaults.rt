@@ -12,7 +12,7 @@ ghost use Rattle.asn_modules_types.specs.Types.{number_in_type, presence_of};
 ghost use Rattle.asn_modules_types.specs.Values.{values_from};
 ghost use Rattle.std.specs.Prelude.{◌≡◌, IfOk, ℕ, option_map};
 
-use crate::assigned::notation_of;
+use crate::assigned::{assigned_at, notation_of};
 use crate::fault::LinkFault;
 use crate::limits::NAME_LIMIT;
 use crate::names::Names;
@@ -59,7 +59,7 @@ fn number_word(names: &Names<'_, '_>, more: usize, number: usize, word: &[u8]) -
     if more == 0 {
         return None;
     }
-    match names.types.get(number) {
+    match assigned_at(names.types, number) {
         Some(assigned) => {
             let scope = Scope {
                 names: &*names,
@@ -90,7 +90,14 @@ fn number_in_type(
             let number = find(scope, *module, *name)?;
             number_word(scope.names, more, number, word)
         }
-        _ => None,
+        Base::Leaf(_) => None,
+        Base::BitString(_) => None,
+        Base::Enumerated { .. } => None,
+        Base::Sequence(_) => None,
+        Base::Set(_) => None,
+        Base::SequenceOf(_) => None,
+        Base::SetOf(_) => None,
+        Base::Choice(_) => None,
     }
 }
 

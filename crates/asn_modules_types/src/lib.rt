@@ -18,6 +18,8 @@ mod sizes;
 mod values;
 mod words;
 
+pub use assigned::{Assigned, assigned_of};
 pub use fault::LinkFault;
 pub use limits::NAME_LIMIT;
 pub use linked::linked_types;
+pub use words::name_in;

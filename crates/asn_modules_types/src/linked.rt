@@ -9,7 +9,7 @@ ghost use Rattle.asn_modules_types.specs.Linked.{linked_type, linked_types, name
 ghost use Rattle.asn_modules_types.specs.Linked.{opened_type};
 ghost use Rattle.std.specs.Prelude.{◌≡◌, IfOk, length, map, true};
 
-use crate::assigned::{assigned_of, notation_of};
+use crate::assigned::{assigned_at, assigned_of, notation_of};
 use crate::fault::LinkFault;
 use crate::limits::NAME_LIMIT;
 use crate::names::{Names, named_type};
@@ -32,7 +32,7 @@ fn opened_type(names: &Names<'_, '_>, number: usize) -> Result<Shape, LinkFault>
         (named_type (sources_of names.now) NAME_LIMIT number)) }
 {
     match named_type(names, NAME_LIMIT, number)? {
-        Shape::Back(place) => match names.types.get(place as usize) {
+        Shape::Back(place) => match assigned_at(names.types, place as usize) {
             Some(assigned) => {
                 let scope = Scope {
                     names: &*names,

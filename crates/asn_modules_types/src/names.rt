@@ -6,7 +6,7 @@ ghost use Rattle.asn_modules_types.specs.Linked.{has_parts, named_type};
 ghost use Rattle.asn_modules_types.specs.Types.{base_shape};
 ghost use Rattle.std.specs.Prelude.{◌≡◌, IfOk, MatchOption, false, true};
 
-use crate::assigned::{Assigned, notation_of};
+use crate::assigned::{Assigned, assigned_at, notation_of};
 use crate::fault::LinkFault;
 use crate::leaves::{enumerated_shape, integer_shape, leaf_shape};
 use crate::scope::{Scope, find};
@@ -50,7 +50,7 @@ pub fn named_type(names: &Names<'_, '_>, more: usize, number: usize) -> Result<S
     if more == 0 {
         return Ok(no_values(names.alloc));
     }
-    match names.types.get(number) {
+    match assigned_at(names.types, number) {
         Some(assigned) => {
             let scope = Scope {
                 names: &*names,

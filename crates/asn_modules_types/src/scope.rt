@@ -4,7 +4,7 @@ ghost use Rattle.asn_modules_lookup.specs.declared.sort.Sort.TheVariants.{Types}
 ghost use Rattle.asn_modules_types.specs.Known.{KnowsNames, scope_view, sources_of, stated_view};
 ghost use Rattle.asn_modules_types.specs.Linked.{is_extensible};
 ghost use Rattle.asn_modules_types.specs.Numbers.{number_at};
-ghost use Rattle.asn_modules_types.specs.Values.{found_in};
+ghost use Rattle.asn_modules_types.specs.Values.{found_in, value_in};
 ghost use Rattle.std.specs.Prelude.{◌≡◌, ℕ};
 
 use crate::limits::NAME_LIMIT;
@@ -42,9 +42,7 @@ pub fn find(scope: &Scope<'_, '_, '_>, module_name: Option<Token>, name: Token) 
 
 /// Returns the value as it stands here.
 pub fn stated_here<'s, 't>(scope: &Scope<'_, 's, 't>, value: Value) -> StatedValue<'s, 't>
-    ensures number { result.number ≡ scope.now.number }
-    ensures home { result.home ≡ scope.now.home }
-    ensures value { result.value ≡ value }
+    ensures { stated_view result ≡ value_in scope.now.number (home_view scope.now.home) value }
 {
     StatedValue {
         number: scope.number,

@@ -6,6 +6,7 @@ ghost use Rattle.asn_modules_reader.specs.Views.{base_view, member_view};
 ghost use Rattle.asn_modules_types.specs.Known.{KnowsNames, extension_view, listed};
 ghost use Rattle.asn_modules_types.specs.Known.{listed_behind, lists_view, part_view};
 ghost use Rattle.asn_modules_types.specs.Known.{scope_view, unmarked_view};
+ghost use Rattle.asn_modules_types.specs.Linked.{has_parts};
 ghost use Rattle.asn_modules_types.specs.Types as spec;
 ghost use Rattle.asn_modules_types.specs.Types.{base_shape, choice_shape, entry_parts};
 ghost use Rattle.asn_modules_types.specs.Types.{members_shape, notation_shape, parts};
@@ -64,11 +65,28 @@ fn base_shape_of(scope: &Scope<'_, '_, '_>, base: &Base) -> Result<Shape, LinkFa
             Ok(Shape::SetOf(Box::new(scope.names.alloc, element)?))
         }
         Base::Choice(members) => choice_shape(scope, lists_of(scope, members)?),
-        _ => match unit_shape(scope, NAME_LIMIT, base)? {
-            Some(shape) => Ok(shape),
-            // The other types have no parts.
-            None => Ok(no_values(scope.names.alloc)),
-        },
+        Base::Leaf(_) => without_parts(scope, base),
+        Base::Integer(_) => without_parts(scope, base),
+        Base::BitString(_) => without_parts(scope, base),
+        Base::Enumerated { .. } => without_parts(scope, base),
+        Base::Reference { .. } => without_parts(scope, base),
+    }
+}
+
+/// Returns the shape of a type without parts.
+///
+/// # Errors
+///
+/// `OutOfMemory` alone.
+fn without_parts(scope: &Scope<'_, '_, '_>, base: &Base) -> Result<Shape, LinkFault>
+    requires known { KnowsNames scope.now.names.now }
+    requires unit { has_parts (base_view base.now) ≡ false }
+    ensures { IfOk result (λ s. shape_view s
+        ≡ base_shape (scope_view NAME_LIMIT scope.now) (base_view base.now)) }
+{
+    match unit_shape(scope, NAME_LIMIT, base)? {
+        Some(shape) => Ok(shape),
+        None => Ok(no_values(scope.names.alloc)),
     }
 }
 

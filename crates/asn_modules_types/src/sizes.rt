@@ -14,11 +14,7 @@ use asn_modules_notation::{Size, Value};
 fn size_of(number: i128) -> Option<usize>
     ensures { result ≡ size_of number }
 {
-    if number < 0 || number > usize::MAX as i128 {
-        None
-    } else {
-        Some(number as usize)
-    }
+    usize::try_from(number).ok()
 }
 
 /// Returns what an end of a size is, if it is a number or the name of a value that leads to one.

@@ -10,7 +10,7 @@ ghost use Rattle.asn_modules_types.specs.Values.{found_in, next_value, number_na
 ghost use Rattle.asn_modules_types.specs.Values.{values_from};
 ghost use Rattle.std.specs.Prelude.{◌≡◌, List, option_map};
 
-use crate::assigned::value_of;
+use crate::assigned::{assigned_at, value_of};
 use crate::names::Names;
 use crate::numbers::signed_in;
 use asn_lexer::Token;
@@ -76,7 +76,7 @@ pub fn next_value<'s, 't>(
     let Some(number) = number_named(names, stated) else {
         return None;
     };
-    let Some(assigned) = names.values.get(number) else {
+    let Some(assigned) = assigned_at(names.values, number) else {
         return None;
     };
     let Some(value) = value_of(assigned.assignment) else {
@@ -89,8 +89,18 @@ pub fn next_value<'s, 't>(
     })
 }
 
-/// Returns the number that a value leads to past at most so many names, or `None` where it leads to
-/// none.
+/// Returns the number that a value in its text is, or `None` where it is none.
+fn number_of_value(text: &str, value: Value) -> Option<i128>
+    ensures { result ≡ number_of_value text.now value }
+{
+    match value {
+        Value::Number(number) => signed_in(text, number),
+        _ => None,
+    }
+}
+
+/// Returns the first of the values that this one leads to, past at most so many names, that is a
+/// number.
 #[cycle(follow)]
 pub fn number_from<'s, 't>(
     names: &Names<'s, 't>,
@@ -101,8 +111,8 @@ pub fn number_from<'s, 't>(
     ensures { result ≡ first_found (λ x. number_of_value x.0 x.1)
         (values_from (sources_of names.now) more (stated_view stated.entry)) }
 {
-    if let Value::Number(number) = stated.value {
-        return signed_in(stated.home.source.text, number);
+    if let Some(number) = number_of_value(stated.home.source.text, stated.value) {
+        return Some(number);
     }
     if more == 0 {
         return None;

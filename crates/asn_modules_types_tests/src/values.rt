@@ -197,8 +197,7 @@ N DEFINITIONS ::= BEGIN n INTEGER ::= 8 END",
 fn reads_values(rt: HostRuntime) -> Result<(), Fail> {
     for row in ROWS.iter() {
         let text = by_text(rt.alloc(), row.0, row.1)?;
-        if text.as_str() != row.2 { println!(rt; "ROW {} : {} : got {} want {}", row.0, row.1, text.as_str(), row.2)?; }
+        assert_eq!(rt; text.as_str(), row.2);
     }
-    assert!(rt; false, "end");
     Ok(())
 }

@@ -1,18 +1,16 @@
 //! Holds the types of modules.
 ghost use Rattle.asn_linked.specs.Places.{place_shape};
-ghost use Rattle.asn_linked_types.specs.Expansion.{expansion};
 ghost use Rattle.asn_linked_types.specs.Linked.{are_linked};
 ghost use Rattle.asn_model.specs.Readable.{is_readable};
 ghost use Rattle.asn_model.specs.ShapeView.{shape_view};
 ghost use Rattle.asn_modules.specs.Modules.{modules_view, shape_named};
-ghost use Rattle.asn_modules.specs.Names.{type_name_view};
 ghost use Rattle.std.specs.Prelude.{◌≡◌, [], IfSome, MatchOption, None, Some, length, map, true};
 
 use crate::names::{TypeName, number_named};
 use asn_linked::Place;
 use asn_model::Shape;
 
-/// Holds the types that modules assign.
+/// Holds the types that modules assign, by which values are read and written.
 #[derive(Drop)]
 pub struct Modules {
     /// Lists the names of the types.
@@ -50,7 +48,8 @@ impl Modules {
     pub fn find(&self, name: &str) -> Option<Place<'_>>
         ensures found { MatchOption result (shape_named (modules_view self.now) name.now ≡ None)
             (λ place. shape_named (modules_view self.now) name.now
-                ≡ Some (place_shape [] place)) }
+            ≡ Some (place_shape [] place)) }
+        // So values can be read and written by it.
         ensures readable { IfSome result (λ place. is_readable (place_shape [] place) ≡ true) }
     {
         match number_named(self.names.as_slice(), name) {

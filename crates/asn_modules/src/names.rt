@@ -1,12 +1,10 @@
 //! Lists the names of the types that modules assign.
-ghost use Rattle.asn_modules.specs.Names.{home_name, is_named, number_named, the_one};
+ghost use Rattle.asn_modules.specs.Names.{home_name, is_named, number_named};
 ghost use Rattle.asn_modules.specs.Names.{type_name_of, type_name_view, type_names};
 ghost use Rattle.asn_modules_lookup.specs.Homes.{home_view};
-ghost use Rattle.asn_modules_lookup.specs.declared.sort.Sort.TheVariants.{Types};
 ghost use Rattle.asn_modules_names.specs.Mentions.{source_view};
-ghost use Rattle.asn_modules_types.specs.Assigned.{assigned};
 ghost use Rattle.asn_modules_types.specs.Known.{assigned_view};
-ghost use Rattle.std.specs.Prelude.{◌≡◌, ◌++◌, ◌∷◌, IfOk, MatchOption, map, string_bytes};
+ghost use Rattle.std.specs.Prelude.{◌≡◌, ◌<◌, ◌++◌, ◌∷◌, IfOk, IfSome, length, map, string_bytes};
 ghost use Rattle.std.specs.Str.{bytes_eq};
 
 use asn_modules_lookup::{Home, Sort, homes_of};
@@ -88,12 +86,15 @@ pub fn type_names(alloc: Global, sources: &[Source<'_>]) -> Result<Vec<TypeName>
 }
 
 /// Returns whether the text is the name of the module, a point and the name.
-fn is_qualified(text: &[u8], module: &[u8], name: &[u8]) -> bool
-    ensures { result ≡ bytes_eq text.now (module.now ++ 46 ∷ name.now) }
+fn is_qualified(text: &[u8], home: &[u8], name: &[u8]) -> bool
+    ensures { result ≡ bytes_eq text.now (home.now ++ 46 ∷ name.now) }
 {
-    match text.strip_prefix(module) {
-        Some([b'.', behind @ ..]) => behind == name,
-        _ => false,
+    let Some(rest) = text.strip_prefix(home) else {
+        return false;
+    };
+    match rest.strip_prefix(b".".as_slice()) {
+        Some(rest) => rest == name,
+        None => false,
     }
 }
 
@@ -103,12 +104,17 @@ fn is_named(name: &TypeName, text: &str) -> bool
     ensures { result ≡ is_named (type_name_view name.now) text.now }
 {
     text == name.name.as_str()
-        || is_qualified(text.as_bytes(), name.module.as_bytes(), name.name.as_bytes())
+        || is_qualified(
+            text.as_bytes(),
+            name.module.as_bytes(),
+            name.name.as_bytes(),
+        )
 }
 
 /// Returns the number of the one type that the text names, or `None` where it names none or more.
 pub fn number_named(names: &[TypeName], text: &str) -> Option<usize>
-    ensures { result ≡ number_named (map type_name_view names.now) text.now }
+    ensures named { result ≡ number_named (map type_name_view names.now) text.now }
+    ensures below { IfSome result (λ number. number < length names.now) }
 {
     let mut found = None;
     for (number, name) in names.iter().enumerate() {

@@ -4,19 +4,20 @@ use Rattle.std.proofs.lemmas.List.{map-append, reverse-append}
 use Rattle.std.specs.Borrow.{Bor}
 use Rattle.std.specs.Option.{option_map}
 use Rattle.std.specs.Str.{bytes_eq}
-use Rattle.asn_modules_lookup.specs.Entries.{import_entries, module_entries, numbered, type_keys}
+use Rattle.asn_modules_lookup.specs.Entries.{import_entries, keys_of, module_entries, numbered}
 use Rattle.asn_modules_lookup.specs.Homes.{home_view, homes}
 use Rattle.asn_modules_lookup.specs.Indexes.{same_name, same_pair}
-use Rattle.asn_modules_lookup.specs.Lookup.{last_of, named_types, same_key, types}
+use Rattle.asn_modules_lookup.specs.Lookup.{assigned, last_of, named, same_key}
 use Rattle.asn_modules_lookup.specs.Views.{entry_view, import_view, key_view, keyed_view}
 use Rattle.asn_modules_lookup.specs.declared.home.Home as code
+use Rattle.asn_modules_lookup.specs.declared.sort.Sort.{Sort}
 use Rattle.asn_modules_lookup.proofs.Lasts.{last_seen, map_same}
 use Rattle.asn_modules_names.specs.Mentions.{Source}
 
 -- Numbers stay beside what they number.
-pub types_viewed : (keys : List (ℕ × Bor (List ℕ))) (n : ℕ) → map keyed_view (numbered n keys) ≡ numbered n (map key_view keys)
-types_viewed [] n = refl
-types_viewed (k ∷ ks) n = ap (λ l. (key_view k, n) ∷ l) (types_viewed ks (suc n))
+pub numbers_viewed : (keys : List (ℕ × Bor (List ℕ))) (n : ℕ) → map keyed_view (numbered n keys) ≡ numbered n (map key_view keys)
+numbers_viewed [] n = refl
+numbers_viewed (k ∷ ks) n = ap (λ l. (key_view k, n) ∷ l) (numbers_viewed ks (suc n))
 
 pub names_viewed : (es : List ((ℕ × Bor (List ℕ)) × ℕ)) → map entry_view (map (λ e. (e.0.1, e.1)) es) ≡ map (λ e. (e.0.1, e.1)) (map keyed_view es)
 names_viewed [] = refl
@@ -47,20 +48,20 @@ module _ (ss : List Source) (hs : List code.Home) (all : map home_view hs ≡ ho
   pub imports_hold : (es : List ((ℕ × Bor (List ℕ)) × Bor (List ℕ))) → map import_view es ≡ import_entries 0 (map home_view hs) → (q : ℕ × Bor (List ℕ)) → option_map (λ n. n.now) (last_of same_pair es q) ≡ last_of same_key (import_entries 0 (homes ss)) (key_view q)
   imports_hold es e q = imports_found es q ∙ ap (λ x. last_of same_key x (key_view q)) (e ∙ ap (import_entries 0) all)
 
-  -- Types.
-  module _ (keys : List (ℕ × Bor (List ℕ))) (typed : List ((ℕ × Bor (List ℕ)) × ℕ)) (made : map key_view keys ≡ type_keys 0 (map home_view hs)) (counted : typed ≡ numbered 0 keys) where
-    typed_is : map keyed_view typed ≡ types ss
-    typed_is = ap (map keyed_view) counted ∙ types_viewed keys 0 ∙ ap (numbered 0) (made ∙ ap (type_keys 0) all)
+  -- Types or values.
+  module _ (sort : Sort) (keys : List (ℕ × Bor (List ℕ))) (counted : List ((ℕ × Bor (List ℕ)) × ℕ)) (made : map key_view keys ≡ keys_of sort 0 (map home_view hs)) (from : counted ≡ numbered 0 keys) where
+    assigned_is : map keyed_view counted ≡ assigned sort ss
+    assigned_is = ap (map keyed_view) from ∙ numbers_viewed keys 0 ∙ ap (numbered 0) (made ∙ ap (keys_of sort 0) all)
 
-    pub types_hold : (q : ℕ × Bor (List ℕ)) → last_of same_pair typed q ≡ last_of same_key (types ss) (key_view q)
-    types_hold q = keyed_found typed q ∙ ap (λ es. last_of same_key es (key_view q)) typed_is
+    pub assigned_holds : (q : ℕ × Bor (List ℕ)) → last_of same_pair counted q ≡ last_of same_key (assigned sort ss) (key_view q)
+    assigned_holds q = keyed_found counted q ∙ ap (λ es. last_of same_key es (key_view q)) assigned_is
 
-    named_is : (names : List (Bor (List ℕ) × ℕ)) → names ≡ map (λ e. (e.0.1, e.1)) typed → map entry_view names ≡ named_types ss
-    named_is names e = ap (map entry_view) e ∙ names_viewed typed ∙ ap (map (λ x. (x.0.1, x.1))) typed_is
+    named_is : (names : List (Bor (List ℕ) × ℕ)) → names ≡ map (λ e. (e.0.1, e.1)) counted → map entry_view names ≡ named sort ss
+    named_is names e = ap (map entry_view) e ∙ names_viewed counted ∙ ap (map (λ x. (x.0.1, x.1))) assigned_is
 
-    pub last_holds : (names : List (Bor (List ℕ) × ℕ)) → names ≡ map (λ e. (e.0.1, e.1)) typed → (q : Bor (List ℕ)) → last_of same_name names q ≡ last_of bytes_eq (named_types ss) q.now
+    pub last_holds : (names : List (Bor (List ℕ) × ℕ)) → names ≡ map (λ e. (e.0.1, e.1)) counted → (q : Bor (List ℕ)) → last_of same_name names q ≡ last_of bytes_eq (named sort ss) q.now
     last_holds names e q = named_found names q ∙ ap (λ es. last_of bytes_eq es q.now) (named_is names e)
 
-    pub first_holds : (names turned : List (Bor (List ℕ) × ℕ)) → names ≡ map (λ e. (e.0.1, e.1)) typed → turned ≡ reverse names → (q : Bor (List ℕ)) → last_of same_name turned q ≡ last_of bytes_eq (reverse (named_types ss)) q.now
+    pub first_holds : (names turned : List (Bor (List ℕ) × ℕ)) → names ≡ map (λ e. (e.0.1, e.1)) counted → turned ≡ reverse names → (q : Bor (List ℕ)) → last_of same_name turned q ≡ last_of bytes_eq (reverse (named sort ss)) q.now
     first_holds names turned e r q =
         named_found turned q ∙ ap (λ es. last_of bytes_eq es q.now) (ap (map entry_view) r ∙ map_reverse entry_view names ∙ ap reverse (named_is names e))

@@ -7,10 +7,11 @@ use Rattle.std.specs.Option.{option_map}
 use Rattle.asn_headers.specs.Views as headers
 use Rattle.asn_headers.specs.declared.import.Import as code_import
 use Rattle.asn_lexer.specs.declared.token.Token.{Token}
-use Rattle.asn_modules_lookup.specs.Entries.{import_entries, imported_in, imports_in, imports_of, keys_in, module_entries, numbered, type_keys, type_name}
+use Rattle.asn_modules_lookup.specs.Entries.{import_entries, imported_in, imports_in, imports_of, keys_in, keys_of, module_entries, name_as, numbered}
 use Rattle.asn_modules_lookup.specs.Homes.{Home, bytes_in, home_of, home_view, homes, homes_in}
 use Rattle.asn_modules_lookup.specs.Views.{entry_view, key_view, import_view}
 use Rattle.asn_modules_lookup.specs.declared.home.Home as code
+use Rattle.asn_modules_lookup.specs.declared.sort.Sort.{Sort}
 use Rattle.asn_modules_names.specs.Assigned.{module_name}
 use Rattle.asn_modules_names.specs.Mentions.{Source, source_view}
 use Rattle.asn_modules_names.proofs.Founds.{drop_at, listed_more, pushed}
@@ -78,42 +79,42 @@ headed_added all old new n hs i h t l e was named b p =
 pub headed_end : (hs : List code.Home) (i : ℕ) → length hs ≤ i → headed_from hs i ≡ []
 headed_end hs i h = ap (λ x. module_entries i (map home_view x)) (drop_all i hs h)
 
--- The keys of a module's types.
-abbrev pub keyed : ℕ → Home → List code_assignment.Assignment → List (ℕ × List ℕ)
-keyed k h xs = keys_in k h (map assignment_view xs)
+-- The keys of what a module assigns.
+abbrev pub keyed : Sort → ℕ → Home → List code_assignment.Assignment → List (ℕ × List ℕ)
+keyed sort k h xs = keys_in sort k h (map assignment_view xs)
 
-keyed_step : (k : ℕ) (h : Home) (xs : List code_assignment.Assignment) (i : ℕ) (a : code_assignment.Assignment) → i < length xs → a ≡ get_or xs i a
-    → keyed k h (drop i xs) ≡ some_of (option_map (λ t. (k, bytes_in h t)) (type_name (assignment_view a))) ++ keyed k h (drop (i + 1) xs)
-keyed_step k h xs i a l e = ap (keyed k h) (drop_at xs i a l e) ∙ put_before (option_map (λ t. (k, bytes_in h t)) (type_name (assignment_view a))) (keyed k h (drop (i + 1) xs))
+keyed_step : (sort : Sort) (k : ℕ) (h : Home) (xs : List code_assignment.Assignment) (i : ℕ) (a : code_assignment.Assignment) → i < length xs → a ≡ get_or xs i a
+    → keyed sort k h (drop i xs) ≡ some_of (option_map (λ t. (k, bytes_in h t)) (name_as sort (assignment_view a))) ++ keyed sort k h (drop (i + 1) xs)
+keyed_step sort k h xs i a l e = ap (keyed sort k h) (drop_at xs i a l e) ∙ put_before (option_map (λ t. (k, bytes_in h t)) (name_as sort (assignment_view a))) (keyed sort k h (drop (i + 1) xs))
 
-pub keyed_passed : (all before : List (ℕ × List ℕ)) (k : ℕ) (h : Home) (xs : List code_assignment.Assignment) (i : ℕ) (a : code_assignment.Assignment) → i < length xs → a ≡ get_or xs i a → all ≡ before ++ keyed k h (drop i xs)
-    → type_name (assignment_view a) ≡ None → all ≡ before ++ keyed k h (drop (i + 1) xs)
-keyed_passed all before k h xs i a l e was none =
-    was ∙ ap (λ x. before ++ x) (keyed_step k h xs i a l e ∙ ap (λ o. some_of (option_map (λ t. (k, bytes_in h t)) o) ++ keyed k h (drop (i + 1) xs)) none)
+pub keyed_passed : (all before : List (ℕ × List ℕ)) (sort : Sort) (k : ℕ) (h : Home) (xs : List code_assignment.Assignment) (i : ℕ) (a : code_assignment.Assignment) → i < length xs → a ≡ get_or xs i a → all ≡ before ++ keyed sort k h (drop i xs)
+    → name_as sort (assignment_view a) ≡ None → all ≡ before ++ keyed sort k h (drop (i + 1) xs)
+keyed_passed all before sort k h xs i a l e was none =
+    was ∙ ap (λ x. before ++ x) (keyed_step sort k h xs i a l e ∙ ap (λ o. some_of (option_map (λ t. (k, bytes_in h t)) o) ++ keyed sort k h (drop (i + 1) xs)) none)
 
-pub keyed_added : (all : List (ℕ × List ℕ)) (old new : List (ℕ × Bor (List ℕ))) (n : Bor (List ℕ)) (k : ℕ) (h : Home) (t : Token) (xs : List code_assignment.Assignment) (i : ℕ) (a : code_assignment.Assignment) → i < length xs → a ≡ get_or xs i a
-    → all ≡ map key_view old ++ keyed k h (drop i xs) → type_name (assignment_view a) ≡ Some t → n.now ≡ bytes_in h t → new ≡ old ++ (k, n) ∷ [] → all ≡ map key_view new ++ keyed k h (drop (i + 1) xs)
-keyed_added all old new n k h t xs i a l e was named b p =
-    listed_more all (map key_view old) (map key_view new) ((k, bytes_in h t) ∷ []) (keyed k h (drop i xs)) (keyed k h (drop (i + 1) xs)) was
-    (keyed_step k h xs i a l e ∙ ap (λ o. some_of (option_map (λ x. (k, bytes_in h x)) o) ++ keyed k h (drop (i + 1) xs)) named)
+pub keyed_added : (all : List (ℕ × List ℕ)) (old new : List (ℕ × Bor (List ℕ))) (n : Bor (List ℕ)) (sort : Sort) (k : ℕ) (h : Home) (t : Token) (xs : List code_assignment.Assignment) (i : ℕ) (a : code_assignment.Assignment) → i < length xs → a ≡ get_or xs i a
+    → all ≡ map key_view old ++ keyed sort k h (drop i xs) → name_as sort (assignment_view a) ≡ Some t → n.now ≡ bytes_in h t → new ≡ old ++ (k, n) ∷ [] → all ≡ map key_view new ++ keyed sort k h (drop (i + 1) xs)
+keyed_added all old new n sort k h t xs i a l e was named b p =
+    listed_more all (map key_view old) (map key_view new) ((k, bytes_in h t) ∷ []) (keyed sort k h (drop i xs)) (keyed sort k h (drop (i + 1) xs)) was
+    (keyed_step sort k h xs i a l e ∙ ap (λ o. some_of (option_map (λ x. (k, bytes_in h x)) o) ++ keyed sort k h (drop (i + 1) xs)) named)
     (pushed key_view old new (k, n) (k, bytes_in h t) p (ap (λ x. (k, x)) b))
 
-pub keyed_end : (k : ℕ) (h : Home) (xs : List code_assignment.Assignment) (i : ℕ) → length xs ≤ i → keyed k h (drop i xs) ≡ []
-keyed_end k h xs i l = ap (keyed k h) (drop_all i xs l)
+pub keyed_end : (sort : Sort) (k : ℕ) (h : Home) (xs : List code_assignment.Assignment) (i : ℕ) → length xs ≤ i → keyed sort k h (drop i xs) ≡ []
+keyed_end sort k h xs i l = ap (keyed sort k h) (drop_all i xs l)
 
 -- Those of all modules, from a number on.
-abbrev pub keys_from : List code.Home → ℕ → List (ℕ × List ℕ)
-keys_from hs i = type_keys i (map home_view (drop i hs))
+abbrev pub keys_from : Sort → List code.Home → ℕ → List (ℕ × List ℕ)
+keys_from sort hs i = keys_of sort i (map home_view (drop i hs))
 
-pub keys_added : (all before after : List (ℕ × List ℕ)) (hs : List code.Home) (i : ℕ) (h : code.Home) → i < length hs → h ≡ get_or hs i h → all ≡ before ++ keys_from hs i
-    → after ≡ before ++ keyed i (home_view h) h.parsed.now.assignments.items → all ≡ after ++ keys_from hs (i + 1)
-keys_added all before after hs i h l e was a =
-    listed_more all before after (keyed i (home_view h) h.parsed.now.assignments.items) (keys_from hs i) (keys_from hs (i + 1)) was
-    (ap (λ x. type_keys i (map home_view x)) (drop_at hs i h l e)
-    ∙ ap (λ k. keyed i (home_view h) h.parsed.now.assignments.items ++ type_keys k (map home_view (drop (i + 1) hs))) (sym (add-one i))) a
+pub keys_added : (all before after : List (ℕ × List ℕ)) (sort : Sort) (hs : List code.Home) (i : ℕ) (h : code.Home) → i < length hs → h ≡ get_or hs i h → all ≡ before ++ keys_from sort hs i
+    → after ≡ before ++ keyed sort i (home_view h) h.parsed.now.assignments.items → all ≡ after ++ keys_from sort hs (i + 1)
+keys_added all before after sort hs i h l e was a =
+    listed_more all before after (keyed sort i (home_view h) h.parsed.now.assignments.items) (keys_from sort hs i) (keys_from sort hs (i + 1)) was
+    (ap (λ x. keys_of sort i (map home_view x)) (drop_at hs i h l e)
+    ∙ ap (λ k. keyed sort i (home_view h) h.parsed.now.assignments.items ++ keys_of sort k (map home_view (drop (i + 1) hs))) (sym (add-one i))) a
 
-pub keys_end : (hs : List code.Home) (i : ℕ) → length hs ≤ i → keys_from hs i ≡ []
-keys_end hs i h = ap (λ x. type_keys i (map home_view x)) (drop_all i hs h)
+pub keys_end : (sort : Sort) (hs : List code.Home) (i : ℕ) → length hs ≤ i → keys_from sort hs i ≡ []
+keys_end sort hs i h = ap (λ x. keys_of sort i (map home_view x)) (drop_all i hs h)
 
 -- Numbers, from one on.
 pub number_added : {A : Type 0} (all before after : List (A × ℕ)) (xs : List A) (i : ℕ) (d : A) → i < length xs → all ≡ before ++ numbered i (drop i xs) → after ≡ before ++ (get_or xs i d, i) ∷ [] → all ≡ after ++ numbered (i + 1) (drop (i + 1) xs)

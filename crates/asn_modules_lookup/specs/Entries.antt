@@ -5,6 +5,8 @@ use Rattle.std.specs.Option.{option_map}
 use Rattle.asn_headers.specs.Headers.{Header}
 use Rattle.asn_lexer.specs.declared.token.Token.{Token}
 use Rattle.asn_modules_lookup.specs.Homes.{Home, bytes_in}
+use Rattle.asn_modules_lookup.specs.declared.sort.Sort.{Sort}
+use Rattle.asn_modules_lookup.specs.declared.sort.Sort.TheVariants.{Types, Values}
 use Rattle.asn_modules_names.specs.Assigned.{module_name}
 use Rattle.asn_modules_notation.specs.Modules.{Assignment, Module, type_assignment, value_assignment}
 
@@ -13,19 +15,21 @@ abbrev pub module_entries : ℕ → List Home → List (List ℕ × ℕ)
 module_entries k [] = []
 module_entries k (h ∷ hs) = cons_option (option_map (λ t. (bytes_in h t, k)) (module_name h.parsed)) (module_entries (suc k) hs)
 
--- The name of the type that is assigned.
-abbrev pub type_name : Assignment → Option Token
-type_name (type_assignment name n) = Some name
-type_name (value_assignment name n value) = None
+-- The name that is assigned, where the assignment is of the sort.
+abbrev pub name_as : Sort → Assignment → Option Token
+name_as Types (type_assignment name n) = Some name
+name_as Types (value_assignment name n value) = None
+name_as Values (type_assignment name n) = None
+name_as Values (value_assignment name n value) = Some name
 
--- The names of the types that these assignments of a module assign, each behind the number of the module.
-abbrev pub keys_in : ℕ → Home → List Assignment → List (ℕ × List ℕ)
-keys_in k h assignments = filter_map (λ a. option_map (λ t. (k, bytes_in h t)) (type_name a)) assignments
+-- The names that these assignments of a module assign, of those of the sort, each behind the number of the module.
+abbrev pub keys_in : Sort → ℕ → Home → List Assignment → List (ℕ × List ℕ)
+keys_in sort k h assignments = filter_map (λ a. option_map (λ t. (k, bytes_in h t)) (name_as sort a)) assignments
 
 -- Those of these modules, of which the first has number k.
-abbrev pub type_keys : ℕ → List Home → List (ℕ × List ℕ)
-type_keys k [] = []
-type_keys k (h ∷ hs) = keys_in k h h.parsed.assignments ++ type_keys (suc k) hs
+abbrev pub keys_of : Sort → ℕ → List Home → List (ℕ × List ℕ)
+keys_of sort k [] = []
+keys_of sort k (h ∷ hs) = keys_in sort k h h.parsed.assignments ++ keys_of sort (suc k) hs
 
 -- Each with its number, of which the first is n.
 abbrev pub numbered : {A : Type 0} → ℕ → List A → List (A × ℕ)

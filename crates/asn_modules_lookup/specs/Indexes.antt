@@ -6,9 +6,10 @@ use Rattle.std.specs.Option.{option_map}
 use Rattle.std.specs.Str.{bytes_eq}
 use Rattle.asn_modules_lookup.specs.Entries.{import_entries, module_entries}
 use Rattle.asn_modules_lookup.specs.Homes.{homes}
-use Rattle.asn_modules_lookup.specs.Lookup.{last_of, named_types, same_key, types}
+use Rattle.asn_modules_lookup.specs.Lookup.{assigned, last_of, named, same_key}
 use Rattle.asn_modules_lookup.specs.Views.{key_view}
 use Rattle.asn_modules_lookup.specs.declared.index.Index.{Index}
+use Rattle.asn_modules_lookup.specs.declared.sort.Sort.{Sort}
 use Rattle.asn_modules_names.specs.Mentions.{Source}
 
 -- Names with the same bytes.
@@ -19,10 +20,10 @@ same_name m n = bytes_eq m.now n.now
 abbrev pub same_pair : ℕ × Bor (List ℕ) → ℕ × Bor (List ℕ) → Bool
 same_pair k q = nat_eq k.0 q.0 && bytes_eq k.1.now q.1.now
 
--- The tables are those of these texts.
-pub record IsIndexOf (ss : List Source) (index : Index) : Type 0 where
+-- The tables are those of the assignments of the sort in these texts.
+pub record IsIndexOf (sort : Sort) (ss : List Source) (index : Index) : Type 0 where
   pub modules : (q : Bor (List ℕ)) → get same_name index.modules q ≡ last_of bytes_eq (module_entries 0 (homes ss)) q.now
-  pub types : (q : ℕ × Bor (List ℕ)) → get same_pair index.types q ≡ last_of same_key (types ss) (key_view q)
-  pub last : (q : Bor (List ℕ)) → get same_name index.last q ≡ last_of bytes_eq (named_types ss) q.now
-  pub first : (q : Bor (List ℕ)) → get same_name index.first q ≡ last_of bytes_eq (reverse (named_types ss)) q.now
+  pub assigned : (q : ℕ × Bor (List ℕ)) → get same_pair index.assigned q ≡ last_of same_key (assigned sort ss) (key_view q)
+  pub last : (q : Bor (List ℕ)) → get same_name index.last q ≡ last_of bytes_eq (named sort ss) q.now
+  pub first : (q : Bor (List ℕ)) → get same_name index.first q ≡ last_of bytes_eq (reverse (named sort ss)) q.now
   pub imports : (q : ℕ × Bor (List ℕ)) → option_map (λ n. n.now) (get same_pair index.imports q) ≡ last_of same_key (import_entries 0 (homes ss)) (key_view q)

@@ -10,7 +10,7 @@ entry_view e = (e.0.now, e.1)
 abbrev pub key_view : ℕ × Bor (List ℕ) → ℕ × List ℕ
 key_view k = (k.0, k.1.now)
 
--- These with the number of a type.
+-- These with the number of a type or value.
 abbrev pub keyed_view : (ℕ × Bor (List ℕ)) × ℕ → (ℕ × List ℕ) × ℕ
 keyed_view e = (key_view e.0, e.1)
 

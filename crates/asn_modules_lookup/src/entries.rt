@@ -1,6 +1,6 @@
-//! Lists the names of modules and of the types that they assign.
-ghost use Rattle.asn_modules_lookup.specs.Entries.{keys_in, module_entries, numbered, type_keys};
-ghost use Rattle.asn_modules_lookup.specs.Entries.{type_name};
+//! Lists the names of modules and of the types or values that they assign.
+ghost use Rattle.asn_modules_lookup.specs.Entries.{keys_in, keys_of, module_entries, name_as};
+ghost use Rattle.asn_modules_lookup.specs.Entries.{numbered};
 ghost use Rattle.asn_modules_lookup.specs.Homes.{home_view};
 ghost use Rattle.asn_modules_lookup.specs.Views.{entry_view, key_view};
 ghost use Rattle.asn_modules_names.specs.Assigned.{module_name};
@@ -8,6 +8,7 @@ ghost use Rattle.asn_modules_notation.specs.View.{assignment_view, module_view};
 ghost use Rattle.std.specs.Prelude.{◌≡◌, ◌++◌, IfOk, OnOk, map};
 
 use crate::home::Home;
+use crate::sort::Sort;
 use asn_lexer::Token;
 use asn_modules_faults::text_of;
 use asn_modules_notation::{Assignment, Module};
@@ -17,7 +18,7 @@ use std::alloc::{AllocError, Global};
 pub type Key<'t> = (usize, &'t [u8]);
 
 /// Returns the name of the module, if it has one.
-fn module_name(parsed: &Module) -> Option<Token>
+pub fn module_name(parsed: &Module) -> Option<Token>
     ensures { result ≡ module_name (module_view parsed.now) }
 {
     match &parsed.header {
@@ -47,50 +48,68 @@ pub fn module_entries<'t>(
     Ok(entries)
 }
 
-/// Returns the name of the type that is assigned, if it is one.
-fn type_name(assignment: &Assignment) -> Option<Token>
-    ensures { result ≡ type_name (assignment_view assignment.now) }
+/// Returns the name that is assigned, or `None` where the assignment isn't of the sort.
+fn name_as(sort: Sort, assignment: &Assignment) -> Option<Token>
+    ensures { result ≡ name_as sort (assignment_view assignment.now) }
 {
-    match assignment {
-        Assignment::Type { name, .. } => Some(*name),
-        Assignment::Value { .. } => None,
+    match sort {
+        Sort::Types => match assignment {
+            Assignment::Type { name, .. } => Some(*name),
+            Assignment::Value { .. } => None,
+        },
+        Sort::Values => match assignment {
+            Assignment::Type { .. } => None,
+            Assignment::Value { name, .. } => Some(*name),
+        },
     }
 }
 
-/// Appends the names of the types that these assignments of the module of the number assign.
+/// Appends the names that these assignments of the module of the number assign, of those of the
+/// sort.
 ///
 /// # Errors
 ///
 /// Where memory runs out.
 fn add_keys<'t>(
     keys: &mut Vec<Key<'t>>,
+    sort: Sort,
     number: usize,
     home: Home<'_, 't>,
     assignments: &[Assignment],
 ) -> Result<(), AllocError>
     ensures { OnOk result (map key_view keys.new.items ≡ map key_view keys.old.items
-        ++ keys_in number (home_view home.entry) (map assignment_view assignments.now)) }
+        ++ keys_in sort number (home_view home.entry) (map assignment_view assignments.now)) }
 {
     for assignment in assignments {
-        if let Some(name) = type_name(assignment) {
+        if let Some(name) = name_as(sort, assignment) {
             keys.push((number, text_of(home.source.text, name)))?;
         }
     }
     Ok(())
 }
 
-/// Returns the names of the types that the modules assign.
+/// Returns the names that the modules assign, by assignments of the sort.
 ///
 /// # Errors
 ///
 /// Where memory runs out.
-pub fn type_keys<'t>(alloc: Global, homes: &[Home<'_, 't>]) -> Result<Vec<Key<'t>>, AllocError>
+pub fn keys_of<'t>(
+    alloc: Global,
+    sort: Sort,
+    homes: &[Home<'_, 't>],
+) -> Result<Vec<Key<'t>>, AllocError>
     ensures { IfOk result (λ keys.
-        map key_view keys.items ≡ type_keys 0 (map home_view homes.now)) }
+        map key_view keys.items ≡ keys_of sort 0 (map home_view homes.now)) }
 {
     let mut keys = Vec::new(alloc);
     for (number, home) in homes.iter().enumerate() {
-        add_keys(&mut keys, number, *home, home.parsed.assignments.as_slice())?;
+        add_keys(
+            &mut keys,
+            sort,
+            number,
+            *home,
+            home.parsed.assignments.as_slice(),
+        )?;
     }
     Ok(keys)
 }
@@ -117,12 +136,12 @@ pub fn numbered<'t>(alloc: Global, keys: &[Key<'t>]) -> Result<Vec<(Key<'t>, usi
 /// Where memory runs out.
 pub fn by_name<'t>(
     alloc: Global,
-    types: &[(Key<'t>, usize)],
+    keys: &[(Key<'t>, usize)],
 ) -> Result<Vec<(&'t [u8], usize)>, AllocError>
-    ensures { IfOk result (λ entries. entries.items ≡ map (λ e. (e.0.1, e.1)) types.now) }
+    ensures { IfOk result (λ entries. entries.items ≡ map (λ e. (e.0.1, e.1)) keys.now) }
 {
     let mut entries = Vec::new(alloc);
-    for entry in types {
+    for entry in keys {
         entries.push((entry.0.1, entry.1))?;
     }
     Ok(entries)

@@ -67,7 +67,7 @@ fn add_imports<'t>(
 }
 
 /// Returns the imports of the header, if there is one.
-fn imports_of(header: &Option<Header>) -> &[Import]
+pub fn imports_of(header: &Option<Header>) -> &[Import]
     ensures { map headers.import_view result.now
         ≡ imports_of (option_map headers.header_view header.now) }
 {

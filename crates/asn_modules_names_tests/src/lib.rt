@@ -1,11 +1,19 @@
-//! Tests reading texts of modules whole, checking their names, by the text of each refusal, and
-//! finding types by their names.
+//! Tests reading texts of modules whole, checking their names and numbers, by the text of each
+//! refusal, and finding types and values by their names.
 #![tactic(auto)]
 
+#[cfg(test)]
+mod checks;
+#[cfg(test)]
+mod imports;
+#[cfg(test)]
+mod lists;
 #[cfg(test)]
 mod lookup;
 #[cfg(test)]
 mod names;
+#[cfg(test)]
+mod numbers;
 #[cfg(test)]
 mod references;
 #[cfg(test)]

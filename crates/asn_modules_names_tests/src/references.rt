@@ -1,6 +1,6 @@
 //! Names of types that are referred to.
 use crate::texts::tells;
-use asn_modules_lookup::{homes_of, index_of};
+use asn_modules_lookup::{Sort, homes_of, index_of};
 use asn_modules_references::check_references;
 use asn_modules_text::read_source;
 use std::test::Fail;
@@ -32,7 +32,7 @@ fn checks_references(rt: HostRuntime) -> Result<(), Fail> {
             Ok(source) => sources.push(source)?,
             Err(_error) => assert!(&rt; false, "refused"),
         }
-        let index = index_of(rt.alloc(), sources.as_slice())?;
+        let index = index_of(rt.alloc(), Sort::Types, sources.as_slice())?;
         let homes = homes_of(rt.alloc(), sources.as_slice())?;
         match check_references(rt.alloc(), &index, homes.as_slice()) {
             Ok(()) => assert_eq!(&rt; row.1, ""),

@@ -5,6 +5,7 @@ use Rattle.asn_lexer.specs.declared.token.Token.{Token}
 use Rattle.asn_modules_faults.specs.declared.cause.NameRule.TheVariants.{NotAssigned}
 use Rattle.asn_modules_lookup.specs.Homes.{Home, bytes_in}
 use Rattle.asn_modules_lookup.specs.Lookup.{is_known}
+use Rattle.asn_modules_lookup.specs.declared.sort.Sort.TheVariants.{Types}
 use Rattle.asn_modules_names.specs.Assigned.{first_found}
 use Rattle.asn_modules_names.specs.Faults.{Fault, fault_of}
 use Rattle.asn_modules_names.specs.Mentions.{Source, mention_in}
@@ -45,7 +46,7 @@ all_references (a ∷ more) = assignment_references a ++ all_references more
 
 -- The name in the module of number k, where it isn't known there.
 abbrev pub unknown : List Source → ℕ → Home → Token → Option Fault
-unknown ss k h t = if is_known ss k (bytes_in h t) then None else Some (fault_of NotAssigned (mention_in h.source t))
+unknown ss k h t = if is_known Types ss k (bytes_in h t) then None else Some (fault_of NotAssigned (mention_in h.source t))
 
 -- The first name that a module, of which the first has number k, refers to and neither assigns nor imports.
 abbrev pub first_unknown : List Source → ℕ → List Home → Option Fault

@@ -1,6 +1,7 @@
 //! Checks that the names of types that are referred to are known.
 ghost use Rattle.asn_modules_lookup.specs.Homes.{home_view};
 ghost use Rattle.asn_modules_lookup.specs.Indexes.{IsIndexOf};
+ghost use Rattle.asn_modules_lookup.specs.declared.sort.Sort.TheVariants.{Types};
 ghost use Rattle.asn_modules_names.specs.Assigned.{first_found};
 ghost use Rattle.asn_modules_names.specs.Faults.{Checks};
 ghost use Rattle.asn_modules_names.specs.Mentions as spec;
@@ -48,7 +49,7 @@ fn references_of(alloc: Global, assignments: &[Assignment]) -> Result<Vec<Token>
     Ok(names)
 }
 
-/// Checks that these names are known in the module of the number.
+/// Checks that these names are known in the module of the number, by the index of types.
 ///
 /// # Errors
 ///
@@ -60,7 +61,7 @@ fn check_names<'t>(
     home: Home<'_, 't>,
     names: &[Token],
 ) -> Result<(), ModuleError>
-    ensures { (ss : List spec.Source) → IsIndexOf ss index.now
+    ensures { (ss : List spec.Source) → IsIndexOf Types ss index.now
         → Checks (first_found (unknown ss number (home_view home.entry)) names.now) result }
 {
     for name in names {
@@ -71,7 +72,8 @@ fn check_names<'t>(
     Ok(())
 }
 
-/// Checks that each name of a type that a module refers to is assigned or imported by it.
+/// Checks that each name of a type that a module refers to is assigned or imported by it, by the
+/// index of types.
 ///
 /// # Errors
 ///
@@ -81,7 +83,7 @@ pub fn check_references<'t>(
     index: &Index<'t>,
     homes: &[Home<'_, 't>],
 ) -> Result<(), ModuleError>
-    ensures { (ss : List spec.Source) → IsIndexOf ss index.now
+    ensures { (ss : List spec.Source) → IsIndexOf Types ss index.now
         → Checks (first_unknown ss 0 (map home_view homes.now)) result }
 {
     for (number, home) in homes.iter().enumerate() {

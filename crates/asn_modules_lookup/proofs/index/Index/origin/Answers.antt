@@ -3,4 +3,4 @@ use Rattle.std.specs.Option.{option_map}
 use Rattle.asn_modules_lookup.proofs.index.Index.origin.Goals as goal
 
 pub returns : goal.returns
-returns c = λ ss is. ap (option_map (λ n. n.now)) (c.copied.ensures ∙ c.get.ensures.value) ∙ is.imports c.args.key
+returns c = λ sort ss is. ap (option_map (λ n. n.now)) (c.copied.ensures ∙ c.get.ensures.value) ∙ is.imports c.args.key

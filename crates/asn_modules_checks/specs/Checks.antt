@@ -1,0 +1,23 @@
+-- The rules on names and numbers together.
+use Rattle.std.specs.Prelude.{List, Option}
+use Rattle.std.specs.Option.{option_or}
+use Rattle.asn_modules_imports.specs.Imported.{first_import_fault}
+use Rattle.asn_modules_lists.specs.Listed.{first_listed_twice}
+use Rattle.asn_modules_lookup.specs.Homes.{homes}
+use Rattle.asn_modules_names.specs.Faults.{Fault}
+use Rattle.asn_modules_names.specs.Mentions.{Source}
+use Rattle.asn_modules_names.specs.Names.{first_fault}
+use Rattle.asn_modules_numbers.specs.Faults.{first_number_fault}
+use Rattle.asn_modules_references.specs.References.{first_unknown}
+
+-- The first name that is imported against a rule, else the first name of a type that is neither assigned nor imported.
+abbrev pub first_missing : List Source → Option Fault
+first_missing ss = option_or (first_import_fault (homes ss)) (first_unknown ss 0 (homes ss))
+
+-- The first name or number in a list that breaks a rule.
+abbrev pub first_in_lists : List Source → Option Fault
+first_in_lists ss = option_or (first_listed_twice ss) (first_number_fault ss)
+
+-- The first name or number that breaks a rule: in the names of modules and those that they assign, else in a list, else in what is imported and referred to.
+abbrev pub first_broken : List Source → Option Fault
+first_broken ss = option_or (first_fault ss) (option_or (first_in_lists ss) (first_missing ss))

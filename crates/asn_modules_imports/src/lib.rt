@@ -1,0 +1,7 @@
+//! Checks what modules import from each other.
+#![tactic(auto)]
+
+mod check;
+mod origin;
+
+pub use check::check_imports;

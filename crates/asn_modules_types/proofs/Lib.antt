@@ -1,0 +1,12 @@
+mod Examples
+mod Ascii
+mod Digits
+mod Listing
+mod Tagged
+mod Naming
+mod Leading
+mod Sizing
+mod Following
+mod Seen
+mod Separated
+mod Linking

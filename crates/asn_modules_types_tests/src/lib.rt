@@ -1,0 +1,5 @@
+//! Tests what types of published modules mean for values, by texts of modules and of values.
+#![tactic(auto)]
+
+#[cfg(test)]
+mod values;

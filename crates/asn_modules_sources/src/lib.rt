@@ -2,6 +2,8 @@
 //! is refused.
 #![tactic(auto)]
 
+mod laws;
 mod sources;
 
+pub use laws::one_list_of_sources;
 pub use sources::read_sources;

@@ -1,5 +1,6 @@
 -- What types of modules mean.
-use Rattle.std.specs.Prelude.{ℕ, List, [], length, map, Option, option_map}
+use Rattle.std.specs.Prelude.{ℕ, List, [], length, map, Bool, true, false, Option, Some, None, option_map}
+use Rattle.std.specs.List.{slice_get}
 use Rattle.asn_linked_types.specs.Expansion.{expansion}
 use Rattle.asn_model.specs.Shape.{Shape}
 use Rattle.asn_model.specs.ShapeView.{shape_view}
@@ -21,3 +22,16 @@ shape_of m n = expansion m.types (length m.types) [] n
 -- The shape of the one type that the bytes name.
 abbrev pub shape_named : Modules → List ℕ → Option Shape
 shape_named m text = option_map (shape_of m) (number_named m.names text)
+
+-- The shape is the type without values, an ENUMERATED without items.
+abbrev pub is_without_values : Shape → Bool
+is_without_values (Shape.enum [] None) = true
+is_without_values s = false
+
+abbrev pub if_without_values : Option Shape → Bool
+if_without_values None = false
+if_without_values (Some s) = is_without_values s
+
+-- The type of the number is the one without values.
+abbrev pub has_no_values : Modules → ℕ → Bool
+has_no_values m n = if_without_values (slice_get m.types n)

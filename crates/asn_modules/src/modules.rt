@@ -3,7 +3,9 @@ ghost use Rattle.asn_linked.specs.Places.{place_shape};
 ghost use Rattle.asn_linked_types.specs.Linked.{are_linked};
 ghost use Rattle.asn_model.specs.Readable.{is_readable};
 ghost use Rattle.asn_model.specs.ShapeView.{shape_view};
-ghost use Rattle.asn_modules.specs.Modules.{modules_view, shape_named};
+ghost use Rattle.asn_modules.specs.Modules.{has_no_values, is_without_values, modules_view};
+ghost use Rattle.asn_modules.specs.Modules.{shape_named};
+ghost use Rattle.asn_modules.specs.Names.{type_name_view};
 ghost use Rattle.std.specs.Prelude.{◌≡◌, [], IfSome, MatchOption, None, Some, length, map, true};
 
 use crate::names::{TypeName, number_named};
@@ -37,7 +39,7 @@ impl Modules {
 
     /// Returns the names of the types, in the order in which they are assigned.
     pub fn names(&self) -> &[TypeName]
-        ensures { result.now ≡ self.now.names.items }
+        ensures { map type_name_view result.now ≡ (modules_view self.now).names }
     {
         self.names.as_slice()
     }
@@ -56,5 +58,25 @@ impl Modules {
             Some(number) => Place::of_type(self.types.as_slice(), number as u32),
             None => None,
         }
+    }
+    /// Returns whether the type of the number, in the order of `names`, is the one without values,
+    /// which stands for each type that isn't read. `false` where there is no such type.
+    pub fn has_no_values(&self, number: usize) -> bool
+        ensures { result ≡ has_no_values (modules_view self.now) number }
+    {
+        match self.types.get(number) {
+            Some(shape) => is_without_values(shape),
+            None => false,
+        }
+    }
+}
+
+/// Returns whether the shape is the type without values, an ENUMERATED without items.
+fn is_without_values(shape: &Shape) -> bool
+    ensures { result ≡ is_without_values (shape_view shape.now) }
+{
+    match shape {
+        Shape::Enum { items, added: None } => items.is_empty(),
+        _ => false,
     }
 }

@@ -2,8 +2,7 @@
 //! is refused.
 #![tactic(auto)]
 
-mod laws;
+pub mod laws;
 mod sources;
 
-pub use laws::one_list_of_sources;
 pub use sources::read_sources;

@@ -1,9 +1,10 @@
 -- What types of modules mean.
-use Rattle.std.specs.Prelude.{ℕ, List, [], length, map, Bool, true, false, Option, Some, None, option_map}
+use Rattle.std.specs.Prelude.{ℕ, List, [], length, map, Bool, false, Option, Some, None, option_map}
 use Rattle.std.specs.List.{slice_get}
 use Rattle.asn_linked_types.specs.Expansion.{expansion}
 use Rattle.asn_model.specs.Shape.{Shape}
 use Rattle.asn_model.specs.ShapeView.{shape_view}
+use Rattle.asn_modules.specs.Empty.{is_without_values}
 use Rattle.asn_modules.specs.Names.{TypeName, number_named, type_name_view}
 use Rattle.asn_modules.specs.declared.modules.Modules as code
 
@@ -22,11 +23,6 @@ shape_of m n = expansion m.types (length m.types) [] n
 -- The shape of the one type that the bytes name.
 abbrev pub shape_named : Modules → List ℕ → Option Shape
 shape_named m text = option_map (shape_of m) (number_named m.names text)
-
--- The shape is the type without values, an ENUMERATED without items.
-abbrev pub is_without_values : Shape → Bool
-is_without_values (Shape.enum [] None) = true
-is_without_values s = false
 
 abbrev pub if_without_values : Option Shape → Bool
 if_without_values None = false

@@ -3,11 +3,10 @@ ghost use Rattle.asn_linked.specs.Places.{place_shape};
 ghost use Rattle.asn_linked_types.specs.Linked.{are_linked};
 ghost use Rattle.asn_model.specs.Readable.{is_readable};
 ghost use Rattle.asn_model.specs.ShapeView.{shape_view};
-ghost use Rattle.asn_modules.specs.Modules.{has_no_values, is_without_values, modules_view};
-ghost use Rattle.asn_modules.specs.Modules.{shape_named};
 ghost use Rattle.asn_modules.specs.Names.{type_name_view};
 ghost use Rattle.std.specs.Prelude.{◌≡◌, [], IfSome, MatchOption, None, Some, length, map, true};
 
+use crate::empty::is_without_values;
 use crate::names::{TypeName, number_named};
 use asn_linked::Place;
 use asn_model::Shape;
@@ -26,7 +25,10 @@ pub struct Modules {
     ghost named: { length names.items ≡ length types.items },
 }
 
+/// Finds types.
 impl Modules {
+    ghost use Rattle.asn_modules.specs.Modules.{has_no_values, modules_view, shape_named};
+
     /// Returns the types with these names.
     pub(crate) fn new(names: Vec<TypeName>, types: Vec<Shape>) -> Modules
         requires linked { are_linked (map shape_view types.items) ≡ true }
@@ -68,15 +70,5 @@ impl Modules {
             Some(shape) => is_without_values(shape),
             None => false,
         }
-    }
-}
-
-/// Returns whether the shape is the type without values, an ENUMERATED without items.
-fn is_without_values(shape: &Shape) -> bool
-    ensures { result ≡ is_without_values (shape_view shape.now) }
-{
-    match shape {
-        Shape::Enum { items, added: None } => items.is_empty(),
-        _ => false,
     }
 }

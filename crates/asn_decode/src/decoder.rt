@@ -27,13 +27,14 @@ ghost use Rattle.asn_types.specs.TextTypes.{no_teletex};
 ghost use Rattle.std.specs.Prelude.{None, Some, true, ◌≡◌, ℕ, pos, List, ◌∷◌, ◌++◌, ◌<◌, map, length};
 ghost use Rattle.std.specs.Prelude.{string_bytes, IfErr, IsErr};
 
+use crate::numbers::number_of;
 use asn_coding::{
     Field, Identifiers, NameList, Opened, TableNames, fields_as_read, listed, listed_fields,
     place_and_tag, tag_at,
 };
 use asn_core::{Any, Bits, Codec, Constraints, ObjectIdentifier, Tag};
 use asn_fault::{DecodeError, DecodeErrorKind, Refusal};
-use asn_integers::{IntegerType, beyond_128_bits};
+use asn_integers::IntegerType;
 use asn_model::words::NO_TELETEX;
 use asn_model::{LeafKind, OwnedLeaf, SeqKind, fixed_size};
 use asn_sets::SetOf;
@@ -154,11 +155,17 @@ pub trait Decoder {
     }
 
     /// Decodes a BOOLEAN.
+    #[inline(never)]
     final fn decode_bool(&mut self, tag: Tag) -> Result<bool, DecodeError>
         ensures { Answer notation Shape.boolean Value.boolean (pending self.old) result
             (pending self.new) }
     {
-        match self.take_leaf(LeafKind::Boolean)? {
+        // By a `match` and not by `?`, so that the answer isn't copied once more.
+        let leaf = match self.take_leaf(LeafKind::Boolean) {
+            Ok(leaf) => leaf,
+            Err(error) => return Err(error),
+        };
+        match leaf {
             // By the contract of `take_leaf` a leaf is of the kind that was asked for.
             OwnedLeaf::Boolean(flag) => Ok(flag),
             _ => unreachable!(),
@@ -182,6 +189,7 @@ pub trait Decoder {
     ///
     /// `IntegerOverflow` with the bits of the type where the number is outside its range; those of
     /// `Decoder`.
+    #[inline(never)]
     final fn decode_integer<I: IntegerType>(
         &mut self,
         tag: Tag,
@@ -190,19 +198,15 @@ pub trait Decoder {
         ensures { Answer notation (Shape.int I.LEAST (pos I.GREATEST) I.WIDTH)
             (λ n. Value.int (I.number n)) (pending self.old) result (pending self.new) }
     {
-        match self.take_leaf(LeafKind::Number)? {
-            OwnedLeaf::Number(Some(number)) => match I::of_parts(
-                number.negative,
-                number.magnitude,
-            ) {
+        let leaf = match self.take_leaf(LeafKind::Number) {
+            Ok(leaf) => leaf,
+            Err(error) => return Err(error),
+        };
+        match leaf {
+            OwnedLeaf::Number(number) => match number_of::<I>(number) {
                 Some(value) => Ok(value),
                 None => Err(DecodeError::integer_overflow(I::WIDTH, self.codec())),
             },
-            OwnedLeaf::Number(None) => {
-                // A law: such a number is outside the range of every type.
-                beyond_128_bits::<I>();
-                Err(DecodeError::integer_overflow(I::WIDTH, self.codec()))
-            }
             _ => unreachable!(),
         }
     }

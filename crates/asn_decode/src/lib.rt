@@ -6,6 +6,7 @@
 
 mod decoder;
 mod kinds;
+mod numbers;
 mod plain;
 
 pub use decoder::{Decode, DecodeChoice, Decoder};

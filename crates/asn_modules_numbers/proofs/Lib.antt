@@ -1,0 +1,4 @@
+pub mod Digits
+pub mod Repeating
+pub mod Freed
+pub mod Numbering

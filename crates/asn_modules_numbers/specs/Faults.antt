@@ -2,6 +2,8 @@
 use Rattle.std.specs.Prelude.{ℕ, ℤ, int_lt, true, false, List, [], ◌∷◌, ◌++◌, if◌then◌else◌, Option, Some, None}
 use Rattle.std.specs.List.{filter_map}
 use Rattle.std.specs.Option.{option_and_then, option_map, option_or}
+use Rattle.std.specs.Ordering.{int_eq}
+use Rattle.std.specs.Set.{is_member}
 use Rattle.asn_core.specs.Numbers.{is_negative}
 use Rattle.asn_lexer.specs.declared.token.Token.{Token}
 use Rattle.asn_modules_faults.specs.declared.cause.NameRule.{NameRule}
@@ -13,7 +15,7 @@ use Rattle.asn_modules_names.specs.Mentions.{Source, mention_in}
 use Rattle.asn_modules_notation.specs.Notation.{Base, leaf, integer, bit_string, enumerated, members, list_of, choice, reference}
 use Rattle.asn_modules_notation.specs.declared.number.Item.{Item}
 use Rattle.asn_modules_notation.specs.declared.number.NamedNumber.{NamedNumber}
-use Rattle.asn_modules_numbers.specs.Numbered.{has_number, numbered_bits, numbered_items, numbers_of, stated_numbers}
+use Rattle.asn_modules_numbers.specs.Numbered.{numbered_bits, numbered_items, numbers_of, stated_numbers}
 use Rattle.asn_modules_numbers.specs.declared.numbered.Numbered.{Numbered}
 
 -- The first name of a negative number.
@@ -24,7 +26,7 @@ first_negative (x ∷ xs) = if is_negative x.number then Some x.name else first_
 -- The first name whose number is that of one before it; some numbers before it are given.
 abbrev pub first_repeated : List ℤ → List Numbered → Option Token
 first_repeated before [] = None
-first_repeated before (x ∷ xs) = if has_number before x.number then Some x.name else first_repeated (before ++ x.number ∷ []) xs
+first_repeated before (x ∷ xs) = if is_member int_eq before x.number then Some x.name else first_repeated (before ++ x.number ∷ []) xs
 
 -- The first name whose number is below the one before it; the last one before them is given.
 abbrev pub first_below : ℤ → List Numbered → Option Token

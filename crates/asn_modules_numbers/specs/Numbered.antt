@@ -4,25 +4,21 @@ use Rattle.std.specs.HashSet.{HashSet, contains}
 use Rattle.std.specs.List.{filter_map, list_all}
 use Rattle.std.specs.Option.{option_map}
 use Rattle.std.specs.Ordering.{int_eq}
+use Rattle.std.specs.Set.{is_member}
 use Rattle.asn_core.specs.Numbers.{is_negative}
 use Rattle.asn_modules_notation.specs.declared.number.Item.{Item}
 use Rattle.asn_modules_notation.specs.declared.number.NamedNumber.{NamedNumber}
 use Rattle.asn_modules_numbers.specs.Stated.{are_plain, item_number, stated}
 use Rattle.asn_modules_numbers.specs.declared.numbered.Numbered.{Numbered}
 
--- The number is one of these.
-abbrev pub has_number : List ℤ → ℤ → Bool
-has_number [] n = false
-has_number (m ∷ ms) n = if int_eq n m then true else has_number ms n
-
 -- The set has these numbers.
 pub record Holds {S : Type 0} (set : HashSet ℤ S) (numbers : List ℤ) : Type 0 where
-  pub has : (n : ℤ) → contains int_eq set n ≡ has_number numbers n
+  pub has : (n : ℤ) → contains int_eq set n ≡ is_member int_eq numbers n
 
 -- The first of n and so many numbers behind it that isn't taken; the last where all are.
 abbrev pub first_free : ℕ → List ℤ → ℤ → ℤ
 first_free zero taken n = n
-first_free (suc more) taken n = if has_number taken n then first_free more taken (n +ℤ pos 1) else n
+first_free (suc more) taken n = if is_member int_eq taken n then first_free more taken (n +ℤ pos 1) else n
 
 -- The first number from n on that isn't taken: one of so many successive ones isn't.
 abbrev pub free_from : List ℤ → ℤ → ℤ

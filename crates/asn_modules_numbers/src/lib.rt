@@ -7,6 +7,7 @@ mod check;
 mod faults;
 mod free;
 mod numbered;
+mod rules;
 mod stated;
 
 pub use check::check_numbers;

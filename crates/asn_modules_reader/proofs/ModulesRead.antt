@@ -17,8 +17,8 @@ use Rattle.asn_modules_parts.proofs.Runs.{Step}
 use Rattle.asn_modules_reader.specs.Modules.{ModuleParses, module_parses}
 
 -- What stands behind the same name.
-behind_name : {x : Token × List Token} {u v : List Token} {t : Token} → assigned_at u ≡ Some (t, v) → assigned_at u ≡ Some x → v ≡ x.1
-behind_name e a = ap (λ y. y.1) (some_same e a)
+behind_name : {x : Token × List Token} {v : List Token} {t : Token} (u : List Token) → assigned_at u ≡ Some (t, v) → assigned_at u ≡ Some x → v ≡ x.1
+behind_name u e a = ap (λ y. y.1) (some_same e a)
 
 pub unnamed : (limit : ℕ) (u : List Token) → assigned_at u ≡ None → (a : Assignment) (rest : List Token) → AssignmentParses limit u a rest → ⊥
 unnamed limit u h a rest (type_parses n k d) = none_some h n
@@ -31,8 +31,8 @@ type_read limit u v w rest name n e k f d = type_parses e k (subst (λ z. Notati
 pub type_none : (limit : ℕ) (u v w : List Token) (name : Token) → assigned_at u ≡ Some (name, v) → first_kind v ≡ Some kind.Assignment → w ≡ drop 1 v → ((n : Notation) (rest : List Token) → NotationParses limit 0 w n rest → ⊥)
     → (a : Assignment) (rest : List Token) → AssignmentParses limit u a rest → ⊥
 type_none limit u v w name e k f none a rest (type_parses {n = n} i j d) =
-    none n rest (subst (λ z. NotationParses limit 0 z n rest) (sym (f ∙ ap (drop 1) (behind_name e i))) d)
-type_none limit u v w name e k f none a rest (value_parses i j d l x) = j (ap first_kind (sym (behind_name e i)) ∙ k)
+    none n rest (subst (λ z. NotationParses limit 0 z n rest) (sym (f ∙ ap (drop 1) (behind_name u e i))) d)
+type_none limit u v w name e k f none a rest (value_parses i j d l x) = j (ap first_kind (sym (behind_name u e i)) ∙ k)
 
 pub value_read : (limit : ℕ) (u v w x rest : List Token) (name : Token) (n : Notation) (value : Value) → assigned_at u ≡ Some (name, v) → first_kind v ≢ Some kind.Assignment → NotationParses limit 0 v n w
     → first_kind w ≡ Some kind.Assignment → x ≡ drop 1 w → value_at x ≡ Some (value, rest) → AssignmentParses limit u (value_assignment name n value) rest
@@ -40,20 +40,20 @@ value_read limit u v w x rest name n value e k d l f p = value_parses e k d l (a
 
 pub value_untyped : (limit : ℕ) (u v : List Token) (name : Token) → assigned_at u ≡ Some (name, v) → first_kind v ≢ Some kind.Assignment → ((n : Notation) (rest : List Token) → NotationParses limit 0 v n rest → ⊥)
     → (a : Assignment) (rest : List Token) → AssignmentParses limit u a rest → ⊥
-value_untyped limit u v name e k none a rest (type_parses i j d) = k (ap first_kind (behind_name e i) ∙ j)
-value_untyped limit u v name e k none a rest (value_parses {w = w} {n = n} i j d l x) = none n w (subst (λ z. NotationParses limit 0 z n w) (sym (behind_name e i)) d)
+value_untyped limit u v name e k none a rest (type_parses i j d) = k (ap first_kind (behind_name u e i) ∙ j)
+value_untyped limit u v name e k none a rest (value_parses {w = w} {n = n} i j d l x) = none n w (subst (λ z. NotationParses limit 0 z n w) (sym (behind_name u e i)) d)
 
 pub value_unassigned : (limit : ℕ) (u v w : List Token) (name : Token) (n : Notation) → assigned_at u ≡ Some (name, v) → first_kind v ≢ Some kind.Assignment → NotationParses limit 0 v n w → first_kind w ≢ Some kind.Assignment
     → (a : Assignment) (rest : List Token) → AssignmentParses limit u a rest → ⊥
-value_unassigned limit u v w name n e k d l a rest (type_parses i j c) = k (ap first_kind (behind_name e i) ∙ j)
+value_unassigned limit u v w name n e k d l a rest (type_parses i j c) = k (ap first_kind (behind_name u e i) ∙ j)
 value_unassigned limit u v w name n e k d l a rest (value_parses {w = w'} {n = n'} i j c m x) =
-    l (ap first_kind (same_notation d (subst (λ z. NotationParses limit 0 z n' w') (sym (behind_name e i)) c)).1 ∙ m)
+    l (ap first_kind (same_notation d (subst (λ z. NotationParses limit 0 z n' w') (sym (behind_name u e i)) c)).1 ∙ m)
 
 pub value_none : (limit : ℕ) (u v w x : List Token) (name : Token) (n : Notation) → assigned_at u ≡ Some (name, v) → first_kind v ≢ Some kind.Assignment → NotationParses limit 0 v n w → x ≡ drop 1 w → value_at x ≡ None
     → (a : Assignment) (rest : List Token) → AssignmentParses limit u a rest → ⊥
-value_none limit u v w x name n e k d f none a rest (type_parses i j c) = k (ap first_kind (behind_name e i) ∙ j)
+value_none limit u v w x name n e k d f none a rest (type_parses i j c) = k (ap first_kind (behind_name u e i) ∙ j)
 value_none limit u v w x name n e k d f none a rest (value_parses {w = w'} {n = n'} i j c m p) =
-    let g = (same_notation d (subst (λ z. NotationParses limit 0 z n' w') (sym (behind_name e i)) c)).1 in
+    let g = (same_notation d (subst (λ z. NotationParses limit 0 z n' w') (sym (behind_name u e i)) c)).1 in
     none_some (ap value_at (sym (f ∙ ap (drop 1) g)) ∙ none) p
 
 -- Assignments in turn.

@@ -2,4 +2,6 @@
 #![tactic(auto)]
 
 #[cfg(test)]
+mod markers;
+#[cfg(test)]
 mod values;

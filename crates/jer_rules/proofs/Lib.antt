@@ -7,4 +7,4 @@ pub mod Floats
 pub mod Roots
 pub mod Sets
 pub mod ArcsTaken
-pub mod Told
+pub mod NoLeaves

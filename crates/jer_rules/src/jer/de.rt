@@ -10,13 +10,11 @@ ghost use Rattle.asn_names.specs.Rows.{row_names};
 ghost use Rattle.asn_traits.specs.Tree.{Tree, head_slot};
 ghost use Rattle.serde_json.specs.Data.{Data};
 ghost use Rattle.serde_json.specs.View.{members_view};
-ghost use Rattle.std.specs.Prelude.{◌≡◌, ◌∷◌, [], Some, true, IfOk, IfErr, OnOk, MatchResult};
+ghost use Rattle.std.specs.Prelude.{◌≡◌, ◌∷◌, [], None, Some, true, IfOk, IfErr, OnOk, MatchOption, MatchResult};
 ghost use Rattle.std.specs.Prelude.{option_map};
 
-use super::faults::{
-    end_of_input, mismatch, no_digits, no_item, no_json, no_object, no_octets, no_oid, other_length,
-};
-use super::leaves::{NoLeaf, leaf_of_json};
+use super::faults::{end_of_input, mismatch, no_item, no_json, no_object};
+use super::leaves::{leaf_of_json, refusal_of_leaf};
 use super::take_apart::{has_several, into_items, into_members, into_payload};
 use asn_core::Codec;
 use asn_fault::DecodeError;
@@ -83,6 +81,20 @@ impl Decoder {
         }
     }
 
+    /// Takes the first pending slot and returns its value, or `None` where the slot is absent, or
+    /// none is pending.
+    #[inline(always)]
+    fn take_present(&mut self) -> Option<Value>
+        ensures { MatchOption result (head_slot (pending_of self.old) ≡ None)
+            (λ v. pending_of self.old ≡ Some (tree_of v) ∷ pending_of self.new) }
+    {
+        match self.pending.take() {
+            Some(Some(value)) => Some(value),
+            Some(None) => None,
+            None => None,
+        }
+    }
+
     /// Takes the first pending slot and returns its value.
     ///
     /// # Errors
@@ -93,9 +105,8 @@ impl Decoder {
             (tree_of v) ∷ pending_of self.new) (λ e. (s : Shape) → Refuses Notation.jer
             (FailsWith Notation.jer s (head_slot (pending_of self.old))) (failure_of e)) }
     {
-        match self.pending.take() {
-            Some(Some(value)) => Ok(value),
-            Some(None) => Err(end_of_input()),
+        match self.take_present() {
+            Some(value) => Ok(value),
             None => Err(end_of_input()),
         }
     }
@@ -161,16 +172,15 @@ impl asn_traits::Decoder for Decoder {
     // The slot is gone in any case: a value of another kind is named in the error and dropped.
     #[inline(always)]
     fn take_leaf(&mut self, kind: LeafKind) -> Result<OwnedLeaf, DecodeError> {
-        match leaf_of_json(self.alloc, self.take()?, kind) {
-            Ok(leaf) => Ok(leaf),
-            Err(NoLeaf::Kind(other)) => Err(mismatch(self.alloc, kind.needed(Codec::Jer), &other)),
-            Err(NoLeaf::Octets) => Err(no_octets()),
-            Err(NoLeaf::Object) => Err(no_object(self.alloc)),
-            Err(NoLeaf::Digits) => Err(no_digits(self.alloc)),
-            Err(NoLeaf::Count { octets, size }) => Err(other_length(self.alloc, octets, size)),
-            Err(NoLeaf::Arcs(text)) => Err(no_oid(self.alloc, text)),
-            Err(NoLeaf::OutOfMemory) => Err(DecodeError::out_of_memory(Codec::Jer)),
-        }
+        let Some(value) = self.take_present() else {
+            return Err(end_of_input());
+        };
+        let why = match leaf_of_json(self.alloc, value, kind) {
+            // Returned at once, so that the answer isn't copied once more.
+            Ok(leaf) => return Ok(leaf),
+            Err(why) => why,
+        };
+        Err(refusal_of_leaf(self.alloc, kind, why))
     }
 
     // An item is a JSON string, so its text is named as it is.

@@ -15,7 +15,7 @@ ghost use Rattle.std.specs.Prelude.{◌≡◌, ◌⊎◌, ◌∷◌, [], List, O
 ghost use Rattle.std.specs.Prelude.{IfErr, IfSome, option_map, string_bytes};
 
 use super::build::{in_text_order, member_name, members_of};
-use super::faults::{encode_error, in_jer};
+use super::faults::{encode_error, in_jer, out_of_memory};
 use super::leaves::value_of_leaf;
 use asn_core::Codec;
 use asn_fault::{EncodeError, JerEncodeErrorKind, Utf8Fault};
@@ -115,11 +115,15 @@ impl Encoder {
     /// # Errors
     ///
     /// `OutOfMemory` alone.
+    #[inline(always)]
     fn put(&mut self, slot: Option<JerValue>) -> Result<(), EncodeError>
         ensures added { OnOk result (self.new.frames ≡ push slot self.old.frames) }
         ensures refused { IfErr result (IsOutOfMemory Notation.jer) }
     {
-        in_jer(self.frames.add(slot))
+        match self.frames.add(slot) {
+            Ok(()) => Ok(()),
+            Err(_) => Err(out_of_memory()),
+        }
     }
 }
 

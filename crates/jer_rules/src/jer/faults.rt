@@ -22,6 +22,7 @@ use serde_json::Value;
 use std::alloc::Global;
 
 /// Returns the refusal where a value is expected and there is none.
+#[inline(never)]
 pub fn end_of_input() -> DecodeError
     ensures { failure_of result ≡ at_root (Cause.end_of_input Jer) Jer }
 {
@@ -162,6 +163,14 @@ pub fn encode_error(kind: JerEncodeErrorKind) -> EncodeError
     )
 }
 
+/// Returns the want of memory as an error of this codec.
+#[inline(never)]
+pub fn out_of_memory() -> EncodeError
+    ensures { IsOutOfMemory Notation.jer result }
+{
+    EncodeError::out_of_memory(Codec::Jer)
+}
+
 /// Returns an answer with the want of memory as an error of this codec.
 ///
 /// # Errors
@@ -174,6 +183,6 @@ pub fn in_jer<T: Drop, E: Drop>(answer: Result<T, E>) -> Result<T, EncodeError>
 {
     match answer {
         Ok(value) => Ok(value),
-        Err(_) => Err(EncodeError::out_of_memory(Codec::Jer)),
+        Err(_) => Err(out_of_memory()),
     }
 }

@@ -1,4 +1,5 @@
 //! Writes and reads values without parts as JSON values.
+ghost use Rattle.asn_fault.specs.Failure.{failure_of};
 ghost use Rattle.asn_model.specs.declared.leaves.LeafKind.TheVariants.{Any, Octets};
 ghost use Rattle.asn_model.specs.declared.leaves.OwnedLeaf.{OwnedLeaf};
 ghost use Rattle.asn_traits.specs.Canonical.{jer_data};
@@ -7,7 +8,7 @@ ghost use Rattle.asn_traits.specs.Notation.{Notation};
 ghost use Rattle.asn_coding.specs.Opening.{IsTaken};
 ghost use Rattle.asn_traits.specs.Writable.{Writable};
 ghost use Rattle.asn_coding.specs.Writing.{FailsToEncode, IsOutOfMemory};
-ghost use Rattle.jer_rules.specs.NoLeaves.{IsNoLeaf};
+ghost use Rattle.jer_rules.specs.NoLeaves.{IsNoLeaf, TellsNoLeaf};
 ghost use Rattle.jer_rules.specs.Pending.{tree_of};
 ghost use Rattle.jer_values.specs.Views.{data_of};
 ghost use Rattle.serde_json.specs.Data.{Data};
@@ -16,10 +17,13 @@ ghost use Rattle.std.specs.Prelude.{◌≡◌, true, OnOk, IfOk, IfErr, MatchRes
 
 use super::bits::{counted_bits, fixed_bits, value_of_bits};
 use super::build::integer_of;
-use super::faults::{encode_error, in_jer};
+use super::faults::{
+    encode_error, in_jer, mismatch, no_digits, no_object, no_octets, no_oid, other_length,
+};
 use super::identifiers::identifier_of_json;
 use super::take_apart::whole_number;
-use asn_fault::{EncodeError, JerEncodeErrorKind};
+use asn_core::Codec;
+use asn_fault::{DecodeError, EncodeError, JerEncodeErrorKind};
 use asn_model::joined_arcs;
 use asn_traits::{Leaf, LeafKind, OwnedLeaf};
 use jer_values::JerValue;
@@ -130,6 +134,23 @@ pub fn leaf_of_json(alloc: Global, value: Value, kind: LeafKind) -> Result<Owned
         LeafKind::Oid => identifier_of_json(alloc, value),
         LeafKind::Bits(Some(size)) => fixed_bits(alloc, value, size),
         LeafKind::Bits(None) => counted_bits(alloc, value),
+    }
+}
+
+/// Returns the refusal of a JSON value that is none of this kind, for this reason. Where memory runs
+/// out, the refusal says that.
+#[inline(never)]
+pub fn refusal_of_leaf(alloc: Global, kind: LeafKind, why: NoLeaf) -> DecodeError
+    ensures { TellsNoLeaf kind why (failure_of result) }
+{
+    match why {
+        NoLeaf::Kind(other) => mismatch(alloc, kind.needed(Codec::Jer), &other),
+        NoLeaf::Octets => no_octets(),
+        NoLeaf::Object => no_object(alloc),
+        NoLeaf::Digits => no_digits(alloc),
+        NoLeaf::Count { octets, size } => other_length(alloc, octets, size),
+        NoLeaf::Arcs(text) => no_oid(alloc, text),
+        NoLeaf::OutOfMemory => DecodeError::out_of_memory(Codec::Jer),
     }
 }
 

@@ -7,5 +7,5 @@ use Rattle.asn_decode.proofs.decoder.Decoder.decode_bool.Goals as goal
 
 pub returns : goal.returns
 returns g c =
-    let h = c.in_ok-flag.ensures in
+    let h = c.in-Ok.ensures in
     (h.0, h.1, leaf_decodes Shape.boolean Boolean (Value.boolean c.in-Boolean.flag) h.0 _ _ refl c.in-Boolean.is h.3 (λ v e. ap Ok e))

@@ -1,14 +1,7 @@
-use Rattle.std.proofs.Common.{ap, ◌∙◌, refl}
-use Rattle.std.specs.Prelude.{option_map}
+use Rattle.std.proofs.Common.{refl}
 use Rattle.asn_core.specs.declared.codec.Codec.TheVariants.{Jer}
-use Rattle.asn_slots.specs.Trees.{trees_of}
-use Rattle.asn_traits.specs.Tree.{head_slot}
 use Rattle.asn_coding.proofs.Refusing.{absent}
-use Rattle.jer_rules.specs.Pending.{tree_of}
 use Rattle.jer_rules.proofs.jer.de.Decoder.take.Goals as goal
 
-pub returns-in-Some-None : goal.returns-in-Some-None
-returns-in-Some-None c = λ s. absent s _ Jer _ (ap (λ l. head_slot (trees_of tree_of l)) c.in-Some-None.ensures ∙ ap (option_map tree_of) c.in-Some-None.field-0-is) refl c.end_of_input.ensures
-
 pub returns-in-None : goal.returns-in-None
-returns-in-None c = λ s. absent s _ Jer _ (ap (λ l. head_slot (trees_of tree_of l)) c.in-None.ensures.0) refl c.end_of_input-in-None.ensures
+returns-in-None c = λ s. absent s _ Jer _ c.in-None.ensures refl c.end_of_input.ensures

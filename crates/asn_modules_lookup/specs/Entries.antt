@@ -8,7 +8,7 @@ use Rattle.asn_modules_lookup.specs.Homes.{Home, bytes_in}
 use Rattle.asn_modules_lookup.specs.declared.sort.Sort.{Sort}
 use Rattle.asn_modules_lookup.specs.declared.sort.Sort.TheVariants.{Types, Values}
 use Rattle.asn_modules_names.specs.Assigned.{module_name}
-use Rattle.asn_modules_notation.specs.Modules.{Assignment, Module, type_assignment, value_assignment}
+use Rattle.asn_modules_notation.specs.Modules.{Assignment, type_assignment, value_assignment}
 
 -- The names of modules, each with the number of its module; the first has number k.
 abbrev pub module_entries : ℕ → List Home → List (List ℕ × ℕ)

@@ -1,4 +1,4 @@
-use Rattle.std.proofs.Common.{refl, ap, sym, ◌∙◌, ◌++◌, map, arith}
+use Rattle.std.proofs.Common.{ap, sym, ◌∙◌, ◌++◌, map, arith}
 use Rattle.asn_modules_lookup.specs.Homes.{home_view}
 use Rattle.asn_modules_lookup.specs.Views.{key_view}
 use Rattle.asn_modules_names.proofs.Founds.{listed_all}

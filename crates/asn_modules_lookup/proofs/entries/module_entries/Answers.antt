@@ -1,4 +1,4 @@
-use Rattle.std.proofs.Common.{refl, ap, sym, ◌∙◌, ◌++◌, map, arith}
+use Rattle.std.proofs.Common.{ap, sym, ◌∙◌, ◌++◌, map, arith}
 use Rattle.asn_modules_lookup.specs.Views.{entry_view}
 use Rattle.asn_modules_names.proofs.Founds.{listed_all}
 use Rattle.asn_modules_lookup.proofs.Listing.{headed_added, headed_end, headed_from, headed_passed}

@@ -1,4 +1,4 @@
-use Rattle.std.proofs.Common.{refl, ap, sym, ◌∙◌, ◌++◌, drop, arith}
+use Rattle.std.proofs.Common.{ap, sym, ◌++◌, drop, arith}
 use Rattle.asn_modules_lookup.specs.Entries.{numbered}
 use Rattle.asn_modules_names.proofs.Founds.{listed_all}
 use Rattle.asn_modules_lookup.proofs.Listing.{number_added, numbers_end}

@@ -1,4 +1,4 @@
-use Rattle.std.proofs.Common.{◌≡◌, map, ap, ◌∙◌, sym}
+use Rattle.std.proofs.Common.{map, ap, ◌∙◌}
 use Rattle.std.specs.Option.{option_map}
 use Rattle.asn_modules_lookup.specs.Entries.{import_entries, keys_of, module_entries, numbered}
 use Rattle.asn_modules_lookup.specs.Homes.{home_view}

@@ -1,4 +1,4 @@
-use Rattle.std.proofs.Common.{reverse, ap, ◌∙◌}
+use Rattle.std.proofs.Common.{ap, ◌∙◌}
 use Rattle.std.specs.Str.{bytes_eq}
 use Rattle.asn_modules_lookup.specs.Lookup.{if_same, last_of, named}
 use Rattle.asn_modules_lookup.proofs.index.Index.only.Goals as goal

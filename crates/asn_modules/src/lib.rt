@@ -3,6 +3,7 @@
 //! where a value reaches it.
 #![tactic(auto)]
 
+mod empty;
 mod modules;
 mod names;
 mod read;

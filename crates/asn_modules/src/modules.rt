@@ -3,9 +3,10 @@ ghost use Rattle.asn_linked.specs.Places.{place_shape};
 ghost use Rattle.asn_linked_types.specs.Linked.{are_linked};
 ghost use Rattle.asn_model.specs.Readable.{is_readable};
 ghost use Rattle.asn_model.specs.ShapeView.{shape_view};
-ghost use Rattle.asn_modules.specs.Modules.{modules_view, shape_named};
+ghost use Rattle.asn_modules.specs.Names.{type_name_view};
 ghost use Rattle.std.specs.Prelude.{◌≡◌, [], IfSome, MatchOption, None, Some, length, map, true};
 
+use crate::empty::is_without_values;
 use crate::names::{TypeName, number_named};
 use asn_linked::Place;
 use asn_model::Shape;
@@ -24,7 +25,10 @@ pub struct Modules {
     ghost named: { length names.items ≡ length types.items },
 }
 
+/// Finds types.
 impl Modules {
+    ghost use Rattle.asn_modules.specs.Modules.{has_no_values, modules_view, shape_named};
+
     /// Returns the types with these names.
     pub(crate) fn new(names: Vec<TypeName>, types: Vec<Shape>) -> Modules
         requires linked { are_linked (map shape_view types.items) ≡ true }
@@ -37,7 +41,7 @@ impl Modules {
 
     /// Returns the names of the types, in the order in which they are assigned.
     pub fn names(&self) -> &[TypeName]
-        ensures { result.now ≡ self.now.names.items }
+        ensures { map type_name_view result.now ≡ (modules_view self.now).names }
     {
         self.names.as_slice()
     }
@@ -55,6 +59,16 @@ impl Modules {
         match number_named(self.names.as_slice(), name) {
             Some(number) => Place::of_type(self.types.as_slice(), number as u32),
             None => None,
+        }
+    }
+    /// Returns whether the type of the number, in the order of `names`, is the one without values,
+    /// which stands for each type that isn't read. `false` where there is no such type.
+    pub fn has_no_values(&self, number: usize) -> bool
+        ensures { result ≡ has_no_values (modules_view self.now) number }
+    {
+        match self.types.get(number) {
+            Some(shape) => is_without_values(shape),
+            None => false,
         }
     }
 }

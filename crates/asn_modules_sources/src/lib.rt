@@ -2,6 +2,7 @@
 //! is refused.
 #![tactic(auto)]
 
+pub mod laws;
 mod sources;
 
 pub use sources::read_sources;

@@ -1,13 +1,20 @@
 -- Names of types, and texts that name them.
-use Rattle.std.proofs.Common.{◌≡◌, ℕ, ◌+◌, ◌<◌, ◌≤◌, List, [], ◌∷◌, ◌++◌, map, take, drop, length, get_or, Bool, false, Option, Some, None, sym, ap, ◌∙◌}
+use Rattle.std.proofs.Common.{◌≡◌, ℕ, ◌+◌, ◌<◌, ◌≤◌, List, [], ◌∷◌, ◌++◌, map, take, drop, length, get_or, suc, false, Option, Some, None, refl, sym, ap, ◌∙◌}
 use Rattle.std.specs.Str.{bytes_eq}
 use Rattle.std.proofs.lemmas.Bool.Decides.{same_from_decides}
-use Rattle.std.proofs.lemmas.List.{map-append, take_all, take_more}
+use Rattle.std.proofs.lemmas.List.{length-map, map-append, take_all, take_more}
 use Rattle.std.proofs.lemmas.Slice.Eq.{bytes_eq-Decides}
-use Rattle.asn_modules.specs.Names.{TypeName, numbers_named, type_name_of, type_name_view}
+use Rattle.asn_model.specs.ShapeView.{shape_view}
+use Rattle.asn_model.specs.declared.shape_type.Shape.{Shape}
+use Rattle.asn_modules.specs.Names.{TypeName, numbers_named, type_name_of, type_name_view, type_names}
 use Rattle.asn_modules.specs.declared.names.TypeName as code
+use Rattle.asn_modules_lookup.specs.declared.sort.Sort.TheVariants.{Types}
+use Rattle.asn_modules_names.specs.Mentions.{Source}
 use Rattle.asn_modules_names.proofs.Founds.{pushed}
+use Rattle.asn_modules_types.specs.Assigned as spec
+use Rattle.asn_modules_types.specs.Assigned.{assigned}
 use Rattle.asn_modules_types.specs.Known.{assigned_view}
+use Rattle.asn_modules_types.specs.Linked.{linked_from, linked_types}
 use Rattle.asn_modules_types.specs.declared.assigned.Assigned.{Assigned}
 
 -- A text that isn't the other one.
@@ -49,3 +56,13 @@ names_more types i a old new n h e was p v =
 -- All names.
 pub names_all : (types : List Assigned) (i : ℕ) (names : List code.TypeName) → length types ≤ i → map type_name_view names ≡ names_before types i → map type_name_view names ≡ map type_name_of (map assigned_view types)
 names_all types i names h was = was ∙ ap (λ l. map type_name_of (map assigned_view l)) (take_all i types h)
+
+linked-counted : (ss : List Source) (count n : ℕ) (ts : List spec.Assigned) → length (linked_from ss count n ts) ≡ length ts
+linked-counted ss count n [] = refl
+linked-counted ss count n (t ∷ ts) = ap suc (linked-counted ss count (suc n) ts)
+
+-- Each type has a name.
+pub named-counted : (ss : List Source) (names : List code.TypeName) (types : List Shape) → map type_name_view names ≡ type_names ss → map shape_view types ≡ linked_types ss → length names ≡ length types
+named-counted ss names types e f =
+    let ts = assigned Types ss in
+    sym (length-map names type_name_view) ∙ ap length e ∙ length-map ts type_name_of ∙ sym (linked-counted ss (length ts) 0 ts) ∙ sym (ap length f) ∙ length-map types shape_view

@@ -65,7 +65,8 @@ fn names_of(alloc: Global, types: &[Assigned<'_, '_>]) -> Result<Vec<TypeName>, 
 {
     let mut names = Vec::new(alloc);
     for assigned in types {
-        names.push(type_name_of(alloc, assigned)?)?;
+        let name = type_name_of(alloc, assigned)?;
+        names.push(name)?;
     }
     Ok(names)
 }

@@ -4,8 +4,8 @@ use Rattle.asn_modules.proofs.names.names_of.Goals as goal
 
 pub loop-assigned-preserved : goal.loop-assigned-preserved
 loop-assigned-preserved c =
-    names_more c.args.types.now c.loop-assigned.assigned-index c.assigned-item.result c.loop-assigned.names.items c.push.new.self.items c.type_name_of.result
-    c.loop-assigned-test.true c.assigned-item.is c.loop-assigned.invariant c.in_ok-push.ensures.items c.in_ok-type_name_of.ensures
+    names_more c.args.types.now c.loop-assigned.assigned-index c.assigned-item.result c.loop-assigned.names.items c.push.new.self.items c.in_ok-name.name
+    c.loop-assigned-test.true c.assigned-item.is c.loop-assigned.invariant c.in_ok-push.ensures.items c.in_ok-name.ensures
 
 pub returns : goal.returns
 returns c = names_all c.args.types.now c.loop-assigned.assigned-index c.loop-assigned.names.items (omega (arith, c.loop-assigned-test.false)) c.loop-assigned.invariant

@@ -1,5 +1,5 @@
 -- What members are, by what they hold.
-use Rattle.std.proofs.Common.{◌≡◌, ap, sym, ◌∙◌, List, [], ◌∷◌, ◌++◌, map, Option, Some, None}
+use Rattle.std.proofs.Common.{◌≡◌, refl, ap, sym, ◌∙◌, List, [], ◌∷◌, ◌++◌, map, Option, Some, None}
 use Rattle.std.specs.Global.{Vec}
 use Rattle.asn_modules_notation.specs.Notation as spec
 use Rattle.asn_modules_notation.specs.View.{base_step, component_step, member_step, extension_step, members_step, notation_step, members_view}

@@ -1,5 +1,5 @@
 -- The first names that are unknown.
-use Rattle.std.proofs.Common.{◌≡◌, ◌≤◌, ℕ, ◌+◌, ◌<◌, List, Bool, true, false, if◌then◌else◌, Option, Some, None, sym, ap, subst, ◌∙◌, get_or, drop, length}
+use Rattle.std.proofs.Common.{◌≡◌, ◌≤◌, ℕ, ◌+◌, ◌<◌, List, Bool, true, false, if◌then◌else◌, Option, Some, None, refl, sym, ap, subst, ◌∙◌, get_or, drop, length, map, add-one, suc}
 use Rattle.std.proofs.lemmas.List.{at_drop_all, at_drop_more}
 use Rattle.std.specs.Option.{option_or}
 use Rattle.asn_lexer.specs.declared.token.Token.{Token}

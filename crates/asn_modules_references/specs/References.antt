@@ -10,7 +10,7 @@ use Rattle.asn_modules_names.specs.Assigned.{first_found}
 use Rattle.asn_modules_names.specs.Faults.{Fault, fault_of}
 use Rattle.asn_modules_names.specs.Mentions.{Source, mention_in}
 use Rattle.asn_modules_notation.specs.Modules.{Assignment, type_assignment, value_assignment}
-use Rattle.asn_modules_notation.specs.Notation.{Notation, Base, Member, Members, notation, members, list_of, choice, reference, component, components_of, group, marker, no_members, member}
+use Rattle.asn_modules_notation.specs.Notation.{Notation, Base, Member, Members, notation, leaf, integer, bit_string, enumerated, members, list_of, choice, reference, component, components_of, group, marker, no_members, member}
 
 abbrev mutual
   -- The names of types that the type refers to without a module, in order.

@@ -1,6 +1,6 @@
-use Rattle.std.proofs.Common.{ap, ◌∙◌, ◌++◌}
+use Rattle.std.proofs.Common.{◌≡◌, ap, sym, ◌∙◌, ◌++◌, Some}
 use Rattle.std.proofs.lemmas.Result.{on_ok_weaker}
-use Rattle.asn_modules_references.specs.Extensions.{entries_references}
+use Rattle.asn_modules_references.specs.Extensions.{entries_references, extension_references}
 use Rattle.asn_modules_references.proofs.Referring.{both_added}
 use Rattle.asn_modules_references.proofs.walk.+references.Goals as goal
 

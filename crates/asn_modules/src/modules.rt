@@ -46,8 +46,8 @@ impl Modules {
         self.names.as_slice()
     }
 
-    /// Returns the type that the text names: by its name, if one type alone has that, or by the name
-    /// of its module, a point and its name, as `PKIX1.Certificate`. It is `None` where no type is
+    /// Returns the type that the text names: by its name, if one type alone has that, or by the
+    /// name of its module, a point and its name, as `PKIX1.Certificate`. It is `None` where no type is
     /// named so, or several are.
     pub fn find(&self, name: &str) -> Option<Place<'_>>
         ensures found { MatchOption result (shape_named (modules_view self.now) name.now ≡ None)

@@ -48,8 +48,8 @@ fn check_missing(alloc: Global, sources: &[Source<'_>]) -> Result<(), ModuleErro
 ///
 /// The first name or number that breaks a rule, with its place, where the rules are in this order:
 /// modules have names of their own, and each assigns a name once; no name stands twice in a list;
-/// the numbers of items and bits; what is imported is exported by another module; and the types that
-/// are named are assigned or imported. `OutOfMemory` where memory runs out.
+/// the numbers of items and bits; what is imported is exported by another module; and the types
+/// that are named are assigned or imported. `OutOfMemory` where memory runs out.
 pub fn check_all(alloc: Global, sources: &[Source<'_>]) -> Result<(), ModuleError>
     ensures { Checks (first_broken (map source_view sources.now)) result }
 {

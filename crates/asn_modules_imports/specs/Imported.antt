@@ -8,10 +8,10 @@ use Rattle.asn_model.specs.Shape.{is_item}
 use Rattle.asn_modules_faults.specs.declared.cause.NameRule.{NameRule}
 use Rattle.asn_modules_faults.specs.declared.cause.NameRule.TheVariants.{NotExported, OwnImport}
 use Rattle.asn_modules_lookup.specs.Entries.{imports_of}
-use Rattle.asn_modules_lookup.specs.Homes.{Home, bytes_in, homes}
+use Rattle.asn_modules_lookup.specs.Homes.{Home, bytes_in}
 use Rattle.asn_modules_names.specs.Assigned.{first_found, module_name}
 use Rattle.asn_modules_names.specs.Faults.{Fault, fault_of}
-use Rattle.asn_modules_names.specs.Mentions.{Source, mention_in}
+use Rattle.asn_modules_names.specs.Mentions.{mention_in}
 
 -- The token is this name.
 abbrev pub is_token : Home → List ℕ → Option Token → Bool

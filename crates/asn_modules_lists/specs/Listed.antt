@@ -9,7 +9,7 @@ use Rattle.asn_modules_names.specs.Assigned.{first_found}
 use Rattle.asn_modules_names.specs.Faults.{Fault}
 use Rattle.asn_modules_names.specs.Mentions.{Source, mention_in}
 use Rattle.asn_modules_names.specs.Repeats.{repeated}
-use Rattle.asn_modules_notation.specs.Notation.{Base, Member, Members, leaf, integer, bit_string, enumerated, members, list_of, choice, reference, component, components_of, group, marker, no_members, member}
+use Rattle.asn_modules_notation.specs.Notation.{Base, Member, Members, integer, bit_string, enumerated, members, choice, component, components_of, group, marker, no_members, member}
 use Rattle.asn_modules_notation.specs.declared.number.Item.{Item}
 use Rattle.asn_modules_notation.specs.declared.number.NamedNumber.{NamedNumber}
 

@@ -3,7 +3,7 @@ use Rattle.std.specs.Prelude.{List, [], ◌∷◌, ◌++◌, map}
 use Rattle.asn_modules_lists.specs.declared.written.WrittenType as code
 use Rattle.asn_modules_names.specs.Mentions.{Source, source_view}
 use Rattle.asn_modules_notation.specs.Modules.{Assignment, Module, type_assignment, value_assignment}
-use Rattle.asn_modules_notation.specs.Notation.{Notation, Base, Member, Members, notation, leaf, integer, bit_string, enumerated, members, list_of, choice, reference, component, components_of, group, marker, no_members, member}
+use Rattle.asn_modules_notation.specs.Notation.{Notation, Base, Member, Members, notation, members, list_of, choice, component, components_of, group, marker, no_members, member}
 use Rattle.asn_modules_reader.specs.Views.{base_view}
 
 abbrev mutual

@@ -61,6 +61,29 @@ fn add_enumerated(
     }
 }
 
+/// Appends the names in the list that the type has between braces, if it has one, in order.
+///
+/// # Errors
+///
+/// Where memory runs out.
+fn add_names(names: &mut Vec<Token>, base: &Base) -> Result<(), AllocError>
+    ensures { OnOk result
+        (names.new.items ≡ names.old.items ++ listed_names (base_view base.now)) }
+{
+    match base {
+        Base::Integer(numbers) => add_numbers(names, numbers.as_slice()),
+        Base::BitString(bits) => add_numbers(names, bits.as_slice()),
+        Base::Enumerated { items, added } => add_enumerated(names, items, added),
+        Base::Sequence(members) => add_members(names, members),
+        Base::Set(members) => add_members(names, members),
+        Base::Choice(alternatives) => add_members(names, alternatives),
+        Base::Leaf(_leaf) => Ok(()),
+        Base::SequenceOf(_element) => Ok(()),
+        Base::SetOf(_element) => Ok(()),
+        Base::Reference { .. } => Ok(()),
+    }
+}
+
 /// Returns the names in the list that the type has between braces, if it has one, in order.
 ///
 /// # Errors
@@ -70,15 +93,7 @@ pub fn listed_names(alloc: Global, base: &Base) -> Result<Vec<Token>, AllocError
     ensures { IfOk result (λ names. names.items ≡ listed_names (base_view base.now)) }
 {
     let mut names = Vec::new(alloc);
-    match base {
-        Base::Integer(numbers) => add_numbers(&mut names, numbers.as_slice())?,
-        Base::BitString(bits) => add_numbers(&mut names, bits.as_slice())?,
-        Base::Enumerated { items, added } => add_enumerated(&mut names, items, added)?,
-        Base::Sequence(members) => add_members(&mut names, members)?,
-        Base::Set(members) => add_members(&mut names, members)?,
-        Base::Choice(alternatives) => add_members(&mut names, alternatives)?,
-        _ => {}
-    }
+    add_names(&mut names, base)?;
     Ok(names)
 }
 

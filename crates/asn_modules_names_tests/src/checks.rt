@@ -24,7 +24,8 @@ D ::= ENUMERATED { a(1), b(1) } E ::= ENUMERATED { a, a } END",
         "f:1:114: `a` stands twice in its list",
     ),
     (
-        "M DEFINITIONS ::= BEGIN EXPORTS; IMPORTS A FROM M; B ::= C D ::= ENUMERATED { a(1), b(1) } END",
+        "M DEFINITIONS ::= BEGIN EXPORTS; IMPORTS A FROM M; B ::= C \
+D ::= ENUMERATED { a(1), b(1) } END",
         "f:1:85: `b` has the number of another item",
     ),
     (

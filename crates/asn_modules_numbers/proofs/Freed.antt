@@ -1,5 +1,5 @@
 -- The first number that isn't taken.
-use Rattle.std.proofs.Common.{◌≡◌, ◌≤◌, ℕ, suc, ℤ, pos, ◌+◌, ◌-◌, ◌<◌, ◌+ℤ◌, List, true, false, if◌then◌else◌, refl, sym, ap, ◌∙◌, arith}
+use Rattle.std.proofs.Common.{◌≡◌, ◌≤◌, ℕ, suc, ℤ, pos, ◌+◌, ◌-◌, ◌<◌, ◌+ℤ◌, List, true, false, if◌then◌else◌, ap, ◌∙◌, arith}
 use Rattle.std.specs.Ordering.{int_eq}
 use Rattle.std.specs.Set.{is_member}
 use Rattle.asn_modules_numbers.specs.Numbered.{first_free}

@@ -2,3 +2,4 @@ pub mod Digits
 pub mod Repeating
 pub mod Freed
 pub mod Numbering
+pub mod Marked

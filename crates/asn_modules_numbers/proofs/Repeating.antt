@@ -1,5 +1,5 @@
 -- Which number stands twice.
-use Rattle.std.proofs.Common.{◌≡◌, ℕ, ℤ, ◌+◌, ◌<◌, List, [], ◌∷◌, ◌++◌, map, Bool, true, false, not, ◌||◌, if◌then◌else◌, Option, Some, None, refl, sym, ap, ◌∙◌, get_or, take, drop, length}
+use Rattle.std.proofs.Common.{◌≡◌, ℕ, ℤ, ◌+◌, ◌<◌, List, [], ◌∷◌, ◌++◌, Bool, true, false, not, ◌||◌, if◌then◌else◌, Some, refl, sym, ap, ◌∙◌, get_or, take, drop, length}
 use Rattle.std.proofs.lemmas.Cmp.{int_eq_equiv}
 use Rattle.std.proofs.lemmas.List.{drop_more, take_more, map-append}
 use Rattle.std.specs.HashSet.{HashSet, UpdatesBy, contains}
@@ -35,10 +35,10 @@ new_passed old new xs i d n added l known updates e a t was =
     let x = get_or xs i d in
     let before = numbers_of (take i xs) in
     let more : numbers_of (take (i + 1) xs) ≡ before ++ n ∷ [] =
-      ap numbers_of (take_more xs i d l) ∙ map-append (λ y. y.number) (take i xs) (x ∷ []) ∙ ap (λ k. before ++ k ∷ []) (sym e) in
+    ap numbers_of (take_more xs i d l) ∙ map-append (λ y. y.number) (take i xs) (x ∷ []) ∙ ap (λ k. before ++ k ∷ []) (sym e) in
     let fresh : is_member int_eq before x.number ≡ false = ap (is_member int_eq before) (sym e) ∙ sym (known.has n) ∙ not_true (contains int_eq old n) (sym a ∙ t) in (
       record { has = λ q. updates.0 q ∙ ap (λ b. if int_eq n q then true else b) (known.has q) ∙ member_more before n q ∙ ap (λ l. is_member int_eq l q) (sym more) },
       was ∙ ap (first_repeated before) (drop_more xs i d l)
-      ∙ ap (λ b. if b then Some x.name else first_repeated (before ++ x.number ∷ []) (drop (i + 1) xs)) fresh
-      ∙ ap (λ k. first_repeated (before ++ k ∷ []) (drop (i + 1) xs)) (sym e) ∙ ap (λ l. first_repeated l (drop (i + 1) xs)) (sym more),
+          ∙ ap (λ b. if b then Some x.name else first_repeated (before ++ x.number ∷ []) (drop (i + 1) xs)) fresh
+          ∙ ap (λ k. first_repeated (before ++ k ∷ []) (drop (i + 1) xs)) (sym e) ∙ ap (λ l. first_repeated l (drop (i + 1) xs)) (sym more),
     )

@@ -12,9 +12,8 @@ use Rattle.asn_modules_lists.specs.Written.{Written, all_written}
 use Rattle.asn_modules_names.specs.Assigned.{first_found}
 use Rattle.asn_modules_names.specs.Faults.{Fault, fault_of}
 use Rattle.asn_modules_names.specs.Mentions.{Source, mention_in}
-use Rattle.asn_modules_notation.specs.Notation.{Base, leaf, integer, bit_string, enumerated, members, list_of, choice, reference}
+use Rattle.asn_modules_notation.specs.Notation.{Base, bit_string, enumerated}
 use Rattle.asn_modules_notation.specs.declared.number.Item.{Item}
-use Rattle.asn_modules_notation.specs.declared.number.NamedNumber.{NamedNumber}
 use Rattle.asn_modules_numbers.specs.Numbered.{numbered_bits, numbered_items, numbers_of, stated_numbers}
 use Rattle.asn_modules_numbers.specs.declared.numbered.Numbered.{Numbered}
 

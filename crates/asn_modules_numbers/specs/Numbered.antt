@@ -1,5 +1,5 @@
 -- The numbers of items and bits (X.680, sections 20 and 22).
-use Rattle.std.specs.Prelude.{◌≡◌, ℕ, zero, suc, ℤ, pos, ◌+ℤ◌, ◌^◌, int_lt, length, List, [], ◌∷◌, map, Bool, true, false, ◌||◌, not, if◌then◌else◌, is_some, Option, Some, None}
+use Rattle.std.specs.Prelude.{◌≡◌, ℕ, zero, suc, ℤ, pos, ◌+ℤ◌, ◌^◌, int_lt, length, List, [], ◌∷◌, map, Bool, ◌||◌, not, if◌then◌else◌, is_some, Option, Some, None}
 use Rattle.std.specs.HashSet.{HashSet, contains}
 use Rattle.std.specs.List.{filter_map, list_all}
 use Rattle.std.specs.Option.{option_map}

@@ -42,7 +42,14 @@ fn number_fault(alloc: Global, text: &str, base: &Base) -> Result<Option<Broken>
         Base::Enumerated { items, added } => {
             enumerated_fault(alloc, text, items.as_slice(), added_items(added))
         }
-        _ => Ok(None),
+        Base::Leaf(_leaf) => Ok(None),
+        Base::Integer(_numbers) => Ok(None),
+        Base::Sequence(_members) => Ok(None),
+        Base::Set(_members) => Ok(None),
+        Base::SequenceOf(_element) => Ok(None),
+        Base::SetOf(_element) => Ok(None),
+        Base::Choice(_alternatives) => Ok(None),
+        Base::Reference { .. } => Ok(None),
     }
 }
 

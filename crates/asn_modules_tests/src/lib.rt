@@ -1,6 +1,6 @@
 //! Tests types of published modules by direct calls: texts of modules are read, types are found by
-//! their names, texts of values are converted by them in all four directions, and what is refused is
-//! compared with its text.
+//! their names, texts of values are converted by them in all four directions, and what is refused
+//! is compared with its text.
 #![tactic(auto)]
 
 #[cfg(test)]

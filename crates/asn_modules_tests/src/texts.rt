@@ -5,8 +5,8 @@ use asn_modules::{Modules, read_modules};
 use std::alloc::Global;
 use std::test::Fail;
 
-/// Returns the canonical text under `to` of the value that a text is under `from` by the type of the
-/// name, or what is printed where it is refused.
+/// Returns the canonical text under `to` of the value that a text is under `from` by the type of
+/// the name, or what is printed where it is refused.
 pub fn converted(
     alloc: Global,
     modules: &Modules,

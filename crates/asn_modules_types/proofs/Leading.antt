@@ -1,5 +1,5 @@
 -- The values that names of values lead to.
-use Rattle.std.proofs.Common.{◌≡◌, ℕ, ℤ, zero, suc, ◌+◌, List, [], ◌∷◌, Option, Some, None, refl, sym, ap, ◌∙◌, arith}
+use Rattle.std.proofs.Common.{◌≡◌, ℕ, ℤ, zero, suc, ◌+◌, List, [], ◌∷◌, true, false, Option, Some, None, is_some, refl, sym, ap, ◌∙◌, arith}
 use Rattle.std.specs.List.{slice_get}
 use Rattle.std.specs.Option.{option_and_then, option_map, option_or}
 use Rattle.asn_modules_lookup.specs.declared.sort.Sort.TheVariants.{Values}
@@ -38,12 +38,20 @@ values_suc : (ss : List Source) (less : ℕ) (v : StatedValue) → values_from s
 unfolding values_from
 values_suc ss less v = refl
 
+pub none_is : {A : Type 0} (o p : Option A) → o ≡ p → is_some o ≡ false → None ≡ p
+none_is None p e h = e
+none_is (Some x) p e h = cc h
+
 -- The first of them with what f gives.
 module _ {A : Type 0} (f : List ℕ × Value → Option A) (ss : List Source) where
   -- It is the value itself.
   pub leads_here : (more : ℕ) (v : StatedValue) (x : A) → Some x ≡ f (in_text v) → Some x ≡ first_found f (values_from ss more v)
   leads_here zero v x e = sym (ap (first_found f) (values_zero ss v) ∙ ap (λ o. option_or o None) (sym e))
   leads_here (suc less) v x e = sym (ap (first_found f) (values_suc ss less v) ∙ ap (λ o. option_or o (first_found f (if_stated (values_from ss less) (next_value ss v)))) (sym e))
+
+  pub leads_some : (more : ℕ) (v : StatedValue) (o : Option A) → o ≡ f (in_text v) → is_some o ≡ true → o ≡ first_found f (values_from ss more v)
+  leads_some more v None e h = cc h
+  leads_some more v (Some x) e h = leads_here more v x e
 
   -- No more names are followed.
   pub leads_no_further : (more : ℕ) (v : StatedValue) → more ≡ 0 → None ≡ f (in_text v) → None ≡ first_found f (values_from ss more v)

@@ -15,7 +15,8 @@ use Rattle.asn_modules_names.proofs.Founds.{listed_all, listed_more, pushed}
 use Rattle.asn_modules_names.specs.Mentions.{Source}
 use Rattle.asn_modules_types.specs.Assigned as spec
 use Rattle.asn_modules_types.specs.Assigned.{assigned}
-use Rattle.asn_modules_types.specs.Linked.{linked_from, linked_type, linked_types, readable_or_none}
+use Rattle.asn_modules_types.specs.Linked.{linked_from, linked_type, linked_types, named_type, opened_type}
+use Rattle.asn_modules_types.specs.declared.limits.TheConstants.{NAME_LIMIT}
 
 module _ (ss : List Source) (count : ℕ) where
   -- One type more, whatever stands for it.
@@ -40,13 +41,9 @@ module _ (ss : List Source) (count : ℕ) where
 
   linked_readable : (ts : List spec.Assigned) (n : ℕ) → are_readable_among count (linked_from ss count n ts) ≡ true
   linked_readable [] n = refl
-  linked_readable (t ∷ ts) n = and-both _ _ (type_readable n) (linked_readable ts (suc n))
-    where
-      type_readable : (n : ℕ) → is_readable_in count count (linked_type ss count n) ≡ true
-      type_readable n = chosen _
-        where
-          chosen : (s : Shape) → is_readable_in count count (readable_or_none count s) ≡ true
-          chosen s = readable_chosen s (is_readable_in count count s) refl
+  linked_readable (t ∷ ts) n =
+      let s = opened_type ss (named_type ss NAME_LIMIT n) in
+      and-both _ _ (readable_chosen s (is_readable_in count count s) refl) (linked_readable ts (suc n))
 
   linked_length : (ts : List spec.Assigned) (n : ℕ) → length (linked_from ss count n ts) ≡ length ts
   linked_length [] n = refl

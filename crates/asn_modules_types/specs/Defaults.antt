@@ -8,7 +8,7 @@ use Rattle.asn_modules_names.specs.Assigned.{first_found}
 use Rattle.asn_modules_notation.specs.declared.value.Value.{Value}
 use Rattle.asn_modules_notation.specs.declared.value.Value.TheVariants as value
 use Rattle.asn_modules_types.specs.Numbers.{signed_in}
-use Rattle.asn_modules_types.specs.Scopes.{Scope, name_in}
+use Rattle.asn_modules_types.specs.Scopes.{Scope, ascii_of, name_in}
 
 abbrev pub boolean_named : List ℕ → Option Plain
 boolean_named word = if bytes_eq word (codes "TRUE") then Some (Plain.boolean true) else if bytes_eq word (codes "FALSE") then Some (Plain.boolean false) else None
@@ -17,7 +17,7 @@ boolean_named word = if bytes_eq word (codes "TRUE") then Some (Plain.boolean tr
 abbrev pub word_plain : (List ℕ → Option ℤ) → Shape → List ℕ → Option Plain
 word_plain numbers Shape.boolean word = boolean_named word
 word_plain numbers (Shape.int least greatest width) word = option_map (λ n. Plain.int n) (numbers word)
-word_plain numbers (Shape.enum items added) word = Some (Plain.item word)
+word_plain numbers (Shape.enum items added) word = Some (Plain.item (ascii_of word))
 word_plain numbers s word = None
 
 -- What a value in its text is as one of the shape. No string is read in this version.

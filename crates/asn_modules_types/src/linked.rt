@@ -84,8 +84,8 @@ fn all_types(names: &Names<'_, '_>) -> Result<Vec<Shape>, LinkFault>
 
 /// Returns the types that the modules of these texts assign, each as one shape at the place of its
 /// number, in which `Shape::Back` of a number stands for the type of that number. A type that names
-/// another one alone has the shape of that. A type has no values where it isn't known, isn't read or
-/// breaks a rule of shapes: it is refused where a value reaches it, and the others can be used.
+/// another one alone has the shape of that. A type has no values where it isn't known, isn't read,
+/// or breaks a rule of shapes: it is refused where a value reaches it, and the others can be used.
 ///
 /// # Errors
 ///

@@ -111,8 +111,9 @@ pub fn number_from<'s, 't>(
     ensures { result ≡ first_found (λ x. number_of_value x.0 x.1)
         (values_from (sources_of names.now) more (stated_view stated.entry)) }
 {
-    if let Some(number) = number_of_value(stated.home.source.text, stated.value) {
-        return Some(number);
+    let number = number_of_value(stated.home.source.text, stated.value);
+    if number.is_some() {
+        return number;
     }
     if more == 0 {
         return None;

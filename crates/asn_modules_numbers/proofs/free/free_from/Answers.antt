@@ -1,10 +1,10 @@
-use Rattle.std.proofs.Common.{◌≡◌, ◌+◌, ◌-◌, ◌+ℤ◌, pos, false, true, ap, sym, ◌∙◌, arith, to_z, of_z, FitsSigned}
+use Rattle.std.proofs.Common.{◌≡◌, ◌+◌, ◌-◌, ◌+ℤ◌, pos, false, true, ap, sym, ◌∙◌, arith, to_z, FitsSigned}
 use Rattle.std.proofs.lemmas.Int.{ints, to_z-of_z}
 use Rattle.std.specs.Int.{w128}
 use Rattle.std.specs.Ordering.{int_eq}
 use Rattle.std.specs.Set.{is_member}
 use Rattle.asn_modules_numbers.specs.Numbered.{first_free, free_from}
-use Rattle.asn_modules_numbers.proofs.Freed.{free_here, free_last, free_later}
+use Rattle.asn_modules_numbers.proofs.Freed.{free_here, free_later}
 use Rattle.asn_modules_numbers.proofs.free.free_from.Goals as goal
 
 pub returns-then-not-contains-clause-free : goal.returns-then-not-contains-clause-free

@@ -1,7 +1,7 @@
-use Rattle.std.proofs.Common.{◌≡◌, rules, arith, ap, ◌∙◌, SFits, to_z, of_z}
+use Rattle.std.proofs.Common.{◌≡◌, rules, arith, ap, ◌∙◌, to_z, of_z}
 use Rattle.std.proofs.lemmas.Int.{ints, to_z-of_z}
 use Rattle.std.specs.Int.{w128}
-use Rattle.asn_modules_numbers.specs.Numbered.{if_small, next_behind}
+use Rattle.asn_modules_numbers.specs.Numbered.{if_small}
 use Rattle.asn_modules_numbers.proofs.Numbering.{below_limit, item_added, small_more}
 use Rattle.asn_modules_numbers.proofs.numbered.numbered_from.Goals as goal
 

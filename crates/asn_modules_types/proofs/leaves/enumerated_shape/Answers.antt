@@ -19,7 +19,7 @@ returns c = λ limit.
     let made = c.match-added.added in
     let root : map string_bytes c.in_ok-items.items.items ≡ item_names s (root_of (items_view items o)) = c.in_ok-items.ensures limit ∙ ap (item_names s) (c.deref.ensures.value ∙ sym (items_root items o)) in
     let behind : option_map (λ v. map string_bytes v.items) made ≡ added_items s items o made = elim c.match-added.branch [
-      | in-Some+in_ok-item_names-in-Some w ↦ items_extended s items o made w.in-Some.added.now w.in_ok-item_names-in-Some.field-0 w.in-Some.is w.added-is (w.in_ok-item_names-in-Some.ensures limit ∙ ap (item_names s) w.deref-in-Some.ensures.value)
+      | in-Some+in_ok-item_names-in-Some w ↦ items_extended s items o made w.in-Some.added w.in_ok-item_names-in-Some.field-0 w.in-Some.is w.added-is (w.in_ok-item_names-in-Some.ensures limit ∙ ap (item_names s) w.deref-in-Some.ensures.value)
       | in-None+then-is_extensible w ↦ items_implied s items o made w.new.result w.in-None.is w.added-is w.new.ensures.items (sym w.is_extensible.ensures ∙ w.if-is_extensible.true)
       | in-None+else-is_extensible w ↦ items_ended s items o made w.in-None.is w.added-is (sym w.is_extensible.ensures ∙ w.if-is_extensible.false)
     ] in

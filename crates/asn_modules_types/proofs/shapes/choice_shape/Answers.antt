@@ -15,7 +15,7 @@ returns c =
     let made = c.match-lists-3.added in
     let added : added_alternative_views made ≡ added_alternatives_from (length root) (parts_added lists.added) = elim c.match-lists-3.branch [
       | in-Some-added+in_ok-alternatives_of-in-Some-added w ↦
-          alternatives_extended c.alternatives_of.new.tag lists.root.items lists.added w.in-Some-added.added made w.in_ok-alternatives_of-in-Some-added.field-0 c.in_ok-alternatives.ensures.tags w.in-Some-added.is w.added-is w.in_ok-alternatives_of-in-Some-added.ensures.alternatives
+          alternatives_extended c.alternatives_of.new.tag lists.root.items lists.added w.in-Some-added.added made w.in_ok-alternatives_of-in-Some-added.field-0 c.in_ok-alternatives.ensures.tags w.in-Some-added.is w.added-is (rw w.in-Some-added.is at w.in_ok-alternatives_of-in-Some-added.ensures.alternatives)
       | in-None w ↦ alternatives_closed (length root) lists.added made w.in-None.is w.added-is
     ] in
     λ extensible ps e.

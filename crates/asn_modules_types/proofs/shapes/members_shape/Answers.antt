@@ -17,7 +17,7 @@ returns c =
     let made = c.match-lists-3.added in
     let added : added_field_views made ≡ added_fields_from (length root) (parts_added lists.added) = elim c.match-lists-3.branch [
       | in-Some-added+in_ok-fields_of-in-Some-added w ↦
-          fields_extended c.fields_of.new.tag lists.root.items lists.added w.in-Some-added.added made w.in_ok-fields_of-in-Some-added.field-0 c.in_ok-fields.ensures.tags w.in-Some-added.is w.added-is w.in_ok-fields_of-in-Some-added.ensures.fields
+          fields_extended c.fields_of.new.tag lists.root.items lists.added w.in-Some-added.added made w.in_ok-fields_of-in-Some-added.field-0 c.in_ok-fields.ensures.tags w.in-Some-added.is w.added-is (rw w.in-Some-added.is at w.in_ok-fields_of-in-Some-added.ensures.fields)
       | in-None w ↦ fields_closed (length root) lists.added made w.in-None.is w.added-is
     ] in
     λ extensible ps e.

@@ -1,12 +1,11 @@
 -- Texts that are refused are no modules.
 use Rattle.std.proofs.Common.{◌≡◌, List, None, ap, subst, ◌∙◌}
-use Rattle.std.specs.Prelude.{Option}
 use Rattle.asn_modules.specs.Modules.{Modules}
 use Rattle.asn_modules.specs.Reading.{AreModules}
 use Rattle.asn_modules_checks.specs.Checks.{first_broken}
 use Rattle.asn_modules_faults.specs.declared.error.ModuleError.{ModuleError}
 use Rattle.asn_modules_faults.specs.declared.error.ModuleError.TheVariants as error
-use Rattle.asn_modules_names.specs.Faults.{Fault, Tells}
+use Rattle.asn_modules_names.specs.Faults.{Tells}
 use Rattle.asn_modules_names.specs.Mentions.{Source}
 use Rattle.asn_modules_sources.specs.Reading.{AreRead, Named}
 use Rattle.asn_modules_sources.proofs.Same.{same_sources}

@@ -1,7 +1,6 @@
 -- The names of types that modules assign.
 use Rattle.std.specs.Prelude.{ℕ, suc, List, [], ◌∷◌, ◌++◌, map, string_bytes, Bool, ◌||◌, if◌then◌else◌, Option, Some, None}
 use Rattle.std.specs.Str.{bytes_eq}
-use Rattle.asn_lexer.specs.declared.token.Token.{Token}
 use Rattle.asn_headers.specs.Headers.{Header}
 use Rattle.asn_modules.specs.declared.names.TypeName as code
 use Rattle.asn_modules_lookup.specs.Homes.{Home}

@@ -4,7 +4,6 @@ use Rattle.asn_modules.specs.Modules.{Modules}
 use Rattle.asn_modules.specs.Names.{type_names}
 use Rattle.asn_modules_checks.specs.Checks.{first_broken}
 use Rattle.asn_modules_faults.specs.declared.error.ModuleError.{ModuleError}
-use Rattle.asn_modules_faults.specs.declared.error.ModuleError.TheVariants as error
 use Rattle.asn_modules_names.specs.Faults.{Tells}
 use Rattle.asn_modules_names.specs.Mentions.{Source}
 use Rattle.asn_modules_sources.specs.Reading.{AreRead, IsFirstRefused, Named}

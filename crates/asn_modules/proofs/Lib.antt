@@ -1,3 +1,0 @@
-mod Naming
-mod Opening
-mod Reading

@@ -1,4 +1,0 @@
-pub mod Empty
-pub mod Names
-pub mod Modules
-pub mod Reading

@@ -8,8 +8,8 @@ ghost use Rattle.std.specs.Prelude.{◌≡◌, ℤ};
 use asn_core::WholeNumber;
 use asn_integers::{IntegerType, beyond_128_bits};
 
-/// Returns the value of the type that a leaf's number is, or `None` exactly where the type lacks it,
-/// as each type lacks a number of more than 128 bits.
+/// Returns the value of the type that a leaf's number is, or `None` exactly where the type lacks
+/// it, as each type lacks a number of more than 128 bits.
 #[inline(always)]
 pub fn number_of<I: IntegerType>(number: Option<WholeNumber>) -> Option<I>
     ensures { (v : Value) → IsOwned v (OwnedLeaf.Number number)

@@ -39,15 +39,15 @@ all-digits n k (c ∷ cs) e = by (is_decimal c) refl e (all-digits (n * 10 + (c 
     by false is rest later = no_number rest
 
 -- One or more decimal digits are a number.
-numeral-read : (ds : List ℕ) → IsNumeral 10 ds → digits ds ≡ Some (digits_value 10 ds)
+pub numeral-read : (ds : List ℕ) → IsNumeral 10 ds → digits ds ≡ Some (digits_value 10 ds)
 numeral-read [] h = absurd (omega (arith, h.0))
 numeral-read (c ∷ cs) h = digits-valued 0 (c ∷ cs) h.1
 
-numeral-from : (ds : List ℕ) (k : ℕ) → digits ds ≡ Some k → IsNumeral 10 ds
+pub numeral-from : (ds : List ℕ) (k : ℕ) → digits ds ≡ Some k → IsNumeral 10 ds
 numeral-from [] k e = no_number e
 numeral-from (c ∷ cs) k e = (omega arith, all-digits 0 k (c ∷ cs) e)
 
-same_number : {m n : ℕ} → ◌≡◌ {A = Option ℕ} (Some m) (Some n) → m ≡ n
+pub same_number : {m n : ℕ} → ◌≡◌ {A = Option ℕ} (Some m) (Some n) → m ≡ n
 same_number e = cc e
 
 -- The answer of std's reader is the arc that the text is, if it is one.

@@ -64,8 +64,8 @@ pub fn is_readable_with(alloc: Global, shape: &Shape) -> bool
 }
 
 /// Returns whether a shape can be read that is the innermost body of so many loops, each of which
-/// holds the next one directly, by the conditions of `is_readable`: so a `Back` may mean one of them
-/// where it stands in a list, sequence, set, table or choice. It takes no memory.
+/// holds the next one directly, by the conditions of `is_readable`: so a `Back` may mean one of
+/// them where it stands in a list, sequence, set, table or choice. It takes no memory.
 pub fn is_readable_within(shape: &Shape, loops: usize) -> bool
     ensures { result ≡ is_readable_in loops loops (shape_view shape.now) }
 {

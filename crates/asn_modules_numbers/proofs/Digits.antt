@@ -1,53 +1,14 @@
 -- What std reads as a number.
 use Rattle.std.proofs.Common.{◌≡◌, refl, ap, sym, ◌∙◌, arith, ℕ, zero, suc, ◌+◌, ◌-◌, ◌*◌, ◌^◌, List, [], ◌∷◌, Bool, true, false, nat_le, nat_lt, ◌&&◌, if◌then◌else◌, Option, Some, None, Result, Ok, Err, cond, drop, ◌==◌}
-use Rattle.std.specs.Char.{digit_value}
 use Rattle.std.specs.Result.{result_ok}
 use Rattle.std.specs.Str.{IsAscii, IsUtf8}
-use Rattle.std.specs.Str.Parse.{AllDigits, IsNumeral, ParsesUnsigned, digits_value, digits_value_after, without_leading_plus}
-use Rattle.std.proofs.lemmas.Bool.{eqb-true, le-leb, leb-true, lt-ltb, ltb-true}
-use Rattle.std.proofs.lemmas.Str.{IsUtf8-from_ascii, digit_value_digit}
+use Rattle.std.specs.Str.Parse.{AllDigits, ParsesUnsigned, digits_value, without_leading_plus}
+use Rattle.std.proofs.lemmas.Bool.{eqb-true, lt-ltb, ltb-true}
+use Rattle.std.proofs.lemmas.Str.{IsUtf8-from_ascii}
 use Rattle.std.proofs.lemmas.Str.Parse.{digit_from_value}
-use Rattle.asn_model.specs.Digits.{digits, digits_after}
-use Rattle.asn_model.proofs.Readables.{and-left, and-right, and-both}
+use Rattle.asn_model.specs.Digits.{digits}
+use Rattle.asn_model.proofs.ArcsParsed.{numeral-read, numeral-from, same_number}
 use Rattle.asn_modules_numbers.specs.Stated.{within_bits}
-
-abbrev is_decimal : ℕ → Bool
-is_decimal c = nat_le 48 c && nat_le c 57
-
--- Decimal digits are read as the number that std reads.
-digits-valued : (n : ℕ) (ds : List ℕ) → AllDigits 10 ds → digits_after n ds ≡ Some (digits_value_after 10 n ds)
-digits-valued n [] h = refl
-digits-valued n (c ∷ cs) h =
-    let range = digit_from_value c h.0 in
-    let value : c - 48 ≡ digit_value c = omega (arith, digit_value_digit c range) in
-    ap (λ b. if b then digits_after (n * 10 + (c - 48)) cs else None) (and-both _ _ (le-leb 48 c range.0) (le-leb c 57 range.1))
-    ∙ ap (λ k. digits_after (n * 10 + k) cs) value ∙ digits-valued (n * 10 + digit_value c) cs h.1
-
-no_number : {P : Type 0} {n : ℕ} → ◌≡◌ {A = Option ℕ} None (Some n) → P
-no_number e = cc e
-
--- What is read as a number is decimal digits.
-all-digits : (n k : ℕ) (ds : List ℕ) → digits_after n ds ≡ Some k → AllDigits 10 ds
-all-digits n k [] e = tt
-all-digits n k (c ∷ cs) e = by (is_decimal c) refl e (all-digits (n * 10 + (c - 48)) k cs)
-  where
-    by : (b : Bool) → is_decimal c ≡ b → (if b then digits_after (n * 10 + (c - 48)) cs else None) ≡ Some k → (digits_after (n * 10 + (c - 48)) cs ≡ Some k → AllDigits 10 cs) → AllDigits 10 (c ∷ cs)
-    by true is rest later =
-        let low = leb-true 48 c (and-left (nat_le 48 c) (nat_le c 57) is) in
-        let high = leb-true c 57 (and-right (nat_le 48 c) (nat_le c 57) is) in
-        (omega (arith, digit_value_digit c (low, high), high), later rest)
-    by false is rest later = no_number rest
-
-numeral-read : (ds : List ℕ) → IsNumeral 10 ds → digits ds ≡ Some (digits_value 10 ds)
-numeral-read [] h = absurd (omega (arith, h.0))
-numeral-read (c ∷ cs) h = digits-valued 0 (c ∷ cs) h.1
-
-numeral-from : (ds : List ℕ) (k : ℕ) → digits ds ≡ Some k → IsNumeral 10 ds
-numeral-from [] k e = no_number e
-numeral-from (c ∷ cs) k e = (omega arith, all-digits 0 k (c ∷ cs) e)
-
-same_number : {m n : ℕ} → ◌≡◌ {A = Option ℕ} (Some m) (Some n) → m ≡ n
-same_number e = cc e
 
 -- The answer of std's reader is the number of the digits, if it has so few bits.
 pub parsed-number : {E : Type 0} (bits : ℕ) (text : List ℕ) (r : Result ℕ E) → ParsesUnsigned bits 10 text r → result_ok r ≡ within_bits bits (digits (without_leading_plus text))

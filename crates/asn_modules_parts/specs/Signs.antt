@@ -3,7 +3,7 @@ use Rattle.std.specs.Prelude.{Bool, true, false}
 use Rattle.asn_lexer.specs.declared.keyword.Keyword.TheVariants as keyword
 use Rattle.asn_lexer.specs.declared.kind.Kind.{Kind}
 use Rattle.asn_lexer.specs.declared.kind.Kind.TheVariants as kind
-use Rattle.asn_modules_notation.specs.Kinds.{is_open_brace, is_of}
+use Rattle.asn_modules_notation.specs.Kinds.{is_open_brace, is_of, is_assignment}
 use Rattle.asn_modules_parts.specs.declared.sign.Sign.{Sign}
 use Rattle.asn_modules_parts.specs.declared.sign.Sign.TheVariants as sign
 
@@ -31,10 +31,6 @@ is_close_version k = false
 abbrev pub is_comma : Kind → Bool
 is_comma kind.Comma = true
 is_comma k = false
-
-abbrev pub is_assignment : Kind → Bool
-is_assignment kind.Assignment = true
-is_assignment k = false
 
 abbrev pub is_end : Kind → Bool
 is_end (kind.Reserved keyword.End) = true

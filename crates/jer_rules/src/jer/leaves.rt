@@ -137,8 +137,8 @@ pub fn leaf_of_json(alloc: Global, value: Value, kind: LeafKind) -> Result<Owned
     }
 }
 
-/// Returns the refusal of a JSON value that is none of this kind, for this reason. Where memory runs
-/// out, the refusal says that.
+/// Returns the refusal of a JSON value that is none of this kind, for this reason. Where memory
+/// runs out, the refusal says that.
 #[inline(never)]
 pub fn refusal_of_leaf(alloc: Global, kind: LeafKind, why: NoLeaf) -> DecodeError
     ensures { TellsNoLeaf kind why (failure_of result) }

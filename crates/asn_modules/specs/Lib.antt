@@ -1,0 +1,4 @@
+pub mod Empty
+pub mod Names
+pub mod Modules
+pub mod Reading

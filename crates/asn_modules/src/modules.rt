@@ -1,0 +1,74 @@
+//! Holds the types of modules.
+ghost use Rattle.asn_linked.specs.Places.{place_shape};
+ghost use Rattle.asn_linked_types.specs.Linked.{are_linked};
+ghost use Rattle.asn_model.specs.Readable.{is_readable};
+ghost use Rattle.asn_model.specs.ShapeView.{shape_view};
+ghost use Rattle.asn_modules.specs.Names.{type_name_view};
+ghost use Rattle.std.specs.Prelude.{◌≡◌, [], IfSome, MatchOption, None, Some, length, map, true};
+
+use crate::empty::is_without_values;
+use crate::names::{TypeName, number_named};
+use asn_linked::Place;
+use asn_model::Shape;
+
+/// Holds the types that modules assign, by which values are read and written.
+#[derive(Drop)]
+pub struct Modules {
+    /// Lists the names of the types.
+    names: Vec<TypeName>,
+    /// Lists the types, each at the place of its name: `Shape::Back` of a number names the type of
+    /// that number.
+    types: Vec<Shape>,
+    /// By each type, values can be read and written.
+    ghost linked: { are_linked (map shape_view types.items) ≡ true },
+    /// Each type has a name.
+    ghost named: { length names.items ≡ length types.items },
+}
+
+/// Finds types.
+impl Modules {
+    ghost use Rattle.asn_modules.specs.Modules.{has_no_values, modules_view, shape_named};
+
+    /// Returns the types with these names.
+    pub(crate) fn new(names: Vec<TypeName>, types: Vec<Shape>) -> Modules
+        requires linked { are_linked (map shape_view types.items) ≡ true }
+        requires named { length names.items ≡ length types.items }
+        ensures names { result.names ≡ names }
+        ensures types { result.types ≡ types }
+    {
+        Modules { names, types }
+    }
+
+    /// Returns the names of the types, in the order in which they are assigned.
+    pub fn names(&self) -> &[TypeName]
+        ensures { map type_name_view result.now ≡ (modules_view self.now).names }
+    {
+        self.names.as_slice()
+    }
+
+    /// Returns the type that the text names: by its name, if one type alone has that, or by the
+    /// name of its module, a point and its name, as `PKIX1.Certificate`. It is `None` where no type
+    /// is named so, or several are.
+    pub fn find(&self, name: &str) -> Option<Place<'_>>
+        ensures found { MatchOption result (shape_named (modules_view self.now) name.now ≡ None)
+            (λ place. shape_named (modules_view self.now) name.now
+            ≡ Some (place_shape [] place)) }
+        // So values can be read and written by it.
+        ensures readable { IfSome result (λ place. is_readable (place_shape [] place) ≡ true) }
+    {
+        match number_named(self.names.as_slice(), name) {
+            Some(number) => Place::of_type(self.types.as_slice(), number as u32),
+            None => None,
+        }
+    }
+    /// Returns whether the type of the number, in the order of `names`, is the one without values,
+    /// which stands for each type that isn't read. `false` where there is no such type.
+    pub fn has_no_values(&self, number: usize) -> bool
+        ensures { result ≡ has_no_values (modules_view self.now) number }
+    {
+        match self.types.get(number) {
+            Some(shape) => is_without_values(shape),
+            None => false,
+        }
+    }
+}

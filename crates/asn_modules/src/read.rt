@@ -1,0 +1,40 @@
+//! Reads modules.
+ghost use Rattle.asn_modules.specs.Modules.{Modules as ModulesView, modules_view};
+ghost use Rattle.asn_modules.specs.Reading.{AreModules, IsModulesRefusal};
+ghost use Rattle.asn_modules_sources.specs.Reading.{named_view};
+ghost use Rattle.asn_modules_text.specs.Texts.{IsRefused};
+ghost use Rattle.std.specs.Prelude.{IfErr, IfOk, map};
+
+use crate::modules::Modules;
+use crate::names::type_names;
+use asn_modules_checks::check_all;
+use asn_modules_lookup::{Sort, index_of};
+use asn_modules_sources::read_sources;
+use asn_modules_text::ModuleError;
+use asn_modules_types::linked_types;
+use std::alloc::Global;
+
+/// Returns the types that the modules of these texts assign. Each text stands behind its name, as
+/// that of its file, and may hold several modules. A part of a type that isn't read is refused
+/// where a value reaches it.
+///
+/// # Errors
+///
+/// `Refused` of the first text that is none of modules, else of the first name or number that
+/// breaks a rule of ASN.1, with the file, line and column. `OutOfMemory`, also where 2^32 types are
+/// assigned or one type has so many parts.
+pub fn read_modules(alloc: Global, texts: &[(&str, &str)]) -> Result<Modules, ModuleError>
+    ensures ok { IfOk result (λ m. AreModules (map named_view texts.now) (modules_view m)) }
+    ensures refused { IfErr result (IsModulesRefusal (map named_view texts.now)) }
+    ensures none { IfErr result (λ e. IsRefused e → (m : ModulesView)
+        → AreModules (map named_view texts.now) m → ⊥) }
+{
+    let sources = read_sources(alloc, texts)?;
+    check_all(alloc, sources.as_slice())?;
+    let index = index_of(alloc, Sort::Types, sources.as_slice())?;
+    let names = type_names(alloc, sources.as_slice())?;
+    match linked_types(alloc, sources.as_slice(), &index) {
+        Ok(types) => Ok(Modules::new(names, types)),
+        Err(_fault) => Err(ModuleError::OutOfMemory),
+    }
+}

@@ -1,0 +1,108 @@
+-- Types by example, each computed from its notation.
+use Rattle.std.proofs.Common.{◌≡◌, ℕ, ℤ, pos, suc, ◌+◌, List, [], ◌∷◌, codes, Bool, true, false, Option, Some, None, refl}
+use Rattle.asn_expansion.specs.Expansion.{context_tag}
+use Rattle.asn_lexer.specs.declared.kind.Kind.{Kind}
+use Rattle.asn_lexer.specs.declared.kind.Kind.TheVariants as kind
+use Rattle.asn_lexer.specs.declared.token.Token.{Token}
+use Rattle.asn_linked_types.specs.Expansion.{no_values}
+use Rattle.asn_model.specs.Shape.{Alternatives, AlternativeAdditions, Fields, FieldAdditions, Plain, Presence, SeqKind, Shape}
+use Rattle.asn_modules_notation.specs.Notation.{Base, Member, Notation, bit_string, choice, component, components_of, enumerated, group, integer, leaf, list_of, marker, members, members_of, notation, reference}
+use Rattle.asn_modules_notation.specs.declared.leaf.Leaf.TheVariants.{Boolean, Null}
+use Rattle.asn_modules_notation.specs.declared.notation.Presence.TheVariants.{Default, Optional, Required}
+use Rattle.asn_modules_notation.specs.declared.number.Constant.TheVariants as constant
+use Rattle.asn_modules_notation.specs.declared.value.Value.{Value}
+use Rattle.asn_modules_notation.specs.declared.value.Value.TheVariants as value
+use Rattle.asn_modules_types.specs.Leaves.{integer_shape}
+use Rattle.asn_modules_types.specs.Lists.{added_of, root_of}
+use Rattle.asn_modules_types.specs.Scopes.{Scope}
+use Rattle.asn_modules_types.specs.Types.{notation_shape}
+
+-- The text of these examples, in which each token is one character.
+abbrev letters : List ℕ
+letters = codes "abcdefgh0123456789"
+
+-- The number at place 11, which is 3.
+abbrev number_three : Value
+number_three = value.Number (record { negative = false; digits = record { kind = kind.Number; start = 11; end = 12 } })
+
+-- A module of this text, where names of types stand for the type of number 7, words for the number 5, and each value leads to that number.
+abbrev example : Bool → Scope
+example extensible = record {
+  text = letters;
+  extensible = extensible;
+  type_named = λ home name. Shape.back 7;
+  number_named = λ home name word. Some (pos 5);
+  values = λ v. (letters, v) ∷ (letters, number_three) ∷ [];
+}
+
+-- The token of the kind at the place.
+abbrev at : Kind → ℕ → Token
+at k n = record { kind = k; start = n; end = suc n }
+
+abbrev word : ℕ → Token
+word n = at kind.Name n
+
+-- A type without tags and constraints.
+abbrev plain : Base → Notation
+plain b = notation [] b []
+
+-- Entries before the first marker and behind the second one are the root.
+roots : root_of {A = ℕ} (Some 1 ∷ Some 2 ∷ None ∷ Some 3 ∷ None ∷ Some 4 ∷ []) ≡ 1 ∷ 2 ∷ 4 ∷ []
+roots = refl
+
+additions : added_of {A = ℕ} (Some 1 ∷ Some 2 ∷ None ∷ Some 3 ∷ None ∷ Some 4 ∷ []) ≡ Some (3 ∷ [])
+additions = refl
+
+-- BIT STRING (SIZE (8)) has that size, and BIT STRING (SIZE (a..3)) that of the value of a.
+eight : notation_shape (example false) (notation [] (bit_string []) (record { low = at kind.Number 16; high = at kind.Number 16 } ∷ [])) ≡ Shape.bits (Some 8)
+eight = refl
+
+three : notation_shape (example false) (notation [] (bit_string []) (record { low = word 0; high = at kind.Number 11 } ∷ [])) ≡ Shape.bits (Some 3)
+three = refl
+
+-- BIT STRING (SIZE (3..8)) has none, and around BIT STRING (SIZE (3)) it changes none.
+many : notation_shape (example false) (notation [] (bit_string []) (record { low = at kind.Number 11; high = at kind.Number 16 } ∷ [])) ≡ Shape.bits None
+many = refl
+
+within : notation_shape (example false) (notation [] (bit_string []) (record { low = at kind.Number 11; high = at kind.Number 11 } ∷ record { low = at kind.Number 11; high = at kind.Number 16 } ∷ [])) ≡ Shape.bits (Some 3)
+within = refl
+
+-- SEQUENCE { a BOOLEAN, ..., [[ b NULL ]], ..., c T OPTIONAL }
+abbrev both_markers : List Member
+both_markers = component (word 0) (plain (leaf Boolean)) Required ∷ marker ∷ group (members_of (component (word 1) (plain (leaf Null)) Required ∷ [])) ∷ marker ∷ component (word 2) (plain (reference None (word 7))) Optional ∷ []
+
+sequence : notation_shape (example false) (plain (members SeqKind.sequence (members_of both_markers)))
+    ≡ Shape.seq SeqKind.sequence
+    (Fields.field (codes "a") (context_tag 0) Presence.required Shape.boolean (Fields.field (codes "c") (context_tag 1) Presence.optional (Shape.back 7) Fields.no_fields))
+    (FieldAdditions.extended_fields (Fields.field (codes "b") (context_tag 2) Presence.optional Shape.null Fields.no_fields))
+sequence = refl
+
+-- CHOICE { a BOOLEAN } where EXTENSIBILITY IMPLIED stands.
+extended : notation_shape (example true) (plain (choice (members_of (component (word 0) (plain (leaf Boolean)) Required ∷ []))))
+    ≡ Shape.choice (Alternatives.alternative (codes "a") (context_tag 0) Shape.boolean Alternatives.no_alternatives) (AlternativeAdditions.extended_alternatives Alternatives.no_alternatives)
+extended = refl
+
+-- SEQUENCE { a INTEGER { b (4) } DEFAULT b } and SEQUENCE { a INTEGER DEFAULT c }, where c is the number 3.
+abbrev defaulted : Base → Value → Notation
+defaulted b v = plain (members SeqKind.sequence (members_of (component (word 0) (plain b) (Default v) ∷ [])))
+
+abbrev by_default : Plain → Shape → Shape
+by_default p s = Shape.seq SeqKind.sequence (Fields.field (codes "a") (context_tag 0) (Presence.default p) s Fields.no_fields) FieldAdditions.closed_fields
+
+named : notation_shape (example false) (defaulted (integer (record { name = word 1; number = constant.Number (record { negative = false; digits = at kind.Number 12 }) } ∷ [])) (value.Word (word 1))) ≡ by_default (Plain.int (pos 4)) integer_shape
+named = refl
+
+assigned : notation_shape (example false) (defaulted (integer []) (value.Word (word 2))) ≡ by_default (Plain.int (pos 3)) integer_shape
+assigned = refl
+
+-- ENUMERATED { b, c, ... } with DEFAULT c
+item : notation_shape (example false) (defaulted (enumerated (Some (record { name = word 1; number = None }) ∷ Some (record { name = word 2; number = None }) ∷ None ∷ [])) (value.Word (word 2)))
+    ≡ by_default (Plain.item (codes "c")) (Shape.enum (codes "b" ∷ codes "c" ∷ []) (Some []))
+item = refl
+
+-- A DEFAULT that isn't understood leaves no values, and so does COMPONENTS OF in this version.
+unsuited : notation_shape (example false) (defaulted (leaf Null) (value.Word (word 2))) ≡ no_values
+unsuited = refl
+
+included : notation_shape (example false) (plain (members SeqKind.set (members_of (components_of (plain (reference None (word 7))) ∷ [])))) ≡ no_values
+included = refl

@@ -1,0 +1,11 @@
+mod Examples
+mod Ascii
+mod Listing
+mod Tagged
+mod Naming
+mod Leading
+mod Sizing
+mod Following
+mod Seen
+mod Separated
+mod Linking

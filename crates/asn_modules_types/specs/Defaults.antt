@@ -1,0 +1,36 @@
+-- The values that DEFAULT states.
+use Rattle.std.specs.Prelude.{ℕ, ℤ, List, true, false, codes, if◌then◌else◌, Option, Some, None}
+use Rattle.std.specs.Option.{option_map}
+use Rattle.std.specs.Str.{bytes_eq}
+use Rattle.asn_model.specs.Readable.{is_of_shape}
+use Rattle.asn_model.specs.Shape.{Plain, Shape}
+use Rattle.asn_modules_names.specs.Assigned.{first_found}
+use Rattle.asn_modules_notation.specs.declared.value.Value.{Value}
+use Rattle.asn_modules_notation.specs.declared.value.Value.TheVariants as value
+use Rattle.asn_modules_types.specs.Numbers.{signed_in}
+use Rattle.asn_modules_types.specs.Scopes.{Scope, ascii_of, name_in}
+
+abbrev pub boolean_named : List ℕ → Option Plain
+boolean_named word = if bytes_eq word (codes "TRUE") then Some (Plain.boolean true) else if bytes_eq word (codes "FALSE") then Some (Plain.boolean false) else None
+
+-- What a word is as a value of the shape, whose named numbers are these: TRUE or FALSE, a named number, or an item.
+abbrev pub word_plain : (List ℕ → Option ℤ) → Shape → List ℕ → Option Plain
+word_plain numbers Shape.boolean word = boolean_named word
+word_plain numbers (Shape.int least greatest width) word = option_map (λ n. Plain.int n) (numbers word)
+word_plain numbers (Shape.enum items added) word = Some (Plain.item (ascii_of word))
+word_plain numbers s word = None
+
+-- What a value in its text is as one of the shape. No string is read in this version.
+abbrev pub plain_in : (List ℕ → Option ℤ) → Shape → List ℕ → Value → Option Plain
+plain_in numbers shape text (value.Number n) = option_map (λ k. Plain.int k) (signed_in text n)
+plain_in numbers shape text (value.Word t) = word_plain numbers shape (name_in text t)
+plain_in numbers shape text v = None
+
+-- The value, if it is one of the shape.
+abbrev pub suited : Shape → Option Plain → Option Plain
+suited shape None = None
+suited shape (Some p) = if is_of_shape shape p then Some p else None
+
+-- The value of the shape that a DEFAULT states: of those that its value leads to, the first that is one of the shape.
+abbrev pub default_of : Scope → (List ℕ → Option ℤ) → Shape → Value → Option Plain
+default_of s numbers shape v = first_found (λ x. suited shape (plain_in numbers shape x.0 x.1)) (s.values v)

@@ -1,0 +1,80 @@
+-- What contracts see of types and values and of where they stand.
+use Rattle.std.specs.Prelude.{◌≡◌, ◌<◌, ℕ, List, [], ◌∷◌, ◌++◌, length, map, string_bytes, Bool, Option, Some, None}
+use Rattle.std.specs.Global.{Vec}
+use Rattle.std.specs.Option.{option_map}
+use Rattle.asn_linked_types.specs.declared.limits.TheConstants.{TYPE_LIMIT}
+use Rattle.asn_model.specs.ShapeView.{presence_view, shape_view}
+use Rattle.asn_modules_lookup.specs.Homes.{home_view}
+use Rattle.asn_modules_lookup.specs.Indexes.{IsIndexOf}
+use Rattle.asn_modules_lookup.specs.declared.sort.Sort.TheVariants.{Types, Values}
+use Rattle.asn_modules_names.specs.Mentions.{Source, source_view}
+use Rattle.asn_modules_notation.specs.Notation as notation
+use Rattle.asn_modules_notation.specs.View.{assignment_view}
+use Rattle.asn_modules_notation.specs.declared.notation.Extension.{Extension, out-Extension}
+use Rattle.asn_modules_notation.specs.declared.notation.Member.{Member}
+use Rattle.asn_modules_reader.specs.Views.{member_view}
+use Rattle.asn_modules_types.specs.Assigned as spec
+use Rattle.asn_modules_types.specs.Linked.{scope_of}
+use Rattle.asn_modules_types.specs.Lists.{added_of, behind, front, front_of, implied, root_of}
+use Rattle.asn_modules_types.specs.Scopes as scopes
+use Rattle.asn_modules_types.specs.Types as types
+use Rattle.asn_modules_types.specs.Values as values
+use Rattle.asn_modules_types.specs.declared.assigned.Assigned.{Assigned}
+use Rattle.asn_modules_types.specs.declared.names.Names.{Names}
+use Rattle.asn_modules_types.specs.declared.parts.Lists.{Lists}
+use Rattle.asn_modules_types.specs.declared.parts.Part.{Part}
+use Rattle.asn_modules_types.specs.declared.scope.Scope.{Scope}
+use Rattle.asn_modules_types.specs.declared.values.StatedValue.{StatedValue}
+
+abbrev pub assigned_view : Assigned → spec.Assigned
+assigned_view a = record { number = a.number; home = home_view a.home; assignment = assignment_view a.assignment.now }
+
+abbrev pub stated_view : StatedValue → values.StatedValue
+stated_view v = record { number = v.number; home = home_view v.home; value = v.value }
+
+-- The texts that the names stand in.
+abbrev pub sources_of : Names → List Source
+sources_of names = map source_view names.sources.now
+
+-- The tables are those of the texts, and so are the types and values; there are fewer types than the limit.
+pub record KnowsNames (names : Names) : Type 0 where
+  pub type_index : IsIndexOf Types (sources_of names) names.type_index.now
+  pub value_index : IsIndexOf Values (sources_of names) names.value_index.now
+  pub types : map assigned_view names.types.now ≡ spec.assigned Types (sources_of names)
+  pub values : map assigned_view names.values.now ≡ spec.assigned Values (sources_of names)
+  pub few : length names.types.now < TYPE_LIMIT
+
+-- Where a type stands, with names of types followed past at most so many others.
+abbrev pub scope_view : ℕ → Scope → scopes.Scope
+scope_view limit s = scope_of (sources_of s.names.now) limit s.number (home_view s.home)
+
+abbrev pub part_view : Part → types.Part
+part_view p = record { name = string_bytes p.name; presence = presence_view p.presence; shape = shape_view p.shape }
+
+-- Parts without a marker among them.
+abbrev pub unmarked : List Part → List (Option types.Part)
+unmarked ps = map (λ p. Some (part_view p)) ps
+
+abbrev pub unmarked_view : Option (Vec Part) → Option (List (Option types.Part))
+unmarked_view o = option_map (λ v. unmarked v.items) o
+
+-- The root, and the extension additions if there is a marker.
+abbrev pub lists_view : Lists → List types.Part × Option (List types.Part)
+lists_view l = (map part_view l.root.items, option_map (λ v. map part_view v.items) l.added)
+
+-- Those that entries are.
+abbrev pub listed : Bool → Option (List (Option types.Part)) → Option (List types.Part × Option (List types.Part))
+listed extensible ps = option_map (λ xs. (root_of xs, implied extensible (added_of xs))) ps
+
+-- The root and the extension additions of a type, of these parts before a marker and of what stands behind that.
+abbrev pub listed_behind : List types.Part → Option (List (Option types.Part)) → Option (List types.Part × Option (List types.Part))
+listed_behind root ps = option_map (λ xs. (root ++ front_of (behind xs), Some (front xs))) ps
+
+-- Entries behind the second extension marker, with it.
+abbrev pub tail_view : Option (Vec Member) → List notation.Member
+tail_view None = []
+tail_view (Some ms) = notation.marker ∷ map member_view ms.items
+
+-- The entries that an `Extension` is.
+abbrev pub extension_view : Extension → List notation.Member
+extension_view e = map member_view (out-Extension e).additions.items ++ tail_view (out-Extension e).tail

@@ -1,0 +1,11 @@
+pub mod Scopes
+pub mod Numbers
+pub mod Sizes
+pub mod Lists
+pub mod Leaves
+pub mod Defaults
+pub mod Types
+pub mod Assigned
+pub mod Values
+pub mod Linked
+pub mod Known

@@ -1,0 +1,99 @@
+-- The types that modules assign, each as one shape, in which `back` of a number means the type of that number.
+use Rattle.std.specs.Prelude.{ℕ, ℤ, zero, suc, List, [], ◌∷◌, length, Bool, true, false, if◌then◌else◌, Option, Some, None}
+use Rattle.std.specs.List.{slice_get}
+use Rattle.std.specs.Option.{option_and_then}
+use Rattle.asn_headers.specs.Headers.{Header}
+use Rattle.asn_lexer.specs.declared.token.Token.{Token}
+use Rattle.asn_linked_types.specs.Expansion.{no_values}
+use Rattle.asn_model.specs.Readable.{is_readable_in}
+use Rattle.asn_model.specs.Shape.{Shape}
+use Rattle.asn_modules_lookup.specs.Homes.{Home}
+use Rattle.asn_modules_lookup.specs.declared.sort.Sort.TheVariants.{Types}
+use Rattle.asn_modules_names.specs.Mentions.{Source}
+use Rattle.asn_modules_notation.specs.Notation.{Base, Notation, choice, list_of, members, notation}
+use Rattle.asn_modules_types.specs.Assigned.{Assigned, assigned, notation_of}
+use Rattle.asn_modules_types.specs.Scopes.{Scope}
+use Rattle.asn_modules_types.specs.Types.{notation_shape, number_in_type}
+use Rattle.asn_modules_types.specs.Values.{found_in, value_in, values_from}
+use Rattle.asn_modules_types.specs.declared.limits.TheConstants.{NAME_LIMIT}
+
+-- EXTENSIBILITY IMPLIED stands in the header, if there is one.
+abbrev pub is_extensible : Option Header → Bool
+is_extensible None = false
+is_extensible (Some h) = h.opening.extensible
+
+-- The shape of the type of the number, if there is one.
+abbrev pub shape_or : (ℕ → Shape) → Option ℕ → Shape
+shape_or shapes None = no_values
+shape_or shapes (Some n) = shapes n
+
+-- The scope of a module in which types of these numbers have these shapes and named numbers.
+abbrev pub scope_in : List Source → ℕ → Home → (ℕ → Shape) → (ℕ → List ℕ → Option ℤ) → Scope
+scope_in ss k h shapes numbers = record {
+  text = h.source.text;
+  extensible = is_extensible h.parsed.header;
+  type_named = λ home name. shape_or shapes (found_in Types ss k h home name);
+  number_named = λ home name word. option_and_then (λ n. numbers n word) (found_in Types ss k h home name);
+  values = λ v. values_from ss NAME_LIMIT (value_in k h v);
+}
+
+-- The type has parts, and is named by its number.
+abbrev pub has_parts : Base → Bool
+has_parts (members kind ms) = true
+has_parts (list_of kind n) = true
+has_parts (choice ms) = true
+has_parts b = false
+
+abbrev pub base_of : Notation → Base
+base_of (notation tags base sizes) = base
+
+-- What the name of the type of number n stands for, by its assignment: the number, where it has parts; else its shape, where names in it have these shapes and numbers.
+abbrev pub named_by : List Source → (ℕ → Shape) → (ℕ → List ℕ → Option ℤ) → ℕ → Option Assigned → Shape
+named_by ss shapes numbers n None = no_values
+named_by ss shapes numbers n (Some t) =
+    if has_parts (base_of (notation_of t.assignment)) then Shape.back n else notation_shape (scope_in ss t.number t.home shapes numbers) (notation_of t.assignment)
+
+abbrev pub number_by : List Source → (ℕ → List ℕ → Option ℤ) → Option Assigned → List ℕ → Option ℤ
+number_by ss numbers None word = None
+number_by ss numbers (Some t) word = number_in_type (scope_in ss t.number t.home (λ n. no_values) numbers) (notation_of t.assignment) word
+
+-- The number that a word names in the type of number n, past at most so many names that stand for it.
+unfoldable pub number_word : List Source → ℕ → ℕ → List ℕ → Option ℤ
+number_word ss zero n word = None
+number_word ss (suc more) n word = number_by ss (number_word ss more) (slice_get (assigned Types ss) n) word
+
+-- What the name of the type of number n stands for, past at most so many names that stand for it. Names that stand for each other have no values.
+unfoldable pub named_type : List Source → ℕ → ℕ → Shape
+named_type ss zero n = no_values
+named_type ss (suc more) n = named_by ss (named_type ss more) (number_word ss more) n (slice_get (assigned Types ss) n)
+
+-- The scope of a module, where names of types are followed past at most so many others.
+abbrev pub scope_of : List Source → ℕ → ℕ → Home → Scope
+scope_of ss limit k h = scope_in ss k h (named_type ss limit) (number_word ss limit)
+
+-- The shape of a type with parts, by its assignment.
+abbrev pub parts_shape : List Source → Option Assigned → Shape
+parts_shape ss None = no_values
+parts_shape ss (Some t) = notation_shape (scope_of ss NAME_LIMIT t.number t.home) (notation_of t.assignment)
+
+-- What a name stands for, opened: a number is the shape of the type of that number.
+abbrev pub opened_type : List Source → Shape → Shape
+opened_type ss (Shape.back n) = parts_shape ss (slice_get (assigned Types ss) n)
+opened_type ss s = s
+
+-- The shape, if it can be read where so many types are named; else one without values.
+abbrev pub readable_or_none : ℕ → Shape → Shape
+readable_or_none count s = if is_readable_in count count s then s else no_values
+
+-- The shape of the type of number n, of so many.
+abbrev pub linked_type : List Source → ℕ → ℕ → Shape
+linked_type ss count n = readable_or_none count (opened_type ss (named_type ss NAME_LIMIT n))
+
+-- The shapes of types, from number n on, of so many.
+abbrev pub linked_from : List Source → ℕ → ℕ → List Assigned → List Shape
+linked_from ss count n [] = []
+linked_from ss count n (t ∷ ts) = linked_type ss count n ∷ linked_from ss count (suc n) ts
+
+-- The shapes of all types, each at the place of its number.
+abbrev pub linked_types : List Source → List Shape
+linked_types ss = linked_from ss (length (assigned Types ss)) 0 (assigned Types ss)

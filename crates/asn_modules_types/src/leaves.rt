@@ -1,0 +1,92 @@
+//! Makes the shapes of types without parts.
+ghost use Rattle.asn_model.specs.ShapeView.{shape_view};
+ghost use Rattle.asn_modules_notation.specs.View.{items_view};
+ghost use Rattle.asn_modules_types.specs.Known.{scope_view};
+ghost use Rattle.asn_modules_types.specs.Leaves.{enumerated_shape, integer_shape, item_names};
+ghost use Rattle.asn_modules_types.specs.Leaves.{leaf_shape};
+ghost use Rattle.std.specs.Prelude.{◌≡◌, ℕ, IfOk, map, string_bytes};
+
+use crate::fault::LinkFault;
+use crate::scope::{Scope, is_extensible};
+use crate::words::name_in;
+use asn_linked_types::no_values;
+use asn_model::{Alphabet, Shape};
+use asn_modules_notation::{Closed, Item, Leaf};
+use std::alloc::{AllocError, Global};
+
+/// Returns the shape of INTEGER.
+pub fn integer_shape() -> Shape
+    ensures { shape_view result ≡ integer_shape }
+{
+    Shape::Int {
+        least: i128::MIN,
+        greatest: i128::MAX as u128,
+        width: i128::BITS,
+    }
+}
+
+/// Returns the shape of a type without parts.
+pub fn leaf_shape(alloc: Global, leaf: Leaf) -> Shape
+    ensures { shape_view result ≡ leaf_shape leaf }
+{
+    match leaf {
+        Leaf::Boolean => Shape::Bool,
+        Leaf::Null => Shape::Null,
+        Leaf::OctetString => Shape::Octets,
+        Leaf::ObjectIdentifier => Shape::Oid,
+        Leaf::Text(alphabet) => Shape::Str { alphabet },
+        Leaf::Bmp => Shape::Bmp,
+        Leaf::Teletex => Shape::Str {
+            alphabet: Alphabet::General,
+        },
+        Leaf::UtcTime => Shape::Utc,
+        Leaf::GeneralizedTime => Shape::Gen,
+        Leaf::Date => Shape::Day,
+        Leaf::Closed(Closed::Any) => Shape::Any,
+        Leaf::Closed(_) => no_values(alloc),
+    }
+}
+
+/// Returns the identifiers of the items.
+///
+/// # Errors
+///
+/// Where memory runs out.
+fn item_names(scope: &Scope<'_, '_, '_>, items: &[Item]) -> Result<Vec<String>, AllocError>
+    ensures { (limit : ℕ) → IfOk result (λ names. map string_bytes names.items
+        ≡ item_names (scope_view limit scope.now) items.now) }
+{
+    let mut names = Vec::new(scope.names.alloc);
+    for item in items {
+        names.push(name_in(scope.names.alloc, scope.home.source.text, item.name)?)?;
+    }
+    Ok(names)
+}
+
+/// Returns the shape of an ENUMERATED of these items, and of `added` behind the extension marker,
+/// if there is one.
+///
+/// # Errors
+///
+/// Where memory runs out.
+pub fn enumerated_shape(
+    scope: &Scope<'_, '_, '_>,
+    items: &Vec<Item>,
+    added: &Option<Vec<Item>>,
+) -> Result<Shape, AllocError>
+    ensures { (limit : ℕ) → IfOk result (λ s. shape_view s
+        ≡ enumerated_shape (scope_view limit scope.now) (items_view items.now added.now)) }
+{
+    let items = item_names(scope, items)?;
+    let added = match added {
+        Some(added) => Some(item_names(scope, added)?),
+        None => {
+            if is_extensible(scope) {
+                Some(Vec::new(scope.names.alloc))
+            } else {
+                None
+            }
+        }
+    };
+    Ok(Shape::Enum { items, added })
+}

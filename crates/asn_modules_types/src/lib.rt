@@ -1,0 +1,25 @@
+//! Gives the types that modules assign as shapes, of which each names others by their numbers:
+//! `Shape::Back` of a number stands for the type of that number. What a type means by these is its
+//! expansion, which is never built.
+#![tactic(auto)]
+
+mod assigned;
+mod defaults;
+mod fault;
+mod leaves;
+mod limits;
+mod linked;
+mod names;
+mod numbers;
+mod parts;
+mod scope;
+mod shapes;
+mod sizes;
+mod values;
+mod words;
+
+pub use assigned::{Assigned, assigned_of};
+pub use fault::LinkFault;
+pub use limits::NAME_LIMIT;
+pub use linked::linked_types;
+pub use words::name_in;

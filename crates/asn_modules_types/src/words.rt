@@ -1,0 +1,52 @@
+//! Reads words.
+ghost use Rattle.asn_modules_types.specs.Scopes.{ascii_of, name_in};
+ghost use Rattle.std.specs.List.{list_all};
+ghost use Rattle.std.specs.Prelude.{◌≡◌, IfOk, nat_lt, string_bytes};
+
+use asn_lexer::Token;
+use asn_modules_faults::text_of;
+use std::alloc::{AllocError, Global};
+
+/// Returns whether the bytes are ASCII.
+fn is_ascii(bytes: &[u8]) -> bool
+    ensures { result ≡ list_all (λ c. nat_lt c 128) bytes.now }
+{
+    bytes.iter().all(|byte| *byte < 128)
+}
+
+/// Returns the word that the token is in its text: its bytes, and none where they aren't ASCII.
+pub fn word_in<'t>(text: &'t str, token: Token) -> &'t [u8]
+    ensures { result.now ≡ name_in text.now token }
+{
+    let bytes = text_of(text, token);
+    if is_ascii(bytes) { bytes } else { &[] }
+}
+
+/// Returns the bytes as a string, and none where they aren't ASCII.
+///
+/// # Errors
+///
+/// Where memory runs out.
+pub fn string_of(alloc: Global, bytes: &[u8]) -> Result<String, AllocError>
+    ensures { IfOk result (λ s. string_bytes s ≡ ascii_of bytes.now) }
+{
+    if !is_ascii(bytes) {
+        return Ok(String::new(alloc));
+    }
+    match str::from_utf8(bytes) {
+        Ok(word) => String::from_str(alloc, word),
+        // ASCII is UTF-8.
+        Err(_fault) => Ok(String::new(alloc)),
+    }
+}
+
+/// Returns the name that the token is in its text, as a string.
+///
+/// # Errors
+///
+/// Where memory runs out.
+pub fn name_in(alloc: Global, text: &str, token: Token) -> Result<String, AllocError>
+    ensures { IfOk result (λ s. string_bytes s ≡ name_in text.now token) }
+{
+    string_of(alloc, text_of(text, token))
+}

@@ -1,0 +1,7 @@
+//! Tests what types of published modules mean for values, by texts of modules and of values.
+#![tactic(auto)]
+
+#[cfg(test)]
+mod markers;
+#[cfg(test)]
+mod values;

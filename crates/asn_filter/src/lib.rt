@@ -8,5 +8,6 @@ mod fault;
 mod keeping;
 mod lines;
 
+pub use cutting::cut;
 pub use fault::{FilterFault, LineFault};
 pub use keeping::{Kept, keep};

@@ -1,14 +1,12 @@
-//! Does the work of the command `asn` over texts of published modules and a text of a value: what
-//! goes to standard output where it is done, and what goes to standard error where it is refused.
-//! The program (`asn_command_main`) reads the command line and the files.
+//! Does the work of the command `asn` over texts of published modules and of values: what goes to
+//! standard output where it is done, and what goes to standard error where it is refused. The
+//! program (`asn_command_main`) reads the command line and opens the files.
 #![tactic(auto)]
 
-mod checking;
-mod converting;
-mod reply;
+mod conversion;
+mod lines;
 mod types;
 
-pub use checking::check;
-pub use converting::convert;
-pub use reply::Reply;
-pub use types::list_types;
+pub use conversion::{Conversion, conversion_reply};
+pub use lines::ConvertLines;
+pub use types::types_text;

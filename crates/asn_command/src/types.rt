@@ -7,7 +7,7 @@ ghost use Rattle.std.specs.Prelude.{◌≡◌, IfOk, string_bytes};
 
 use asn_core::OutOfMemory;
 use asn_model::Shape;
-use asn_modules::{Modules, TypeName};
+use asn_modules::{Modules, TypeName, is_without_values};
 use asn_type_words::kind_word;
 use std::alloc::Global;
 

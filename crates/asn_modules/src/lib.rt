@@ -10,6 +10,7 @@ mod read;
 
 pub use asn_linked::Place;
 pub use asn_modules_text::ModuleError;
+pub use empty::is_without_values;
 pub use modules::Modules;
 pub use names::TypeName;
 pub use read::read_modules;

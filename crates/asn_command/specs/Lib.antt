@@ -1,3 +1,5 @@
+pub mod OneLine
 pub mod Conversions
+pub mod Whole
 pub mod Listings
 pub mod Versions

@@ -1,8 +1,8 @@
 -- What versions of a type come to.
-use Rattle.std.specs.Prelude.{◌≡◌, ◌⊎◌, ◌<◌, ◌^◌, ℕ, List, [], ◌∷◌, ◌++◌, codes, decimal, String, string_bytes, IsUtf8, Bool, true, Option, Some, None, Result, Ok, Err}
+use Rattle.std.specs.Prelude.{◌≡◌, ◌⊎◌, ◌<◌, ◌^◌, ℕ, List, [], ◌∷◌, ◌++◌, codes, String, string_bytes, IsUtf8, Bool, true, Option, Some, None, Result, Ok, Err}
 use Rattle.std.specs.Borrow.{Bor}
 use Rattle.std.specs.Global.{Global}
-use Rattle.asn_command.specs.Conversions.{line_origin}
+use Rattle.asn_command.specs.Conversions.{line_origin, not_text_line}
 use Rattle.asn_core.specs.declared.codec.Codec.{Codec}
 use Rattle.asn_dynamic.specs.declared.conversion.ConvertError.{ConvertError}
 use Rattle.asn_filter.specs.Kept.{IsKept, IsRefused}
@@ -75,4 +75,4 @@ abbrev pub IsLineKept : Codec → spec.Shape → spec.Shape → Bor (List ℕ) �
 IsLineKept from old new file number bytes (line.Answer due) = IsUtf8 bytes × IsKeptLine from old new bytes (string_bytes due)
 IsLineKept from old new file number bytes (line.Refusal due) =
     IsRefusedLine from old new file number bytes (string_bytes due)
-    ⊎ ((IsUtf8 bytes → ⊥) × (string_bytes due ≡ file.now ++ (codes ":" ++ (decimal number ++ codes ": isn't UTF-8\n"))))
+    ⊎ ((IsUtf8 bytes → ⊥) × (string_bytes due ≡ not_text_line (line_origin file number)))

@@ -5,6 +5,7 @@ ghost use Rattle.asn_model.specs.Readable.{is_readable};
 ghost use Rattle.asn_model.specs.ShapeView.{shape_view};
 ghost use Rattle.std.specs.Prelude.{◌≡◌, IfOk, true};
 
+use crate::conversion::{not_text_line, with_feed};
 use asn_core::{Codec, OutOfMemory};
 use asn_filter::cut;
 use asn_lines::{LineReply, LineWork};
@@ -57,24 +58,18 @@ impl LineWork for KeepLines<'_> {
         (shape_view work.new.now) work.file number line reply };
 
     fn answer(&self, alloc: Global, number: u64, line: &[u8]) -> Result<LineReply, OutOfMemory> {
-        let file = self.file;
-        let Ok(text) = str::from_utf8(line) else {
-            let line = format!(in alloc; "{file}:{number}: isn't UTF-8\n")?;
-            return Ok(LineReply::Refusal(line));
-        };
         let origin = Origin {
-            file,
+            file: self.file,
             line: Some(number),
         };
+        let Ok(text) = str::from_utf8(line) else {
+            return Ok(LineReply::Refusal(not_text_line(alloc, origin)?));
+        };
         match cut(alloc, self.from, self.old, self.new, text)? {
-            Ok(text) => {
-                let mut kept = text;
-                kept.push('\n')?;
-                Ok(LineReply::Answer(kept))
-            }
+            Ok(kept) => Ok(LineReply::Answer(with_feed(kept)?)),
             Err(fault) => {
-                let line = refusal_lines(alloc, origin, text, &fault, false)?;
-                Ok(LineReply::Refusal(line))
+                let lines = refusal_lines(alloc, origin, text, &fault, false)?;
+                Ok(LineReply::Refusal(lines))
             }
         }
     }

@@ -4,9 +4,16 @@
 #![tactic(auto)]
 
 mod conversion;
+mod growth;
+mod keeping;
 mod lines;
+mod one_line;
 mod types;
+mod whole;
 
 pub use conversion::{Conversion, conversion_reply};
+pub use growth::{growth_reply, missing_line, whole_type};
+pub use keeping::KeepLines;
 pub use lines::ConvertLines;
 pub use types::types_text;
+pub use whole::convert_whole;

@@ -1,14 +1,14 @@
 //! Converts a stream of texts, one a line.
-ghost use Rattle.asn_command.specs.Conversions.{IsLineConversion};
+ghost use Rattle.asn_command.specs.Conversions.{IsLineConversion, IsLineOf, IsOneLine};
 ghost use Rattle.asn_model.specs.Readable.{is_readable};
-ghost use Rattle.std.specs.Prelude.{◌≡◌, [], IfOk, true};
+ghost use Rattle.std.specs.Prelude.{◌≡◌, [], IfOk, IfSome, string_bytes, true};
 
-use crate::conversion::{Conversion, conversion_reply};
-use asn_core::OutOfMemory;
-use asn_dynamic::Part;
+use crate::conversion::{Conversion, not_text_line, refused_lines, with_feed};
+use crate::one_line::one_line;
+use asn_core::{Codec, OutOfMemory};
+use asn_dynamic::{Part, convert_part};
 use asn_lines::{LineReply, LineWork};
-use asn_replies::Reply;
-use asn_value_refusals::Origin;
+use asn_value_refusals::{Origin, origin_of};
 use std::alloc::Global;
 
 /// Converts lines of a stream, each a text of a value.
@@ -32,25 +32,84 @@ impl<'f, P: Part> ConvertLines<'f, P> {
     }
 }
 
-/// Answers a line by the canonical text of its value, or refuses it behind the name of the file and
-/// its number.
+/// Returns a text on one line of the value that this text in value notation stands for, or `None`
+/// where there is none, as where a string of it has a line feed. What is returned was read again,
+/// with the same canonical text.
+///
+/// # Errors
+///
+/// `OutOfMemory` alone.
+fn same_on_one_line<P: Part>(
+    alloc: Global,
+    part: P,
+    text: &str,
+) -> Result<Option<String>, OutOfMemory>
+    requires { is_readable (P.shape [] part) ≡ true }
+    ensures { IfOk result (λ found. IfSome found (λ s.
+        IsOneLine (P.shape [] part) text.now (string_bytes s))) }
+{
+    let Some(line) = one_line(alloc, text)? else {
+        return Ok(None);
+    };
+    match convert_part(alloc, Codec::Avn, Codec::Avn, part, &line) {
+        Ok(again) if again.as_str() == text => Ok(Some(line)),
+        Ok(_other) => Ok(None),
+        Err(error) if error.is_out_of_memory() => Err(OutOfMemory),
+        Err(_error) => Ok(None),
+    }
+}
+
+/// Returns what a line of this origin comes to that is converted to this text: itself, or where it
+/// has line feeds, as value notation has, a text of the same value on one line.
+///
+/// # Errors
+///
+/// `OutOfMemory` alone.
+fn line_reply<P: Part>(
+    alloc: Global,
+    conversion: Conversion<P>,
+    origin: Origin<'_>,
+    written: String,
+) -> Result<LineReply, OutOfMemory>
+    requires { is_readable (P.shape [] conversion.part) ≡ true }
+    ensures { IfOk result (IsLineOf conversion.entry.to (P.shape [] conversion.entry.part)
+        origin.entry (string_bytes written)) }
+{
+    if conversion.to != Codec::Avn || !written.contains('\n') {
+        return Ok(LineReply::Answer(with_feed(written)?));
+    }
+    match same_on_one_line(alloc, conversion.part, &written)? {
+        Some(line) => Ok(LineReply::Answer(with_feed(line)?)),
+        None => {
+            let front = origin_of(alloc, origin)?;
+            let line = format!(in alloc; "{front}: has no text on one line\n")?;
+            Ok(LineReply::Refusal(line))
+        }
+    }
+}
+
+/// Answers a line by a text of its value on one line, the canonical one in JSON, or refuses it
+/// behind the name of the file and its number.
 impl<P: Part> LineWork for ConvertLines<'_, P> {
-    ghost answers = { λ work number line reply. IsLineConversion work.conversion.from
-        work.conversion.to (P.shape [] work.conversion.part) work.file number line reply };
+    ghost answers = { λ work number bytes reply. IsLineConversion work.conversion.from
+        work.conversion.to (P.shape [] work.conversion.part) work.file number bytes reply };
 
     fn answer(&self, alloc: Global, number: u64, line: &[u8]) -> Result<LineReply, OutOfMemory> {
-        let file = self.file;
-        let Ok(text) = str::from_utf8(line) else {
-            let line = format!(in alloc; "{file}:{number}: isn't UTF-8\n")?;
-            return Ok(LineReply::Refusal(line));
-        };
         let origin = Origin {
-            file,
+            file: self.file,
             line: Some(number),
         };
-        match conversion_reply(alloc, self.conversion, origin, text)? {
-            Reply::Answer(text) => Ok(LineReply::Answer(text)),
-            Reply::Refusal { line, .. } => Ok(LineReply::Refusal(line)),
+        let Ok(text) = str::from_utf8(line) else {
+            return Ok(LineReply::Refusal(not_text_line(alloc, origin)?));
+        };
+        let conversion = self.conversion;
+        match convert_part(alloc, conversion.from, conversion.to, conversion.part, text) {
+            Ok(written) => line_reply(alloc, conversion, origin, written),
+            Err(error) => {
+                let explain = conversion.explain;
+                let lines = refused_lines(alloc, origin, text, &error, explain)?;
+                Ok(LineReply::Refusal(lines))
+            }
         }
     }
 }

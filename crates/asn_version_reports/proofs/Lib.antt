@@ -1,0 +1,5 @@
+pub mod Behind
+pub mod Passed
+pub mod Nodes
+pub mod Listed
+pub mod Reported

@@ -1,0 +1,4 @@
+pub mod Paths
+pub mod Reports
+pub mod Valueless
+pub mod Passing

@@ -1,0 +1,4 @@
+pub mod Listing
+pub mod Counting
+pub mod Keeping
+pub mod Finding

@@ -1,5 +1,5 @@
 -- What modules may import (X.680, section 13).
-use Rattle.std.specs.Prelude.{ℕ, List, [], ◌∷◌, map, Bool, true, false, if◌then◌else◌, Option, Some, None}
+use Rattle.std.specs.Prelude.{ℕ, List, [], ◌∷◌, filter, map, Bool, true, false, ◌&&◌, if◌then◌else◌, Option, Some, None}
 use Rattle.std.specs.Option.{option_map}
 use Rattle.std.specs.Str.{bytes_eq}
 use Rattle.asn_headers.specs.Headers.{Header}
@@ -9,9 +9,10 @@ use Rattle.asn_modules_faults.specs.declared.cause.NameRule.{NameRule}
 use Rattle.asn_modules_faults.specs.declared.cause.NameRule.TheVariants.{NotExported, OwnImport}
 use Rattle.asn_modules_lookup.specs.Entries.{imports_of}
 use Rattle.asn_modules_lookup.specs.Homes.{Home, bytes_in}
-use Rattle.asn_modules_names.specs.Assigned.{first_found, module_name}
+use Rattle.asn_modules_names.specs.Assigned.{assigned_name, first_found, module_name}
 use Rattle.asn_modules_names.specs.Faults.{Fault, fault_of}
 use Rattle.asn_modules_names.specs.Mentions.{mention_in}
+use Rattle.asn_modules_notation.specs.Modules.{Assignment}
 
 -- The token is this name.
 abbrev pub is_token : Home → List ℕ → Option Token → Bool
@@ -26,6 +27,24 @@ is_named h name = is_token h name (module_name h.parsed)
 abbrev pub module_named : List Home → List ℕ → Option Home
 module_named [] name = None
 module_named (h ∷ hs) name = if is_named h name then Some h else module_named hs name
+
+-- The names that these assignments of the module assign.
+abbrev pub assigned_by : Home → List Assignment → List (List ℕ)
+assigned_by h assignments = map (λ a. bytes_in h (assigned_name a)) assignments
+
+-- The module assigns the name, to a type or a value.
+abbrev pub is_assigned : List ℕ → Home → Bool
+is_assigned name h = is_item (assigned_by h h.parsed.assignments) name
+
+-- The one that the list has, where it has one alone.
+abbrev pub sole : {A : Type 0} → List A → Option A
+sole [] = None
+sole (x ∷ []) = Some x
+sole (x ∷ y ∷ ys) = None
+
+-- The only one of the modules that assigns the name.
+abbrev pub only_assigning : List Home → List ℕ → Option Home
+only_assigning all name = sole (filter (is_assigned name) all)
 
 -- The names that a module exports; none where it exports all.
 abbrev pub exports_of : Option Header → Option (List Token)
@@ -44,19 +63,23 @@ is_among h (Some names) name = is_one_of h names name
 abbrev pub is_exported : Home → List ℕ → Bool
 is_exported h name = is_among h (exports_of h.parsed.header) name
 
--- The rule that a module breaks by importing the name from itself, or from the module of the name that it states, if there is one.
-abbrev pub import_rule : Bool → Option Home → List ℕ → Option NameRule
-import_rule true origin name = Some OwnImport
-import_rule false None name = None
-import_rule false (Some origin) name = if is_exported origin name then None else Some NotExported
+-- The module, if there is one, exports the name.
+abbrev pub is_exported_by : Option Home → List ℕ → Bool
+is_exported_by None name = true
+is_exported_by (Some h) name = is_exported h name
+
+-- The rule that a module breaks by importing the name from itself, or from the module of the name that it states, if there is one, all modules being these: that one exports the name, and so does the only one that assigns it.
+abbrev pub import_rule : List Home → Bool → Option Home → List ℕ → Option NameRule
+import_rule all true named name = Some OwnImport
+import_rule all false named name = if is_exported_by named name && is_exported_by (only_assigning all name) name then None else Some NotExported
 
 -- What breaks a rule in importing these.
-abbrev pub import_fault : Home → Bool → Option Home → Token → Option Fault
-import_fault h is_own origin t = option_map (λ r. fault_of r (mention_in h.source t)) (import_rule is_own origin (bytes_in h t))
+abbrev pub import_fault : List Home → Home → Bool → Option Home → Token → Option Fault
+import_fault all h is_own named t = option_map (λ r. fault_of r (mention_in h.source t)) (import_rule all is_own named (bytes_in h t))
 
--- The first of the names that the module imports from this one, all modules being these.
+-- The first of the names that the module imports from this one.
 abbrev pub names_fault : List Home → Home → List Token × Token → Option Fault
-names_fault all h i = first_found (import_fault h (is_named h (bytes_in h i.1)) (module_named all (bytes_in h i.1))) i.0
+names_fault all h i = first_found (import_fault all h (is_named h (bytes_in h i.1)) (module_named all (bytes_in h i.1))) i.0
 
 -- The first of those that the module imports.
 abbrev pub imports_fault : List Home → Home → Option Fault

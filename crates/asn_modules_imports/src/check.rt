@@ -1,14 +1,15 @@
 //! Checks imports.
 ghost use Rattle.asn_headers.specs.Views as headers;
 ghost use Rattle.asn_modules_imports.specs.Imported.{first_import_fault, import_fault};
-ghost use Rattle.asn_modules_imports.specs.Imported.{names_fault};
+ghost use Rattle.asn_modules_imports.specs.Imported.{imports_fault, names_fault};
+ghost use Rattle.asn_modules_imports.specs.Tables.{IsExportIndex, module_at, modules_of};
 ghost use Rattle.asn_modules_lookup.specs.Homes.{home_view};
 ghost use Rattle.asn_modules_names.specs.Assigned.{first_found};
 ghost use Rattle.asn_modules_names.specs.Faults.{Checks};
 ghost use Rattle.std.specs.Prelude.{map};
-ghost use Rattle.std.specs.Option.{option_map};
 
-use crate::origin::{import_rule, is_named, module_named};
+use crate::index::{ExportIndex, export_index_of};
+use crate::rule::{import_rule, is_named};
 use asn_headers::Import;
 use asn_lexer::Token;
 use asn_modules_faults::{ModuleError, text_of};
@@ -16,23 +17,26 @@ use asn_modules_lookup::{Home, imports_of};
 use asn_modules_names::{broken, mention_of};
 use std::alloc::Global;
 
-/// Checks that the module may import these names, from itself or from this module, if there is one.
+/// Checks that the module may import these names, from itself or from another one, where `named` is
+/// the number of the module of the name that it states, if there is one.
 ///
 /// # Errors
 ///
 /// The first name that it may not import, and `OutOfMemory`.
-fn check_names(
+fn check_names<'t>(
     alloc: Global,
-    home: Home<'_, '_>,
+    index: &ExportIndex<'_, '_, 't>,
+    home: Home<'_, 't>,
     is_own: bool,
-    origin: Option<Home<'_, '_>>,
+    named: Option<usize>,
     names: &[Token],
 ) -> Result<(), ModuleError>
-    ensures { Checks (first_found (import_fault (home_view home.entry) is_own
-        (option_map home_view origin.entry)) names.now) result }
+    requires { IsExportIndex index.now }
+    ensures { Checks (first_found (import_fault (modules_of index.now) (home_view home.entry) is_own
+        (module_at index.now named)) names.now) result }
 {
     for name in names {
-        if let Some(rule) = import_rule(is_own, origin, text_of(home.source.text, *name)) {
+        if let Some(rule) = import_rule(index, is_own, named, text_of(home.source.text, *name)) {
             return Err(broken(alloc, rule, mention_of(home.source, *name)));
         }
     }
@@ -44,19 +48,20 @@ fn check_names(
 /// # Errors
 ///
 /// The first name that it may not import, and `OutOfMemory`.
-fn check_import(
+fn check_import<'t>(
     alloc: Global,
-    homes: &[Home<'_, '_>],
-    home: Home<'_, '_>,
+    index: &ExportIndex<'_, '_, 't>,
+    home: Home<'_, 't>,
     import: &Import,
 ) -> Result<(), ModuleError>
-    ensures { Checks (names_fault (map home_view homes.now) (home_view home.entry)
+    requires { IsExportIndex index.now }
+    ensures { Checks (names_fault (modules_of index.now) (home_view home.entry)
         (headers.import_view import.now)) result }
 {
     let from = text_of(home.source.text, import.module);
     let is_own = is_named(home, from);
-    let origin = module_named(homes, from);
-    check_names(alloc, home, is_own, origin, import.names.as_slice())
+    let named = index.module_named(from);
+    check_names(alloc, index, home, is_own, named, import.names.as_slice())
 }
 
 /// Checks that the module may import what these imports name.
@@ -64,23 +69,25 @@ fn check_import(
 /// # Errors
 ///
 /// The first name that it may not import, and `OutOfMemory`.
-fn check_module(
+fn check_module<'t>(
     alloc: Global,
-    homes: &[Home<'_, '_>],
-    home: Home<'_, '_>,
+    index: &ExportIndex<'_, '_, 't>,
+    home: Home<'_, 't>,
     imports: &[Import],
 ) -> Result<(), ModuleError>
-    ensures { Checks (first_found (names_fault (map home_view homes.now) (home_view home.entry))
+    requires { IsExportIndex index.now }
+    ensures { Checks (first_found (names_fault (modules_of index.now) (home_view home.entry))
         (map headers.import_view imports.now)) result }
 {
     for import in imports {
-        check_import(alloc, homes, home, import)?;
+        check_import(alloc, index, home, import)?;
     }
     Ok(())
 }
 
-/// Checks that no module imports from itself, and that what is imported from one of these modules
-/// is exported by it. A module that isn't among them may export anything.
+/// Checks that no module imports from itself, and that a name that is imported is exported by the
+/// module that it is imported from, if that is one of these, and by the only one of these that
+/// assigns it, if one alone does. What none of them assigns may be imported from any other module.
 ///
 /// # Errors
 ///
@@ -88,8 +95,9 @@ fn check_module(
 pub fn check_imports(alloc: Global, homes: &[Home<'_, '_>]) -> Result<(), ModuleError>
     ensures { Checks (first_import_fault (map home_view homes.now)) result }
 {
+    let index = export_index_of(alloc, homes)?;
     for home in homes {
-        check_module(alloc, homes, *home, imports_of(&home.parsed.header))?;
+        check_module(alloc, &index, *home, imports_of(&home.parsed.header))?;
     }
     Ok(())
 }

@@ -2,6 +2,8 @@
 #![tactic(auto)]
 
 mod check;
-mod origin;
+mod entries;
+mod index;
+mod rule;
 
 pub use check::check_imports;

@@ -6,7 +6,7 @@ use asn_modules_text::read_source;
 use std::test::Fail;
 
 /// Lists texts with what is told of the imports in them, or nothing where they are right.
-const CHECKED: [(&str, &str); 8] = [
+const CHECKED: [(&str, &str); 13] = [
     ("A ::= NULL", ""),
     (
         "M DEFINITIONS ::= BEGIN IMPORTS A, B FROM N C FROM K; END \
@@ -40,6 +40,36 @@ M DEFINITIONS ::= BEGIN IMPORTS A FROM N; END",
         "N DEFINITIONS ::= BEGIN EXPORTS; IMPORTS A FROM K; END \
 M DEFINITIONS ::= BEGIN IMPORTS A FROM N B FROM M; END",
         "f:1:88: `A` isn't exported by its module",
+    ),
+    // No module has the name behind FROM.
+    (
+        "M DEFINITIONS ::= BEGIN IMPORTS A, b FROM K; END \
+N DEFINITIONS ::= BEGIN EXPORTS A; A ::= NULL b NULL ::= NULL END",
+        "f:1:36: `b` isn't exported by its module",
+    ),
+    (
+        "M DEFINITIONS ::= BEGIN IMPORTS A FROM K; END \
+N DEFINITIONS ::= BEGIN EXPORTS A, b; A ::= NULL b NULL ::= NULL END \
+L DEFINITIONS ::= BEGIN EXPORTS; b NULL ::= NULL B ::= NULL END",
+        "",
+    ),
+    (
+        "M DEFINITIONS ::= BEGIN IMPORTS A FROM K; END \
+N DEFINITIONS ::= BEGIN EXPORTS; A ::= NULL END \
+L DEFINITIONS ::= BEGIN EXPORTS; A NULL ::= NULL END",
+        "",
+    ),
+    // The module lacks what is imported from it.
+    (
+        "M DEFINITIONS ::= BEGIN IMPORTS A FROM N; END \
+N DEFINITIONS ::= BEGIN EXPORTS ALL; END L DEFINITIONS ::= BEGIN EXPORTS; A ::= NULL END",
+        "f:1:33: `A` isn't exported by its module",
+    ),
+    (
+        "M DEFINITIONS ::= BEGIN IMPORTS A FROM N; END \
+N DEFINITIONS ::= BEGIN EXPORTS A; IMPORTS A FROM L; END \
+L DEFINITIONS ::= BEGIN EXPORTS A; A ::= NULL END",
+        "",
     ),
 ];
 

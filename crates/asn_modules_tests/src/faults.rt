@@ -4,7 +4,7 @@ use std::alloc::Global;
 use std::test::Fail;
 
 /// Lists texts with what is told of them where each is the file `m.asn1`.
-const ROWS: [(&str, &str); 34] = [
+const ROWS: [(&str, &str); 37] = [
     // What begins no token.
     (
         "A ::= NULL ?",
@@ -71,6 +71,12 @@ const ROWS: [(&str, &str); 34] = [
         "m.asn1:2:1: `M` is the name of two modules",
     ),
     (
+        "M DEFINITIONS ::= BEGIN IMPORTS A, A FROM M; A ::= SET { a NULL, a NULL } \
+A ::= ENUMERATED { a(1), a(1) } A ::= BIT STRING { b(1), b(1) } END\n\
+M DEFINITIONS ::= BEGIN END",
+        "m.asn1:2:1: `M` is the name of two modules",
+    ),
+    (
         "A ::= NULL\nB ::= NULL\nA ::= BOOLEAN",
         "m.asn1:3:1: `A` is assigned twice in its module",
     ),
@@ -112,6 +118,11 @@ N DEFINITIONS ::= BEGIN EXPORTS A; A ::= NULL B ::= NULL END",
         "m.asn1:1:33: `B` isn't exported by its module",
     ),
     (
+        "M DEFINITIONS ::= BEGIN IMPORTS B FROM K; END\n\
+N DEFINITIONS ::= BEGIN EXPORTS A; A ::= NULL B ::= NULL END",
+        "m.asn1:1:33: `B` isn't exported by its module",
+    ),
+    (
         "M DEFINITIONS ::= BEGIN IMPORTS A FROM M; END",
         "m.asn1:1:33: `A` is imported by a module from itself",
     ),
@@ -129,6 +140,12 @@ N DEFINITIONS ::= BEGIN B ::= NULL END",
     ("A ::= NULL a A ::= NULL", ""),
     (
         "M DEFINITIONS ::= BEGIN A ::= N.B END N DEFINITIONS ::= BEGIN B ::= NULL END",
+        "",
+    ),
+    (
+        "M DEFINITIONS ::= BEGIN IMPORTS B FROM N; A ::= B END \
+N DEFINITIONS ::= BEGIN IMPORTS C FROM K; B ::= C END \
+K DEFINITIONS ::= BEGIN IMPORTS A FROM M; C ::= A END",
         "",
     ),
     ("A ::= INTEGER { one(1), uno(1) }", ""),

@@ -3,6 +3,7 @@
 //! program (`asn_command_main`) reads the command line and opens the files.
 #![tactic(auto)]
 
+mod checking;
 mod conversion;
 mod growth;
 mod keeping;
@@ -11,6 +12,7 @@ mod one_line;
 mod types;
 mod whole;
 
+pub use checking::check_text;
 pub use conversion::{Conversion, conversion_reply};
 pub use growth::{growth_reply, missing_line, whole_type};
 pub use keeping::KeepLines;

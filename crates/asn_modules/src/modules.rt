@@ -3,8 +3,8 @@ ghost use Rattle.asn_linked.specs.Places.{place_shape};
 ghost use Rattle.asn_linked_types.specs.Linked.{are_linked};
 ghost use Rattle.asn_model.specs.Readable.{is_readable};
 ghost use Rattle.asn_model.specs.ShapeView.{shape_view};
-ghost use Rattle.asn_modules.specs.Names.{type_name_view};
-ghost use Rattle.std.specs.Prelude.{◌≡◌, [], IfSome, MatchOption, None, Some, length, map, true};
+ghost use Rattle.asn_modules.specs.Names.{number_named, type_name_view};
+ghost use Rattle.std.specs.Prelude.{◌≡◌, ◌<◌, [], IfSome, MatchOption, None, Some, length, map, true};
 
 use crate::empty::is_without_values;
 use crate::names::{TypeName, number_named};
@@ -46,9 +46,28 @@ impl Modules {
         self.names.as_slice()
     }
 
-    /// Returns the type that the text names: by its name, if one type alone has that, or by the
-    /// name of its module, a point and its name, as `PKIX1.Certificate`. It is `None` where no type
-    /// is named so, or several are.
+    /// Returns the types, each at the place of its name in `names`. `Shape::Back` of a number names
+    /// the type of that number.
+    pub fn types(&self) -> &[Shape]
+        ensures types { map shape_view result.now ≡ (modules_view self.now).types }
+        // So values can be read and written by each of them.
+        ensures linked { are_linked (map shape_view result.now) ≡ true }
+    {
+        self.types.as_slice()
+    }
+
+    /// Returns the number of the type that the text names, in the order of `names`: by its name, if
+    /// one type alone has that, or by the name of its module, a point and its name, as
+    /// `PKIX1.Certificate`. It is `None` where no type is named so, or several are.
+    pub fn number(&self, name: &str) -> Option<usize>
+        ensures number { result ≡ number_named (modules_view self.now).names name.now }
+        ensures below { IfSome result (λ number.
+            number < length (modules_view self.now).types) }
+    {
+        number_named(self.names.as_slice(), name)
+    }
+
+    /// Returns the type that the text names, as `number` has it.
     pub fn find(&self, name: &str) -> Option<Place<'_>>
         ensures found { MatchOption result (shape_named (modules_view self.now) name.now ≡ None)
             (λ place. shape_named (modules_view self.now) name.now
@@ -56,11 +75,12 @@ impl Modules {
         // So values can be read and written by it.
         ensures readable { IfSome result (λ place. is_readable (place_shape [] place) ≡ true) }
     {
-        match number_named(self.names.as_slice(), name) {
+        match self.number(name) {
             Some(number) => Place::of_type(self.types.as_slice(), number as u32),
             None => None,
         }
     }
+
     /// Returns whether the type of the number, in the order of `names`, is the one without values,
     /// which stands for each type that isn't read. `false` where there is no such type.
     pub fn has_no_values(&self, number: usize) -> bool

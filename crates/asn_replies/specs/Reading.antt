@@ -1,0 +1,20 @@
+-- What is told of a file that isn't read.
+use Rattle.std.specs.Prelude.{◌≡◌, ℕ, List, ◌++◌, codes, string_bytes}
+use Rattle.asn_replies.specs.declared.read.Unread.{Unread}
+use Rattle.asn_replies.specs.declared.read.Unread.TheVariants.{Fault, TooLong, NotText, OutOfMemory}
+use Rattle.asn_replies.specs.declared.reply.Reply.{Reply}
+use Rattle.asn_replies.specs.declared.reply.Reply.TheVariants.{Answer, Refusal}
+use Rattle.asn_replies.specs.declared.status.Status.{Status}
+use Rattle.asn_replies.specs.declared.status.Status.TheVariants as status
+
+-- The reply is this line with this status.
+abbrev pub IsRefusal : Status → List ℕ → Reply → Type 0
+IsRefusal told line (Answer text) = ⊥
+IsRefusal told line (Refusal s l) = (s ≡ told) × (string_bytes l ≡ line)
+
+-- The reply says of the file of this name why it isn't read. Of memory that ran out there is none.
+abbrev pub IsUnreadReply : List ℕ → Unread → Reply → Type 0
+IsUnreadReply file Fault = IsRefusal status.ReadFault (file ++ codes ": can't be read\n")
+IsUnreadReply file TooLong = IsRefusal status.TooLong (file ++ codes ": has more than 16777216 bytes\n")
+IsUnreadReply file NotText = IsRefusal status.NotText (file ++ codes ": isn't UTF-8\n")
+IsUnreadReply file OutOfMemory = λ r. ⊥

@@ -1,0 +1,14 @@
+//! Defines what a command comes to: a text for standard output, or the lines by which it is refused
+//! for standard error, and the exit status. Reads the text of a file whole, and writes what a
+//! command comes to.
+#![tactic(auto)]
+
+mod delivery;
+mod read;
+mod reply;
+mod status;
+
+pub use delivery::deliver;
+pub use read::{Unread, read_text, unread_reply};
+pub use reply::Reply;
+pub use status::Status;

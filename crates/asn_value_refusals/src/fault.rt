@@ -1,0 +1,79 @@
+//! Finds the place at which a text is at fault.
+ghost use Rattle.std.specs.Prelude.{◌≡◌, ◌≤◌, length};
+
+use asn_core::OutOfMemory;
+use asn_dynamic::{ConvertError, DynError, DynKind};
+use asn_fault::{AvnDecodeErrorKind, CodecDecodeError, DecodeErrorKind};
+use serde_json::Value;
+use serde_json::error::Category;
+use std::alloc::Global;
+
+/// Returns the offset at which the bytes leave off that are this many before the end.
+fn before_end(text: &str, count: usize) -> usize {
+    text.len().saturating_sub(count)
+}
+
+/// Returns the offset at which a text stands that the parser of AVN shows: what follows a value
+/// whole, or the beginning of what is no value.
+fn excerpt_offset(text: &str, excerpt: &str) -> usize {
+    if text.ends_with(excerpt) {
+        return before_end(text, excerpt.len());
+    }
+    text.find(excerpt).unwrap_or(0)
+}
+
+/// Returns the offset of a line and a byte in it, both counted from 1.
+fn offset_of(text: &str, line: usize, column: usize) -> usize {
+    let mut begin = 0;
+    for (number, each) in text.split('\n').enumerate() {
+        if number + 1 == line {
+            return begin + column.saturating_sub(1).min(each.len());
+        }
+        begin += each.len() + 1;
+    }
+    text.len()
+}
+
+/// Returns the offset at which the text is no JSON, or `None` where it is JSON.
+///
+/// # Errors
+///
+/// `OutOfMemory` alone.
+fn json_offset(alloc: Global, text: &str) -> Result<Option<usize>, OutOfMemory> {
+    match Value::from_str(alloc, text) {
+        Ok(_value) => Ok(None),
+        Err(error) => match error.classify() {
+            Category::Memory => Err(OutOfMemory),
+            _ => Ok(Some(offset_of(text, error.line(), error.column()))),
+        },
+    }
+}
+
+/// Returns the offset at which the text is at fault, or `None` where it is a text of the notation,
+/// and its value is at fault.
+///
+/// # Errors
+///
+/// `OutOfMemory` alone.
+pub fn fault_offset(
+    alloc: Global,
+    text: &str,
+    error: &ConvertError,
+) -> Result<Option<usize>, OutOfMemory> {
+    let ConvertError::Read(
+        DynError {
+            kind: DynKind::Other(kind),
+            ..
+        },
+    ) = error
+    else {
+        return Ok(None);
+    };
+    match kind {
+        DecodeErrorKind::Parser { .. } => json_offset(alloc, text),
+        DecodeErrorKind::CodecSpecific {
+            inner: CodecDecodeError::Avn(AvnDecodeErrorKind::UnexpectedToken { found }),
+        } => Ok(Some(excerpt_offset(text, found.as_str()))),
+        _ => Ok(None),
+    }
+}

@@ -1,0 +1,46 @@
+//! Shows a place of a text.
+use asn_core::OutOfMemory;
+use std::alloc::Global;
+
+/// Limits the characters of a line that are shown on either side of the place.
+const MOST_SHOWN: usize = 38;
+
+/// Returns the line of the text around the offset, as much of it as fits a terminal, and a line
+/// with a caret below the place.
+///
+/// # Errors
+///
+/// `OutOfMemory` alone.
+pub fn shown(alloc: Global, text: &str, offset: usize) -> Result<String, OutOfMemory> {
+    let Some((front, rest)) = text.split_at_checked(offset) else {
+        return Ok(String::new(alloc));
+    };
+    let before = match front.rsplit_once('\n') {
+        Some((_lines, line)) => line,
+        None => front,
+    };
+    let after = match rest.split_once('\n') {
+        Some((line, _lines)) => line,
+        None => rest,
+    };
+    let skipped = before.chars().count().saturating_sub(MOST_SHOWN);
+    let mut line = String::new(alloc);
+    let mut caret = String::new(alloc);
+    for character in before.chars().skip(skipped) {
+        line.push(visible(character))?;
+        caret.push(' ')?;
+    }
+    for character in after.chars().take(MOST_SHOWN) {
+        line.push(visible(character))?;
+    }
+    Ok(format!(in alloc; "  {line}\n  {caret}^\n")?)
+}
+
+/// Returns the character, or a blank in place of one that moves the cursor.
+fn visible(character: char) -> char {
+    if character.is_control() {
+        ' '
+    } else {
+        character
+    }
+}

@@ -1,0 +1,4 @@
+mod FirstFeed
+mod Laws
+mod OneLine
+mod Taking

@@ -2,12 +2,13 @@
 use Rattle.std.proofs.Common.{◌≡◌, ◌<◌, ◌≤◌, ◌+◌, ◌-◌, ◌∷◌, ◌++◌, ℕ, List, [], length, take, drop, Option, Some, None, String, string_bytes, false, refl, sym, ap, ◌∙◌, subst, arith, append_assoc, append-nil, length-append}
 use Rattle.std.specs.List.{slice_split}
 use Rattle.std.specs.Io.KnownBytes.{Appends}
-use Rattle.std.proofs.lemmas.List.{take_all}
 use Rattle.std.proofs.lemmas.List.Splits.{length-slice_split, slice_split_at, slice_split_none}
+use Rattle.std.proofs.Math.Seq.{take-append-add, take-length}
 use Rattle.asn_lines.specs.Answers.{AnswersLines, LineAnswers}
 use Rattle.asn_lines.specs.Lines.{is_feed, last_part, text_lines, whole_lines, without_empty_end, without_end}
 use Rattle.asn_lines.specs.Splits.{HasNoFeed, Splits}
 use Rattle.asn_streams.specs.Faults.{AppendsFront}
+use Rattle.asn_streams.proofs.Known.{Appends-more}
 
 -- Splitting goes on with the rest.
 pub Splits-trans : {bytes middle rest : List ℕ} {lines more : List (List ℕ)} → Splits bytes lines middle → Splits middle more rest → Splits bytes (lines ++ more) rest
@@ -27,11 +28,11 @@ Splits-first line rest plain = Splits.one_more line rest [] rest plain (Splits.n
 parted : (line rest : List ℕ) → HasNoFeed line → slice_split is_feed (line ++ 10 ∷ rest) ≡ line ∷ slice_split is_feed rest
 parted line rest plain = slice_split_at is_feed line 10 rest plain refl
 
-another : (line : List ℕ) (parts : List (List ℕ)) → 0 < length parts → (without_empty_end (line ∷ parts) ≡ line ∷ without_empty_end parts) × (without_end (line ∷ parts) ≡ line ∷ without_end parts)
+pub another : (line : List ℕ) (parts : List (List ℕ)) → 0 < length parts → (without_empty_end (line ∷ parts) ≡ line ∷ without_empty_end parts) × (without_end (line ∷ parts) ≡ line ∷ without_end parts)
 another line [] some = absurd (omega (arith, some))
 another line (next ∷ parts) some = (refl, refl)
 
-some_part : (bytes : List ℕ) → 0 < length (slice_split is_feed bytes)
+pub some_part : (bytes : List ℕ) → 0 < length (slice_split is_feed bytes)
 some_part bytes = omega (arith, length-slice_split is_feed bytes)
 
 -- The lines of bytes that begin with these lines.
@@ -71,4 +72,8 @@ AnswersLines-append (AnswersLines.refused number line text lines output errors r
 
 -- Bytes that were written whole are a front part of themselves.
 pub whole_front : (a b : Option (List ℕ)) (bytes : List ℕ) → Appends a b bytes → AppendsFront a b bytes
-whole_front a b bytes h = (length bytes, subst (Appends a b) (sym (take_all (length bytes) bytes (omega arith))) h)
+whole_front a b bytes h = (length bytes, subst (Appends a b) (sym (take-length bytes)) h)
+
+-- Bytes were written whole, and then a front part of others.
+pub AppendsFront-after : (a b c : Option (List ℕ)) (xs ys : List ℕ) → Appends a b xs → AppendsFront b c ys → AppendsFront a c (xs ++ ys)
+AppendsFront-after a b c xs ys p q = (length xs + q.0, subst (Appends a c) (sym (take-append-add xs ys q.0)) (Appends-more a b c xs (take q.0 ys) p q.1))

@@ -8,21 +8,21 @@ use Rattle.asn_lines.specs.Lines.{IsShort}
 use Rattle.asn_lines.specs.declared.gathered.Gathered.{Gathered}
 use Rattle.asn_lines.specs.declared.work.LineReply.TheVariants.{Answer, Refusal}
 
-module _ (answers : LineAnswers) (old new : Gathered) where
-  -- Nothing was answered.
-  pub kept_gathers : Keeps old new → Gathers answers old new []
-  kept_gathers k = record {
-    answer_bytes = [];
-    refusal_bytes = [];
-    refusals = 0;
-    replies = AnswersLines.no_line (old.lines + 1);
-    output = k.output ∙ sym (append-nil old.output.items);
-    errors = k.errors ∙ sym (append-nil old.errors.items);
-    lines = omega (arith, k.lines);
-    refused = omega (arith, k.refused);
-    short = All-nil IsShort;
-  }
+-- No line comes to nothing.
+pub nothing_gathers : (answers : LineAnswers) (old : Gathered) → Gathers answers old old []
+nothing_gathers answers old = record {
+  answer_bytes = [];
+  refusal_bytes = [];
+  refusals = 0;
+  replies = AnswersLines.no_line (old.lines + 1);
+  output = sym (append-nil old.output.items);
+  errors = sym (append-nil old.errors.items);
+  lines = omega arith;
+  refused = omega arith;
+  short = All-nil IsShort;
+}
 
+module _ (answers : LineAnswers) (old new : Gathered) where
   module _ (line : List ℕ) (text : String Global) (short : IsShort line) (counted : new.lines ≡ old.lines + 1) where
     -- The line is answered.
     pub answered_gathers : answers (old.lines + 1) line (Answer text) → new.output.items ≡ old.output.items ++ string_bytes text → new.errors.items ≡ old.errors.items → new.refused ≡ old.refused

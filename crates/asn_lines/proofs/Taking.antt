@@ -9,6 +9,7 @@ use Rattle.asn_lines.specs.declared.gathered.Gathered.{Gathered}
 use Rattle.asn_lines.specs.declared.limits.TheConstants.{MOST_LINES}
 use Rattle.asn_streams.specs.Input.{input_limit}
 use Rattle.asn_lines.proofs.Laws.{AnswersLines-append, Splits-first, Splits-trans, same_answers}
+use Rattle.asn_lines.proofs.OneLine.{nothing_gathers}
 
 -- Lines are answered, and then more.
 pub Gathers-trans : {answers : LineAnswers} {old mid new : Gathered} {xs ys : List (List ℕ)} → Gathers answers old mid xs → Gathers answers mid new ys → Gathers answers old new (xs ++ ys)
@@ -62,8 +63,8 @@ pub record Taking (answers : LineAnswers) (old now : Gathered) (piece rest : Lis
   pub splits : Splits (old.line.items ++ piece) whole (now.line.items ++ rest)
   pub gathers : Gathers answers old now whole
 
-pub begins : (answers : LineAnswers) (old : Gathered) (piece : List ℕ) → Gathers answers old old [] → Taking answers old old piece piece
-begins answers old piece none = record { whole = []; splits = Splits.no_line (old.line.items ++ piece); gathers = none }
+pub begins : (answers : LineAnswers) (old : Gathered) (piece : List ℕ) → Taking answers old old piece piece
+begins answers old piece = record { whole = []; splits = Splits.no_line (old.line.items ++ piece); gathers = nothing_gathers answers old }
 
 module _ {answers : LineAnswers} {old now : Gathered} {piece rest : List ℕ} (t : Taking answers old now piece rest) where
   -- No more is taken.

@@ -119,8 +119,8 @@ impl Gathered {
             → TakesPiece (W.answers work.now) self.old self.new piece.now) }
         ensures end { OnOk result (length piece.now ≡ 0
             → TakesEnd (W.answers work.now) self.old self.new) }
-        ensures memory { IsErrOf result Stop.OutOfMemory
-            → Stops (W.answers work.now) self.old self.new piece.now (λ _ _. ⊤) }
+        ensures early { OnErr result
+            (Stops (W.answers work.now) self.old self.new piece.now (λ _ _. ⊤)) }
         ensures too_long { IsErrOf result Stop.TooLong
             → Stops (W.answers work.now) self.old self.new piece.now IsPastLimit }
     {
@@ -144,8 +144,8 @@ impl Gathered {
     ) -> Result<(), Stop>
         ensures taken { OnOk result
             (TakesPiece (W.answers work.now) self.old self.new piece.now) }
-        ensures memory { IsErrOf result Stop.OutOfMemory
-            → Stops (W.answers work.now) self.old self.new piece.now (λ _ _. ⊤) }
+        ensures early { OnErr result
+            (Stops (W.answers work.now) self.old self.new piece.now (λ _ _. ⊤)) }
         ensures too_long { IsErrOf result Stop.TooLong
             → Stops (W.answers work.now) self.old self.new piece.now IsPastLimit }
     {

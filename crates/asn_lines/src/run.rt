@@ -103,10 +103,11 @@ pub fn run_lines<S: Source, K: Sink, E: Sink, W: LineWork, P: Progress>(
         if gathered.write_out(output, errors).is_err() {
             return LinesEnd::WriteFault;
         }
-        progress.show(gathered.lines(), gathered.refused());
+        let refused = gathered.refused();
+        progress.show(gathered.lines(), refused);
         match taken {
             Ok(()) if count > 0 => {}
-            Ok(()) if gathered.refused() == 0 => return LinesEnd::Done,
+            Ok(()) if refused == 0 => return LinesEnd::Done,
             Ok(()) => return LinesEnd::Refused,
             Err(Stop::OutOfMemory) => return LinesEnd::OutOfMemory,
             Err(Stop::TooLong) => {

@@ -1,15 +1,11 @@
-use Rattle.std.proofs.Common.{[], ◌∷◌, arith, refl, sym, append-nil}
+use Rattle.std.proofs.Common.{[], ◌∷◌, arith, sym, append-nil}
 use Rattle.std.proofs.lemmas.Result.{err_from_is_err_and}
 use Rattle.asn_lines.specs.Splits.{IsPastLimit}
-use Rattle.asn_lines.proofs.OneLine.{kept_gathers}
 use Rattle.asn_lines.proofs.Taking.{begins, goes_on, past_limit, past_numbers, stops, stops_there}
 use Rattle.asn_lines.proofs.gathered.Gathered.take_piece.Goals as goal
 
 pub lines-init : goal.lines-init
-lines-init g c =
-    let answers = g.W.LineWork.answers c.args.work.now in
-    let self = c.args.self.now in
-    begins answers self c.args.piece.now (kept_gathers answers self self (record { output = refl; errors = refl; lines = refl; refused = refl }))
+lines-init g c = begins (g.W.LineWork.answers c.args.work.now) c.args.self.now c.args.piece.now
 
 pub returns-in_err-extend-clause-too_long : goal.returns-in_err-extend-clause-too_long
 returns-in_err-extend-clause-too_long g c =

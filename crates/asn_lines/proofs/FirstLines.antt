@@ -1,9 +1,9 @@
 -- The first line of bytes, whatever follows them.
-use Rattle.std.proofs.Common.{◌≡◌, ◌⊎◌, ◌<◌, ◌≤◌, ◌+◌, ◌∷◌, ◌++◌, ℕ, Bool, List, [], length, true, false, inl, inr, refl, sym, ap, ◌∙◌, arith, append_assoc, length-append}
+use Rattle.std.proofs.Common.{◌≡◌, ◌⊎◌, ◌<◌, ◌≤◌, ◌∷◌, ◌++◌, ℕ, Bool, List, [], length, true, false, inl, inr, refl, ap, ◌∙◌, arith, append_assoc, length-append}
 use Rattle.std.specs.List.{onto_first, slice_split}
 use Rattle.std.proofs.lemmas.List.Elements.{All-cons, All-head, All-nil, All-tail}
 use Rattle.std.proofs.lemmas.List.Splits.{slice_split-cons_no, slice_split-cons_yes}
-use Rattle.asn_lines.specs.Lines.{is_feed, last_part, text_lines, without_empty_end}
+use Rattle.asn_lines.specs.Lines.{is_feed, text_lines, without_empty_end}
 use Rattle.asn_lines.specs.Splits.{HasNoFeed, IsPastLimit}
 use Rattle.asn_lines.specs.declared.limits.TheConstants.{MOST_LINES}
 use Rattle.asn_streams.specs.Input.{input_limit}

@@ -1,9 +1,9 @@
 -- What one line adds.
-use Rattle.std.proofs.Common.{arith, ◌≡◌, ◌≤◌, ◌+◌, ◌∷◌, ◌++◌, ℕ, List, [], length, String, string_bytes, refl, sym, ap, ◌∙◌, append-nil}
+use Rattle.std.proofs.Common.{arith, ◌≡◌, ◌+◌, ◌∷◌, ◌++◌, ℕ, List, [], String, string_bytes, sym, ap, ◌∙◌, append-nil}
 use Rattle.std.specs.Global.{Global}
 use Rattle.std.proofs.lemmas.List.Elements.{All-cons, All-nil}
 use Rattle.asn_lines.specs.Answers.{AnswersLines, LineAnswers}
-use Rattle.asn_lines.specs.Gathering.{Gathers, Keeps}
+use Rattle.asn_lines.specs.Gathering.{Gathers}
 use Rattle.asn_lines.specs.Lines.{IsShort}
 use Rattle.asn_lines.specs.declared.gathered.Gathered.{Gathered}
 use Rattle.asn_lines.specs.declared.work.LineReply.TheVariants.{Answer, Refusal}

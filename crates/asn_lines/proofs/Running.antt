@@ -6,19 +6,19 @@ use Rattle.std.proofs.lemmas.List.{get_or_at}
 use Rattle.std.proofs.lemmas.List.Elements.{All-append, All-nil}
 use Rattle.asn_lines.specs.Answers.{AnswersLines, LineAnswers}
 use Rattle.asn_lines.specs.Gathering.{Gathers, Stops, TakesEnd, TakesPiece}
-use Rattle.asn_lines.specs.Lines.{IsShort, IsWithinLimits, is_feed, last_part, text_lines, whole_lines}
+use Rattle.asn_lines.specs.Lines.{IsShort, IsWithinLimits, last_part, text_lines, whole_lines}
 use Rattle.asn_lines.specs.Run.{Answered, AnsweredFront, CutShort, ReadSoFar, ReadToEnd, StoppedAt}
-use Rattle.asn_lines.specs.Splits.{HasNoFeed, IsPastLimit, Splits}
+use Rattle.asn_lines.specs.Splits.{IsPastLimit, Splits}
 use Rattle.asn_lines.specs.declared.gathered.Gathered.{Gathered}
 use Rattle.asn_lines.specs.declared.gathered.Stop.{Stop}
 use Rattle.asn_lines.specs.declared.limits.TheConstants.{MOST_LINES}
-use Rattle.asn_streams.specs.Faults.{AppendsFront, Increased}
+use Rattle.asn_streams.specs.Faults.{AppendsFront}
 use Rattle.asn_streams.specs.Input.{input_limit}
 use Rattle.asn_streams.specs.Transfer.{Transfer}
 use Rattle.asn_lines.specs.Writing.{WritesAll, WritesBoth}
 use Rattle.asn_streams.proofs.Known.{Appends-more, Appends-nothing, Consumes-more, Consumes-nothing}
 use Rattle.std.proofs.KnownBytes.{Consumes-kept}
-use Rattle.asn_lines.proofs.FirstLines.{HasFirst, IsPast, past_first}
+use Rattle.asn_lines.proofs.FirstLines.{IsPast, past_first}
 use Rattle.asn_lines.proofs.Laws.{AnswersLines-append, AppendsFront-after, Splits-append, Splits-trans, same_answers, text_lines-Splits, text_lines-plain, whole_lines-Splits, whole_lines-plain}
 
 -- What passed up to these bytes and faults.
@@ -82,7 +82,7 @@ answered_with a f = record {
 -- No byte was read or written.
 pub underway_first : (answers : LineAnswers) (source output errors : Option (List ℕ)) (f g h : ℕ) (gathered : Gathered) → gathered.line.items ≡ [] → gathered.lines ≡ 0 → gathered.refused ≡ 0 → gathered.output.items ≡ [] → gathered.errors.items ≡ []
     → Underway answers (record { bytes_before = source; bytes_after = source; faults_before = f; faults_after = f }) (record { bytes_before = output; bytes_after = output; faults_before = g; faults_after = g })
-      (record { bytes_before = errors; bytes_after = errors; faults_before = h; faults_after = h }) gathered
+    (record { bytes_before = errors; bytes_after = errors; faults_before = h; faults_after = h }) gathered
 underway_first answers source output errors f g h gathered line lines refused no_output no_errors = record {
   input = [];
   taken = Consumes-nothing source;

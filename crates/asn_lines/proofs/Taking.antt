@@ -1,5 +1,5 @@
 -- What of a piece is taken.
-use Rattle.std.proofs.Common.{◌≡◌, ◌<◌, ◌≤◌, ◌+◌, ◌∷◌, ◌++◌, ℕ, List, [], length, false, refl, sym, ap, ◌∙◌, subst, arith, append_assoc, append-nil, length-append}
+use Rattle.std.proofs.Common.{◌≡◌, ◌<◌, ◌+◌, ◌∷◌, ◌++◌, ℕ, List, [], length, false, refl, sym, ap, ◌∙◌, subst, arith, append_assoc, length-append}
 use Rattle.std.proofs.lemmas.List.Elements.{All-append}
 use Rattle.asn_lines.specs.Answers.{LineAnswers}
 use Rattle.asn_lines.specs.Gathering.{Gathers, Keeps, Stops, TakesPiece}
@@ -91,7 +91,7 @@ module _ {answers : LineAnswers} {old now : Gathered} {piece rest : List ℕ} (t
     goes_on new one empty = record {
       whole = t.whole ++ mid.line.items ∷ [];
       splits = Splits-trans t.splits (subst (λ all. Splits all (mid.line.items ∷ []) (new.line.items ++ after)) (sym joined)
-      (subst (λ l. Splits (mid.line.items ++ 10 ∷ after) (mid.line.items ∷ []) (l ++ after)) (sym empty) (Splits-first mid.line.items after mid.plain)));
+          (subst (λ l. Splits (mid.line.items ++ 10 ∷ after) (mid.line.items ∷ []) (l ++ after)) (sym empty) (Splits-first mid.line.items after mid.plain)));
       gathers = Gathers-trans t.gathers (kept_gathers kept one);
     }
 

@@ -136,12 +136,7 @@ impl Gathered {
     /// # Errors
     ///
     /// `TooLong` where a line is past the limits, `OutOfMemory`. The lines before it are answered.
-    fn take_piece<W: LineWork>(
-        &mut self,
-        alloc: Global,
-        work: &W,
-        piece: &[u8],
-    ) -> Result<(), Stop>
+    fn take_piece<W: LineWork>(&mut self, alloc: Global, work: &W, piece: &[u8]) -> Result<(), Stop>
         ensures taken { OnOk result
             (TakesPiece (W.answers work.now) self.old self.new piece.now) }
         ensures early { OnErr result

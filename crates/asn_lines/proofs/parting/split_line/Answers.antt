@@ -1,6 +1,5 @@
-use Rattle.std.proofs.Common.{◌+◌, drop, sym, ap, ◌∙◌, subst}
+use Rattle.std.proofs.Common.{sym, ◌∙◌}
 use Rattle.std.proofs.lemmas.List.{take_rest}
-use Rattle.asn_lines.specs.Splits.{IsFirstLine}
 use Rattle.asn_lines.proofs.FirstFeed.{first_at, none_at}
 use Rattle.asn_lines.proofs.parting.split_line.Goals as goal
 

@@ -1,4 +1,4 @@
-use Rattle.std.proofs.Common.{◌≡◌, ◌<◌, ◌+◌, ℕ, [], length, arith, rules, Err, sym, ap, ◌∙◌}
+use Rattle.std.proofs.Common.{◌≡◌, ◌<◌, ◌+◌, length, take, arith, Err, sym, ap, ◌∙◌}
 use Rattle.std.proofs.lemmas.Result.{IfErr-at_err}
 use Rattle.asn_lines.proofs.Running.{answered_front, at_ok, cut_short, ended_all, kept_unread, not_within, room_falls, some_taken, stopped_at, taken_early, underway_first, underway_next, unread, writes_cut, writes_whole}
 use Rattle.asn_lines.proofs.run.run_lines.Goals as goal
@@ -22,21 +22,21 @@ pieces-preserved g c =
     let fine = sym c.is_err.ensures.value ∙ c.if-is_err.false in
     let wrote = writes_whole _ _ _ _ c.write_out.result c.write_out.ensures.written fine in
     let kept = c.write_out.ensures in
-    let some : 0 < length _ = omega (arith, c.in-Ok.ensures.bound.1, c.if-count-gt0.true) in
+    let some : 0 < length (take c.in-Ok.count c.read.new.into) = omega (arith, c.in-Ok.ensures.bound.1, c.if-count-gt0.true) in
     underway_next c.pieces.invariant _ _ _ c.in-Ok.ensures.bytes.0 c.take-taken.new.self (c.in-Ok-taken.ensures.more some) c.write_out.new.self (at_ok c.write_out.result fine kept.line) (at_ok c.write_out.result fine kept.lines)
     _ _ _ _ wrote.0.all wrote.1.all (at_ok c.write_out.result fine kept.refused) (at_ok c.write_out.result fine kept.no_output) (at_ok c.write_out.result fine kept.no_errors) c.in-Ok.ensures.cause.steady wrote.0.steady wrote.1.steady
 
 pub pieces-smaller : goal.pieces-smaller
 pieces-smaller g c =
     let fine = sym c.is_err.ensures.value ∙ c.if-is_err.false in
-    let some : 0 < length _ = omega (arith, c.in-Ok.ensures.bound.1, c.if-count-gt0.true) in
+    let some : 0 < length (take c.in-Ok.count c.read.new.into) = omega (arith, c.in-Ok.ensures.bound.1, c.if-count-gt0.true) in
     room_falls (c.in-Ok-taken.ensures.more some) some c.write_out.new.self (at_ok c.write_out.result fine c.write_out.ensures.line) (at_ok c.write_out.result fine c.write_out.ensures.lines)
 
 pub returns-in-Ok-2-clause-done : goal.returns-in-Ok-2-clause-done
 returns-in-Ok-2-clause-done g c = λ _.
     let fine = sym c.is_err.ensures.value ∙ c.if-is_err.false in
     let wrote = writes_whole _ _ _ _ c.write_out.result c.write_out.ensures.written fine in
-    let none : length _ ≡ 0 = omega (arith, c.in-Ok.ensures.bound.1, c.if-count-gt0.false) in
+    let none : length (take c.in-Ok.count c.read.new.into) ≡ 0 = omega (arith, c.in-Ok.ensures.bound.1, c.if-count-gt0.false) in
     ended_all c.pieces.invariant _ _ _ none c.in-Ok.ensures.bytes.0 c.take-taken.new.self (c.in-Ok-2.ensures.end none) _ _ _ _ wrote.0.all wrote.1.all (c.in-Ok.ensures.bytes.1 (omega arith) (omega (arith, c.read.auto.into))) (λ n. n ≡ 0)
     (sym (at_ok c.write_out.result fine c.write_out.ensures.refused) ∙ sym c.refused-refused.ensures ∙ c.if-refused-eq0.true)
 
@@ -44,7 +44,7 @@ pub returns-in-Ok-3-clause-refused : goal.returns-in-Ok-3-clause-refused
 returns-in-Ok-3-clause-refused g c = λ _.
     let fine = sym c.is_err.ensures.value ∙ c.if-is_err.false in
     let wrote = writes_whole _ _ _ _ c.write_out.result c.write_out.ensures.written fine in
-    let none : length _ ≡ 0 = omega (arith, c.in-Ok.ensures.bound.1, c.if-count-gt0.false) in
+    let none : length (take c.in-Ok.count c.read.new.into) ≡ 0 = omega (arith, c.in-Ok.ensures.bound.1, c.if-count-gt0.false) in
     let kept = at_ok c.write_out.result fine c.write_out.ensures.refused in
     ended_all c.pieces.invariant _ _ _ none c.in-Ok.ensures.bytes.0 c.take-taken.new.self (c.in-Ok-3.ensures.end none) _ _ _ _ wrote.0.all wrote.1.all (c.in-Ok.ensures.bytes.1 (omega arith) (omega (arith, c.read.auto.into))) (λ n. 0 < n)
     (omega (arith, kept, c.refused-refused.ensures, c.if-refused-eq0.false))

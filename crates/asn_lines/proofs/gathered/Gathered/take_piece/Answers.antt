@@ -13,7 +13,7 @@ returns-in_err-extend-clause-too_long g c =
     let first = c.in-Some.ensures.parts in
     let t = c.lines.invariant in
     rw (p.1, p.2) (λ e. stops t c.extend.new.self IsPastLimit c.in_err-extend.ensures.kept
-      (past_limit t c.in-Some.part.now (10 ∷ c.in-Some.after.now) first.plain first.joined _ (omega (arith, c.in_err-extend.ensures.too_long e, c.lines.self.line.ok.0))))
+    (past_limit t c.in-Some.part.now (10 ∷ c.in-Some.after.now) first.plain first.joined _ (omega (arith, c.in_err-extend.ensures.too_long e, c.lines.self.line.ok.0))))
 
 pub returns-in_err-end_line-clause-too_long : goal.returns-in_err-end_line-clause-too_long
 returns-in_err-end_line-clause-too_long g c =
@@ -25,7 +25,7 @@ returns-in_err-end_line-clause-too_long g c =
     let kept = c.in_ok-extend.ensures.kept in
     let longer = c.in_ok-extend.ensures.line in
     rw (p.1, p.2) (λ e. stops_there t part after first c.extend.new.self kept longer _ IsPastLimit c.in_err-end_line.ensures.kept
-      (past_numbers t part after first c.extend.new.self kept longer _ c.in_err-end_line.ensures.kept (c.in_err-end_line.ensures.too_long e)))
+    (past_numbers t part after first c.extend.new.self kept longer _ c.in_err-end_line.ensures.kept (c.in_err-end_line.ensures.too_long e)))
 
 pub lines-preserved : goal.lines-preserved
 lines-preserved g c =

@@ -1,0 +1,6 @@
+mod FirstFeed
+mod FirstLines
+mod Laws
+mod OneLine
+mod Running
+mod Taking

@@ -1,0 +1,7 @@
+//! Sets the limits of lines and of reads.
+
+/// Limits the lines of an input: the number of one line more is still a `u64`.
+pub const MOST_LINES: u64 = 18_446_744_073_709_551_614;
+
+/// Limits the bytes that one read asks for, which is also the length of the buffer on the stack.
+pub const PIECE: usize = 65_536;

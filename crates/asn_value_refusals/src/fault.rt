@@ -24,12 +24,13 @@ fn excerpt_offset(text: &str, excerpt: &str) -> usize {
 
 /// Returns the offset of a line and a byte in it, both counted from 1.
 fn offset_of(text: &str, line: usize, column: usize) -> usize {
-    let mut begin = 0;
+    let mut begin: usize = 0;
     for (number, each) in text.split('\n').enumerate() {
         if number + 1 == line {
-            return begin + column.saturating_sub(1).min(each.len());
+            let within = column.saturating_sub(1).min(each.len());
+            return begin.saturating_add(within);
         }
-        begin += each.len() + 1;
+        begin = begin.saturating_add(each.len()).saturating_add(1);
     }
     text.len()
 }

@@ -5,6 +5,22 @@ use std::alloc::Global;
 /// Limits the characters of a line that are shown on either side of the place.
 const MOST_SHOWN: usize = 38;
 
+/// Returns what stands behind the last line feed of a text.
+fn last_line(text: &str) -> &str {
+    match text.rsplit_once('\n') {
+        Some((_lines, line)) => line,
+        None => text,
+    }
+}
+
+/// Returns what stands before the first line feed of a text.
+fn first_line(text: &str) -> &str {
+    match text.split_once('\n') {
+        Some((line, _lines)) => line,
+        None => text,
+    }
+}
+
 /// Returns the line of the text around the offset, as much of it as fits a terminal, and a line
 /// with a caret below the place.
 ///
@@ -15,14 +31,8 @@ pub fn shown(alloc: Global, text: &str, offset: usize) -> Result<String, OutOfMe
     let Some((front, rest)) = text.split_at_checked(offset) else {
         return Ok(String::new(alloc));
     };
-    let before = match front.rsplit_once('\n') {
-        Some((_lines, line)) => line,
-        None => front,
-    };
-    let after = match rest.split_once('\n') {
-        Some((line, _lines)) => line,
-        None => rest,
-    };
+    let before = last_line(front);
+    let after = first_line(rest);
     let skipped = before.chars().count().saturating_sub(MOST_SHOWN);
     let mut line = String::new(alloc);
     let mut caret = String::new(alloc);

@@ -6,4 +6,4 @@ use Rattle.asn_modules.proofs.modules.Modules.find.Goals as goal
 
 pub returns-in-Some-clause-readable : goal.returns-in-Some-clause-readable
 returns-in-Some-clause-readable c =
-    opened-readable c.as_slice-in-Some.result.now _ c.of_type.result (ap (λ l. are_linked (map shape_view l)) c.as_slice-in-Some.ensures.value ∙ c.args.self.now.linked) c.of_type.ensures.is
+    opened-readable c.as_slice.result.now _ c.of_type.result (ap (λ l. are_linked (map shape_view l)) c.as_slice.ensures.value ∙ c.args.self.now.linked) c.of_type.ensures.is

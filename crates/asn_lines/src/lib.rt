@@ -9,6 +9,6 @@ mod parting;
 mod run;
 mod work;
 
-pub use limits::MOST_LINES;
+pub use limits::{MOST_LINES, stated_line_limit};
 pub use run::{LinesEnd, run_lines};
 pub use work::{LineReply, LineWork, NoProgress, Progress};

@@ -99,8 +99,6 @@ pub fn conversion_reply<P: Part>(
     } = conversion;
     match convert_part(alloc, from, to, part, text) {
         Ok(written) => Ok(Reply::Answer(with_feed(written)?)),
-        Err(error) => Ok(Reply::refused(refused_lines(
-            alloc, origin, text, &error, explain,
-        )?)),
+        Err(error) => Ok(Reply::refused(refused_lines(alloc, origin, text, &error, explain)?)),
     }
 }

@@ -5,17 +5,17 @@
 
 mod checking;
 mod conversion;
-mod growth;
-mod keeping;
 mod lines;
+mod naming;
 mod one_line;
+mod reading;
 mod types;
 mod whole;
 
 pub use checking::check_text;
-pub use conversion::{Conversion, conversion_reply};
-pub use growth::{growth_reply, missing_line, whole_type};
-pub use keeping::KeepLines;
+pub use conversion::{Conversion, conversion_reply, not_text_line, with_feed};
 pub use lines::ConvertLines;
+pub use naming::missing_reply;
+pub use reading::types_of;
 pub use types::types_text;
 pub use whole::convert_whole;

@@ -1,171 +1,120 @@
 //! Does what is asked for.
-use crate::command_line::Asked;
-use crate::files::{Unread, read_file};
-use asn_command::{Reply, check, convert, list_types};
+use crate::files::{Ended, modules_of};
+use crate::streams::{Stream, convert, write};
+use asn_command::{Conversion, check_text, missing_reply, types_text};
+use asn_command_line::{Asked, BASH_COMPLETIONS};
 use asn_core::{Codec, OutOfMemory};
-use asn_modules::{ModuleError, Modules, read_modules};
-use std::alloc::Global;
-use std::rt::Runtime;
+use asn_replies::{Reply, Status};
+use asn_samples::shape_of;
 
-/// States how the command ended.
-#[derive(Clone, Copy, Drop, PartialEq, Eq)]
-pub enum Ended {
-    /// It is done.
-    Done,
-    /// The value or a module is refused.
-    Refused,
-    /// The command line is wrong.
-    BadCommand,
-    /// A file can't be read.
-    ReadFault,
-    /// Writing failed.
-    WriteFault,
-    /// Memory ran out.
-    WantOfMemory,
-    /// A file is too long.
-    TooLong,
-    /// A file isn't UTF-8.
-    NotText,
-}
-
-impl Ended {
-    /// Returns the exit status.
-    pub fn status(self) -> u8 {
-        match self {
-            Ended::Done => 0,
-            Ended::Refused => 1,
-            Ended::BadCommand => 2,
-            Ended::ReadFault => 3,
-            Ended::WriteFault => 4,
-            Ended::WantOfMemory => 5,
-            Ended::TooLong => 6,
-            Ended::NotText => 7,
-        }
-    }
-}
-
-/// Returns what a fault of reading the file ends in, and says so on standard error.
-fn unread<R: Runtime + AllocGlobal>(rt: &R, name: &str, fault: Unread) -> Ended {
-    let (ended, why) = match fault {
-        Unread::Fault => (Ended::ReadFault, "can't be read"),
-        Unread::TooLong => (Ended::TooLong, "has more than 16777216 bytes"),
-        Unread::NotText => (Ended::NotText, "isn't UTF-8"),
-        Unread::OutOfMemory => return Ended::WantOfMemory,
-    };
-    match eprint!(rt; "asn: {name}: {why}\n") {
-        Ok(()) => ended,
-        Err(_fault) => Ended::WriteFault,
-    }
-}
-
-/// Writes the reply where it belongs.
-fn write<R: Runtime + AllocGlobal>(rt: &R, reply: Result<Reply, OutOfMemory>) -> Ended {
-    match reply {
-        Ok(Reply::Answer(text)) => match print!(rt; "{text}") {
-            Ok(()) => Ended::Done,
-            Err(_fault) => Ended::WriteFault,
-        },
-        Ok(Reply::Refusal(line)) => match eprint!(rt; "{line}") {
-            Ok(()) => Ended::Refused,
-            Err(_fault) => Ended::WriteFault,
-        },
-        Err(OutOfMemory) => Ended::WantOfMemory,
-    }
-}
-
-/// Returns the texts of the files, in order.
-fn read_files<R: Runtime + AllocGlobal>(rt: &R, names: &[&str]) -> Result<Vec<String>, Ended> {
-    let mut texts = Vec::new(rt.alloc());
-    for name in names {
-        match read_file(rt, name) {
-            Ok(text) => match texts.push(text) {
-                Ok(()) => {}
-                Err(_refused) => return Err(Ended::WantOfMemory),
-            },
-            Err(fault) => return Err(unread(rt, name, fault)),
-        }
-    }
-    Ok(texts)
-}
-
-/// Returns each text behind the name of its file.
-fn named<'a>(
-    alloc: Global,
-    names: &[&'a str],
-    texts: &'a [String],
-) -> Result<Vec<(&'a str, &'a str)>, OutOfMemory> {
-    let mut pairs = Vec::new(alloc);
-    for (name, text) in names.iter().zip(texts) {
-        pairs.push((*name, text.as_str()))?;
-    }
-    Ok(pairs)
-}
-
-/// Writes what the modules of the files are answered.
-fn over_modules<R: Runtime + AllocGlobal>(
-    rt: &R,
-    files: &[&str],
-    lists: bool,
-) -> Ended {
-    let texts = match read_files(rt, files) {
-        Ok(texts) => texts,
-        Err(ended) => return ended,
-    };
-    match named(rt.alloc(), files, texts.as_slice()) {
-        Ok(pairs) if lists => write(rt, list_types(rt.alloc(), pairs.as_slice())),
-        Ok(pairs) => write(rt, check(rt.alloc(), pairs.as_slice())),
-        Err(OutOfMemory) => Ended::WantOfMemory,
-    }
-}
-
-/// Returns the modules of the files.
-fn modules_of<R: Runtime + AllocGlobal>(rt: &R, files: &[&str]) -> Result<Modules, Ended> {
-    let texts = read_files(rt, files)?;
-    let Ok(pairs) = named(rt.alloc(), files, texts.as_slice()) else {
-        return Err(Ended::WantOfMemory);
-    };
-    match read_modules(rt.alloc(), pairs.as_slice()) {
-        Ok(modules) => Ok(modules),
-        Err(ModuleError::OutOfMemory) => Err(Ended::WantOfMemory),
-        Err(error) => match eprint!(rt; "{error}\n") {
-            Ok(()) => Err(Ended::Refused),
-            Err(_fault) => Err(Ended::WriteFault),
-        },
-    }
-}
-
-/// Converts the text of the file by a type of the modules.
-fn convert_file<R: Runtime + AllocGlobal>(
-    rt: &R,
-    modules: &Modules,
-    name: &str,
+/// States how values are converted, aside from their type.
+#[derive(Clone, Copy)]
+struct How {
+    /// Names the notation of the text.
     from: Codec,
+    /// Names the notation that is written.
     to: Codec,
-    file: &str,
-) -> Ended {
-    match read_file(rt, file) {
-        Ok(text) => write(
-            rt,
-            convert(rt.alloc(), modules, name, from, to, file, text.as_str()),
-        ),
-        Err(fault) => unread(rt, file, fault),
+    /// States whether a refusal is explained.
+    explain: bool,
+}
+
+/// Converts by a type that is built in.
+fn convert_built_in(rt: &HostRuntime, name: &str, how: How, stream: Stream<'_>) -> Status {
+    let How { from, to, explain } = how;
+    match shape_of(rt.alloc(), name) {
+        Ok(Some(shape)) => {
+            let conversion = Conversion {
+                part: &shape,
+                from,
+                to,
+                explain,
+            };
+            convert(rt, conversion, stream)
+        }
+        Ok(None) => write(rt, missing_reply(rt.alloc(), name)),
+        Err(OutOfMemory) => Status::WantOfMemory,
     }
 }
 
-/// Does what is asked for.
-pub fn answer<R: Runtime + AllocGlobal>(rt: &R, asked: &Asked<'_>) -> Ended {
+/// Converts by a type of the modules of these files.
+fn convert_by(
+    rt: &HostRuntime,
+    files: &[&str],
+    name: &str,
+    how: How,
+    stream: Stream<'_>,
+) -> Status {
+    let modules = match modules_of(rt, files) {
+        Ok(modules) => modules,
+        Err(ended) => return write(rt, ended),
+    };
+    let How { from, to, explain } = how;
+    match modules.find(name) {
+        Some(part) => {
+            let conversion = Conversion {
+                part,
+                from,
+                to,
+                explain,
+            };
+            convert(rt, conversion, stream)
+        }
+        None => write(rt, missing_reply(rt.alloc(), name)),
+    }
+}
+
+/// Returns what checking the files comes to.
+fn checked(rt: &HostRuntime, files: &[&str]) -> Ended {
+    match modules_of(rt, files) {
+        Ok(modules) => Ok(Reply::Answer(check_text(rt.alloc(), &modules)?)),
+        Err(ended) => ended,
+    }
+}
+
+/// Returns what listing the types of the files comes to.
+fn listed(rt: &HostRuntime, files: &[&str]) -> Ended {
+    match modules_of(rt, files) {
+        Ok(modules) => Ok(Reply::Answer(types_text(rt.alloc(), &modules)?)),
+        Err(ended) => ended,
+    }
+}
+
+/// Returns what bash completes words by.
+fn completions(rt: &HostRuntime) -> Ended {
+    Ok(Reply::Answer(String::from_str(rt.alloc(), BASH_COMPLETIONS)?))
+}
+
+/// Does what is asked for, and returns how it ended.
+pub fn reply_to(rt: &HostRuntime, asked: &Asked<'_>) -> Status {
     match asked {
         Asked::Convert {
             modules,
             name,
             from,
             to,
+            lines,
+            explain,
+            progress,
             file,
-        } => match modules_of(rt, modules) {
-            Ok(modules) => convert_file(rt, &modules, name, *from, *to, file),
-            Err(ended) => ended,
-        },
-        Asked::Check(files) => over_modules(rt, files, false),
-        Asked::Types(files) => over_modules(rt, files, true),
+        } => {
+            let stream = Stream {
+                file,
+                lines: *lines,
+                progress: *progress,
+            };
+            let how = How {
+                from: *from,
+                to: *to,
+                explain: *explain,
+            };
+            if modules.is_empty() {
+                convert_built_in(rt, name, how, stream)
+            } else {
+                convert_by(rt, modules.as_slice(), name, how, stream)
+            }
+        }
+        Asked::Check { files } => write(rt, checked(rt, files.as_slice())),
+        Asked::Types { files } => write(rt, listed(rt, files.as_slice())),
+        Asked::Completions => write(rt, completions(rt)),
     }
 }

@@ -1,5 +1,5 @@
 //! Compares versions of a type.
-ghost use Rattle.asn_command.specs.Versions.{IsGrowth, IsWhole, large_line, missing_line};
+ghost use Rattle.asn_command_versions.specs.Versions.{IsGrowth, IsWhole, large_line, missing_line};
 ghost use Rattle.asn_growth.specs.Parts.{node_count};
 ghost use Rattle.asn_model.specs.Readable.{is_readable};
 ghost use Rattle.asn_model.specs.ShapeView.{shape_view};

@@ -1,11 +1,11 @@
 //! Cuts a stream of texts of a newer version of a type to what an older one knows.
-ghost use Rattle.asn_command.specs.Versions.{IsLineKept};
+ghost use Rattle.asn_command_versions.specs.Versions.{IsLineKept};
 ghost use Rattle.asn_growth.specs.Grows.{Grows};
 ghost use Rattle.asn_model.specs.Readable.{is_readable};
 ghost use Rattle.asn_model.specs.ShapeView.{shape_view};
 ghost use Rattle.std.specs.Prelude.{◌≡◌, IfOk, true};
 
-use crate::conversion::{not_text_line, with_feed};
+use asn_command::{not_text_line, with_feed};
 use asn_core::{Codec, OutOfMemory};
 use asn_filter::cut;
 use asn_lines::{LineReply, LineWork};

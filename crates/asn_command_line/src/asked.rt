@@ -9,7 +9,7 @@ use std::alloc::{AllocError, Global};
 pub enum Asked<'a> {
     /// To convert a text.
     Convert {
-        /// Lists the files of modules.
+        /// Lists the files of modules; the type is built in where there is none.
         modules: Vec<&'a str>,
         /// Names the type.
         name: &'a str,
@@ -35,41 +35,6 @@ pub enum Asked<'a> {
     Types {
         /// Lists their files.
         files: Vec<&'a str>,
-    },
-    /// To show a type of modules.
-    Show {
-        /// Lists their files.
-        files: Vec<&'a str>,
-        /// Names the type.
-        name: &'a str,
-        /// Is the notation of the value to show in place of the type, if one is asked for.
-        example: Option<Codec>,
-        /// States whether the value is to have all that the type admits.
-        full: bool,
-    },
-    /// To say whether a type is a later version of an older one.
-    Grows {
-        /// Names the file of the older module.
-        old: &'a str,
-        /// Names the file of the newer one.
-        new: &'a str,
-        /// Names the type.
-        name: &'a str,
-    },
-    /// To cut the lines of a text to what the older version of a type knows.
-    Keep {
-        /// Names the file of the older module.
-        old: &'a str,
-        /// Names the file of the newer one.
-        new: &'a str,
-        /// Names the type.
-        name: &'a str,
-        /// Is the notation of the lines.
-        from: Codec,
-        /// States whether to show how far it is.
-        progress: bool,
-        /// Names the file of the lines.
-        file: &'a str,
     },
     /// To write the completions of the command line for bash.
     Completions,
@@ -115,6 +80,22 @@ fn values<'a>(alloc: Global, found: &ArgMatches<'a>, id: &str) -> Result<Vec<&'a
     }
 }
 
+/// Returns the values of the argument, of which there may be none.
+///
+/// # Errors
+///
+/// Where memory runs out.
+fn optional_values<'a>(
+    alloc: Global,
+    found: &ArgMatches<'a>,
+    id: &str,
+) -> Result<Vec<&'a str>, AllocError> {
+    match found.get_strs(id) {
+        Some(texts) => Vec::from_slice(alloc, texts),
+        None => Ok(Vec::new(alloc)),
+    }
+}
+
 /// Returns the notation that the argument names.
 ///
 /// # Errors
@@ -152,7 +133,7 @@ fn notation_of_text(found: &ArgMatches<'_>, file: &str) -> Result<Codec, Untaken
 fn conversion<'a>(alloc: Global, found: &ArgMatches<'a>) -> Result<Asked<'a>, Untaken> {
     let file = value(found, "file")?;
     Ok(Asked::Convert {
-        modules: values(alloc, found, "module")?,
+        modules: optional_values(alloc, found, "module")?,
         name: value(found, "type")?,
         from: notation_of_text(found, file)?,
         to: notation(found, "to")?,
@@ -160,54 +141,6 @@ fn conversion<'a>(alloc: Global, found: &ArgMatches<'a>) -> Result<Asked<'a>, Un
         explain: found.get_flag("explain"),
         progress: found.get_flag("progress"),
         file,
-    })
-}
-
-/// Returns which type is to be shown.
-///
-/// # Errors
-///
-/// `Missing` for no words that are read, `OutOfMemory`.
-fn showing<'a>(alloc: Global, found: &ArgMatches<'a>) -> Result<Asked<'a>, Untaken> {
-    let example = if found.contains_id("example") {
-        Some(notation(found, "example")?)
-    } else {
-        None
-    };
-    Ok(Asked::Show {
-        files: values(alloc, found, "modules")?,
-        name: value(found, "type")?,
-        example,
-        full: found.get_flag("full"),
-    })
-}
-
-/// Returns which types are to be compared.
-///
-/// # Errors
-///
-/// `Missing` for no words that are read.
-fn comparison<'a>(found: &ArgMatches<'a>) -> Result<Asked<'a>, Untaken> {
-    Ok(Asked::Grows {
-        old: value(found, "old")?,
-        new: value(found, "new")?,
-        name: value(found, "type")?,
-    })
-}
-
-/// Returns which lines are to be cut.
-///
-/// # Errors
-///
-/// `Missing` for no words that are read.
-fn cutting<'a>(found: &ArgMatches<'a>) -> Result<Asked<'a>, Untaken> {
-    Ok(Asked::Keep {
-        old: value(found, "old")?,
-        new: value(found, "new")?,
-        name: value(found, "type")?,
-        from: notation(found, "from")?,
-        progress: found.get_flag("progress"),
-        file: value(found, "file")?,
     })
 }
 
@@ -225,9 +158,6 @@ pub fn taken<'a>(alloc: Global, name: &str, found: &ArgMatches<'a>) -> Result<As
         "types" => Ok(Asked::Types {
             files: values(alloc, found, "modules")?,
         }),
-        "show" => showing(alloc, found),
-        "grows" => comparison(found),
-        "keep" => cutting(found),
         "completions" => Ok(Asked::Completions),
         _ => Err(Untaken::Missing),
     }

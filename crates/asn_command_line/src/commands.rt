@@ -40,15 +40,6 @@ fn progress<'a>(alloc: Global) -> Arg<'a> {
     flag(alloc, "progress", "Shows how far it is").hide(true)
 }
 
-/// Returns the argument that names one file of modules.
-fn module_file<'a>(alloc: Global, id: &'a str, name: &'a str, help: &'a str) -> Arg<'a> {
-    Arg::new(alloc, id)
-        .value_name(name)
-        .action(ArgAction::Set)
-        .required(true)
-        .help(help)
-}
-
 /// Returns the argument that names the file of a text.
 fn text_file<'a>(alloc: Global, help: &'a str) -> Arg<'a> {
     Arg::new(alloc, "file")
@@ -66,8 +57,7 @@ fn converting<'a>(alloc: Global) -> Result<Command<'a>, AllocError> {
         .long("module")
         .value_name("FILE.asn")
         .action(ArgAction::Append)
-        .required(true)
-        .help("A file of ASN.1 modules; give several by several -m");
+        .help("A file of ASN.1 modules; give several by several -m. Without one TYPE is built in");
     Command::new(alloc, "convert")
         .about("Writes the canonical text of a value, or of the value in each line")
         .after_help(
@@ -109,55 +99,6 @@ fn over_modules<'a>(
         .arg(modules)
 }
 
-/// Returns the command that shows a type.
-fn showing<'a>(alloc: Global) -> Result<Command<'a>, AllocError> {
-    let command = over_modules(
-        alloc,
-        "show",
-        "Shows a type with those that it names, or a value of it",
-        "Examples:\n  asn show examples/ticket.asn -t Ticket\n  \
-         asn show examples/ticket.asn -t Ticket --example jer",
-    )?;
-    command
-        .arg(type_name(alloc))?
-        .arg(notation(alloc, "example", "Shows a value in this notation"))?
-        .arg(flag(
-            alloc,
-            "full",
-            "Lets the value have all that the type admits",
-        ))
-}
-
-/// Returns a command over an older and a newer file of modules.
-fn over_versions<'a>(
-    alloc: Global,
-    name: &'a str,
-    about: &'a str,
-    example: &'a str,
-) -> Result<Command<'a>, AllocError> {
-    Command::new(alloc, name)
-        .about(about)
-        .after_help(example)
-        .arg(module_file(alloc, "old", "OLD.asn", "The file of the older modules"))?
-        .arg(module_file(alloc, "new", "NEW.asn", "The file of the newer modules"))?
-        .arg(type_name(alloc))
-}
-
-/// Returns the command that cuts lines.
-fn keeping<'a>(alloc: Global) -> Result<Command<'a>, AllocError> {
-    let command = over_versions(
-        alloc,
-        "keep",
-        "Cuts each line to what the older version of a type knows, and writes it in JSON",
-        "Example:\n  asn keep examples/sensor-1.asn examples/sensor.asn -t Report --from jer \
-         examples/reports.jsonl",
-    )?;
-    command
-        .arg(notation(alloc, "from", "The notation of the lines").required(true))?
-        .arg(progress(alloc))?
-        .arg(text_file(alloc, "The file of the lines; - or none is standard input"))
-}
-
 /// Returns the command that writes completions.
 fn completing<'a>(alloc: Global) -> Result<Command<'a>, AllocError> {
     let shell = Arg::new(alloc, "shell")
@@ -190,12 +131,6 @@ pub fn command_line<'a>(alloc: Global) -> Result<Command<'a>, AllocError> {
         "Lists the types of modules",
         "Example:\n  asn types examples/calls.asn",
     )?;
-    let grows = over_versions(
-        alloc,
-        "grows",
-        "Says whether a type is a later version of an older one, and where it isn't",
-        "Example:\n  asn grows examples/sensor-1.asn examples/sensor.asn -t Report",
-    )?;
     Command::new(alloc, "asn")
         .about("Converts values between JSON (JER) and ASN.1 value notation by ASN.1 modules")
         .version("0.1.0")
@@ -204,8 +139,5 @@ pub fn command_line<'a>(alloc: Global) -> Result<Command<'a>, AllocError> {
         .subcommand(converting(alloc)?)?
         .subcommand(check)?
         .subcommand(types)?
-        .subcommand(showing(alloc)?)?
-        .subcommand(grows)?
-        .subcommand(keeping(alloc)?)?
         .subcommand(completing(alloc)?)
 }

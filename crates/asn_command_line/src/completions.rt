@@ -7,18 +7,15 @@ _asn() {
     local word=${COMP_WORDS[COMP_CWORD]} before=${COMP_WORDS[COMP_CWORD-1]} options
     COMPREPLY=()
     if [ "$COMP_CWORD" -eq 1 ]; then
-        COMPREPLY=($(compgen -W 'convert check types show grows keep completions help --help --version' -- "$word"))
+        COMPREPLY=($(compgen -W 'convert check types completions help --help --version' -- "$word"))
         return
     fi
     case $before in
-        --from|--to|--example) COMPREPLY=($(compgen -W 'jer avn' -- "$word")); return ;;
+        --from|--to) COMPREPLY=($(compgen -W 'jer avn' -- "$word")); return ;;
         -t|--type) return ;;
     esac
     case ${COMP_WORDS[1]} in
         convert) options='--module --type --from --to --lines --explain --help' ;;
-        show) options='--type --example --full --help' ;;
-        grows) options='--type --help' ;;
-        keep) options='--type --from --help' ;;
         completions) COMPREPLY=($(compgen -W 'bash --help' -- "$word")); return ;;
         *) options='--help' ;;
     esac

@@ -1,12 +1,11 @@
 //! Says what was read of modules.
 ghost use Rattle.asn_command.specs.Listings.{check_text, count_line, valueless_line};
 ghost use Rattle.asn_command.specs.Listings.{valueless_lines};
-ghost use Rattle.asn_model.specs.ShapeView.{shape_view};
 ghost use Rattle.asn_modules.specs.Modules.{modules_view};
-ghost use Rattle.asn_modules.specs.Names.{type_name_view};
 ghost use Rattle.std.specs.List.{flat_map};
 ghost use Rattle.std.specs.Prelude.{◌≡◌, IfOk, map, string_bytes};
 
+use crate::listing::{TypeText, texts_on};
 use crate::types::full_name;
 use asn_core::OutOfMemory;
 use asn_model::Shape;
@@ -45,18 +44,17 @@ fn lines_on_parts(alloc: Global, name: &str, parts: &[String]) -> Result<String,
     Ok(lines)
 }
 
-/// Returns a line for each part of the type of which no value is read.
-///
-/// # Errors
-///
-/// `OutOfMemory` alone.
-fn lines_on_type(alloc: Global, name: &TypeName, shape: &Shape) -> Result<String, OutOfMemory>
-    ensures { IfOk result (λ s. string_bytes s
-        ≡ valueless_lines (type_name_view name.now) (shape_view shape.now)) }
-{
-    let name = full_name(alloc, name)?;
-    let parts = parts_without_values(alloc, shape)?;
-    lines_on_parts(alloc, &name, &parts)
+/// Makes a line for each part of a type of which no value is read.
+struct Valueless;
+
+impl TypeText for Valueless {
+    ghost text = { valueless_lines };
+
+    fn text_on(alloc: Global, name: &TypeName, shape: &Shape) -> Result<String, OutOfMemory> {
+        let name = full_name(alloc, name)?;
+        let parts = parts_without_values(alloc, shape)?;
+        lines_on_parts(alloc, &name, &parts)
+    }
 }
 
 /// Returns a line on how many types the modules have, and then one for each part of them of which
@@ -69,9 +67,7 @@ pub fn check_text(alloc: Global, modules: &Modules) -> Result<String, OutOfMemor
     ensures { IfOk result (λ s. string_bytes s ≡ check_text (modules_view modules.now)) }
 {
     let mut lines = count_line(alloc, modules.names().len())?;
-    for (name, shape) in modules.names().iter().zip(modules.types()) {
-        let more = lines_on_type(alloc, name, shape)?;
-        lines.push_str(more.as_str())?;
-    }
+    let more = texts_on::<Valueless>(alloc, modules)?;
+    lines.push_str(more.as_str())?;
     Ok(lines)
 }

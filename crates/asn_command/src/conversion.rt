@@ -31,11 +31,12 @@ pub struct Conversion<P: Part> {
 /// # Errors
 ///
 /// `OutOfMemory` alone.
-pub fn with_feed(mut text: String) -> Result<String, OutOfMemory>
-    ensures { IfOk result (λ s. string_bytes s ≡ string_bytes text.entry ++ 10 ∷ []) }
+pub fn with_feed(text: String) -> Result<String, OutOfMemory>
+    ensures { IfOk result (λ s. string_bytes s ≡ string_bytes text ++ 10 ∷ []) }
 {
-    text.push('\n')?;
-    Ok(text)
+    let mut line = text;
+    line.push('\n')?;
+    Ok(line)
 }
 
 /// Returns the line that says that a text of this origin isn't UTF-8.
@@ -85,11 +86,11 @@ pub fn conversion_reply<P: Part>(
     text: &str,
 ) -> Result<Reply, OutOfMemory>
     requires { is_readable (P.shape [] conversion.part) ≡ true }
-    ensures reply { IfOk result (IsConversion conversion.entry.from conversion.entry.to
-        (P.shape [] conversion.entry.part) origin.entry text.now) }
+    ensures reply { IfOk result (IsConversion conversion.from conversion.to
+        (P.shape [] conversion.part) origin.entry text.now) }
     // A text that stands for a value which can be written is answered.
-    ensures complete { IsConvertible LEVEL_LIMIT conversion.entry.from conversion.entry.to
-        (P.shape [] conversion.entry.part) text.now → IfOk result IsAnswered }
+    ensures complete { IsConvertible LEVEL_LIMIT conversion.from conversion.to
+        (P.shape [] conversion.part) text.now → IfOk result IsAnswered }
 {
     let Conversion {
         part,

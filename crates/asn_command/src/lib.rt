@@ -6,6 +6,7 @@
 mod checking;
 mod conversion;
 mod lines;
+mod listing;
 mod naming;
 mod one_line;
 mod reading;

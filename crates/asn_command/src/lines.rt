@@ -25,7 +25,7 @@ impl<'f, P: Part> ConvertLines<'f, P> {
     /// Returns the work that converts lines of the file so.
     pub fn new(conversion: Conversion<P>, file: &'f str) -> ConvertLines<'f, P>
         requires { is_readable (P.shape [] conversion.part) ≡ true }
-        ensures conversion { result.conversion ≡ conversion.entry }
+        ensures conversion { result.conversion ≡ conversion }
         ensures file { result.file ≡ file.entry }
     {
         ConvertLines { conversion, file }
@@ -72,7 +72,7 @@ fn line_reply<P: Part>(
     written: String,
 ) -> Result<LineReply, OutOfMemory>
     requires { is_readable (P.shape [] conversion.part) ≡ true }
-    ensures { IfOk result (IsLineOf conversion.entry.to (P.shape [] conversion.entry.part)
+    ensures { IfOk result (IsLineOf conversion.to (P.shape [] conversion.part)
         origin.entry (string_bytes written)) }
 {
     if conversion.to != Codec::Avn || !written.contains('\n') {

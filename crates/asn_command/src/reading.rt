@@ -1,5 +1,5 @@
 //! Reads modules.
-ghost use Rattle.asn_command.specs.Readings.{IsModulesReply};
+ghost use Rattle.asn_command.specs.Readings.{IsModulesReply, IsReplyTo};
 ghost use Rattle.asn_modules.specs.Modules.{modules_view};
 ghost use Rattle.asn_modules.specs.Reading.{AreModules};
 ghost use Rattle.asn_modules_sources.specs.Reading.{named_view};

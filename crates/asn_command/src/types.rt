@@ -1,10 +1,10 @@
 //! Lists the types of modules.
 ghost use Rattle.asn_command.specs.Listings.{full_name, types_line, types_text};
-ghost use Rattle.asn_model.specs.ShapeView.{shape_view};
 ghost use Rattle.asn_modules.specs.Modules.{modules_view};
 ghost use Rattle.asn_modules.specs.Names.{type_name_view};
 ghost use Rattle.std.specs.Prelude.{◌≡◌, IfOk, string_bytes};
 
+use crate::listing::{TypeText, texts_on};
 use asn_core::OutOfMemory;
 use asn_model::Shape;
 use asn_modules::{Modules, TypeName, is_without_values};
@@ -28,21 +28,20 @@ pub fn full_name(alloc: Global, name: &TypeName) -> Result<String, OutOfMemory>
     Ok(format!(in alloc; "{home}.{name}")?)
 }
 
-/// Returns the line on a type: its name, a blank and its kind.
-///
-/// # Errors
-///
-/// `OutOfMemory` alone.
-fn types_line(alloc: Global, name: &TypeName, shape: &Shape) -> Result<String, OutOfMemory>
-    ensures { IfOk result (λ s. string_bytes s
-        ≡ types_line (type_name_view name.now) (shape_view shape.now)) }
-{
-    let name = full_name(alloc, name)?;
-    if is_without_values(shape) {
-        return Ok(format!(in alloc; "{name} (no values)\n")?);
+/// Makes the line on a type: its name, a blank and its kind.
+struct Kinds;
+
+impl TypeText for Kinds {
+    ghost text = { types_line };
+
+    fn text_on(alloc: Global, name: &TypeName, shape: &Shape) -> Result<String, OutOfMemory> {
+        let name = full_name(alloc, name)?;
+        if is_without_values(shape) {
+            return Ok(format!(in alloc; "{name} (no values)\n")?);
+        }
+        let kind = kind_word(shape);
+        Ok(format!(in alloc; "{name} {kind}\n")?)
     }
-    let kind = kind_word(shape);
-    Ok(format!(in alloc; "{name} {kind}\n")?)
 }
 
 /// Returns a line for each type of the modules, in the order in which they are assigned: its name,
@@ -54,10 +53,5 @@ fn types_line(alloc: Global, name: &TypeName, shape: &Shape) -> Result<String, O
 pub fn types_text(alloc: Global, modules: &Modules) -> Result<String, OutOfMemory>
     ensures { IfOk result (λ s. string_bytes s ≡ types_text (modules_view modules.now)) }
 {
-    let mut lines = String::new(alloc);
-    for (name, shape) in modules.names().iter().zip(modules.types()) {
-        let line = types_line(alloc, name, shape)?;
-        lines.push_str(line.as_str())?;
-    }
-    Ok(lines)
+    texts_on::<Kinds>(alloc, modules)
 }

@@ -9,7 +9,7 @@ ghost use Rattle.asn_streams.specs.Faults.{Increased};
 ghost use Rattle.asn_streams.specs.Input.{ReadPastLimit, ReadWhole};
 ghost use Rattle.asn_streams.specs.Transfer.{transfer_of};
 ghost use Rattle.avn_grammar.specs.declared.limits.TheConstants.{LEVEL_LIMIT};
-ghost use Rattle.std.specs.Prelude.{◌≡◌, ◌⊎◌, [], ℕ, List, IsUtf8, true};
+ghost use Rattle.std.specs.Prelude.{◌≡◌, ◌≢◌, ◌⊎◌, [], ℕ, List, IsUtf8, true};
 
 use crate::conversion::{Conversion, conversion_reply};
 use asn_dynamic::Part;
@@ -33,12 +33,12 @@ pub fn convert_whole<P: Part, S: Source, K: Sink, E: Sink>(
     ensures done { result ≡ status.Done
         → ReadWhole (transfer_of S.left S.faults source.old source.new)
         (λ input. Wrote (transfer_of K.written K.faults output.old output.new)
-        (IsAnswer conversion.entry.from conversion.entry.to (P.shape [] conversion.entry.part)
+        (IsAnswer conversion.from conversion.to (P.shape [] conversion.part)
         input)) }
     ensures refused { result ≡ status.Refused
         → ReadWhole (transfer_of S.left S.faults source.old source.new)
         (λ input. Wrote (transfer_of E.written E.faults errors.old errors.new)
-        (IsRefusal conversion.entry.from conversion.entry.to (P.shape [] conversion.entry.part)
+        (IsRefusal conversion.from conversion.to (P.shape [] conversion.part)
         (file_origin file.entry) input)) }
     ensures read_fault { result ≡ status.ReadFault
         → Increased (S.faults source.old) (S.faults source.new) }
@@ -57,8 +57,8 @@ pub fn convert_whole<P: Part, S: Source, K: Sink, E: Sink>(
     // A text that stands for a value which can be written is answered.
     ensures complete { (input : List ℕ)
         → IsKnown (transfer_of S.left S.faults source.old source.new) input
-        → IsConvertible LEVEL_LIMIT conversion.entry.from conversion.entry.to
-        (P.shape [] conversion.entry.part) input → result ≢ status.Refused }
+        → IsConvertible LEVEL_LIMIT conversion.from conversion.to
+        (P.shape [] conversion.part) input → result ≢ status.Refused }
 {
     let reply = match read_text(alloc, source) {
         Ok(text) => conversion_reply(alloc, conversion, Origin { file, line: None }, &text),

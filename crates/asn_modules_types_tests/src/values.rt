@@ -37,7 +37,7 @@ fn by_text(alloc: Global, text: &str, json: &str) -> Result<String, Fail> {
         Err(_fault) => return Ok(String::from_str(alloc, "no types")?),
     };
     match index.only("T".as_bytes()) {
-        Some(number) => in_json(alloc, types.as_slice(), number as u32, json),
+        Some(number) => in_json(alloc, types.as_slice(), u32::try_from(number)?, json),
         None => Ok(String::from_str(alloc, "no type")?),
     }
 }

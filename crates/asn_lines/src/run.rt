@@ -32,9 +32,9 @@ pub enum LinesEnd {
     },
 }
 
-/// Answers each line of the source: its answer goes to `output`, and its refusal to `errors`. A line
-/// ends at a line feed, and what stands after the last one is a line unless it is empty. What the
-/// lines of a piece come to is written before the next piece is read, the answers first; so an
+/// Answers each line of the source: its answer goes to `output`, and its refusal to `errors`. A
+/// line ends at a line feed, and what stands after the last one is a line unless it is empty. What
+/// the lines of a piece come to is written before the next piece is read, the answers first; so an
 /// answer doesn't wait for more of the input. Memory is that of the longest line and of what the
 /// lines of one piece come to.
 pub fn run_lines<S: Source, K: Sink, E: Sink, W: LineWork, P: Progress>(
@@ -62,7 +62,8 @@ pub fn run_lines<S: Source, K: Sink, E: Sink, W: LineWork, P: Progress>(
         → ReadSoFar (transfer_of S.left S.faults source.old source.new) (λ input.
         Answered (W.answers work.now) (transfer_of K.written K.faults output.old output.new)
         (transfer_of E.written E.faults errors.old errors.new) (λ n. ⊤) (whole_lines input)) }
-    // A write failed, and what was written is a front part of what was due for lines that were read.
+    // A write failed, and what was written is a front part of what was due for lines that were
+    // read.
     ensures write_fault { result ≡ LinesEnd.WriteFault
         → Increased (K.faults output.old) (K.faults output.new)
         ⊎ Increased (E.faults errors.old) (E.faults errors.new) }
@@ -81,8 +82,8 @@ pub fn run_lines<S: Source, K: Sink, E: Sink, W: LineWork, P: Progress>(
         StoppedAt (W.answers work.now) (transfer_of K.written K.faults output.old output.new)
         (transfer_of E.written E.faults errors.old errors.new) number (text_lines input)) }
 
-    // Where contracts see the source's bytes and no count of faults rises, all lines are answered or
-    // refused if they are within the limits, or memory runs out.
+    // Where contracts see the source's bytes and no count of faults rises, all lines are answered
+    // or refused if they are within the limits, or memory runs out.
     ensures answers { (input : List ℕ) → S.left source.old ≡ Some input
         → IsWithinLimits (text_lines input)
         → ¬ Increased (S.faults source.old) (S.faults source.new)

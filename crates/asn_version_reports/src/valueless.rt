@@ -87,7 +87,8 @@ fn add_valueless_fields(
     found: &mut Vec<String>,
 ) -> Result<(), OutOfMemory>
     ensures { OnOk result (map string_bytes found.new.items ≡ map string_bytes found.old.items
-        ++ map path_text (behind (path_steps path.now) (field_valueless (field_views fields.now)))) }
+        ++ map path_text (behind (path_steps path.now)
+        (field_valueless (field_views fields.now)))) }
 {
     for field in fields {
         let within = Path::Step(field.name.as_str(), &*path);

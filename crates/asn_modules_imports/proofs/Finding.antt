@@ -2,13 +2,13 @@
 use Rattle.std.proofs.Common.{◌≡◌, ℕ, List, [], ◌∷◌, ◌++◌, map, reverse, Bool, true, false, ◌||◌, if◌then◌else◌, filter, Option, Some, None, refl, sym, ap, ◌∙◌}
 use Rattle.std.proofs.lemmas.List.{map-append, reverse-append}
 use Rattle.std.specs.Borrow.{Bor}
-use Rattle.std.specs.List.{cons_option, list_any, slice_get}
+use Rattle.std.specs.List.{cons_option, slice_get}
 use Rattle.std.specs.Option.{is_none, option_and_then, option_map}
 use Rattle.std.specs.Set.{is_member}
 use Rattle.std.specs.Str.{bytes_eq}
 use Rattle.asn_lexer.specs.declared.token.Token.{Token}
 use Rattle.asn_model.specs.Shape.{is_item}
-use Rattle.asn_modules_imports.specs.Imported.{exports_of, is_among, is_exported, is_named, is_token, module_named}
+use Rattle.asn_modules_imports.specs.Imported.{exports_of, is_among, is_exported, is_token, module_named}
 use Rattle.asn_modules_imports.specs.Tables.{entries_of, names_in, names_of, same_entry, same_named}
 use Rattle.asn_modules_imports.specs.declared.entries.Listed.TheVariants.{Exported, Title}
 use Rattle.asn_modules_imports.proofs.Counting.{first_found, has, head_of}

@@ -1,5 +1,6 @@
 mod Examples
 mod Ascii
+mod Strings
 mod Listing
 mod Tagged
 mod Naming

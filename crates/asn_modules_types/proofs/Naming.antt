@@ -1,5 +1,5 @@
 -- Words that name numbers and items.
-use Rattle.std.proofs.Common.{◌≡◌, ℕ, ◌+◌, ◌<◌, List, [], map, Bool, true, false, if◌then◌else◌, Option, Some, None, String, string_bytes, ap, sym, ◌∙◌, get_or, drop, length}
+use Rattle.std.proofs.Common.{◌≡◌, ℕ, ◌+◌, ◌<◌, List, [], map, true, false, if◌then◌else◌, Option, Some, None, String, string_bytes, ap, sym, ◌∙◌, get_or, drop, length}
 use Rattle.std.proofs.lemmas.List.{drop_more}
 use Rattle.std.specs.Global.{Global, Vec}
 use Rattle.std.specs.Option.{option_map}

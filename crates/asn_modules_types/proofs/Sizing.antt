@@ -1,5 +1,5 @@
 -- Sizes of types.
-use Rattle.std.proofs.Common.{◌≡◌, ◌<◌, ◌+◌, ◌^◌, ℕ, ℤ, pos, negsuc, List, true, false, Bool, if◌then◌else◌, nat_lt, Option, Some, None, Result, Ok, Err, refl, sym, ap, ◌∙◌, arith, drop, get_or, length, w64}
+use Rattle.std.proofs.Common.{◌≡◌, ◌<◌, ◌+◌, ◌^◌, ℕ, ℤ, pos, negsuc, List, true, false, Bool, if◌then◌else◌, nat_lt, Some, None, Result, Ok, Err, refl, sym, ap, ◌∙◌, arith, drop, get_or, length, w64}
 use Rattle.std.proofs.lemmas.Bool.{lt-ltb, ltb-true}
 use Rattle.std.proofs.lemmas.Int.{ints}
 use Rattle.std.proofs.lemmas.List.{drop_more}

@@ -4,7 +4,7 @@ ghost use Rattle.asn_model.specs.ShapeView.{plain_view, presence_view, shape_vie
 ghost use Rattle.asn_modules_names.specs.Assigned.{first_found};
 ghost use Rattle.asn_modules_notation.specs.View.{notation_view};
 ghost use Rattle.asn_modules_types.specs.Defaults.{boolean_named, default_of, plain_in, suited};
-ghost use Rattle.asn_modules_types.specs.Defaults.{word_plain};
+ghost use Rattle.asn_modules_types.specs.Defaults.{string_in, string_plain, word_plain};
 ghost use Rattle.asn_modules_types.specs.Known.{KnowsNames, scope_view, sources_of, stated_view};
 ghost use Rattle.asn_modules_types.specs.Linked.{number_word};
 ghost use Rattle.asn_modules_types.specs.Numbers.{constant_in, named_number};
@@ -19,10 +19,12 @@ use crate::names::Names;
 use crate::numbers::signed_in;
 use crate::scope::{Scope, find, number_at, stated_here};
 use crate::values::{StatedValue, next_value};
-use crate::words::{string_of, word_in};
+use crate::words::{string_in, string_of, word_in};
+use asn_lexer::Token;
 use asn_model::{Plain, PresenceShape, Shape, is_of_shape};
 use asn_modules_faults::text_of;
 use asn_modules_notation::{Base, Constant, NamedNumber, Notation, Presence, Value};
+use std::alloc::Global;
 
 /// Returns the number that a constant is, or `None` where it is the name of a value that leads to
 /// none.
@@ -141,6 +143,29 @@ fn word_plain(
     }
 }
 
+/// Returns what a string in this text is as a value of the shape, or `None` where it is none.
+///
+/// # Errors
+///
+/// `OutOfMemory` alone.
+fn string_plain(
+    alloc: Global,
+    shape: &Shape,
+    text: &str,
+    token: Token,
+) -> Result<Option<Plain>, LinkFault>
+    ensures { IfOk result (λ o. option_map plain_view o
+        ≡ string_plain (shape_view shape.now) (string_in text.now token)) }
+{
+    match shape {
+        Shape::Str { .. } => match string_in(alloc, text, token)? {
+            Some(string) => Ok(Some(Plain::Text(string))),
+            None => Ok(None),
+        },
+        _ => Ok(None),
+    }
+}
+
 /// Returns what a value in this text is as one of the shape of this type, or `None` where it isn't
 /// understood.
 ///
@@ -165,6 +190,7 @@ fn plain_in(
             None => Ok(None),
         },
         Value::Word(token) => word_plain(scope, notation, shape, word_in(text, token)),
+        Value::Cstring(token) => string_plain(scope.names.alloc, shape, text, token),
         _ => Ok(None),
     }
 }

@@ -1,7 +1,8 @@
-//! Reads words.
+//! Reads words and strings.
+ghost use Rattle.asn_modules_types.specs.Defaults.{is_verbatim, string_in};
 ghost use Rattle.asn_modules_types.specs.Scopes.{ascii_of, name_in};
-ghost use Rattle.std.specs.List.{list_all};
-ghost use Rattle.std.specs.Prelude.{◌≡◌, IfOk, nat_lt, string_bytes};
+ghost use Rattle.std.specs.List.{list_all, slice_range};
+ghost use Rattle.std.specs.Prelude.{◌≡◌, ◌-◌, IfOk, length, nat_lt, option_map, string_bytes};
 
 use asn_lexer::Token;
 use asn_modules_faults::text_of;
@@ -49,4 +50,47 @@ pub fn name_in(alloc: Global, text: &str, token: Token) -> Result<String, AllocE
     ensures { IfOk result (λ s. string_bytes s ≡ name_in text.now token) }
 {
     string_of(alloc, text_of(text, token))
+}
+
+/// Returns the bytes without the first and the last one.
+fn inner(bytes: &[u8]) -> &[u8]
+    ensures { result.now ≡ slice_range bytes.now 1 (length bytes.now - 1) }
+{
+    if bytes.len() < 2 {
+        return &[];
+    }
+    &bytes[1..bytes.len() - 1]
+}
+
+/// Returns whether the byte is of a character that stands for itself in a string.
+fn is_verbatim(byte: u8) -> bool
+    ensures { result ≡ is_verbatim byte }
+{
+    byte >= b' ' && byte != b'"'
+}
+
+/// Returns whether each byte is of a character that stands for itself in a string.
+fn are_verbatim(bytes: &[u8]) -> bool
+    ensures { result ≡ list_all is_verbatim bytes.now }
+{
+    bytes.iter().all(|byte| is_verbatim(*byte))
+}
+
+/// Returns the characters of a string between its quotes, or `None` where a quote or the end of a
+/// line is among them.
+///
+/// # Errors
+///
+/// Where memory runs out.
+pub fn string_in(alloc: Global, text: &str, token: Token) -> Result<Option<String>, AllocError>
+    ensures { IfOk result (λ o. option_map string_bytes o ≡ string_in text.now token) }
+{
+    let bytes = inner(text_of(text, token));
+    if !are_verbatim(bytes) {
+        return Ok(None);
+    }
+    match str::from_utf8(bytes) {
+        Ok(string) => Ok(Some(String::from_str(alloc, string)?)),
+        Err(_fault) => Ok(None),
+    }
 }

@@ -2,6 +2,12 @@
 #![tactic(auto)]
 
 #[cfg(test)]
+mod included;
+#[cfg(test)]
 mod markers;
+#[cfg(test)]
+mod notations;
+#[cfg(test)]
+mod texts;
 #[cfg(test)]
 mod values;

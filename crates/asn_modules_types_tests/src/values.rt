@@ -1,49 +1,10 @@
 //! Values by the types of modules.
+use crate::texts::by_modules;
 use asn_core::Codec;
-use asn_dynamic::convert_part;
-use asn_linked::Place;
-use asn_linked_types::are_linked;
-use asn_model::Shape;
-use asn_modules_lookup::{Sort, index_of};
-use asn_modules_text::read_source;
-use asn_modules_types::linked_types;
-use std::alloc::Global;
 use std::test::Fail;
 
-/// Returns the canonical JSON text of the value that a JSON text has by the type of the number, or
-/// `refused`.
-fn in_json(alloc: Global, types: &[Shape], number: u32, json: &str) -> Result<String, Fail> {
-    if are_linked(types) {
-        if let Some(place) = Place::of_type(types, number) {
-            match convert_part(alloc, Codec::Jer, Codec::Jer, place, json) {
-                Ok(text) => return Ok(text),
-                Err(_error) => {}
-            }
-        }
-    }
-    Ok(String::from_str(alloc, "refused")?)
-}
-
-/// Returns so by the type `T` of this text of modules.
-fn by_text(alloc: Global, text: &str, json: &str) -> Result<String, Fail> {
-    let mut sources = Vec::new(alloc);
-    match read_source(alloc, "f", text) {
-        Ok(source) => sources.push(source)?,
-        Err(_error) => return Ok(String::from_str(alloc, "no modules")?),
-    }
-    let index = index_of(alloc, Sort::Types, sources.as_slice())?;
-    let types = match linked_types(alloc, sources.as_slice(), &index) {
-        Ok(types) => types,
-        Err(_fault) => return Ok(String::from_str(alloc, "no types")?),
-    };
-    match index.only("T".as_bytes()) {
-        Some(number) => in_json(alloc, types.as_slice(), u32::try_from(number)?, json),
-        None => Ok(String::from_str(alloc, "no type")?),
-    }
-}
-
 /// Lists texts of modules with a JSON text and the canonical text of its value by the type `T`.
-const ROWS: [(&str, &str, &str); 34] = [
+const ROWS: [(&str, &str, &str); 49] = [
     // Tags mean nothing for a text.
     (
         "T ::= [APPLICATION 5] IMPLICIT SEQUENCE { a [7] BOOLEAN }",
@@ -103,6 +64,33 @@ F ::= ENUMERATED { x, y } w F ::= y",
         r#"{"a":6}"#,
         r#"{"a":6}"#,
     ),
+    // DEFAULT by a string that isn't one of the type, has a quote in it or goes over two lines, and
+    // by one for a BMPString.
+    (
+        "T ::= SEQUENCE { a NumericString DEFAULT \"x\" }",
+        "{}",
+        "refused",
+    ),
+    (
+        "T ::= SEQUENCE { a IA5String DEFAULT \"é\" }",
+        "{}",
+        "refused",
+    ),
+    (
+        "T ::= SEQUENCE { a UTF8String DEFAULT \"x\"\"y\" }",
+        "{}",
+        "refused",
+    ),
+    (
+        "T ::= SEQUENCE { a UTF8String DEFAULT \"x\ny\" }",
+        "{}",
+        "refused",
+    ),
+    (
+        "T ::= SEQUENCE { a BMPString DEFAULT \"x\" }",
+        "{}",
+        "refused",
+    ),
     // Another DEFAULT is refused where a value reaches its SEQUENCE.
     (
         "T ::= SEQUENCE { a SEQUENCE OF NULL DEFAULT {} }",
@@ -113,6 +101,58 @@ F ::= ENUMERATED { x, y } w F ::= y",
         "T ::= SEQUENCE { a NULL, b U OPTIONAL } U ::= SEQUENCE { c NULL DEFAULT v }",
         r#"{"a":null}"#,
         r#"{"a":null}"#,
+    ),
+    // COMPONENTS OF what is no SEQUENCE or SET, is missing, or isn't understood.
+    (
+        "T ::= SEQUENCE { COMPONENTS OF U } U ::= CHOICE { a NULL }",
+        r#"{"a":null}"#,
+        "refused",
+    ),
+    (
+        "T ::= SET { COMPONENTS OF U } U ::= SEQUENCE OF NULL",
+        "{}",
+        "refused",
+    ),
+    (
+        "M DEFINITIONS ::= BEGIN IMPORTS X FROM N; T ::= SEQUENCE { COMPONENTS OF X } END",
+        "{}",
+        "refused",
+    ),
+    (
+        "T ::= SEQUENCE { COMPONENTS OF U } U ::= SEQUENCE { a NULL DEFAULT v }",
+        "{}",
+        "refused",
+    ),
+    // An extension addition that isn't understood isn't included.
+    (
+        "T ::= SEQUENCE { COMPONENTS OF U } U ::= SEQUENCE { a NULL, ..., b NULL DEFAULT v }",
+        r#"{"a":null}"#,
+        r#"{"a":null}"#,
+    ),
+    // Neither is any other one: a member of its name has no meaning.
+    (
+        "T ::= SEQUENCE { COMPONENTS OF U } U ::= SEQUENCE { a NULL, ..., b NULL }",
+        r#"{"a":null,"b":null}"#,
+        r#"{"a":null}"#,
+    ),
+    // Names that stand for each other, and types that include each other.
+    (
+        "T ::= SEQUENCE { COMPONENTS OF U } U ::= V V ::= U",
+        "{}",
+        "refused",
+    ),
+    ("T ::= SEQUENCE { COMPONENTS OF T }", "{}", "refused"),
+    (
+        "T ::= SEQUENCE { a SEQUENCE { COMPONENTS OF U } OPTIONAL, b NULL } \
+U ::= SET { COMPONENTS OF V } V ::= SET { COMPONENTS OF U }",
+        r#"{"b":null}"#,
+        r#"{"b":null}"#,
+    ),
+    // A name twice.
+    (
+        "T ::= SEQUENCE { a NULL, COMPONENTS OF U } U ::= SEQUENCE { a NULL }",
+        r#"{"a":null}"#,
+        "refused",
     ),
     // Between version brackets each component may be absent.
     (
@@ -196,7 +236,7 @@ N DEFINITIONS ::= BEGIN n INTEGER ::= 8 END",
 #[test]
 fn reads_values(rt: HostRuntime) -> Result<(), Fail> {
     for row in ROWS.iter() {
-        let text = by_text(rt.alloc(), row.0, row.1)?;
+        let text = by_modules(rt.alloc(), row.0, (Codec::Jer, Codec::Jer), row.1)?;
         assert_eq!(rt; text.as_str(), row.2);
     }
     Ok(())

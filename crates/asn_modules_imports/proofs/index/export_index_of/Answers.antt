@@ -1,4 +1,4 @@
-use Rattle.std.proofs.Common.{map, reverse, ap, ◌∙◌}
+use Rattle.std.proofs.Common.{reverse, ap, ◌∙◌}
 use Rattle.std.specs.Set.{is_member}
 use Rattle.std.specs.Str.{bytes_eq}
 use Rattle.asn_modules_imports.specs.Tables.{same_entry, same_named}

@@ -1,0 +1,89 @@
+-- What a text is converted to.
+use Rattle.std.specs.Prelude.{◌≡◌, ◌⊎◌, ℕ, List, [], ◌∷◌, ◌++◌, codes, string_bytes, IsUtf8, Some, None}
+use Rattle.std.specs.Borrow.{Bor}
+use Rattle.avn_grammar.specs.declared.limits.TheConstants.{LEVEL_LIMIT}
+use Rattle.asn_codec.specs.Conversion.{Converts, Refuses}
+use Rattle.asn_command.specs.OneLine.{HasNoFeed}
+use Rattle.asn_core.specs.declared.codec.Codec.{Codec}
+use Rattle.asn_core.specs.declared.codec.Codec.TheVariants.{Avn}
+use Rattle.asn_dynamic.specs.Converting.{convert_refusal_of}
+use Rattle.asn_dynamic.specs.declared.conversion.ConvertError.{ConvertError}
+use Rattle.asn_lines.specs.declared.work.LineReply.{LineReply}
+use Rattle.asn_lines.specs.declared.work.LineReply.TheVariants as line
+use Rattle.asn_model.specs.Shape.{Shape}
+use Rattle.asn_replies.specs.declared.reply.Reply.{Reply}
+use Rattle.asn_replies.specs.declared.reply.Reply.TheVariants.{Answer, Refusal}
+use Rattle.asn_replies.specs.declared.status.Status.TheVariants.{Refused}
+use Rattle.asn_value_refusals.specs.Lines.{IsRefusalLines, origin_text}
+use Rattle.asn_value_refusals.specs.declared.origin.Origin.{Origin}
+
+-- The bytes are the canonical text of the value that the text decodes to by the shape, and a line feed.
+pub record IsAnswer (from to : Codec) (s : Shape) (text due : List ℕ) : Type 0 where
+  pub output : List ℕ
+  pub converts : Converts LEVEL_LIMIT from to s text output
+  pub is : due ≡ output ++ 10 ∷ []
+
+-- The bytes are the lines of an error by which the text of this origin is refused.
+pub record IsRefusal (from to : Codec) (s : Shape) (o : Origin) (text due : List ℕ) : Type 0 where
+  pub error : ConvertError
+  pub refuses : Refuses LEVEL_LIMIT from to s text (convert_refusal_of error)
+  pub lines : IsRefusalLines o error due
+
+-- The reply answers the text, or refuses it.
+abbrev pub IsConversion : Codec → Codec → Shape → Origin → List ℕ → Reply → Type 0
+IsConversion from to s o text (Answer due) = IsAnswer from to s text (string_bytes due)
+IsConversion from to s o text (Refusal status lines) = (status ≡ Refused) × IsRefusal from to s o text (string_bytes lines)
+
+-- Nothing is refused.
+abbrev pub IsAnswered : Reply → Type 0
+IsAnswered (Answer due) = Unit {0}
+IsAnswered (Refusal status lines) = ⊥
+
+-- A file, whole.
+abbrev pub file_origin : Bor (List ℕ) → Origin
+file_origin file = record { file = file; line = None }
+
+-- A line of the file, of this number.
+abbrev pub line_origin : Bor (List ℕ) → ℕ → Origin
+line_origin file number = record { file = file; line = Some number }
+
+-- The line that says that a text of this origin isn't UTF-8.
+abbrev pub not_text_line : Origin → List ℕ
+not_text_line o = origin_text o ++ codes ": isn't UTF-8\n"
+
+-- The line that says that a value of this origin has no text on one line.
+abbrev pub no_line_line : Origin → List ℕ
+no_line_line o = origin_text o ++ codes ": has no text on one line\n"
+
+-- The bytes have no line feed, and are a text in value notation of the value that this canonical text stands for.
+pub record IsOneLine (s : Shape) (canonical bytes : List ℕ) : Type 0 where
+  pub one : HasNoFeed bytes
+  pub same : Converts LEVEL_LIMIT Avn Avn s bytes canonical
+
+-- The line is the canonical text, or in value notation a text of the same value on one line.
+abbrev pub IsLineText : Codec → Shape → List ℕ → List ℕ → Type 0
+IsLineText to s canonical bytes = (bytes ≡ canonical) ⊎ ((to ≡ Avn) × IsOneLine s canonical bytes)
+
+-- The reply is such a line of this canonical text, with a line feed behind it, or says that there is none.
+abbrev pub IsLineOf : Codec → Shape → Origin → List ℕ → LineReply → Type 0
+IsLineOf to s o canonical (line.Answer due) = (bytes : List ℕ) × IsLineText to s canonical bytes × (string_bytes due ≡ bytes ++ 10 ∷ [])
+IsLineOf to s o canonical (line.Refusal due) = (to ≡ Avn) × (string_bytes due ≡ no_line_line o)
+
+-- The line is converted, and the reply is of its canonical text.
+pub record IsConvertedLine (from to : Codec) (s : Shape) (o : Origin) (bytes : List ℕ) (reply : LineReply) : Type 0 where
+  pub utf8 : IsUtf8 bytes
+  pub output : List ℕ
+  pub converts : Converts LEVEL_LIMIT from to s bytes output
+  pub is : IsLineOf to s o output reply
+
+-- The bytes are a refusal of the line.
+abbrev pub IsRefusedSo : (List ℕ → Type 0) → LineReply → Type 0
+IsRefusedSo P (line.Answer due) = ⊥
+IsRefusedSo P (line.Refusal due) = P (string_bytes due)
+
+-- The line of the number is converted, or refused by its error, or isn't UTF-8.
+abbrev pub IsLineConversion : Codec → Codec → Shape → Bor (List ℕ) → ℕ → List ℕ → LineReply → Type 0
+IsLineConversion from to s file number bytes reply =
+    IsConvertedLine from to s (line_origin file number) bytes reply
+    ⊎ (IsRefusedSo (IsRefusal from to s (line_origin file number) bytes) reply
+    ⊎ ((IsUtf8 bytes → ⊥) × IsRefusedSo (λ due. due ≡ not_text_line (line_origin file number)) reply))

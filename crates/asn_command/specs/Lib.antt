@@ -1,0 +1,6 @@
+pub mod OneLine
+pub mod Conversions
+pub mod Whole
+pub mod Readings
+pub mod Listings
+pub mod Namings

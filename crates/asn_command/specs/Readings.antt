@@ -1,0 +1,21 @@
+-- What is told of modules that are refused.
+use Rattle.std.specs.Prelude.{◌≡◌, ◌≢◌, ℕ, List, ◌++◌, codes, string_bytes}
+use Rattle.asn_modules.specs.Reading.{IsModulesRefusal}
+use Rattle.asn_modules_faults.specs.Errors.{error_text}
+use Rattle.asn_modules_faults.specs.declared.error.ModuleError.{ModuleError}
+use Rattle.asn_modules_faults.specs.declared.error.ModuleError.TheVariants.{OutOfMemory}
+use Rattle.asn_modules_sources.specs.Reading.{Named}
+use Rattle.asn_replies.specs.declared.reply.Reply.{Reply}
+use Rattle.asn_replies.specs.declared.reply.Reply.TheVariants.{Answer, Refusal}
+use Rattle.asn_replies.specs.declared.status.Status.TheVariants.{Refused}
+
+-- The reply refuses texts for the error, by its text and a line feed.
+abbrev pub IsReplyTo : ModuleError → Reply → Type 0
+IsReplyTo e (Answer due) = ⊥
+IsReplyTo e (Refusal status line) = (e ≢ OutOfMemory) × ((status ≡ Refused) × (string_bytes line ≡ error_text e ++ codes "\n"))
+
+-- The reply refuses these texts for an error of theirs.
+pub record IsModulesReply (texts : List Named) (reply : Reply) : Type 0 where
+  pub error : ModuleError
+  pub refusal : IsModulesRefusal texts error
+  pub told : IsReplyTo error reply

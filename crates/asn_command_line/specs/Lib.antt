@@ -1,0 +1,2 @@
+pub mod Notations
+pub mod Taken

@@ -37,16 +37,18 @@ const ASKED: [(&str, &str); 16] = [
         "Convert { modules: [\"a.asn\"], name: \"T\", from: Avn, to: Jer, lines: false, \
          explain: false, progress: false, file: \"x.json\" }",
     ),
+    // Without a module the type is one that is built in.
+    (
+        "asn convert -t u64 --from jer --to avn",
+        "Convert { modules: [], name: \"u64\", from: Jer, to: Avn, lines: false, explain: false, \
+         progress: false, file: \"-\" }",
+    ),
     ("asn check a.asn", "Check { files: [\"a.asn\"] }"),
     ("asn check a b c", "Check { files: [\"a\", \"b\", \"c\"] }"),
     ("asn types a b", "Types { files: [\"a\", \"b\"] }"),
     (
         "asn show a.asn b.asn -t T",
-        "Show { files: [\"a.asn\", \"b.asn\"], name: \"T\", example: None, full: false }",
-    ),
-    (
-        "asn show --full --example avn -t T a.asn",
-        "Show { files: [\"a.asn\"], name: \"T\", example: Some(Avn), full: true }",
+        "Show { files: [\"a.asn\", \"b.asn\"], name: \"T\" }",
     ),
     (
         "asn grows old.asn new.asn -t T",
@@ -68,7 +70,7 @@ const ASKED: [(&str, &str); 16] = [
 ];
 
 /// Lists command lines that ask for help or the version, and a part of the text.
-const HELPED: [(&str, &str); 10] = [
+const HELPED: [(&str, &str); 11] = [
     ("asn --help", "convert"),
     ("asn -h", "completions"),
     ("asn --version", "asn 0.1.0\n"),
@@ -77,6 +79,7 @@ const HELPED: [(&str, &str); 10] = [
         "asn convert --help",
         "asn convert -m examples/sensor.asn -t Report --to avn examples/report.json",
     ),
+    ("asn check --help", "Usage: asn check <FILE.asn>..."),
     ("asn types --help", "asn types examples/calls.asn"),
     ("asn show --help", "asn show examples/ticket.asn -t Ticket"),
     (
@@ -91,12 +94,26 @@ const HELPED: [(&str, &str); 10] = [
 ];
 
 /// Lists command lines that are wrong, and a part of the text.
-const REFUSED: [(&str, &str); 10] = [
+const REFUSED: [(&str, &str); 18] = [
     ("asn", "Usage: asn <COMMAND>"),
     ("asn frob", "unrecognized subcommand 'frob'"),
+    ("asn --frob", "unexpected argument '--frob' found"),
     ("asn check", "required arguments were not provided"),
-    ("asn convert -t T --to avn x.json", "--module <FILE.asn>"),
+    ("asn types", "Usage: asn types <FILE.asn>..."),
+    ("asn convert -m a --to avn x.json", "--type <TYPE>"),
     ("asn convert -m a -t T x.json", "--to <NOTATION>"),
+    (
+        "asn convert -m a -t T --to avn x.json y.json",
+        "unexpected argument 'y.json' found",
+    ),
+    (
+        "asn convert -m a -t T --to avn --to jer x.json",
+        "cannot be used multiple times",
+    ),
+    (
+        "asn convert -t T --to",
+        "a value is required for '--to <NOTATION>'",
+    ),
     (
         "asn convert -m a -t T --to xml x.json",
         "invalid value 'xml'",
@@ -109,7 +126,10 @@ const REFUSED: [(&str, &str); 10] = [
         "asn convert -m a -t T --to avn",
         "give --from jer or --from avn",
     ),
+    ("asn show a.asn", "--type <TYPE>"),
     ("asn grows old.asn -t T", "<NEW.asn>"),
+    ("asn keep old.asn new.asn -t T", "--from <NOTATION>"),
+    ("asn completions", "<SHELL>"),
     ("asn completions zsh", "invalid value 'zsh'"),
 ];
 

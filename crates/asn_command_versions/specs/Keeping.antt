@@ -1,5 +1,5 @@
 -- What lines of a newer version of a type are cut to.
-use Rattle.std.specs.Prelude.{◌≡◌, ◌⊎◌, ℕ, List, [], ◌∷◌, ◌++◌, string_bytes, IsUtf8}
+use Rattle.std.specs.Prelude.{◌≡◌, ◌⊎◌, ℕ, List, [], ◌∷◌, ◌++◌, string_bytes, IsUtf8, false}
 use Rattle.std.specs.Borrow.{Bor}
 use Rattle.asn_command.specs.Conversions.{line_origin, not_text_line}
 use Rattle.asn_core.specs.declared.codec.Codec.{Codec}
@@ -23,7 +23,7 @@ pub record IsUnkeptLine (from : Codec) (old new : Shape) (o : Origin) (bytes due
   pub utf8 : IsUtf8 bytes
   pub error : ConvertError
   pub refused : IsRefused from old new bytes error
-  pub lines : IsRefusalLines o error due
+  pub lines : IsRefusalLines o error bytes false due
 
 -- The line of the number is kept so; or it isn't kept, or isn't UTF-8.
 abbrev pub IsLineKept : Codec → Shape → Shape → Bor (List ℕ) → ℕ → List ℕ → LineReply → Type 0

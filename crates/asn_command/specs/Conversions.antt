@@ -2,7 +2,7 @@
 use Rattle.std.specs.Prelude.{◌≡◌, ◌⊎◌, ℕ, List, [], ◌∷◌, ◌++◌, codes, string_bytes, IsUtf8, Some, None}
 use Rattle.std.specs.Borrow.{Bor}
 use Rattle.avn_grammar.specs.declared.limits.TheConstants.{LEVEL_LIMIT}
-use Rattle.asn_codec.specs.Conversion.{Converts, Refuses}
+use Rattle.asn_codec.specs.Conversion.{Converts, IsConvertible, Refuses}
 use Rattle.asn_command.specs.OneLine.{HasNoFeed}
 use Rattle.asn_core.specs.declared.codec.Codec.{Codec}
 use Rattle.asn_core.specs.declared.codec.Codec.TheVariants.{Avn}
@@ -23,8 +23,9 @@ pub record IsAnswer (from to : Codec) (s : Shape) (text due : List ℕ) : Type 0
   pub converts : Converts LEVEL_LIMIT from to s text output
   pub is : due ≡ output ++ 10 ∷ []
 
--- The bytes are the lines of an error by which the text of this origin is refused.
+-- The bytes are the lines of an error by which the text of this origin is refused. It stands for no value that can be written.
 pub record IsRefusal (from to : Codec) (s : Shape) (o : Origin) (text due : List ℕ) : Type 0 where
+  pub unanswerable : IsConvertible LEVEL_LIMIT from to s text → ⊥
   pub error : ConvertError
   pub refuses : Refuses LEVEL_LIMIT from to s text (convert_refusal_of error)
   pub lines : IsRefusalLines o error due

@@ -12,6 +12,7 @@ use asn_value_refusals::{Origin, origin_of};
 use std::alloc::Global;
 
 /// Converts lines of a stream, each a text of a value.
+#[derive(Drop)]
 pub struct ConvertLines<'f, P: Part> {
     /// States how each is converted.
     conversion: Conversion<P>,

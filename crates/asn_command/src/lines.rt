@@ -1,7 +1,7 @@
 //! Converts a stream of texts, one a line.
-ghost use Rattle.asn_command.specs.Conversions.{IsLineConversion, IsLineOf, IsOneLine};
+ghost use Rattle.asn_command.specs.Conversions.{IsLineConversion, IsLineOf, IsSameLine};
 ghost use Rattle.asn_model.specs.Readable.{is_readable};
-ghost use Rattle.std.specs.Prelude.{◌≡◌, [], IfOk, IfSome, string_bytes, true};
+ghost use Rattle.std.specs.Prelude.{◌≡◌, [], IfOk, string_bytes, true};
 
 use crate::conversion::{Conversion, not_text_line, refused_lines, with_feed};
 use crate::one_line::one_line;
@@ -46,8 +46,7 @@ fn same_on_one_line<P: Part>(
     text: &str,
 ) -> Result<Option<String>, OutOfMemory>
     requires { is_readable (P.shape [] part) ≡ true }
-    ensures { IfOk result (λ found. IfSome found (λ s.
-        IsOneLine (P.shape [] part) text.now (string_bytes s))) }
+    ensures { IfOk result (IsSameLine (P.shape [] part) text.now) }
 {
     let Some(line) = one_line(alloc, text)? else {
         return Ok(None);
@@ -93,7 +92,8 @@ fn line_reply<P: Part>(
 /// behind the name of the file and its number.
 impl<P: Part> LineWork for ConvertLines<'_, P> {
     ghost answers = { λ work number bytes reply. IsLineConversion work.conversion.from
-        work.conversion.to (P.shape [] work.conversion.part) work.file number bytes reply };
+        work.conversion.to (P.shape [] work.conversion.part) work.file work.conversion.explain
+        number bytes reply };
 
     fn answer(&self, alloc: Global, number: u64, line: &[u8]) -> Result<LineReply, OutOfMemory> {
         let origin = Origin {

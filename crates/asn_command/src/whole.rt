@@ -35,7 +35,7 @@ fn whole_reply<P: Part, S: Source>(
     ensures { IfOk result (IsWholeReply
         (IsAnswer conversion.from conversion.to (P.shape [] conversion.part))
         (IsRefusal conversion.from conversion.to (P.shape [] conversion.part)
-        (file_origin file.entry)) file.now
+        (file_origin file.entry) conversion.explain) file.now
         (transfer_of S.left S.faults source.old source.new)) }
 {
     match read_text(alloc, source) {
@@ -64,7 +64,7 @@ pub fn convert_whole<P: Part, S: Source, K: Sink, E: Sink>(
         → ReadWhole (transfer_of S.left S.faults source.old source.new)
         (λ input. Wrote (transfer_of E.written E.faults errors.old errors.new)
         (IsRefusal conversion.from conversion.to (P.shape [] conversion.part)
-        (file_origin file.entry) input)) }
+        (file_origin file.entry) conversion.explain input)) }
     ensures read_fault { result ≡ status.ReadFault
         → Increased (S.faults source.old) (S.faults source.new) }
     ensures write_fault { result ≡ status.WriteFault

@@ -5,4 +5,3 @@ pub mod Readings
 pub mod Listings
 pub mod Namings
 pub mod Streams
-pub mod Showings

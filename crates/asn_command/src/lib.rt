@@ -12,7 +12,6 @@ mod one_line;
 mod reading;
 mod reports;
 mod running;
-mod showing;
 mod types;
 mod whole;
 
@@ -22,5 +21,4 @@ pub use naming::missing_reply;
 pub use reading::types_of;
 pub use reports::{check_reply, types_reply};
 pub use running::answer_lines;
-pub use showing::show_reply;
 pub use whole::convert_whole;

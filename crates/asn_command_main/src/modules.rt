@@ -1,6 +1,6 @@
 //! Does the commands that read modules alone.
 use crate::files::{Ended, modules_of, named, texts_of};
-use asn_command::{check_reply, show_reply, types_reply};
+use asn_command::{check_reply, types_reply};
 use asn_command_versions::growth_reply;
 
 /// Returns what checking the files comes to.
@@ -15,18 +15,6 @@ pub fn checked(rt: &HostRuntime, files: &[&str]) -> Ended {
 pub fn listed(rt: &HostRuntime, files: &[&str]) -> Ended {
     match texts_of(rt, files) {
         Ok(texts) => types_reply(rt.alloc(), &named(rt.alloc(), files, texts.as_slice())?),
-        Err(unread) => unread,
-    }
-}
-
-/// Returns what showing the type of the name comes to.
-pub fn shown(rt: &HostRuntime, files: &[&str], name: &str) -> Ended {
-    match texts_of(rt, files) {
-        Ok(texts) => show_reply(
-            rt.alloc(),
-            &named(rt.alloc(), files, texts.as_slice())?,
-            name,
-        ),
         Err(unread) => unread,
     }
 }

@@ -1,1 +1,3 @@
+mod Delivering
+mod Laid
 mod TextsOn

@@ -4,3 +4,4 @@ pub mod Whole
 pub mod Readings
 pub mod Listings
 pub mod Namings
+pub mod Streams

@@ -1,6 +1,7 @@
 -- What is told of modules that are refused.
 use Rattle.std.specs.Prelude.{◌≡◌, ◌≢◌, ℕ, List, ◌++◌, codes, string_bytes}
-use Rattle.asn_modules.specs.Reading.{IsModulesRefusal}
+use Rattle.asn_modules.specs.Modules.{Modules}
+use Rattle.asn_modules.specs.Reading.{AreModules, IsModulesRefusal}
 use Rattle.asn_modules_faults.specs.Errors.{error_text}
 use Rattle.asn_modules_faults.specs.declared.error.ModuleError.{ModuleError}
 use Rattle.asn_modules_faults.specs.declared.error.ModuleError.TheVariants.{OutOfMemory}
@@ -19,3 +20,8 @@ pub record IsModulesReply (texts : List Named) (reply : Reply) : Type 0 where
   pub error : ModuleError
   pub refusal : IsModulesRefusal texts error
   pub told : IsReplyTo error reply
+
+-- The reply is what this says of the modules that the texts are, or refuses the texts.
+abbrev pub IsReport : (Modules → List ℕ) → List Named → Reply → Type 0
+IsReport text texts (Answer due) = (m : Modules) × AreModules texts m × (string_bytes due ≡ text m)
+IsReport text texts (Refusal status line) = IsModulesReply texts (Refusal status line)

@@ -63,7 +63,8 @@ pub fn refused_lines(
     error: &ConvertError,
     explain: bool,
 ) -> Result<String, OutOfMemory>
-    ensures lines { IfOk result (λ s. IsRefusalLines origin.entry error.now (string_bytes s)) }
+    ensures lines { IfOk result (λ s.
+        IsRefusalLines origin.entry error.now text.now explain (string_bytes s)) }
     ensures memory { OnOk result
         (is_refusal_out_of_memory (convert_refusal_of error.now) ≡ false) }
 {
@@ -87,7 +88,7 @@ pub fn conversion_reply<P: Part>(
 ) -> Result<Reply, OutOfMemory>
     requires { is_readable (P.shape [] conversion.part) ≡ true }
     ensures reply { IfOk result (IsConversion conversion.from conversion.to
-        (P.shape [] conversion.part) origin.entry text.now) }
+        (P.shape [] conversion.part) origin.entry conversion.explain text.now) }
     // A text that stands for a value which can be written is answered.
     ensures complete { IsConvertible LEVEL_LIMIT conversion.from conversion.to
         (P.shape [] conversion.part) text.now → IfOk result IsAnswered }

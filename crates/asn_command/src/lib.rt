@@ -10,13 +10,15 @@ mod listing;
 mod naming;
 mod one_line;
 mod reading;
+mod reports;
+mod running;
 mod types;
 mod whole;
 
-pub use checking::check_text;
 pub use conversion::{Conversion, conversion_reply, not_text_line, with_feed};
 pub use lines::ConvertLines;
 pub use naming::missing_reply;
 pub use reading::types_of;
-pub use types::types_text;
+pub use reports::{check_reply, types_reply};
+pub use running::answer_lines;
 pub use whole::convert_whole;

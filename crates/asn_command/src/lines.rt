@@ -1,7 +1,7 @@
 //! Converts a stream of texts, one a line.
-ghost use Rattle.asn_command.specs.Conversions.{IsLineConversion, IsLineOf, IsOneLine};
+ghost use Rattle.asn_command.specs.Conversions.{IsLineConversion, IsLineOf, IsSameLine};
 ghost use Rattle.asn_model.specs.Readable.{is_readable};
-ghost use Rattle.std.specs.Prelude.{◌≡◌, [], IfOk, IfSome, string_bytes, true};
+ghost use Rattle.std.specs.Prelude.{◌≡◌, [], IfOk, string_bytes, true};
 
 use crate::conversion::{Conversion, not_text_line, refused_lines, with_feed};
 use crate::one_line::one_line;
@@ -12,6 +12,7 @@ use asn_value_refusals::{Origin, origin_of};
 use std::alloc::Global;
 
 /// Converts lines of a stream, each a text of a value.
+#[derive(Drop)]
 pub struct ConvertLines<'f, P: Part> {
     /// States how each is converted.
     conversion: Conversion<P>,
@@ -45,8 +46,7 @@ fn same_on_one_line<P: Part>(
     text: &str,
 ) -> Result<Option<String>, OutOfMemory>
     requires { is_readable (P.shape [] part) ≡ true }
-    ensures { IfOk result (λ found. IfSome found (λ s.
-        IsOneLine (P.shape [] part) text.now (string_bytes s))) }
+    ensures { IfOk result (IsSameLine (P.shape [] part) text.now) }
 {
     let Some(line) = one_line(alloc, text)? else {
         return Ok(None);
@@ -92,7 +92,8 @@ fn line_reply<P: Part>(
 /// behind the name of the file and its number.
 impl<P: Part> LineWork for ConvertLines<'_, P> {
     ghost answers = { λ work number bytes reply. IsLineConversion work.conversion.from
-        work.conversion.to (P.shape [] work.conversion.part) work.file number bytes reply };
+        work.conversion.to (P.shape [] work.conversion.part) work.file work.conversion.explain
+        number bytes reply };
 
     fn answer(&self, alloc: Global, number: u64, line: &[u8]) -> Result<LineReply, OutOfMemory> {
         let origin = Origin {

@@ -1,6 +1,7 @@
 //! Lays a text in value notation out on one line.
-ghost use Rattle.asn_command.specs.OneLine.{HasNoFeed};
-ghost use Rattle.std.specs.Prelude.{IfOk, IfSome, string_bytes};
+ghost use Rattle.asn_command.specs.OneLine.{HasNoFeed, IsLaidOut, behind, laid, step_of};
+ghost use Rattle.asn_command.specs.declared.one_line.Within.TheVariants as within;
+ghost use Rattle.std.specs.Prelude.{◌≡◌, IfOk, IfSome, option_map, vec_items};
 
 use asn_core::OutOfMemory;
 use std::alloc::Global;
@@ -16,9 +17,23 @@ enum Within {
     Text,
 }
 
+/// States what becomes of a byte.
+#[derive(Clone, Copy)]
+enum Step {
+    /// It is a line feed in a string: there is no text on one line.
+    Stop,
+    /// It is left out.
+    Skip,
+    /// This byte stands there.
+    Put(u8),
+}
+
+/// Finds out what becomes of a byte.
 impl Within {
     /// Returns where the byte behind this one stands.
-    fn behind(self, byte: u8) -> Within {
+    fn behind(self, byte: u8) -> Within
+        ensures { result ≡ behind self byte }
+    {
         match (self, byte) {
             (Within::Text, b'"') => Within::Line,
             (Within::Text, _) => Within::Text,
@@ -28,6 +43,42 @@ impl Within {
             _ => Within::Line,
         }
     }
+
+    /// Returns what becomes of this byte.
+    fn next(self, byte: u8) -> Step
+        ensures { result ≡ step_of self byte }
+    {
+        match (self, byte) {
+            (Within::Text, b'\n') => Step::Stop,
+            (_, b'\n') => Step::Put(b' '),
+            (Within::Indentation, b' ') => Step::Skip,
+            _ => Step::Put(byte),
+        }
+    }
+}
+
+/// Returns the bytes with one blank in place of each line feed and the blanks behind it, or `None`
+/// where a line feed stands in a string.
+///
+/// # Errors
+///
+/// `OutOfMemory` alone.
+fn laid(alloc: Global, text: &[u8]) -> Result<Option<Vec<u8>>, OutOfMemory>
+    ensures text { IfOk result (λ found. option_map vec_items found ≡ laid within.Line text.now) }
+    ensures one { IfOk result (λ found. IfSome found (λ v. HasNoFeed v.items)) }
+{
+    let mut bytes = Vec::new(alloc);
+    let mut place = Within::Line;
+    for byte in text {
+        let byte = *byte;
+        match place.next(byte) {
+            Step::Stop => return Ok(None),
+            Step::Skip => {}
+            Step::Put(put) => bytes.push(put)?,
+        }
+        place = place.behind(byte);
+    }
+    Ok(Some(bytes))
 }
 
 /// Returns the text with one blank in place of each line feed and the blanks behind it, or `None`
@@ -37,21 +88,10 @@ impl Within {
 ///
 /// `OutOfMemory` alone.
 pub fn one_line(alloc: Global, text: &str) -> Result<Option<String>, OutOfMemory>
-    ensures { IfOk result (λ found. IfSome found (λ s. HasNoFeed (string_bytes s))) }
+    ensures { IfOk result (IsLaidOut text.now) }
 {
-    let mut bytes = Vec::new(alloc);
-    let mut within = Within::Line;
-    for &byte in text.as_bytes() {
-        if byte != b'\n' {
-            if within != Within::Indentation || byte != b' ' {
-                bytes.push(byte)?;
-            }
-        } else if within == Within::Text {
-            return Ok(None);
-        } else {
-            bytes.push(b' ')?;
-        }
-        within = within.behind(byte);
-    }
+    let Some(bytes) = laid(alloc, text.as_bytes())? else {
+        return Ok(None);
+    };
     Ok(String::from_utf8(bytes).ok())
 }

@@ -1,8 +1,8 @@
 //! Defines what a command line asks for, and takes it from what `clap` found.
 ghost use Rattle.std.specs.Prelude.{◌≡◌, IfOk, codes, map};
 ghost use Rattle.asn_command_line.specs.Notations.{IsTextNotation};
-ghost use Rattle.asn_command_line.specs.Taken.{HasNotation, HasTextNotations, HasValue, HasValues};
-ghost use Rattle.asn_command_line.specs.Taken.{IsTaken, TextHasNotation};
+ghost use Rattle.asn_command_line.specs.Taken.{HasAnyValues, HasNotation, HasTextNotations};
+ghost use Rattle.asn_command_line.specs.Taken.{HasValue, HasValues, IsTaken, TextHasNotation};
 ghost use Rattle.clap.specs.Words.{found_of};
 
 use crate::notations::{codec_of, codec_of_file};
@@ -15,7 +15,7 @@ use std::alloc::{AllocError, Global};
 pub enum Asked<'a> {
     /// To convert a text.
     Convert {
-        /// Lists the files of modules.
+        /// Lists the files of modules. Without any, the type is one that is built in.
         modules: Vec<&'a str>,
         /// Names the type.
         name: &'a str,
@@ -41,17 +41,6 @@ pub enum Asked<'a> {
     Types {
         /// Lists their files.
         files: Vec<&'a str>,
-    },
-    /// To show a type of modules.
-    Show {
-        /// Lists their files.
-        files: Vec<&'a str>,
-        /// Names the type.
-        name: &'a str,
-        /// Is the notation of the value to show in place of the type, if one is asked for.
-        example: Option<Codec>,
-        /// States whether the value is to have all that the type admits.
-        full: bool,
     },
     /// To say whether a type is a later version of an older one.
     Grows {
@@ -126,6 +115,21 @@ fn values<'a>(alloc: Global, found: &ArgMatches<'a>, id: &str) -> Result<Vec<&'a
     }
 }
 
+/// Returns the values of the argument, none where it isn't given.
+///
+/// # Errors
+///
+/// `OutOfMemory` alone.
+fn any_values<'a>(alloc: Global, found: &ArgMatches<'a>, id: &str) -> Result<Vec<&'a str>, Untaken>
+    ensures { IfOk result (λ texts.
+        HasAnyValues (found_of found.now) id.now (map (λ s. s.now) texts.items)) }
+{
+    if found.contains_id(id) {
+        return values(alloc, found, id);
+    }
+    Ok(Vec::new(alloc))
+}
+
 /// Returns the notation that the argument names.
 ///
 /// # Errors
@@ -172,7 +176,7 @@ fn conversion<'a>(alloc: Global, found: &ArgMatches<'a>) -> Result<Asked<'a>, Un
 {
     let file = value(found, "file")?;
     Ok(Asked::Convert {
-        modules: values(alloc, found, "module")?,
+        modules: any_values(alloc, found, "module")?,
         name: value(found, "type")?,
         from: notation_of_text(found, file)?,
         to: notation(found, "to")?,
@@ -180,28 +184,6 @@ fn conversion<'a>(alloc: Global, found: &ArgMatches<'a>) -> Result<Asked<'a>, Un
         explain: found.get_flag("explain"),
         progress: found.get_flag("progress"),
         file,
-    })
-}
-
-/// Returns which type is to be shown.
-///
-/// # Errors
-///
-/// `Missing` for no words that are read, `OutOfMemory`.
-fn showing<'a>(alloc: Global, found: &ArgMatches<'a>) -> Result<Asked<'a>, Untaken>
-    ensures taken { IfOk result (IsTaken (codes "show") (found_of found.now)) }
-    ensures text { IfOk result HasTextNotations }
-{
-    let example = if found.contains_id("example") {
-        Some(notation(found, "example")?)
-    } else {
-        None
-    };
-    Ok(Asked::Show {
-        files: values(alloc, found, "modules")?,
-        name: value(found, "type")?,
-        example,
-        full: found.get_flag("full"),
     })
 }
 
@@ -257,7 +239,6 @@ pub fn taken<'a>(alloc: Global, name: &str, found: &ArgMatches<'a>) -> Result<As
         "types" => Ok(Asked::Types {
             files: values(alloc, found, "modules")?,
         }),
-        "show" => showing(alloc, found),
         "grows" => comparison(found),
         "keep" => cutting(found),
         "completions" => Ok(Asked::Completions),

@@ -69,15 +69,15 @@ fn converting<'a>(alloc: Global) -> Result<Command<'a>, AllocError> {
         .long("module")
         .value_name("FILE.asn")
         .action(ArgAction::Append)
-        .required(true)
-        .help("A file of ASN.1 modules; give several by several -m");
+        .help("A file of ASN.1 modules, or several by several -m; without one TYPE is built in");
     Command::new(alloc, "convert")
         .about("Writes the canonical text of a value, or of the value in each line")
         .after_help(
             "Examples:\n  \
              asn convert -m examples/sensor.asn -t Report --to avn examples/report.json\n  \
              asn convert -m examples/sensor.asn -t Report --from jer --to jer --lines \
-             examples/reports.jsonl",
+             examples/reports.jsonl\n  \
+             echo 7 | asn convert -t u64 --from jer --to avn",
         )
         .arg(module)?
         .arg(type_name(alloc))?
@@ -110,25 +110,6 @@ fn over_modules<'a>(
         .about(about)
         .after_help(example)
         .arg(modules)
-}
-
-/// Returns the command that shows a type.
-fn showing<'a>(alloc: Global) -> Result<Command<'a>, AllocError> {
-    let command = over_modules(
-        alloc,
-        "show",
-        "Shows a type with those that it names, or a value of it",
-        "Examples:\n  asn show examples/ticket.asn -t Ticket\n  \
-         asn show examples/ticket.asn -t Ticket --example jer",
-    )?;
-    command
-        .arg(type_name(alloc))?
-        .arg(notation(alloc, "example", "Shows a value in this notation"))?
-        .arg(flag(
-            alloc,
-            "full",
-            "Lets the value have all that the type admits",
-        ))
 }
 
 /// Returns a command over an older and a newer file of modules.
@@ -207,7 +188,6 @@ pub fn command_line<'a>(alloc: Global) -> Result<Command<'a>, AllocError> {
         .subcommand(converting(alloc)?)?
         .subcommand(check)?
         .subcommand(types)?
-        .subcommand(showing(alloc)?)?
         .subcommand(grows)?
         .subcommand(keeping(alloc)?)?
         .subcommand(completing(alloc)?)

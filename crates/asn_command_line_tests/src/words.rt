@@ -4,7 +4,7 @@ use std::alloc::Global;
 use std::test::Fail;
 
 /// Lists command lines and what they ask for.
-const ASKED: [(&str, &str); 16] = [
+const ASKED: [(&str, &str); 15] = [
     (
         "asn convert -m a.asn -m b.asn -t T --from jer --to avn --lines --explain --progress x",
         "Convert { modules: [\"a.asn\", \"b.asn\"], name: \"T\", from: Jer, to: Avn, lines: true, \
@@ -37,17 +37,15 @@ const ASKED: [(&str, &str); 16] = [
         "Convert { modules: [\"a.asn\"], name: \"T\", from: Avn, to: Jer, lines: false, \
          explain: false, progress: false, file: \"x.json\" }",
     ),
+    // Without a module the type is one that is built in.
+    (
+        "asn convert -t u64 --from jer --to avn",
+        "Convert { modules: [], name: \"u64\", from: Jer, to: Avn, lines: false, explain: false, \
+         progress: false, file: \"-\" }",
+    ),
     ("asn check a.asn", "Check { files: [\"a.asn\"] }"),
     ("asn check a b c", "Check { files: [\"a\", \"b\", \"c\"] }"),
     ("asn types a b", "Types { files: [\"a\", \"b\"] }"),
-    (
-        "asn show a.asn b.asn -t T",
-        "Show { files: [\"a.asn\", \"b.asn\"], name: \"T\", example: None, full: false }",
-    ),
-    (
-        "asn show --full --example avn -t T a.asn",
-        "Show { files: [\"a.asn\"], name: \"T\", example: Some(Avn), full: true }",
-    ),
     (
         "asn grows old.asn new.asn -t T",
         "Grows { old: \"old.asn\", new: \"new.asn\", name: \"T\" }",
@@ -77,8 +75,8 @@ const HELPED: [(&str, &str); 10] = [
         "asn convert --help",
         "asn convert -m examples/sensor.asn -t Report --to avn examples/report.json",
     ),
+    ("asn check --help", "Usage: asn check <FILE.asn>..."),
     ("asn types --help", "asn types examples/calls.asn"),
-    ("asn show --help", "asn show examples/ticket.asn -t Ticket"),
     (
         "asn grows --help",
         "asn grows examples/sensor-1.asn examples/sensor.asn -t Report",
@@ -91,12 +89,26 @@ const HELPED: [(&str, &str); 10] = [
 ];
 
 /// Lists command lines that are wrong, and a part of the text.
-const REFUSED: [(&str, &str); 10] = [
+const REFUSED: [(&str, &str); 17] = [
     ("asn", "Usage: asn <COMMAND>"),
     ("asn frob", "unrecognized subcommand 'frob'"),
+    ("asn --frob", "unexpected argument '--frob' found"),
     ("asn check", "required arguments were not provided"),
-    ("asn convert -t T --to avn x.json", "--module <FILE.asn>"),
+    ("asn types", "Usage: asn types <FILE.asn>..."),
+    ("asn convert -m a --to avn x.json", "--type <TYPE>"),
     ("asn convert -m a -t T x.json", "--to <NOTATION>"),
+    (
+        "asn convert -m a -t T --to avn x.json y.json",
+        "unexpected argument 'y.json' found",
+    ),
+    (
+        "asn convert -m a -t T --to avn --to jer x.json",
+        "cannot be used multiple times",
+    ),
+    (
+        "asn convert -t T --to",
+        "a value is required for '--to <NOTATION>'",
+    ),
     (
         "asn convert -m a -t T --to xml x.json",
         "invalid value 'xml'",
@@ -110,6 +122,8 @@ const REFUSED: [(&str, &str); 10] = [
         "give --from jer or --from avn",
     ),
     ("asn grows old.asn -t T", "<NEW.asn>"),
+    ("asn keep old.asn new.asn -t T", "--from <NOTATION>"),
+    ("asn completions", "<SHELL>"),
     ("asn completions zsh", "invalid value 'zsh'"),
 ];
 
@@ -159,7 +173,7 @@ fn mistakes_are_told(rt: HostRuntime) -> Result<(), Fail> {
 
 /// Lists what the completions know.
 const COMPLETED: [&str; 4] = [
-    "convert check types show grows keep completions",
+    "convert check types grows keep completions",
     "--module --type --from --to --lines --explain",
     "jer avn",
     "compgen -f",

@@ -1,83 +1,10 @@
 //! Does what is asked for.
-use crate::files::{Ended, modules_of};
-use crate::streams::{Stream, convert, write};
-use asn_command::{Conversion, check_text, missing_reply, types_text};
+use crate::files::Ended;
+use crate::modules::{checked, compared, listed};
+use crate::streams::{Stream, write};
+use crate::texts::{How, convert_built_in, convert_by, keep};
 use asn_command_line::{Asked, BASH_COMPLETIONS};
-use asn_core::{Codec, OutOfMemory};
 use asn_replies::{Reply, Status};
-use asn_samples::shape_of;
-
-/// States how values are converted, aside from their type.
-#[derive(Clone, Copy)]
-struct How {
-    /// Names the notation of the text.
-    from: Codec,
-    /// Names the notation that is written.
-    to: Codec,
-    /// States whether a refusal is explained.
-    explain: bool,
-}
-
-/// Converts by a type that is built in.
-fn convert_built_in(rt: &HostRuntime, name: &str, how: How, stream: Stream<'_>) -> Status {
-    let How { from, to, explain } = how;
-    match shape_of(rt.alloc(), name) {
-        Ok(Some(shape)) => {
-            let conversion = Conversion {
-                part: &shape,
-                from,
-                to,
-                explain,
-            };
-            convert(rt, conversion, stream)
-        }
-        Ok(None) => write(rt, missing_reply(rt.alloc(), name)),
-        Err(OutOfMemory) => Status::WantOfMemory,
-    }
-}
-
-/// Converts by a type of the modules of these files.
-fn convert_by(
-    rt: &HostRuntime,
-    files: &[&str],
-    name: &str,
-    how: How,
-    stream: Stream<'_>,
-) -> Status {
-    let modules = match modules_of(rt, files) {
-        Ok(modules) => modules,
-        Err(ended) => return write(rt, ended),
-    };
-    let How { from, to, explain } = how;
-    match modules.find(name) {
-        Some(part) => {
-            let conversion = Conversion {
-                part,
-                from,
-                to,
-                explain,
-            };
-            convert(rt, conversion, stream)
-        }
-        None => write(rt, missing_reply(rt.alloc(), name)),
-    }
-}
-
-/// Returns what checking the files comes to.
-fn checked(rt: &HostRuntime, files: &[&str]) -> Ended {
-    match modules_of(rt, files) {
-        Ok(modules) => Ok(Reply::Answer(check_text(rt.alloc(), &modules)?)),
-        Err(ended) => ended,
-    }
-}
-
-/// Returns what listing the types of the files comes to.
-fn listed(rt: &HostRuntime, files: &[&str]) -> Ended {
-    match modules_of(rt, files) {
-        Ok(modules) => Ok(Reply::Answer(types_text(rt.alloc(), &modules)?)),
-        Err(ended) => ended,
-    }
-}
 
 /// Returns what bash completes words by.
 fn completions(rt: &HostRuntime) -> Ended {
@@ -115,6 +42,22 @@ pub fn reply_to(rt: &HostRuntime, asked: &Asked<'_>) -> Status {
         }
         Asked::Check { files } => write(rt, checked(rt, files.as_slice())),
         Asked::Types { files } => write(rt, listed(rt, files.as_slice())),
+        Asked::Grows { old, new, name } => write(rt, compared(rt, old, new, name)),
+        Asked::Keep {
+            old,
+            new,
+            name,
+            from,
+            progress,
+            file,
+        } => {
+            let stream = Stream {
+                file,
+                lines: true,
+                progress: *progress,
+            };
+            keep(rt, (old, new), name, *from, stream)
+        }
         Asked::Completions => write(rt, completions(rt)),
     }
 }

@@ -1,4 +1,4 @@
-//! Reads files.
+//! Reads files of modules.
 use asn_command::types_of;
 use asn_core::OutOfMemory;
 use asn_modules::Modules;
@@ -7,7 +7,7 @@ use asn_streams::StdSource;
 use std::alloc::{AllocError, Global};
 use std::fs;
 
-/// Is what a command comes to that can't go on: its reply, or that memory ran out.
+/// Is what a command comes to: its reply, or that memory ran out.
 pub type Ended = Result<Reply, OutOfMemory>;
 
 /// Returns the text of the file, or that of standard input where its name is `-`.
@@ -30,7 +30,7 @@ fn text_of(rt: &HostRuntime, name: &str) -> Result<String, Unread> {
 /// # Errors
 ///
 /// The reply on the first file that isn't read.
-fn texts_of(rt: &HostRuntime, names: &[&str]) -> Result<Vec<String>, Ended> {
+pub fn texts_of(rt: &HostRuntime, names: &[&str]) -> Result<Vec<String>, Ended> {
     let mut texts = Vec::new(rt.alloc());
     for name in names {
         let text = match text_of(rt, name) {
@@ -49,7 +49,7 @@ fn texts_of(rt: &HostRuntime, names: &[&str]) -> Result<Vec<String>, Ended> {
 /// # Errors
 ///
 /// Where memory runs out.
-fn named<'a>(
+pub fn named<'a>(
     alloc: Global,
     names: &[&'a str],
     texts: &'a [String],

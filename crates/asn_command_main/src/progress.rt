@@ -4,6 +4,7 @@ use std::time::Instant;
 
 /// Shows lines on standard error: how many are done, how many of them are refused, and how many are
 /// done a second. It shows them at most once a second, and not in the first one.
+#[derive(Drop)]
 pub struct Meter<'r> {
     /// Gives the clock and standard error.
     rt: &'r HostRuntime,
@@ -11,6 +12,8 @@ pub struct Meter<'r> {
     began: Option<Instant>,
     /// Counts the whole seconds after which lines were shown last.
     shown: u64,
+    /// Counts the refusals that stood before what was shown last, if anything was.
+    refused: Option<u64>,
 }
 
 impl<'r> Meter<'r> {
@@ -25,6 +28,7 @@ impl<'r> Meter<'r> {
             rt,
             began,
             shown: 0,
+            refused: None,
         }
     }
 
@@ -43,10 +47,17 @@ impl<'r> Meter<'r> {
 impl Progress for Meter<'_> {
     fn show(&mut self, lines: u64, refused: u64) {
         if let Some(seconds) = self.due() {
-            self.shown = seconds;
+            // Where nothing was written since, the line takes the place of the last one.
+            let front = if self.refused == Some(refused) {
+                "\x1b[A\x1b[K"
+            } else {
+                ""
+            };
             let rate = lines.checked_div(seconds).unwrap_or(0);
+            self.shown = seconds;
+            self.refused = Some(refused);
             // That it can't be shown is no reason to stop.
-            let _shown = eprint!(self.rt; "\rasn: {lines} lines, {refused} refused, {rate}/s ");
+            let _shown = eprintln!(self.rt; "{front}asn: {lines} lines, {refused} refused, {rate}/s");
         }
     }
 }

@@ -2,11 +2,12 @@
 ghost use Rattle.asn_model.specs.Readable.{is_readable};
 ghost use Rattle.std.specs.Prelude.{◌≡◌, [], true};
 
+use crate::files::Ended;
 use crate::progress::Meter;
-use asn_command::{Conversion, ConvertLines, convert_whole};
+use asn_command::{Conversion, ConvertLines, answer_lines, convert_whole};
 use asn_dynamic::Part;
-use asn_lines::{LineWork, LinesEnd, run_lines};
-use asn_replies::{Reply, Status, Unread, deliver, unread_reply};
+use asn_lines::LineWork;
+use asn_replies::{Status, Unread, deliver, unread_reply};
 use asn_streams::{Source, StdSink, StdSource};
 use std::fs;
 
@@ -22,12 +23,17 @@ pub struct Stream<'a> {
 }
 
 /// Writes a reply.
-pub fn write(rt: &HostRuntime, reply: Result<Reply, asn_core::OutOfMemory>) -> Status {
+pub fn write(rt: &HostRuntime, reply: Ended) -> Status {
     deliver(
         reply,
         &mut StdSink::new(rt.stdout()),
         &mut StdSink::new(rt.stderr()),
     )
+}
+
+/// Says that the file can't be read.
+fn unread(rt: &HostRuntime, file: &str) -> Status {
+    write(rt, unread_reply(rt.alloc(), file, Unread::Fault))
 }
 
 /// Answers each line of the source.
@@ -37,27 +43,18 @@ fn work_from<S: Source, W: LineWork>(
     stream: Stream<'_>,
     source: &mut S,
 ) -> Status {
-    let mut output = StdSink::new(rt.stdout());
-    let mut errors = StdSink::new(rt.stderr());
-    let mut meter = Meter::new(rt, stream.progress);
-    let file = stream.file;
-    match run_lines(
+    let ended = answer_lines(
         rt.alloc(),
         work,
+        stream.file,
         source,
-        &mut output,
-        &mut errors,
-        &mut meter,
-    ) {
-        LinesEnd::Done => Status::Done,
-        LinesEnd::Refused => Status::Refused,
-        LinesEnd::ReadFault => write(rt, unread_reply(rt.alloc(), file, Unread::Fault)),
-        LinesEnd::WriteFault => Status::WriteFault,
-        LinesEnd::OutOfMemory => Status::WantOfMemory,
-        LinesEnd::TooLong { number } => match format!(in rt.alloc(); "{file}:{number}") {
-            Ok(line) => write(rt, unread_reply(rt.alloc(), &line, Unread::TooLong)),
-            Err(_refused) => Status::WantOfMemory,
-        },
+        &mut StdSink::new(rt.stdout()),
+        &mut StdSink::new(rt.stderr()),
+        &mut Meter::new(rt, stream.progress),
+    );
+    match ended {
+        Ok(status) => status,
+        Err(unread) => write(rt, unread),
     }
 }
 
@@ -68,7 +65,7 @@ pub fn work_through<W: LineWork>(rt: &HostRuntime, work: &W, stream: Stream<'_>)
     }
     match fs::open(rt, stream.file) {
         Ok(file) => work_from(rt, work, stream, &mut StdSource::new(file)),
-        Err(_fault) => write(rt, unread_reply(rt.alloc(), stream.file, Unread::Fault)),
+        Err(_fault) => unread(rt, stream.file),
     }
 }
 
@@ -104,6 +101,6 @@ pub fn convert<P: Part>(rt: &HostRuntime, conversion: Conversion<P>, stream: Str
     }
     match fs::open(rt, file) {
         Ok(opened) => convert_from(rt, conversion, file, &mut StdSource::new(opened)),
-        Err(_fault) => write(rt, unread_reply(rt.alloc(), file, Unread::Fault)),
+        Err(_fault) => unread(rt, file),
     }
 }

@@ -1,51 +1,37 @@
 //! Cuts a stream of texts of a newer version of a type to what an older one knows.
-ghost use Rattle.asn_command_versions.specs.Versions.{IsLineKept};
-ghost use Rattle.asn_growth.specs.Grows.{Grows};
-ghost use Rattle.asn_model.specs.Readable.{is_readable};
+ghost use Rattle.asn_command_versions.specs.Keeping.{IsLineKept};
 ghost use Rattle.asn_model.specs.ShapeView.{shape_view};
-ghost use Rattle.std.specs.Prelude.{◌≡◌, IfOk, true};
+ghost use Rattle.std.specs.Prelude.{◌≡◌, IfOk};
 
+use crate::versions::Versions;
 use asn_command::{not_text_line, with_feed};
 use asn_core::{Codec, OutOfMemory};
 use asn_filter::cut;
 use asn_lines::{LineReply, LineWork};
-use asn_model::Shape;
 use asn_value_refusals::{Origin, refusal_lines};
 use std::alloc::Global;
 
-/// Cuts lines of a stream, each a text of the newer version.
+/// Cuts lines of a stream, each a text of the newer version of a type.
+#[derive(Drop)]
 pub struct KeepLines<'a> {
     /// Names the notation of the lines.
     from: Codec,
-    /// Is the older version of the type.
-    old: &'a Shape,
-    /// Is the newer version.
-    new: &'a Shape,
+    /// Are the two versions.
+    versions: &'a Versions,
     /// Is the name of the file that the stream is.
     file: &'a str,
-    /// Values can be read by the older version.
-    ghost readable_old: { is_readable (shape_view old.now) ≡ true },
-    /// And by the newer one.
-    ghost readable_new: { is_readable (shape_view new.now) ≡ true },
-    /// The newer one is a later version of the older one.
-    ghost grown: { Grows (shape_view old.now) (shape_view new.now) },
 }
 
 impl<'a> KeepLines<'a> {
     /// Returns the work that cuts lines of the file so.
-    pub fn new(from: Codec, old: &'a Shape, new: &'a Shape, file: &'a str) -> KeepLines<'a>
-        requires readable_old { is_readable (shape_view old.now) ≡ true }
-        requires readable_new { is_readable (shape_view new.now) ≡ true }
-        requires grown { Grows (shape_view old.now) (shape_view new.now) }
+    pub fn new(from: Codec, versions: &'a Versions, file: &'a str) -> KeepLines<'a>
         ensures from { result.from ≡ from }
-        ensures old { result.old ≡ old.entry }
-        ensures new { result.new ≡ new.entry }
+        ensures versions { result.versions ≡ versions.entry }
         ensures file { result.file ≡ file.entry }
     {
         KeepLines {
             from,
-            old,
-            new,
+            versions,
             file,
         }
     }
@@ -54,8 +40,9 @@ impl<'a> KeepLines<'a> {
 /// Answers a line by the JSON text of what the older version knows of its value, or refuses it
 /// behind the name of the file and its number.
 impl LineWork for KeepLines<'_> {
-    ghost answers = { λ work number line reply. IsLineKept work.from (shape_view work.old.now)
-        (shape_view work.new.now) work.file number line reply };
+    ghost answers = { λ work number line reply. IsLineKept work.from
+        (shape_view work.versions.now.older) (shape_view work.versions.now.newer)
+        work.file number line reply };
 
     fn answer(&self, alloc: Global, number: u64, line: &[u8]) -> Result<LineReply, OutOfMemory> {
         let origin = Origin {
@@ -65,7 +52,8 @@ impl LineWork for KeepLines<'_> {
         let Ok(text) = str::from_utf8(line) else {
             return Ok(LineReply::Refusal(not_text_line(alloc, origin)?));
         };
-        match cut(alloc, self.from, self.old, self.new, text)? {
+        let versions = self.versions;
+        match cut(alloc, self.from, &versions.older, &versions.newer, text)? {
             Ok(kept) => Ok(LineReply::Answer(with_feed(kept)?)),
             Err(fault) => {
                 let lines = refusal_lines(alloc, origin, text, &fault, false)?;

@@ -1,9 +1,11 @@
-//! Does the work of the command `asn` that compares versions of a type, and cuts texts of a newer
-//! version to what an older one knows.
+//! Does the work of the commands of `asn` that compare versions of a type: says whether a type is a
+//! later version of an older one, and cuts texts of the newer one to what the older one knows.
 #![tactic(auto)]
 
 mod growth;
 mod keeping;
+mod versions;
 
 pub use growth::growth_reply;
 pub use keeping::KeepLines;
+pub use versions::{Versions, versions_of};

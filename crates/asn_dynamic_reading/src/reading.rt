@@ -145,7 +145,7 @@ fn read_elements<D: Decoder, P: Part>(
     for i in 0..count {
         let item = match read_value(decoder, element, &*loops) {
             Ok(item) => item,
-            Err(error) => return Err(error),
+            Err(error) => return Err(error.in_element(i)),
         };
         let Ok(()) = items.push(item) else {
             return Err(out_of_memory(decoder));
@@ -293,8 +293,18 @@ fn read_choice<D: Decoder, P: Part>(
             // A place is that of an alternative in either notation.
             None => Err(no_choice(decoder)),
         },
-        Ok(None) => Err(no_choice(decoder)),
-        Err(error) => Err(told(decoder, error)),
+        Ok(None) => Err(of_choice(part, no_choice(decoder))),
+        Err(error) => Err(of_choice(part, told(decoder, error))),
+    }
+}
+
+/// Returns the error by which a CHOICE isn't opened, which says so where the type has no values.
+fn of_choice<P: Part>(part: P, error: DynError) -> DynError
+    ensures { dyn_failure result ≡ dyn_failure error }
+{
+    match part.alternative(0) {
+        Some(_) => error,
+        None => error.without_values(),
     }
 }
 
@@ -311,11 +321,11 @@ fn read_payload<D: Decoder, P: Part>(
         (D.pending decoder.old) result (D.pending decoder.new) }
     ensures held { IfOk result (λ v. IsHeldValue (dyn_value v)) }
 {
+    let alloc = decoder.allocator();
     let payload = match read_value(decoder, alternative.part, &*loops) {
         Ok(payload) => payload,
-        Err(error) => return Err(error),
+        Err(error) => return Err(error.in_alternative(alloc, alternative.identifier)),
     };
-    let alloc = decoder.allocator();
     let Ok(identifier) = String::from_str(alloc, alternative.identifier) else {
         return Err(out_of_memory(decoder));
     };

@@ -1,12 +1,5 @@
 //! Sets the limits that links of types keep.
 
-/// Limits the names of types or of values that stand for one another in a row, as `A ::= B`, and
-/// those behind COMPONENTS OF. A name of a type that leads past more of them has no values, and so
-/// has one that leads to itself.
+/// Limits the names of types or of values that stand for one another in a row, as `A ::= B`. A name
+/// of a type that leads past more of them has no values, and so has one that leads to itself.
 pub const NAME_LIMIT: usize = 64;
-
-/// Limits the types that COMPONENTS OF includes in those of all texts, with what stands within.
-pub const INCLUDED_LIMIT: usize = 262_144;
-
-/// Limits the levels to which types nest, of which a text alone has at most 64.
-pub const LEVEL_LIMIT: usize = 256;

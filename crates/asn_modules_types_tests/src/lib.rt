@@ -2,8 +2,6 @@
 #![tactic(auto)]
 
 #[cfg(test)]
-mod included;
-#[cfg(test)]
 mod markers;
 #[cfg(test)]
 mod notations;

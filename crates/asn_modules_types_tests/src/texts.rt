@@ -48,7 +48,13 @@ pub fn by_modules(
         Err(_fault) => return Ok(String::from_str(alloc, "no types")?),
     };
     match index.only("T".as_bytes()) {
-        Some(number) => converted(alloc, types.as_slice(), number as u32, codecs, text),
+        Some(number) => converted(
+            alloc,
+            types.as_slice(),
+            u32::try_from(number)?,
+            codecs,
+            text,
+        ),
         None => Ok(String::from_str(alloc, "no type")?),
     }
 }

@@ -1,28 +1,40 @@
 -- The lines that say why a text isn't converted.
-use Rattle.std.specs.Prelude.{◌≡◌, ℕ, List, [], ◌∷◌, ◌++◌, codes, decimal, String, string_bytes, Option, Some, None}
-use Rattle.std.specs.Global.{Global}
+use Rattle.std.specs.Prelude.{◌≡◌, ℕ, List, [], ◌∷◌, ◌++◌, Bool, true, false, if◌then◌else◌, chars, codes, decimal, encode_utf8_all, is_some, map, not, take, string_bytes, MatchBool, Option, Some, None}
+use Rattle.std.specs.Char.{is_control}
 use Rattle.std.specs.List.{flat_map}
 use Rattle.asn_dynamic.specs.declared.conversion.ConvertError.{ConvertError}
 use Rattle.asn_dynamic.specs.declared.conversion.ConvertError.TheVariants.{Read, Write}
 use Rattle.asn_dynamic_faults.specs.Texts.{dyn_kind_text}
+use Rattle.asn_dynamic_faults.specs.declared.errors.DynKind.{DynKind}
+use Rattle.asn_dynamic_faults.specs.declared.errors.Step.{Step}
+use Rattle.asn_dynamic_faults.specs.declared.errors.Step.TheVariants.{Field, Alternative, Element}
+use Rattle.asn_dynamic_faults.specs.declared.errors.DynKind.TheVariants.{Other}
 use Rattle.asn_fault.specs.Texts.{encode_kind_text}
+use Rattle.asn_fault.specs.declared.avn.AvnDecodeErrorKind.TheVariants.{UnexpectedToken}
+use Rattle.asn_fault.specs.declared.codec_specific.CodecDecodeError.TheVariants.{Avn}
+use Rattle.asn_fault.specs.declared.decode.DecodeErrorKind.{DecodeErrorKind}
+use Rattle.asn_fault.specs.declared.decode.DecodeErrorKind.TheVariants.{CodecSpecific, Parser}
+use Rattle.asn_lexer.specs.Places.{column_after, line_after}
 use Rattle.asn_value_refusals.specs.declared.origin.Origin.{Origin}
+use Rattle.serde_json.specs.Read.{read_text}
 
 -- The number of a line behind a colon, if there is one.
 abbrev pub line_text : Option ℕ → List ℕ
 line_text None = []
 line_text (Some n) = codes ":" ++ decimal n
 
--- The fields behind the first one, each with a point before it.
-abbrev pub path_behind : List (String Global) → List ℕ
-path_behind ns = flat_map (λ n. 46 ∷ string_bytes n) ns
+-- A step behind this text: the name of a field or an alternative, or the place of an element.
+abbrev pub step_text : List ℕ → Step → List ℕ
+step_text point (Field n) = point ++ string_bytes n
+step_text point (Alternative n) = point ++ string_bytes n
+step_text point (Element i) = codes "[" ++ (decimal i ++ codes "]")
 
--- The fields on the way, with points between them, and a colon and a blank behind them.
-abbrev pub path_text : List (String Global) → List ℕ
+-- The steps on the way, as `head.list[2].item`, and a colon and a blank behind them.
+abbrev pub path_text : List Step → List ℕ
 path_text [] = []
-path_text (n ∷ ns) = (string_bytes n ++ path_behind ns) ++ codes ": "
+path_text (s ∷ ss) = (step_text [] s ++ flat_map (step_text (codes ".")) ss) ++ codes ": "
 
--- The fields on the way and the reason.
+-- The way to what is refused and the reason.
 abbrev pub reason_text : ConvertError → List ℕ
 reason_text (Read e) = path_text e.path.items ++ dyn_kind_text e.kind
 reason_text (Write e) = encode_kind_text e.kind
@@ -31,9 +43,58 @@ reason_text (Write e) = encode_kind_text e.kind
 abbrev pub origin_text : Origin → List ℕ
 origin_text o = o.file.now ++ line_text o.line
 
--- The line and the reason of a refusal: behind what the text comes from; where the text itself is at fault, behind the file with a line and a column, and maybe with lines behind them.
-pub data IsRefusalLines (o : Origin) (e : ConvertError) : List ℕ → Type 0 where
-  of_value : (lines : List ℕ) → lines ≡ origin_text o ++ (codes ": " ++ (reason_text e ++ codes "\n")) → IsRefusalLines o e lines
-  of_text : (line column : ℕ) (more lines : List ℕ)
-      → lines ≡ o.file.now ++ (codes ":" ++ (decimal line ++ (codes ":" ++ (decimal column ++ (codes ": " ++ (reason_text e ++ (codes "\n" ++ more)))))))
-      → IsRefusalLines o e lines
+-- A character as it is shown: a blank in place of one that controls a terminal, a line feed among them.
+abbrev pub visible : ℕ → ℕ
+visible c = if is_control c then 32 else c
+
+-- A text as it is shown, on one line.
+abbrev pub on_one_line : List ℕ → List ℕ
+on_one_line text = encode_utf8_all (map visible (chars text))
+
+-- A text is refused with this since it is no JSON, or no value notation: the text itself is at fault, and not its value.
+abbrev pub is_syntax_kind : List ℕ → DecodeErrorKind → Bool
+is_syntax_kind text (Parser msg) = not (is_some (read_text text))
+is_syntax_kind text (CodecSpecific (Avn (UnexpectedToken found))) = true
+is_syntax_kind text _ = false
+
+abbrev pub is_syntax_fault : List ℕ → DynKind → Bool
+is_syntax_fault text (Other kind) = is_syntax_kind text kind
+is_syntax_fault text _ = false
+
+abbrev pub is_text_at_fault : List ℕ → ConvertError → Bool
+is_text_at_fault text (Read e) = is_syntax_fault text e.kind
+is_text_at_fault text (Write e) = false
+
+-- The line of a place behind this front of a text: in a stream of lines, that of the stream.
+abbrev pub line_from : Option ℕ → List ℕ → ℕ
+line_from None front = line_after front
+line_from (Some n) front = n
+
+-- The file, and the line and the column of the place behind this front of a text.
+abbrev pub place_text : Origin → List ℕ → List ℕ
+place_text o front = o.file.now ++ (codes ":" ++ (decimal (line_from o.line front) ++ (codes ":" ++ decimal (column_after front))))
+
+-- A line of a text is shown, and below it a caret behind blanks.
+pub record IsExcerpt (bytes : List ℕ) : Type 0 where
+  pub line : List ℕ
+  pub blanks : List ℕ
+  pub is : bytes ≡ codes "  " ++ (line ++ (codes "\n  " ++ (blanks ++ codes "^\n")))
+
+-- What is shown of the text, where that is asked for, and nothing else.
+abbrev pub IsExplanation : Bool → List ℕ → Type 0
+IsExplanation explain more = MatchBool explain (IsExcerpt more) (more ≡ [])
+
+-- The line of a refusal for its reason, behind what the text comes from.
+abbrev pub refusal_line : List ℕ → ConvertError → List ℕ
+refusal_line front e = on_one_line (front ++ (codes ": " ++ reason_text e)) ++ codes "\n"
+
+-- The lines of a refusal of a text that is at fault itself: behind a place in the text, with what stands there if that is asked for.
+pub record IsTextRefusal (o : Origin) (e : ConvertError) (text : List ℕ) (explain : Bool) (lines : List ℕ) : Type 0 where
+  pub offset : ℕ
+  pub more : List ℕ
+  pub shown : IsExplanation explain more
+  pub is : lines ≡ refusal_line (place_text o (take offset text)) e ++ more
+
+-- The lines that say why the text of this origin is refused with this error.
+abbrev pub IsRefusalLines : Origin → ConvertError → List ℕ → Bool → List ℕ → Type 0
+IsRefusalLines o e text explain lines = MatchBool (is_text_at_fault text e) (IsTextRefusal o e text explain lines) (lines ≡ refusal_line (origin_text o) e)

@@ -1,5 +1,7 @@
 //! Finds the place at which a text is at fault.
-ghost use Rattle.std.specs.Prelude.{◌≡◌, ◌≤◌, length};
+ghost use Rattle.asn_value_refusals.specs.Lines.{is_text_at_fault};
+ghost use Rattle.serde_json.specs.Read.{read_text};
+ghost use Rattle.std.specs.Prelude.{◌≡◌, IfOk, is_some, not};
 
 use asn_core::OutOfMemory;
 use asn_dynamic::{ConvertError, DynError, DynKind};
@@ -40,7 +42,9 @@ fn offset_of(text: &str, line: usize, column: usize) -> usize {
 /// # Errors
 ///
 /// `OutOfMemory` alone.
-fn json_offset(alloc: Global, text: &str) -> Result<Option<usize>, OutOfMemory> {
+fn json_offset(alloc: Global, text: &str) -> Result<Option<usize>, OutOfMemory>
+    ensures { IfOk result (λ found. is_some found ≡ not (is_some (read_text text.now))) }
+{
     match Value::from_str(alloc, text) {
         Ok(_value) => Ok(None),
         Err(error) => match error.classify() {
@@ -60,7 +64,9 @@ pub fn fault_offset(
     alloc: Global,
     text: &str,
     error: &ConvertError,
-) -> Result<Option<usize>, OutOfMemory> {
+) -> Result<Option<usize>, OutOfMemory>
+    ensures { IfOk result (λ found. is_some found ≡ is_text_at_fault text.now error.now) }
+{
     let ConvertError::Read(
         DynError {
             kind: DynKind::Other(kind),

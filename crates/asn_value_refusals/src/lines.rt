@@ -1,38 +1,54 @@
 //! Makes the lines of a refusal.
-ghost use Rattle.asn_value_refusals.specs.Lines.{IsRefusalLines, path_text, path_behind};
-ghost use Rattle.asn_value_refusals.specs.Lines.{reason_text};
-ghost use Rattle.std.specs.Prelude.{◌≡◌, IfOk, string_bytes};
+ghost use Rattle.asn_value_refusals.specs.Lines.{IsRefusalLines, on_one_line, path_text};
+ghost use Rattle.asn_value_refusals.specs.Lines.{place_text, reason_text, step_text};
+ghost use Rattle.std.specs.Prelude.{◌≡◌, ◌++◌, IfOk, codes, string_bytes, take};
 
 use crate::fault::fault_offset;
 use crate::origin::{Origin, origin_of};
-use crate::shown::shown;
+use crate::shown::{on_one_line, shown};
 use asn_core::OutOfMemory;
-use asn_dynamic::ConvertError;
+use asn_dynamic::{ConvertError, Step};
 use asn_lexer::place_of;
 use std::alloc::Global;
 
-/// Returns the fields on the way, with points between them, and a colon and a blank behind them; it
-/// is empty where there are none.
+/// Returns a step on the way: the name of a field or an alternative behind `point`, or the place of
+/// an element in brackets.
 ///
 /// # Errors
 ///
 /// `OutOfMemory` alone.
-fn path_of(alloc: Global, path: &[String]) -> Result<String, OutOfMemory>
+fn step_text(alloc: Global, point: &str, step: &Step) -> Result<String, OutOfMemory>
+    ensures { IfOk result (λ s. string_bytes s ≡ step_text point.now step.now) }
+{
+    match step {
+        Step::Field(name) => Ok(format!(in alloc; "{point}{name}")?),
+        Step::Alternative(identifier) => Ok(format!(in alloc; "{point}{identifier}")?),
+        Step::Element(place) => Ok(format!(in alloc; "[{place}]")?),
+    }
+}
+
+/// Returns the steps on the way, as `head.list[2].item`, and a colon and a blank behind them; it is
+/// empty where there are none.
+///
+/// # Errors
+///
+/// `OutOfMemory` alone.
+fn path_of(alloc: Global, path: &[Step]) -> Result<String, OutOfMemory>
     ensures { IfOk result (λ s. string_bytes s ≡ path_text path.now) }
 {
     let Some((first, others)) = path.split_first() else {
         return Ok(String::new(alloc));
     };
-    let mut text = String::from_str(alloc, first.as_str())?;
-    for name in others {
-        text.push('.')?;
-        text.push_str(name.as_str())?;
+    let mut text = step_text(alloc, "", first)?;
+    for step in others {
+        let next = step_text(alloc, ".", step)?;
+        text.push_str(next.as_str())?;
     }
     text.push_str(": ")?;
     Ok(text)
 }
 
-/// Returns the fields on the way to what is refused, and the reason.
+/// Returns the way to what is refused, and the reason.
 ///
 /// # Errors
 ///
@@ -53,10 +69,51 @@ fn reason_of(alloc: Global, error: &ConvertError) -> Result<String, OutOfMemory>
     }
 }
 
-/// Returns the lines for an error by which a text of this origin isn't converted: the file and the
-/// line behind it, the names of the fields that lead to what is refused, as `head.next: `, and the
-/// reason. Where the text is none of its notation, the file stands there with the line and the
-/// column, and with `explain` two more lines show that place.
+/// Returns the line of a refusal for its reason, with a line feed behind it.
+///
+/// # Errors
+///
+/// `OutOfMemory` alone.
+fn line_of(alloc: Global, front: &str, reason: &str) -> Result<String, OutOfMemory>
+    ensures { IfOk result (λ s. string_bytes s
+        ≡ on_one_line (front.now ++ (codes ": " ++ reason.now)) ++ codes "\n") }
+{
+    let whole = format!(in alloc; "{front}: {reason}")?;
+    let mut line = on_one_line(alloc, &whole)?;
+    line.push('\n')?;
+    Ok(line)
+}
+
+/// Returns the line and the column of the offset in the text of this origin, behind the file. In a
+/// stream of lines the line is that of the stream.
+///
+/// # Errors
+///
+/// `OutOfMemory` alone.
+fn place_text(
+    alloc: Global,
+    origin: Origin<'_>,
+    text: &str,
+    offset: usize,
+) -> Result<String, OutOfMemory>
+    ensures { IfOk result (λ s. string_bytes s
+        ≡ place_text origin.entry (take offset text.now)) }
+{
+    let place = place_of(text, offset);
+    let line = match origin.line {
+        Some(line) => line,
+        None => place.line as u64,
+    };
+    let file = origin.file;
+    let column = place.column;
+    Ok(format!(in alloc; "{file}:{line}:{column}")?)
+}
+
+/// Returns the lines for an error by which a text of this origin isn't converted, the first of
+/// which has no character that controls a terminal: the file and the line behind it, the way to
+/// what is refused, as `head.list[2].item: `, and the reason. Where the text is
+/// none of its notation, the file stands there with the line and the column, and with `explain` two
+/// more lines show that place.
 ///
 /// # Errors
 ///
@@ -68,24 +125,19 @@ pub fn refusal_lines(
     error: &ConvertError,
     explain: bool,
 ) -> Result<String, OutOfMemory>
-    ensures { IfOk result (λ s. IsRefusalLines origin.entry error.now (string_bytes s)) }
+    ensures { IfOk result (λ s.
+        IsRefusalLines origin.entry error.now text.now explain (string_bytes s)) }
 {
     let reason = reason_of(alloc, error)?;
     let Some(offset) = fault_offset(alloc, text, error)? else {
         let front = origin_of(alloc, origin)?;
-        return Ok(format!(in alloc; "{front}: {reason}\n")?);
+        return line_of(alloc, &front, &reason);
     };
-    let more = if explain {
-        shown(alloc, text, offset)?
-    } else {
-        String::new(alloc)
-    };
-    let place = place_of(text, offset);
-    let line = match origin.line {
-        Some(line) => line,
-        None => place.line as u64,
-    };
-    let column = place.column;
-    let file = origin.file;
-    Ok(format!(in alloc; "{file}:{line}:{column}: {reason}\n{more}")?)
+    let front = place_text(alloc, origin, text, offset)?;
+    let mut lines = line_of(alloc, &front, &reason)?;
+    if explain {
+        let more = shown(alloc, text, offset)?;
+        lines.push_str(more.as_str())?;
+    }
+    Ok(lines)
 }

@@ -1,4 +1,7 @@
-//! Shows a place of a text.
+//! Shows a text, or a place of it, to a reader at a terminal.
+ghost use Rattle.asn_value_refusals.specs.Lines.{IsExcerpt, on_one_line, visible};
+ghost use Rattle.std.specs.Prelude.{◌≡◌, IfOk, string_bytes};
+
 use asn_core::OutOfMemory;
 use std::alloc::Global;
 
@@ -27,9 +30,12 @@ fn first_line(text: &str) -> &str {
 /// # Errors
 ///
 /// `OutOfMemory` alone.
-pub fn shown(alloc: Global, text: &str, offset: usize) -> Result<String, OutOfMemory> {
-    let Some((front, rest)) = text.split_at_checked(offset) else {
-        return Ok(String::new(alloc));
+pub fn shown(alloc: Global, text: &str, offset: usize) -> Result<String, OutOfMemory>
+    ensures { IfOk result (λ s. IsExcerpt (string_bytes s)) }
+{
+    let (front, rest) = match text.split_at_checked(offset) {
+        Some(parts) => parts,
+        None => (text, ""),
     };
     let before = last_line(front);
     let after = first_line(rest);
@@ -46,8 +52,26 @@ pub fn shown(alloc: Global, text: &str, offset: usize) -> Result<String, OutOfMe
     Ok(format!(in alloc; "  {line}\n  {caret}^\n")?)
 }
 
-/// Returns the character, or a blank in place of one that moves the cursor.
-fn visible(character: char) -> char {
+/// Returns the text with a blank in place of each character that controls a terminal, a line feed
+/// among them, so that it is one line.
+///
+/// # Errors
+///
+/// `OutOfMemory` alone.
+pub fn on_one_line(alloc: Global, text: &str) -> Result<String, OutOfMemory>
+    ensures { IfOk result (λ s. string_bytes s ≡ on_one_line text.now) }
+{
+    let mut line = String::new(alloc);
+    for character in text.chars() {
+        line.push(visible(character))?;
+    }
+    Ok(line)
+}
+
+/// Returns the character, or a blank in place of one that controls a terminal.
+fn visible(character: char) -> char
+    ensures { result ≡ visible character }
+{
     if character.is_control() {
         ' '
     } else {

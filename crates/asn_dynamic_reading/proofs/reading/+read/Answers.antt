@@ -231,7 +231,7 @@ read_elements-read_value-requires g t c κs within =
 
 pub read_elements-returns-in-Err-read_value-clause-answer : goal.read_elements-returns-in-Err-read_value-clause-answer
 read_elements-returns-in-Err-read_value-clause-answer g t c =
-    list.refuse _ (kind_view c.args.kind) _ _ _ _ _ _ _ _ c.loop-i.invariant.read c.loop-i-test.true c.in-Err-read_value.ensures.answer
+    rw c.in_element.ensures (list.refuse _ (kind_view c.args.kind) _ _ _ _ _ _ _ _ c.loop-i.invariant.read c.loop-i-test.true c.in-Err-read_value.ensures.answer)
 
 pub read_elements-loop-i-preserved : goal.read_elements-loop-i-preserved
 read_elements-loop-i-preserved g t c =
@@ -583,7 +583,7 @@ read_choice-returns-in-Ok-None-clause-answer g t c =
     let before = g.D.Decoder.pending c.args.decoder.now in
     let mid = g.D.Decoder.pending c.open_choice.new.self in
     let opens = rw c.in-Ok-None.field-0-is at c.in-Ok-None.ensures in
-    choice.choice-unnamed shape bodies part names q.0 q.1 q.2 n before mid opens (dyn_failure c.no_choice-in-Ok-None.result) c.no_choice-in-Ok-None.ensures
+    choice.choice-unnamed shape bodies part names q.0 q.1 q.2 n before mid opens (dyn_failure c.of_choice.result) (rw c.of_choice.ensures c.no_choice-in-Ok-None.ensures)
 
 pub read_choice-returns-in-Err-clause-answer : goal.read_choice-returns-in-Err-clause-answer
 read_choice-returns-in-Err-clause-answer g t c =
@@ -596,7 +596,7 @@ read_choice-returns-in-Err-clause-answer g t c =
     let before = g.D.Decoder.pending c.args.decoder.now in
     let mid = g.D.Decoder.pending c.open_choice.new.self in
     let w = c.told.ensures in
-    told-refuses w.0 (failure_of c.in-Err.error) (dyn_failure c.told.result) w.1 w.2 (choice.unopened shape bodies part names q.0 q.1 q.2 n before (failure_of c.in-Err.error) c.in-Err.ensures)
+    rw c.of_choice-in-Err.ensures (told-refuses w.0 (failure_of c.in-Err.error) (dyn_failure c.told.result) w.1 w.2 (choice.unopened shape bodies part names q.0 q.1 q.2 n before (failure_of c.in-Err.error) c.in-Err.ensures))
 
 pub read_payload-read_value-requires : goal.read_payload-read_value-requires
 read_payload-read_value-requires g t c κs within =

@@ -1,7 +1,10 @@
+use Rattle.std.proofs.Common.{◌∙◌, sym}
 use Rattle.asn_dynamic_faults.proofs.Paths.{at_field}
 use Rattle.asn_dynamic_faults.specs.DynFailure.{dyn_cause}
+use Rattle.asn_dynamic_faults.specs.Steps.{fields_of}
 use Rattle.asn_dynamic_faults.proofs.errors.DynError.is_out_of_memory.Goals as goal
 
-pub returns-then-not-is_empty : goal.returns-then-not-is_empty
-returns-then-not-is_empty c =
-    at_field c.args.self.now.notation c.args.self.now.path.items c.as_slice.result.now (dyn_cause c.args.self.now.kind c.args.self.now.codec) c.is_empty.result c.as_slice.ensures.value c.is_empty.ensures c.if-not-is_empty.true
+pub returns-then-has_field : goal.returns-then-has_field
+returns-then-has_field c =
+    let e = c.args.self.now in
+    at_field e.notation (fields_of e.path.items) (dyn_cause e.kind e.codec) (rw c.as_slice.ensures.value at (sym c.has_field.ensures ∙ c.if-has_field.true))

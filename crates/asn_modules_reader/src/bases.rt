@@ -45,6 +45,12 @@ pub(crate) fn may_have_components(notation: &Notation) -> bool
         Base::Sequence(_) => true,
         Base::Set(_) => true,
         Base::Reference { .. } => true,
-        _ => false,
+        Base::Leaf(_) => false,
+        Base::Integer(_) => false,
+        Base::BitString(_) => false,
+        Base::Enumerated { .. } => false,
+        Base::SequenceOf(_) => false,
+        Base::SetOf(_) => false,
+        Base::Choice(_) => false,
     }
 }

@@ -36,15 +36,22 @@ fn names_values(notation: &Notation) -> bool
     }
 }
 
-/// Returns the name that the value is, or `None` where it is none: TRUE, FALSE and NULL are none.
+/// Returns the token where it is a name, and `None` else: TRUE, FALSE and NULL are none.
+fn if_name(token: Token) -> Option<Token>
+    ensures { result ≡ spec.if_name token.kind token }
+{
+    match token.kind {
+        Kind::Name => Some(token),
+        _ => None,
+    }
+}
+
+/// Returns the name that the value is, or `None` where it is none.
 fn name_in(value: Value) -> Option<Token>
     ensures { result ≡ spec.name_in value }
 {
     match value {
-        Value::Word(token) => match token.kind {
-            Kind::Name => Some(token),
-            _ => None,
-        },
+        Value::Word(token) => if_name(token),
         _ => None,
     }
 }

@@ -38,10 +38,10 @@ endless_same f g n [] e = refl
 endless_same f g n (l ∷ ls) e = ap (λ b. option_or (if b then Some (fault_of NoValue l.name) else None) (endless_from f (suc n) ls)) (e n) ∙ ap (option_or (if g n then Some (fault_of NoValue l.name) else None)) (endless_same f g (suc n) ls e)
 
 -- What is told by the list of where values lead in the end.
-pub told_by_ends : (links : List ValueLink) (nexts ends : List (Option ℕ)) (count : ℕ) (all : List spec.ValueLink) (r : Result Unit ModuleError) → map link_view links ≡ all → nexts ≡ map (λ l. l.next) (map link_view links) → count ≡ length links
-    → ((n : ℕ) → next_at ends n ≡ leads nexts count n) → Checks (endless_from (λ n. is_some (next_at ends n)) 0 (map link_view links)) r → Checks (first_endless_in all) r
-told_by_ends links nexts ends count all r a e c h checks =
+pub told_by_ends : (links : List ValueLink) (ends : List (Option ℕ)) (all : List spec.ValueLink) (r : Result Unit ModuleError) → map link_view links ≡ all
+    → ((n : ℕ) → next_at ends n ≡ leads (map (λ l. l.next) (map link_view links)) (length links) n) → Checks (endless_from (λ n. is_some (next_at ends n)) 0 (map link_view links)) r → Checks (first_endless_in all) r
+told_by_ends links ends all r a h checks =
     let ls = map link_view links in
-    let same : (n : ℕ) → is_some (next_at ends n) ≡ is_some (leads (map (λ l. l.next) ls) (length ls) n) = λ n. ap is_some (h n ∙ ap (λ x. leads x count n) e ∙ ap (λ m. leads (map (λ l. l.next) ls) m n) (c ∙ sym (length-map links link_view))) in
+    let same : (n : ℕ) → is_some (next_at ends n) ≡ is_some (leads (map (λ l. l.next) ls) (length ls) n) = λ n. ap is_some (h n ∙ ap (λ m. leads (map (λ l. l.next) ls) m n) (sym (length-map links link_view))) in
     subst (λ x. Checks (first_endless_in x) r) a
     (subst (λ o. Checks o r) (endless_same (λ n. is_some (next_at ends n)) (λ n. is_some (leads (map (λ l. l.next) ls) (length ls) n)) 0 ls same) checks)

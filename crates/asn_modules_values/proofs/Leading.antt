@@ -1,5 +1,5 @@
 -- Where numbers lead past others.
-use Rattle.std.proofs.Common.{◌≡◌, ℕ, zero, suc, ◌+◌, List, map, Option, Some, None, refl, sym, ap, ◌∙◌}
+use Rattle.std.proofs.Common.{◌≡◌, ◌≢◌, ℕ, zero, suc, ◌+◌, ◌-◌, ◌/◌, ◌%◌, List, map, Option, Some, None, refl, sym, ap, ◌∙◌, arith}
 use Rattle.std.proofs.lemmas.Option.{slice_get-map}
 use Rattle.std.specs.List.{slice_get}
 use Rattle.std.specs.Option.{option_and_then, option_map}
@@ -36,6 +36,13 @@ joined_map f (Some next) = refl
 
 next_at_map : (f : ℕ → Option ℕ) (xs : List (Option ℕ)) (n : ℕ) → next_at (map (option_and_then f) xs) n ≡ option_and_then f (next_at xs n)
 next_at_map f xs n = ap joined (slice_get-map (option_and_then f) xs n) ∙ joined_map f (slice_get xs n)
+
+-- Half of them.
+pub halved_odd : (m : ℕ) → m % 2 ≡ 1 → m ≡ suc ((m - 1) / 2 + (m - 1) / 2)
+halved_odd m e = omega (arith, e)
+
+pub halved_even : (m : ℕ) → m ≢ 0 → m % 2 ≢ 1 → m ≡ suc (0 + suc ((m - 1) / 2 + (m - 1) / 2))
+halved_even m z e = omega (arith, z, e)
 
 -- By two lists, one behind the other.
 pub leads_both : (nexts first second both : List (Option ℕ)) (a b c : ℕ) → ((n : ℕ) → next_at first n ≡ leads nexts a n) → ((n : ℕ) → next_at second n ≡ leads nexts b n) → both ≡ map (option_and_then (next_at second)) first → c ≡ suc (a + b)

@@ -4,12 +4,12 @@ ghost use Rattle.asn_modules_lookup.specs.Indexes.{IsIndexOf};
 ghost use Rattle.asn_modules_lookup.specs.declared.sort.Sort.TheVariants.{Values};
 ghost use Rattle.asn_modules_names.specs.Faults.{Checks};
 ghost use Rattle.asn_modules_names.specs.Mentions.{Source};
-ghost use Rattle.asn_modules_values.specs.Leads.{next_at};
+ghost use Rattle.asn_modules_values.specs.Leads.{leads, next_at};
 ghost use Rattle.asn_modules_values.specs.ValueLinks.{endless_from, first_endless_in, link_view};
 ghost use Rattle.asn_modules_values.specs.ValueLinks.{links_of};
-ghost use Rattle.std.specs.Prelude.{◌≡◌, IfOk, List, is_some, map};
+ghost use Rattle.std.specs.Prelude.{◌≡◌, ℕ, IfOk, List, is_some, length, map};
 
-use crate::leads::{leads, next_at};
+use crate::leads::{leads_past, next_at};
 use crate::links::{ValueLink, links_of};
 use asn_modules_faults::{ModuleError, NameRule};
 use asn_modules_lookup::{Home, Index};
@@ -31,6 +31,29 @@ fn nexts_of(alloc: Global, links: &[ValueLink<'_>]) -> Result<Vec<Option<usize>>
     Ok(nexts)
 }
 
+/// Returns where each of these values leads past as many others as there are.
+///
+/// # Errors
+///
+/// Where memory runs out.
+fn ends_of(alloc: Global, links: &[ValueLink<'_>]) -> Result<Vec<Option<usize>>, AllocError>
+    ensures { IfOk result (λ ends. (n : ℕ) → next_at ends.items n
+        ≡ leads (map (λ l. l.next) (map link_view links.now)) (length links.now) n) }
+{
+    let nexts = nexts_of(alloc, links)?;
+    let table = nexts.as_slice();
+    let count = links.len();
+    let ends = leads_past(alloc, table, count)?;
+    Ok(ends)
+}
+
+/// Returns whether the value of the number leads to another one in the end.
+fn leads_on(ends: &[Option<usize>], number: usize) -> bool
+    ensures { result ≡ is_some (next_at ends.now number) }
+{
+    next_at(ends, number).is_some()
+}
+
 /// Checks that none of these values leads anywhere in the end.
 ///
 /// # Errors
@@ -45,7 +68,7 @@ fn check_ends(
         (map link_view links.now)) result }
 {
     for (number, link) in links.iter().enumerate() {
-        if next_at(ends, number).is_some() {
+        if leads_on(ends, number) {
             return Err(broken(alloc, NameRule::NoValue, link.name));
         }
     }
@@ -67,7 +90,8 @@ pub fn check_values<'t>(
         → Checks (first_endless_in (links_of ss 0 (map home_view homes.now))) result }
 {
     let links = links_of(alloc, index, homes)?;
-    let nexts = nexts_of(alloc, links.as_slice())?;
-    let ends = leads(alloc, nexts.as_slice(), links.len())?;
-    check_ends(alloc, ends.as_slice(), links.as_slice())
+    let all = links.as_slice();
+    let ends = ends_of(alloc, all)?;
+    let table = ends.as_slice();
+    check_ends(alloc, table, all)
 }

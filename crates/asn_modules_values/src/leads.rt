@@ -45,13 +45,28 @@ fn composed(
     Ok(both)
 }
 
-/// Returns where each number leads, and then past so many others.
+/// Returns a copy of the list.
+///
+/// # Errors
+///
+/// Where memory runs out.
+fn copy_of(alloc: Global, nexts: &[Option<usize>]) -> Result<Vec<Option<usize>>, AllocError>
+    ensures { IfOk result (λ copy. copy.items ≡ nexts.now) }
+{
+    let mut copy = Vec::new(alloc);
+    for next in nexts {
+        copy.push(*next)?;
+    }
+    Ok(copy)
+}
+
+/// Returns where each number leads past so many others.
 ///
 /// # Errors
 ///
 /// Where memory runs out.
 #[cycle(past)]
-pub fn leads(
+pub fn leads_past(
     alloc: Global,
     nexts: &[Option<usize>],
     others: usize,
@@ -60,12 +75,19 @@ pub fn leads(
         (n : ℕ) → next_at ends.items n ≡ leads nexts.now others n) }
 {
     if others == 0 {
-        return nexts.to_vec(alloc);
+        let copy = copy_of(alloc, nexts)?;
+        return Ok(copy);
     }
-    if others % 2 == 0 {
-        let behind = leads(alloc, nexts, others - 1)?;
-        return composed(alloc, nexts, behind.as_slice());
+    let count = (others - 1) / 2;
+    let half = leads_past(alloc, nexts, count)?;
+    let table = half.as_slice();
+    // These lead past the half, one more, and the half again.
+    let twice = composed(alloc, table, table)?;
+    let rest = others % 2;
+    if rest == 1 {
+        return Ok(twice);
     }
-    let half = leads(alloc, nexts, others / 2)?;
-    composed(alloc, half.as_slice(), half.as_slice())
+    let behind = twice.as_slice();
+    let ends = composed(alloc, nexts, behind)?;
+    Ok(ends)
 }

@@ -1,4 +1,4 @@
 use Rattle.asn_modules_values.proofs.leads.+past.Given as goal
 
-abbrev pub decreases-leads : goal.decreases-leads
-decreases-leads l = l.others
+abbrev pub decreases-leads_past : goal.decreases-leads_past
+decreases-leads_past l = l.others

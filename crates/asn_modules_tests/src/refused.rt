@@ -10,8 +10,8 @@ const ROWS: [(&str, &str, &str); 8] = [
     (
         "T ::= SEQUENCE { size REAL OPTIONAL }",
         r#"{"size":5}"#,
-        "Error when decoding field `size`: The type has no values that can be read (Codec: JER) \
-(Codec: JER)",
+        "Error when decoding field `size`: The type has no values that can be read \
+(Codec: JER) (Codec: JER)",
     ),
     ("T ::= SEQUENCE OF REAL", "[]", "[]"),
     (

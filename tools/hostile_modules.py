@@ -1,20 +1,24 @@
 #!/usr/bin/env python3
-"""Runs a program that reads ASN.1 modules on hostile ones.
+"""Runs the command `asn check` on hostile ASN.1 modules.
 
-usage: tools/hostile_modules.py [-k PART] PROGRAM [WORD..]
+usage: tools/hostile_modules.py [-u] [-k PART]
 
-PROGRAM is run with the words, if any, and then the name of a file, as asn_command_main with `check`. It has to end with
-status 0, or with status 1 and a refusal `FILE:LINE:COLUMN: ..` of one line on standard error; where a row knows which,
-with that status and with the words that it states. Nothing else is taken for an answer: no other status, no signal, no
+The program is $ASN, or else ./asn. It has to end with status 0, or with status 1 and a refusal
+`FILE:LINE:COLUMN: ..` of one line on standard error; where a row knows which, with that status and
+with the words that it states. Nothing else is taken for an answer: no other status, no signal, no
 run of more than 120 seconds, no more than 4 GB of memory.
 
-First a text with every kind of notation is cut at each byte, and then each of its tokens is left out, doubled, or put
-into the next one's place. Each row behind that is a kind of text at a size and at twice the size: the status, the size
-of the larger text, the processor time that it takes, user and system, and how many times that of the smaller one this
-is. Where the larger one takes more than 0.2 seconds, it may take at most 2.6 times as long as the smaller one: the least
-times of up to four runs of each count. -k runs the rows whose names have PART in them. The status is 1 where an answer
-or a time isn't as it should be.
+First a text with every kind of notation is cut at each token and at each byte, and each of its
+tokens is left out, doubled, or put into the next one's place. Each row behind that is a kind of
+text at a size and at twice the size: the status, the size of the larger text, the processor time
+that it takes, user and system, how many times that of the smaller one this is, and the memory.
+Where the larger one takes more than 0.2 seconds, it may take at most 2.6 times as long as the
+smaller one: the least times of up to four runs of each count. -k runs the rows whose names have
+PART in them. -u is for a program that isn't proved, which is slow and takes much memory: the text
+isn't cut at bytes, each row is a tenth as large, and neither times nor memory count. The status is
+1 where an answer or a time isn't as it should be.
 """
+import argparse
 import os
 import re
 import resource
@@ -72,6 +76,11 @@ def module(assignments, head="", name="M"):
 def joined(pattern, size, between=", "):
     """The pattern at each number below the size; `{next}` is the number behind it, and behind the last one 0."""
     return between.join(pattern.format(i=i, next=(i + 1) % size, down=size - i) for i in range(size))
+
+
+def values(size):
+    """Values, each of which but the last is the name of the next one."""
+    return "".join(f"a{i} INTEGER ::= a{i + 1}\n" for i in range(size)) + f"a{size} INTEGER ::= 5\n"
 
 
 def nested(opening, inside, closing):
@@ -142,8 +151,13 @@ ROWS = [
     ("named bits, the last of which has the first one's number", lambda n: "A ::= BIT STRING { " + joined("a{i}({i})", n) + ", b(0) }", 50_000, "has the number of another bit"),
     ("named numbers", lambda n: "A ::= INTEGER { " + joined("a{i}({i})", n) + " }", 50_000, ""),
     ("named numbers that components have by default", lambda n: "A ::= SEQUENCE { " + joined("a{i} B DEFAULT a{i}", n) + " } B ::= INTEGER { " + joined("a{i}({i})", n) + " }", 20_000, ""),
-    ("values of the next", lambda n: joined("a{i} INTEGER ::= a{next}", n, "\n") + " A ::= SEQUENCE { a INTEGER DEFAULT a0 }", 25_000, ""),
-    ("sizes by values of the next", lambda n: joined("a{i} INTEGER ::= a{next} A{i} ::= BIT STRING (SIZE (a{i}))", n, "\n"), 10_000, ""),
+    ("values of the next in a circle", lambda n: joined("a{i} INTEGER ::= a{next}", n, "\n"), 25_000, "`a0` leads to no value"),
+    ("values of the next and themselves", lambda n: "a INTEGER ::= a0\n" + joined("a{i} INTEGER ::= a{i}", n, "\n"), 25_000, "`a` leads to no value"),
+    ("values of the next", lambda n: values(n) + " A ::= SEQUENCE { a INTEGER DEFAULT a0 }", 25_000, ""),
+    ("values of the one before", lambda n: "a0 INTEGER ::= 5\n" + "\n".join(f"a{i} INTEGER ::= a{i - 1}" for i in range(1, n)), 25_000, ""),
+    ("values of one that isn't there", lambda n: joined("a{i} INTEGER ::= b", n, "\n"), 25_000, "`b` is neither assigned nor imported"),
+    ("sizes by values of the next", lambda n: values(n) + joined("A{i} ::= BIT STRING (SIZE (a{i}))", n, "\n"), 10_000, ""),
+    ("values through imports in a circle", lambda n: "".join(module(f"a{i} INTEGER ::= a{(i + 1) % n}", f"IMPORTS a{(i + 1) % n} FROM M{(i + 1) % n};", f"M{i}") for i in range(n)), 5_000, "`a0` leads to no value"),
     ("components of the type before", lambda n: "A0 ::= SEQUENCE { a0 NULL }\n" + "\n".join(f"A{i} ::= SEQUENCE {{ a{i} NULL, COMPONENTS OF A{i - 1} }}" for i in range(1, n)), 500, None),
     ("components of the type before, twice", lambda n: "A0 ::= SEQUENCE { a0 NULL }\n" + "\n".join(f"A{i} ::= SEQUENCE {{ COMPONENTS OF A{i - 1}, COMPONENTS OF A{i - 1} }}" for i in range(1, n)), 20, None),
     ("components of one type", lambda n: "A ::= SEQUENCE { " + joined("a{i} NULL", n) + " }\n" + joined("B{i} ::= SEQUENCE {{ COMPONENTS OF A }}", 10, "\n"), 5_000, None),
@@ -165,11 +179,20 @@ LEVELS = [
 class Program:
     """Runs the program on texts."""
 
-    def __init__(self, words, room):
-        self.words, self.file, self.said = words, f"{room}/hostile.asn", f"{room}/said"
+    def __init__(self, path, is_proved, room):
+        self.words, self.is_proved = [path, "check"], is_proved
+        self.file, self.said = f"{room}/hostile.asn", f"{room}/said"
+        # The most memory of a run, in MB.
+        self.memory = 0
+
+    def limit(self):
+        """Limits the process: an unproved program reserves more memory than there is."""
+        resource.setrlimit(resource.RLIMIT_CPU, (SECONDS, SECONDS))
+        if self.is_proved:
+            resource.setrlimit(resource.RLIMIT_AS, (MEMORY, MEMORY))
 
     def run(self, text):
-        """Returns the status, what was written on standard error, and the processor time; None is the status of a run that took too long."""
+        """Returns the status, what was written on standard error, and the processor time."""
         with open(self.file, "w", encoding="utf-8") as file:
             file.write(text)
         with open(self.said, "wb") as said:
@@ -178,13 +201,11 @@ class Program:
                 stdin=subprocess.DEVNULL,
                 stdout=subprocess.DEVNULL,
                 stderr=said,
-                preexec_fn=lambda: (
-                    resource.setrlimit(resource.RLIMIT_AS, (MEMORY, MEMORY)),
-                    resource.setrlimit(resource.RLIMIT_CPU, (SECONDS, SECONDS)),
-                ),
+                preexec_fn=self.limit,
             )
             _, ended, usage = os.wait4(child.pid, 0)
         child.returncode = os.waitstatus_to_exitcode(ended)
+        self.memory = usage.ru_maxrss // 1024
         with open(self.said, encoding="utf-8", errors="replace") as said:
             return child.returncode, said.read(), usage.ru_utime + usage.ru_stime
 
@@ -208,10 +229,14 @@ def cut(program):
     wrong = []
     kinds = [
         ("the sample and its tokens", iter([SAMPLE, " ".join(tokens)]), ""),
-        ("the sample, cut at each byte", (SAMPLE[:at] for at in range(len(SAMPLE))), None),
-        ("the sample, begun at each byte", (SAMPLE[at:] for at in range(len(SAMPLE))), None),
+        ("the sample, cut at each token", (" ".join(tokens[:at]) for at in range(len(tokens))), None),
         ("a token left out, doubled or moved", damaged(tokens), None),
     ]
+    if program.is_proved:
+        kinds += [
+            ("the sample, cut at each byte", (SAMPLE[:at] for at in range(len(SAMPLE))), None),
+            ("the sample, begun at each byte", (SAMPLE[at:] for at in range(len(SAMPLE))), None),
+        ]
     for name, texts, expected in kinds:
         read = refused = 0
         for text in texts:
@@ -236,31 +261,32 @@ def measured(program, make, size):
             text = make(size * times)
             status, said, seconds = program.run(text)
             least[times] = min(seconds, least.get(times, seconds))
-        if least[2] <= max(FAST, RATIO * least[1]) or status not in (0, 1):
+        if least[2] <= max(FAST, RATIO * least[1]) or status not in (0, 1) or not program.is_proved:
             break
     return status, said, least[1], least[2], len(text.encode())
 
 
 def main():
-    words, part = sys.argv[1:], ""
-    if words[:1] == ["-k"] and len(words) > 1:
-        part, words = words[1], words[2:]
-    if not words:
-        sys.exit(__doc__)
+    parser = argparse.ArgumentParser(description=__doc__.split("\n", maxsplit=1)[0])
+    parser.add_argument("-k", default="", metavar="PART")
+    parser.add_argument("-u", action="store_true")
+    asked = parser.parse_args()
+    path = os.environ.get("ASN") or f"{os.path.dirname(os.path.abspath(__file__))}/../asn"
     wrong = []
     with tempfile.TemporaryDirectory() as room:
-        program = Program([os.path.abspath(words[0])] + words[1:], room)
-        if not part:
+        program = Program(os.path.abspath(path), not asked.u, room)
+        if not asked.k:
             wrong += cut(program)
-        print(f"{'text':58} {'status':>6} {'KB':>7} {'seconds':>8} {'twice':>6}")
+        print(f"{'text':58} {'status':>6} {'KB':>7} {'seconds':>8} {'twice':>6} {'MB':>5}")
         for name, make, size, expected in ROWS:
-            if part not in name:
+            if asked.k not in name:
                 continue
-            status, said, half, whole, length = measured(program, make, size)
-            print(f"{name:58} {status:6} {length // 1000:7} {whole:8.3f} {whole / max(half, 0.001):6.2f}", flush=True)
+            status, said, half, whole, length = measured(program, make, max(size // 10, 2) if asked.u else size)
+            twice = whole / max(half, 0.001)
+            print(f"{name:58} {status:6} {length // 1000:7} {whole:8.3f} {twice:6.2f} {program.memory:5}", flush=True)
             if fault := program.wrong(status, said, expected):
                 wrong.append(f"{name}: {fault}")
-            elif whole > max(FAST, RATIO * half):
+            elif program.is_proved and whole > max(FAST, RATIO * half):
                 wrong.append(f"{name}: {whole:.3f} seconds are {whole / half:.2f} times those of half the size")
     for line in wrong:
         print(line)

@@ -49,12 +49,13 @@ fn add_assignment(
 {
     match sort {
         Sort::Types => add_types(names, assignment),
-        Sort::Values => {
-            if let Some(name) = value_name(assignment) {
+        Sort::Values => match value_name(assignment) {
+            Some(name) => {
                 names.push(name)?;
+                Ok(())
             }
-            Ok(())
-        }
+            None => Ok(()),
+        },
     }
 }
 

@@ -15,6 +15,16 @@ pub fn next_at(nexts: &[Option<usize>], number: usize) -> Option<usize>
     }
 }
 
+/// Returns where the number leads, if there is one.
+fn behind(nexts: &[Option<usize>], number: Option<usize>) -> Option<usize>
+    ensures { result ≡ option_and_then (next_at nexts.now) number }
+{
+    match number {
+        Some(number) => next_at(nexts, number),
+        None => None,
+    }
+}
+
 /// Returns where numbers lead by the first list and then by the second one.
 ///
 /// # Errors
@@ -30,11 +40,7 @@ fn composed(
 {
     let mut both = Vec::new(alloc);
     for next in first {
-        let behind = match *next {
-            Some(number) => next_at(second, number),
-            None => None,
-        };
-        both.push(behind)?;
+        both.push(behind(second, *next))?;
     }
     Ok(both)
 }

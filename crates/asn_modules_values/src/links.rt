@@ -6,7 +6,8 @@ ghost use Rattle.asn_modules_names.specs.Mentions.{Source};
 ghost use Rattle.asn_modules_notation.specs.View.{assignment_view};
 ghost use Rattle.asn_modules_values.specs.ValueLinks.{link_as, link_view, links_in, links_of};
 ghost use Rattle.asn_modules_values.specs.ValueLinks.{next_of};
-ghost use Rattle.std.specs.Prelude.{◌≡◌, ◌++◌, IfOk, List, OnOk, map, option_map};
+ghost use Rattle.std.specs.List.{cons_option};
+ghost use Rattle.std.specs.Prelude.{◌≡◌, ◌++◌, [], IfOk, List, OnOk, map, option_map};
 
 use asn_modules_faults::text_of;
 use asn_modules_lookup::{Home, Index};
@@ -61,6 +62,26 @@ fn link_of<'t>(
     }
 }
 
+/// Appends the value, if there is one.
+///
+/// # Errors
+///
+/// Where memory runs out.
+fn add_link<'t>(
+    links: &mut Vec<ValueLink<'t>>,
+    link: Option<ValueLink<'t>>,
+) -> Result<(), AllocError>
+    ensures { OnOk result (links.new.items ≡ links.old.items ++ cons_option link []) }
+{
+    match link {
+        Some(link) => {
+            links.push(link)?;
+            Ok(())
+        }
+        None => Ok(()),
+    }
+}
+
 /// Appends the values among these assignments of the module of the number.
 ///
 /// # Errors
@@ -78,9 +99,7 @@ fn add_links<'t>(
         ++ links_in ss number (home_view home.entry) (map assignment_view assignments.now)) }
 {
     for assignment in assignments {
-        if let Some(link) = link_of(index, number, home, assignment) {
-            links.push(link)?;
-        }
+        add_link(links, link_of(index, number, home, assignment))?;
     }
     Ok(())
 }

@@ -26,7 +26,13 @@ fn names_values(notation: &Notation) -> bool
         Base::Integer(numbers) => has_named(numbers.as_slice()),
         Base::Enumerated { .. } => true,
         Base::Reference { .. } => true,
-        _ => false,
+        Base::Leaf(_) => false,
+        Base::BitString(_) => false,
+        Base::Sequence(_) => false,
+        Base::Set(_) => false,
+        Base::SequenceOf(_) => false,
+        Base::SetOf(_) => false,
+        Base::Choice(_) => false,
     }
 }
 

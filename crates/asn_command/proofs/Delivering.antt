@@ -1,8 +1,11 @@
 -- What a status says of a whole file, from the reply that is delivered.
-use Rattle.std.proofs.Common.{◌≡◌, ◌⊎◌, ℕ, List, [], ◌++◌, Option, Some, None, Result, Ok, Err, IfOk, IsUtf8, string_bytes, sym, ap, subst, ◌∙◌, append-nil, inl, inr}
+use Rattle.std.proofs.Common.{◌≡◌, ◌⊎◌, ℕ, List, [], ◌++◌, Option, Some, None, Result, Ok, Err, IfOk, IsUtf8, string_bytes, refl, sym, ap, subst, ◌∙◌, append-nil, inl, inr}
 use Rattle.std.specs.Io.KnownBytes.{Appends, Consumes, IsAtEnd}
 use Rattle.asn_command.specs.Whole.{IsKnown, IsTold, IsWholeRefusal, IsWholeReply, Wrote, WroteFront, fault_line, length_line, no_text_line}
 use Rattle.asn_replies.specs.Delivered.{Delivered, IsSilent, Outcome}
+use Rattle.asn_replies.specs.Reading.{IsUnreadReply}
+use Rattle.asn_replies.specs.declared.read.Unread.{Unread}
+use Rattle.asn_replies.specs.declared.read.Unread.TheVariants as unread
 use Rattle.asn_replies.specs.declared.reply.Reply.{Reply}
 use Rattle.asn_replies.specs.declared.reply.Reply.TheVariants.{Answer, Refusal}
 use Rattle.asn_replies.specs.declared.status.Status.{Status}
@@ -30,6 +33,20 @@ module _ (A R : List ℕ → List ℕ → Type 0) (file : List ℕ) (source outp
   Ends WantOfMemory = IsSilent output
   Ends TooLong = (ReadPastLimit source × Appends errors.bytes_before errors.bytes_after (length_line file)) × IsSilent output
   Ends NotText = (ReadWhole source (λ input. IsUtf8 input → ⊥) × Appends errors.bytes_before errors.bytes_after (no_text_line file)) × IsSilent output
+
+  refusal_so : (told st : Status) (lines is : List ℕ) → IsWholeRefusal R file source is told → st ≡ told → lines ≡ is → IsWholeRefusal R file source lines st
+  refusal_so told st lines is w t l = subst (λ x. IsWholeRefusal R file source lines x) (sym t) (subst (λ x. IsWholeRefusal R file source x told) (sym l) w)
+
+  -- The reply on a file that isn't read.
+  pub of_unread : (why : Unread) (reply : Reply) → (why ≡ unread.Fault → Increased source.faults_before source.faults_after) → (why ≡ unread.TooLong → ReadPastLimit source)
+      → (why ≡ unread.NotText → ReadWhole source (λ input. IsUtf8 input → ⊥)) → IsUnreadReply file why reply → IsWholeReply A R file source reply
+  of_unread unread.Fault (Answer t) f l n p = absurd p
+  of_unread unread.Fault (Refusal st lines) f l n p = refusal_so ReadFault st (string_bytes lines) (fault_line file) (f refl, refl) p.0 p.1
+  of_unread unread.TooLong (Answer t) f l n p = absurd p
+  of_unread unread.TooLong (Refusal st lines) f l n p = refusal_so TooLong st (string_bytes lines) (length_line file) (l refl, refl) p.0 p.1
+  of_unread unread.NotText (Answer t) f l n p = absurd p
+  of_unread unread.NotText (Refusal st lines) f l n p = refusal_so NotText st (string_bytes lines) (no_text_line file) (n refl, refl) p.0 p.1
+  of_unread unread.OutOfMemory reply f l n p = absurd p
 
   answered : (due : List ℕ) (r : Status) → ReadWhole source (λ input. A input due) → Outcome due Done output r → IsSilent errors → Ends r
   answered due r w (Outcome.whole a) q = (record { input = w.input; whole = w.whole; has = record { bytes = due; has = w.has; appended = a } }, q)

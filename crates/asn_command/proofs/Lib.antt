@@ -1,3 +1,5 @@
 mod Delivering
 mod Laid
+mod SameLine
 mod TextsOn
+mod Wholes

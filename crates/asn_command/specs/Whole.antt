@@ -1,5 +1,5 @@
 -- What is read and written of whole files.
-use Rattle.std.specs.Prelude.{◌≡◌, ℕ, List, ◌++◌, codes, string_bytes, IsUtf8, Option, Some, ⊤}
+use Rattle.std.specs.Prelude.{◌≡◌, ℕ, List, ◌++◌, codes, string_bytes, IsUtf8, Some, ⊤}
 use Rattle.std.specs.Io.KnownBytes.{Appends}
 use Rattle.asn_replies.specs.declared.reply.Reply.{Reply}
 use Rattle.asn_replies.specs.declared.reply.Reply.TheVariants.{Answer, Refusal}
@@ -25,13 +25,15 @@ pub record WroteFront (sink : Transfer) (P : List ℕ → Type 0) : Type 0 where
 abbrev pub IsKnown : Transfer → List ℕ → Type 0
 IsKnown source input = source.bytes_before ≡ Some input
 
--- The lines that say why a file of this name isn't read.
+-- The line that says that a file of this name can't be read.
 abbrev pub fault_line : List ℕ → List ℕ
 fault_line file = file ++ codes ": can't be read\n"
 
+-- The line that says that it has too many bytes.
 abbrev pub length_line : List ℕ → List ℕ
 length_line file = file ++ codes ": has more than 16777216 bytes\n"
 
+-- The line that says that it isn't UTF-8.
 abbrev pub no_text_line : List ℕ → List ℕ
 no_text_line file = file ++ codes ": isn't UTF-8\n"
 

@@ -2,7 +2,8 @@
 use Rattle.std.proofs.Common.{◌≡◌, refl, sym, ap, ◌∙◌, ℕ, ◌+◌, ◌<◌, List, [], ◌∷◌, ◌++◌, append_assoc, take, get_or, length, string_bytes, Result, Ok}
 use Rattle.std.specs.List.{flat_map}
 use Rattle.std.specs.Prelude.{codes, IsOk, is_ok}
-use Rattle.std.proofs.lemmas.List.{take_more, append-nil, flat_map-append}
+use Rattle.std.proofs.lemmas.Grind.{flat_map-append}
+use Rattle.std.proofs.lemmas.List.{take_more, append-nil}
 use Rattle.asn_core.specs.declared.codec.Codec.{Codec}
 use Rattle.asn_fault.specs.Texts.{with_codec}
 use Rattle.asn_dynamic_faults.specs.declared.errors.Step.{Step}

@@ -2,10 +2,10 @@
 //! it as a `Failure`, as they see the error of a typed reader (`dyn_failure`).
 ghost use Rattle.asn_core.specs.declared.codec.Codec.{Codec as CodecName};
 ghost use Rattle.asn_dynamic_faults.specs.DynFailure.{IsTold, IsWithin, dyn_cause, dyn_failure};
-ghost use Rattle.asn_dynamic_faults.specs.Steps.{fields_of};
+ghost use Rattle.asn_dynamic_faults.specs.Steps.{fields_of, goes_to_field};
 ghost use Rattle.asn_fault.specs.Failure.{Cause, at_root, failure_of, is_out_of_memory};
 ghost use Rattle.asn_fault.specs.Failure.{is_out_of_memory_at, kind_failure};
-ghost use Rattle.std.specs.Prelude.{◌≡◌, ◌==◌, ◌∷◌, [], length, not};
+ghost use Rattle.std.specs.Prelude.{◌≡◌, ◌∷◌, []};
 
 use asn_core::Codec;
 use asn_fault::{DecodeError, DecodeErrorKind};
@@ -30,8 +30,8 @@ pub enum DynKind {
     MissingField(String),
     /// In AVN, two present entries have the name of this field.
     DuplicateField(String),
-    /// The type of the value is a CHOICE without alternatives, so it has no values. Holds the kind
-    /// of a typed reader.
+    /// The type of the value is an ENUMERATED without items or a CHOICE without alternatives, so it
+    /// has no values. Holds the kind of a typed reader.
     NoValues(DecodeErrorKind),
     /// The kind is that of a typed reader. A CHOICE has the name `CHOICE` in it.
     Other(DecodeErrorKind),
@@ -198,7 +198,7 @@ impl DynError {
         }
     }
 
-    /// Returns the error of a value whose type is a CHOICE without alternatives.
+    /// Returns the error of a value whose type has no values.
     pub fn without_values(self) -> DynError
         ensures { dyn_failure result ≡ dyn_failure self }
     {
@@ -225,7 +225,7 @@ fn without_values(kind: DynKind) -> DynKind
 
 /// Returns whether a step goes to a field.
 fn has_field(path: &[Step]) -> bool
-    ensures { result ≡ not (length (fields_of path.now) == 0) }
+    ensures { result ≡ goes_to_field path.now }
 {
     match path {
         [] => false,

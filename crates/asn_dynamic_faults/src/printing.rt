@@ -1,7 +1,7 @@
 //! Prints errors as a typed reader prints its own.
-ghost use Rattle.asn_dynamic_faults.specs.Texts.{closings, dyn_error_text, dyn_kind_text, openings};
+ghost use Rattle.asn_dynamic_faults.specs.Texts.{closing, closings, dyn_error_text, dyn_kind_text};
+ghost use Rattle.asn_dynamic_faults.specs.Texts.{opening, openings};
 ghost use Rattle.std.specs.Fmt.{WritesOnOk};
-ghost use Rattle.asn_dynamic_faults.specs.Steps.{fields_of};
 ghost use Rattle.std.specs.Prelude.{Some};
 
 use crate::errors::{DynError, DynKind, Step};

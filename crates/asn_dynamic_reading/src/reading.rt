@@ -54,7 +54,7 @@ pub fn read_value<D: Decoder, P: Part>(
         },
         PartKind::Enumerated => match read_item(decoder, part) {
             Ok(value) => Ok(value),
-            Err(error) => Err(told(decoder, error)),
+            Err(error) => Err(of_kind(part, told(decoder, error))),
         },
         PartKind::Sequence => read_sequence(decoder, part, &*loops),
         PartKind::Set => read_set(decoder, part, &*loops),
@@ -293,19 +293,19 @@ fn read_choice<D: Decoder, P: Part>(
             // A place is that of an alternative in either notation.
             None => Err(no_choice(decoder)),
         },
-        Ok(None) => Err(of_choice(part, no_choice(decoder))),
-        Err(error) => Err(of_choice(part, told(decoder, error))),
+        Ok(None) => Err(of_kind(part, no_choice(decoder))),
+        Err(error) => Err(of_kind(part, told(decoder, error))),
     }
 }
 
-/// Returns the error by which a CHOICE isn't opened, which says so where the type has no values.
-fn of_choice<P: Part>(part: P, error: DynError) -> DynError
+/// Returns the error of an ENUMERATED or a CHOICE, which says so where the type has no values.
+fn of_kind<P: Part>(part: P, error: DynError) -> DynError
     ensures { dyn_failure result ≡ dyn_failure error }
 {
-    match part.alternative(0) {
-        Some(_) => error,
-        None => error.without_values(),
+    if part.item_count() == 0 && part.alternative_count() == 0 {
+        return error.without_values();
     }
+    error
 }
 
 /// Reads the payload of an alternative, and returns it under its identifier.

@@ -42,15 +42,8 @@ pub(crate) fn may_have_components(notation: &Notation) -> bool
     ensures { result ≡ may_have_components (notation_view notation.now) }
 {
     match &notation.base {
-        Base::Sequence(_) => true,
-        Base::Set(_) => true,
-        Base::Reference { .. } => true,
-        Base::Leaf(_) => false,
-        Base::Integer(_) => false,
-        Base::BitString(_) => false,
-        Base::Enumerated { .. } => false,
-        Base::SequenceOf(_) => false,
-        Base::SetOf(_) => false,
-        Base::Choice(_) => false,
+        Base::Sequence(_) | Base::Set(_) | Base::Reference { .. } => true,
+        Base::Leaf(_) | Base::Integer(_) | Base::BitString(_) | Base::Enumerated { .. } => false,
+        Base::SequenceOf(_) | Base::SetOf(_) | Base::Choice(_) => false,
     }
 }

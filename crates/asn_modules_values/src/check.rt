@@ -2,7 +2,7 @@
 ghost use Rattle.asn_modules_lookup.specs.Homes.{home_view};
 ghost use Rattle.asn_modules_lookup.specs.Indexes.{IsIndexOf};
 ghost use Rattle.asn_modules_lookup.specs.declared.sort.Sort.TheVariants.{Values};
-ghost use Rattle.asn_modules_faults.specs.declared.cause.NameRule.TheVariants as rules;
+ghost use Rattle.asn_modules_faults.specs.declared.cause.NameRule.TheVariants as name_rule;
 ghost use Rattle.asn_modules_names.specs.Faults.{Checks, Tells, fault_of};
 ghost use Rattle.asn_modules_names.specs.Mentions.{Source};
 ghost use Rattle.asn_modules_values.specs.Leads.{leads, next_at};
@@ -57,7 +57,7 @@ fn leads_on(ends: &[Option<usize>], number: usize) -> bool
 
 /// Returns the error that the value leads to no value.
 fn endless(alloc: Global, link: &ValueLink<'_>) -> ModuleError
-    ensures { Tells (Some (fault_of rules.NoValue (link_view link.now).name)) result }
+    ensures { Tells (Some (fault_of name_rule.NoValue (link_view link.now).name)) result }
 {
     broken(alloc, NameRule::NoValue, link.name)
 }

@@ -5,7 +5,6 @@ use Rattle.std.specs.Option.{option_or}
 use Rattle.std.specs.Prelude.{Result}
 use Rattle.asn_modules_faults.specs.declared.cause.NameRule.TheVariants.{NoValue}
 use Rattle.asn_modules_faults.specs.declared.error.ModuleError.{ModuleError}
-use Rattle.asn_modules_names.proofs.Founds.{drop_at}
 use Rattle.asn_modules_names.specs.Faults.{Checks, Fault, Tells, fault_of}
 use Rattle.asn_modules_values.specs.Leads.{leads, next_at}
 use Rattle.asn_modules_values.specs.ValueLinks as spec
@@ -31,8 +30,8 @@ module _ (f : ℕ → Bool) (ls : List ValueLink) where
   pub ended : (i : ℕ) → i < length ls → f i ≡ false → told_from 0 ≡ told_from i → told_from 0 ≡ told_from (i + 1)
   ended i h is was = let d = drop_some ls i h in was ∙ told_step i d.0 false d.1 is
 
-  pub endless_told : (i : ℕ) (l : ValueLink) (e : ModuleError) → i < length ls → l ≡ get_or ls i l → f i ≡ true → told_from 0 ≡ told_from i → Tells (Some (fault_of NoValue (link_view l).name)) e → Tells (told_from 0) e
-  endless_told i l e h at is was told = subst (λ o. Tells o e) (sym (was ∙ told_step i l true (drop_at ls i l h at) is)) told
+  pub endless_told : (i : ℕ) (l : ValueLink) (e : ModuleError) → i < length ls → f i ≡ true → told_from 0 ≡ told_from i → Tells (Some (fault_of NoValue (link_view (get_or ls i l)).name)) e → Tells (told_from 0) e
+  endless_told i l e h is was told = subst (λ o. Tells o e) (sym (was ∙ told_step i (get_or ls i l) true (drop_more ls i l h) is)) told
 
   pub all_ended : (i : ℕ) → length ls ≤ i → told_from 0 ≡ told_from i → told_from 0 ≡ None
   all_ended i h was = was ∙ ap (λ x. endless_from f i (map link_view x)) (drop_all i ls h)

@@ -1,18 +1,21 @@
 #!/usr/bin/env python3
 """Makes random values in JSON of the types that ASN.1 modules assign, by a reader of its own.
 
-usage: tools/module_values.py [--count N] [--seed N] FILE.asn..
+usage: tools/module_values.py [--count N] [--seed N] --trials TRIALS.asn FILE.asn..
+       tools/module_values.py [--count N] [--seed N] --only TYPE FILE.asn..
        tools/module_values.py --compare VALUES ANSWERS
 
-For each type of which it finds values it prints lines: the name of the type as Module.Name, a space,
-and a value in the JSON encoding rules (ITU-T X.697). Types that lead to nothing that is read (a name
-that isn't assigned, EXTERNAL and the like) are told on standard error. It knows no constraint but
-the fixed size of a BIT STRING.
+It prints lines, each a value in the JSON encoding rules (ITU-T X.697). The first form makes ten of
+each type of which it finds values, as alternatives of a CHOICE of all these types, Trials.Trial,
+which it writes to the file TRIALS.asn. Types that lead to nothing that is read (a name that isn't
+assigned, EXTERNAL and the like) are told on standard error. The second form makes values of one
+type. It knows no constraint but the fixed size of a BIT STRING.
 
-The second form compares the lines that it made with the answers to them, each a line: it prints how
+The third form compares the lines that it made with the answers to them, each a line: it prints how
 many are the same JSON, and those that are not, and ends with status 1 where there are some.
 """
 import argparse
+import itertools
 import json
 import random
 import re
@@ -444,18 +447,64 @@ def compare(values, answers):
     """Prints how many answers are the JSON that was made, and which aren't."""
     same, other = 0, 0
     with open(values, encoding="utf-8") as made, open(answers, encoding="utf-8") as given:
-        for line, answer in zip(made, given, strict=True):
-            name, text = line.rstrip("\n").split(" ", 1)
+        for line, answer in itertools.zip_longest(made, given, fillvalue=""):
             try:
-                is_same = json.loads(text) == json.loads(answer)
+                is_same = json.loads(line) == json.loads(answer)
             except ValueError:
                 is_same = False
             same += is_same
             other += not is_same
-            if not is_same and other <= 10:
-                print(f"  {name} {text[:200]}\n    {answer[:200].rstrip()}")
-    print(f"  {same} values are the same in all directions, {other} aren't")
+            if not is_same and other <= 5:
+                print(f"  {line[:200].rstrip()}\n    {answer[:200].rstrip()}")
+    print(f"  {same} values are written as they were made, {other} aren't")
     return 1 if other else 0
+
+
+def modules_of(files):
+    """Returns the modules of the files."""
+    modules = {}
+    for file in files:
+        with open(file, encoding="utf-8", errors="replace") as opened:
+            reader = Reader(tokens_of(opened.read()))
+        while reader.at < len(reader.tokens):
+            name, module = reader.module()
+            modules[name] = module
+    return modules
+
+
+def values_of(maker, home, read, count):
+    """Returns lines of values of a type."""
+    made = (maker.make(home, read, 0) for _ in range(count))
+    return [json.dumps(value, ensure_ascii=False, separators=(",", ":")) for value in made]
+
+
+def make_trials(maker, count, trials):
+    """Prints values of all types, and writes the module with their CHOICE."""
+    alternatives = []
+    for home, module in maker.modules.items():
+        for name, read in module["types"].items():
+            try:
+                lines = values_of(maker, home, read, count)
+            except Unusable as why:
+                print(f"{home}.{name}: nothing is made of it: {why}", file=sys.stderr)
+                continue
+            word = f"t{len(alternatives)}-{name}"
+            alternatives.append(f"  {word} {home}.{name}")
+            for line in lines:
+                print(f'{{"{word}":{line}}}')
+    with open(trials, "w", encoding="utf-8") as file:
+        inside = ",\n".join(alternatives)
+        file.write(f"Trials DEFINITIONS AUTOMATIC TAGS ::= BEGIN\nTrial ::= CHOICE {{\n{inside}\n}}\nEND\n")
+
+
+def make_only(maker, count, wanted):
+    """Prints values of the type of this name."""
+    for home, module in maker.modules.items():
+        if wanted in module["types"]:
+            for line in values_of(maker, home, module["types"][wanted], count):
+                print(line)
+            return
+    sys.exit(f"no type {wanted}")
 
 
 def main():
@@ -463,27 +512,20 @@ def main():
     parser.add_argument("--count", type=int, default=10)
     parser.add_argument("--seed", type=int, default=1)
     parser.add_argument("--compare", action="store_true")
+    parser.add_argument("--trials")
+    parser.add_argument("--only")
     parser.add_argument("files", nargs="+")
     asked = parser.parse_args()
     if asked.compare:
         sys.exit(compare(*asked.files))
-    modules = {}
-    for file in asked.files:
-        with open(file, encoding="utf-8", errors="replace") as opened:
-            reader = Reader(tokens_of(opened.read()))
-        while reader.at < len(reader.tokens):
-            name, module = reader.module()
-            modules[name] = module
-    maker = Maker(modules, random.Random(asked.seed))
     sys.setrecursionlimit(10000)
-    for home, module in modules.items():
-        for name, read in module["types"].items():
-            try:
-                for _ in range(asked.count):
-                    value = maker.make(home, read, 0)
-                    print(f"{home}.{name}", json.dumps(value, ensure_ascii=False, separators=(",", ":")))
-            except Unusable as why:
-                print(f"{home}.{name}: nothing is made of it: {why}", file=sys.stderr)
+    maker = Maker(modules_of(asked.files), random.Random(asked.seed))
+    if asked.only is not None:
+        make_only(maker, asked.count, asked.only)
+    elif asked.trials is not None:
+        make_trials(maker, asked.count, asked.trials)
+    else:
+        parser.error("--trials or --only is missing")
 
 
 if __name__ == "__main__":

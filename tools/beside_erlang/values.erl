@@ -1,15 +1,17 @@
-%% Prints random values of the types of four modules in JSON, as asn1ct encodes them by JER: lines of the name of a type, a
-%% space and a value.
+%% Writes random values of the types of four modules in JSON, as asn1ct encodes them by JER: lines in a file for each type.
 -module(values).
 -export([print/1]).
 
 print(Count) ->
     rand:seed(exsss, 1),
-    lists:foreach(fun(_) -> lists:foreach(fun line/1, ['Report', 'Ticket', 'Call', 'Lists']) end, lists:seq(1, Count)).
+    lists:foreach(fun(Name) -> print(Name, Count) end, ['Report', 'Ticket', 'Call', 'Lists']).
+
+print(Name, Count) ->
+    ok = file:write_file(atom_to_list(Name) ++ ".values", [line(Name) || _ <- lists:seq(1, Count)]).
 
 line(Name) ->
     {ok, Json} = Name:encode(Name, value(Name)),
-    ok = file:write(standard_io, [atom_to_list(Name), ".", atom_to_list(Name), " ", Json, "\n"]).
+    [Json, "\n"].
 
 value('Report') ->
     some(#{id => number(), active => flag()}, [

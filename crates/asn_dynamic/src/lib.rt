@@ -7,7 +7,7 @@ mod conversion;
 mod reading;
 mod writing;
 
-pub use asn_dynamic_faults::{DynError, DynKind};
+pub use asn_dynamic_faults::{DynError, DynKind, Step};
 pub use asn_dynamic_fits::{fits, fits_part};
 pub use asn_dynamic_values::{DynValue, bag};
 pub use asn_parts::Part;

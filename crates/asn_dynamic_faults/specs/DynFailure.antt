@@ -5,7 +5,8 @@ use Rattle.asn_core.specs.declared.codec.Codec.{Codec}
 use Rattle.asn_fault.specs.Failure.{Cause, Failure, Level, at_root, kind_failure, wrapped}
 use Rattle.asn_dynamic_faults.specs.declared.errors.DynError.{DynError}
 use Rattle.asn_dynamic_faults.specs.declared.errors.DynKind.{DynKind}
-use Rattle.asn_dynamic_faults.specs.declared.errors.DynKind.TheVariants.{MissingField, DuplicateField, Other}
+use Rattle.asn_dynamic_faults.specs.declared.errors.DynKind.TheVariants.{MissingField, DuplicateField, NoValues, Other}
+use Rattle.asn_dynamic_faults.specs.Steps.{fields_of}
 
 -- The fields on the way, each with this codec.
 abbrev pub levels_of : Codec → List (String Global) → List Level
@@ -16,11 +17,12 @@ levels_of c (n ∷ ns) = record { name = string_bytes n; codec = c } ∷ levels_
 abbrev pub dyn_cause : DynKind → Codec → Cause
 dyn_cause (MissingField name) c = Cause.missing_field (string_bytes name)
 dyn_cause (DuplicateField name) c = Cause.duplicate_field (string_bytes name)
+dyn_cause (NoValues kind) c = (kind_failure kind c).cause
 dyn_cause (Other kind) c = (kind_failure kind c).cause
 
 -- What the error says: its fields have the notation that is read.
 abbrev pub dyn_failure : DynError → Failure
-dyn_failure e = record { path = levels_of e.notation e.path.items; cause = dyn_cause e.kind e.codec; codec = e.codec }
+dyn_failure e = record { path = levels_of e.notation (fields_of e.path.items); cause = dyn_cause e.kind e.codec; codec = e.codec }
 
 -- The fields with another codec.
 abbrev pub recoded_levels : Codec → List Level → List Level

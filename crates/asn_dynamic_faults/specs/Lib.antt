@@ -1,2 +1,3 @@
 pub mod DynFailure
 pub mod Texts
+pub mod Steps

@@ -5,4 +5,4 @@
 mod errors;
 mod printing;
 
-pub use errors::{DynError, DynKind};
+pub use errors::{DynError, DynKind, Step};

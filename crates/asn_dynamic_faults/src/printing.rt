@@ -1,9 +1,10 @@
 //! Prints errors as a typed reader prints its own.
-ghost use Rattle.asn_dynamic_faults.specs.Texts.{closings, dyn_error_text, dyn_kind_text, openings};
+ghost use Rattle.asn_dynamic_faults.specs.Texts.{closing, closings, dyn_error_text, dyn_kind_text};
+ghost use Rattle.asn_dynamic_faults.specs.Texts.{opening, openings};
 ghost use Rattle.std.specs.Fmt.{WritesOnOk};
 ghost use Rattle.std.specs.Prelude.{Some};
 
-use crate::errors::{DynError, DynKind};
+use crate::errors::{DynError, DynKind, Step};
 use asn_core::Codec;
 use std::error::Error;
 use std::fmt;
@@ -16,6 +17,7 @@ impl fmt::Display for DynKind {
         match self {
             DynKind::MissingField(name) => write!(f, "Missing field `{name}`"),
             DynKind::DuplicateField(name) => write!(f, "Duplicate field for `{name}`"),
+            DynKind::NoValues(_) => f.write_str("The type has no values that can be read"),
             DynKind::Other(kind) => kind.fmt(f),
         }
     }
@@ -29,33 +31,55 @@ impl fmt::Display for DynError {
         let path = self.path.as_slice();
         write_openings(path, f)?;
         write!(f, "{} (Codec: {})", self.kind, self.codec)?;
-        write_closings(path.len(), self.notation, f)
+        write_closings(path, self.notation, f)
     }
 }
 
 /// Has no source: the text has all of the error.
 impl Error for DynError {}
 
-/// Writes for each field that the error is in it.
-fn write_openings<W: fmt::Write>(path: &[String], f: &mut fmt::Formatter<W>) -> fmt::Result
+/// Writes for each field on the way that the error is in it.
+fn write_openings<W: fmt::Write>(path: &[Step], f: &mut fmt::Formatter<W>) -> fmt::Result
     ensures { WritesOnOk W.write_str_gives f.old result (openings path.now) f.new }
 {
-    for name in path {
-        write!(f, "Error when decoding field `{name}`: ")?;
+    for step in path {
+        write_opening(step, f)?;
     }
     Ok(())
 }
 
-/// Writes the codec of each of so many fields.
+/// Writes that the error is in the field, where the step goes to one.
+fn write_opening<W: fmt::Write>(step: &Step, f: &mut fmt::Formatter<W>) -> fmt::Result
+    ensures { WritesOnOk W.write_str_gives f.old result (opening step.now) f.new }
+{
+    match step {
+        Step::Field(name) => write!(f, "Error when decoding field `{name}`: "),
+        Step::Alternative(_) => Ok(()),
+        Step::Element(_) => Ok(()),
+    }
+}
+
+/// Writes the codec of each field on the way.
 fn write_closings<W: fmt::Write>(
-    count: usize,
+    path: &[Step],
     codec: Codec,
     f: &mut fmt::Formatter<W>,
 ) -> fmt::Result
-    ensures { WritesOnOk W.write_str_gives f.old result (closings codec count) f.new }
+    ensures { WritesOnOk W.write_str_gives f.old result (closings codec path.now) f.new }
 {
-    for level in 0..count {
-        write!(f, " (Codec: {codec})")?;
+    for step in path {
+        write_closing(step, codec, f)?;
     }
     Ok(())
+}
+
+/// Writes the codec, where the step goes to a field.
+fn write_closing<W: fmt::Write>(step: &Step, codec: Codec, f: &mut fmt::Formatter<W>) -> fmt::Result
+    ensures { WritesOnOk W.write_str_gives f.old result (closing codec step.now) f.new }
+{
+    match step {
+        Step::Field(_) => write!(f, " (Codec: {codec})"),
+        Step::Alternative(_) => Ok(()),
+        Step::Element(_) => Ok(()),
+    }
 }

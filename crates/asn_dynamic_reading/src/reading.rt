@@ -54,7 +54,7 @@ pub fn read_value<D: Decoder, P: Part>(
         },
         PartKind::Enumerated => match read_item(decoder, part) {
             Ok(value) => Ok(value),
-            Err(error) => Err(told(decoder, error)),
+            Err(error) => Err(of_kind(part, told(decoder, error))),
         },
         PartKind::Sequence => read_sequence(decoder, part, &*loops),
         PartKind::Set => read_set(decoder, part, &*loops),
@@ -145,7 +145,7 @@ fn read_elements<D: Decoder, P: Part>(
     for i in 0..count {
         let item = match read_value(decoder, element, &*loops) {
             Ok(item) => item,
-            Err(error) => return Err(error),
+            Err(error) => return Err(error.in_element(i)),
         };
         let Ok(()) = items.push(item) else {
             return Err(out_of_memory(decoder));
@@ -293,9 +293,19 @@ fn read_choice<D: Decoder, P: Part>(
             // A place is that of an alternative in either notation.
             None => Err(no_choice(decoder)),
         },
-        Ok(None) => Err(no_choice(decoder)),
-        Err(error) => Err(told(decoder, error)),
+        Ok(None) => Err(of_kind(part, no_choice(decoder))),
+        Err(error) => Err(of_kind(part, told(decoder, error))),
     }
+}
+
+/// Returns the error of an ENUMERATED or a CHOICE, which says so where the type has no values.
+fn of_kind<P: Part>(part: P, error: DynError) -> DynError
+    ensures { dyn_failure result ≡ dyn_failure error }
+{
+    if part.item_count() == 0 && part.alternative_count() == 0 {
+        return error.without_values();
+    }
+    error
 }
 
 /// Reads the payload of an alternative, and returns it under its identifier.
@@ -311,11 +321,11 @@ fn read_payload<D: Decoder, P: Part>(
         (D.pending decoder.old) result (D.pending decoder.new) }
     ensures held { IfOk result (λ v. IsHeldValue (dyn_value v)) }
 {
+    let alloc = decoder.allocator();
     let payload = match read_value(decoder, alternative.part, &*loops) {
         Ok(payload) => payload,
-        Err(error) => return Err(error),
+        Err(error) => return Err(error.in_alternative(alloc, alternative.identifier)),
     };
-    let alloc = decoder.allocator();
     let Ok(identifier) = String::from_str(alloc, alternative.identifier) else {
         return Err(out_of_memory(decoder));
     };

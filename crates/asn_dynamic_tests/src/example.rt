@@ -1,6 +1,6 @@
 //! Shows a type that a program holds as data, as docs/TYPES-AS-DATA.md does.
 use asn_core::{Codec, OutOfMemory, Tag, WholeNumber};
-use asn_dynamic::{DynValue, fits, read, write};
+use asn_dynamic::{DynValue, Step, fits, read, write};
 use asn_model::{FieldShape, PresenceShape, SeqKind, Shape, is_readable};
 use std::alloc::Global;
 use std::test::Fail;
@@ -70,6 +70,14 @@ fn reads_changes_and_writes(rt: HostRuntime) -> Result<(), Fail> {
     Ok(())
 }
 
+/// Returns whether the steps lead to the first element of the field `parts`.
+fn leads_to_the_first_part(path: &[Step]) -> bool {
+    match path {
+        [Step::Field(name), Step::Element(0)] => name.as_str() == "parts",
+        _ => false,
+    }
+}
+
 /// A refusal has the path to what is refused.
 #[test]
 fn refuses_with_the_path(rt: HostRuntime) -> Result<(), Fail> {
@@ -80,7 +88,7 @@ fn refuses_with_the_path(rt: HostRuntime) -> Result<(), Fail> {
             Ok(_value) => assert!(rt; false, "a value"),
             Err(error) => {
                 let path = error.path.as_slice();
-                assert!(rt; matches!(path, [step] if step.as_str() == "parts"));
+                assert!(rt; leads_to_the_first_part(path));
                 let text = format!(in alloc; "{error}")?;
                 assert_eq!(rt;
                     text.as_str(),

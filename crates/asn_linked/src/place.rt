@@ -175,6 +175,13 @@ impl<'t> Part for Place<'t> {
         }
     }
 
+    fn item_count(&self) -> usize {
+        match self.part {
+            Some(part) => part.item_count(),
+            None => 0,
+        }
+    }
+
     ghost same_names = { λ around place. names-alike (types_at place) (left_at around place)
         (open_numbers place.count around) (left_at [] place) (open_numbers place.count [])
         (part_view place.number place.part) };

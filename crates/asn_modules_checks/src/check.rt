@@ -1,17 +1,21 @@
 //! Checks names and numbers, rule by rule.
-ghost use Rattle.asn_modules_checks.specs.Checks.{first_broken, first_in_lists, first_missing};
+ghost use Rattle.asn_modules_checks.specs.Checks.{first_broken, first_in_lists, first_in_values};
+ghost use Rattle.asn_modules_checks.specs.Checks.{first_missing};
+ghost use Rattle.asn_modules_lookup.specs.Homes as spec;
+ghost use Rattle.asn_modules_lookup.specs.Homes.{home_view};
 ghost use Rattle.asn_modules_names.specs.Faults.{Checks};
 ghost use Rattle.asn_modules_names.specs.Mentions.{source_view};
-ghost use Rattle.std.specs.Prelude.{map};
+ghost use Rattle.std.specs.Prelude.{◌≡◌, map};
 
 use asn_modules_faults::ModuleError;
 use asn_modules_imports::check_imports;
 use asn_modules_lists::check_lists;
-use asn_modules_lookup::{Sort, homes_of, index_of};
+use asn_modules_lookup::{Home, Sort, homes_of, index_of};
 use asn_modules_names::check_names;
 use asn_modules_numbers::check_numbers;
 use asn_modules_references::check_references;
 use asn_modules_text::Source;
+use asn_modules_values::check_values;
 use std::alloc::Global;
 
 /// Checks the names and the numbers in lists.
@@ -27,19 +31,39 @@ fn check_in_lists(alloc: Global, sources: &[Source<'_>]) -> Result<(), ModuleErr
     check_numbers(alloc, sources)
 }
 
-/// Checks what is imported, and the names of types that are referred to.
+/// Checks the names of values that values are.
+///
+/// # Errors
+///
+/// The first one that its module neither assigns nor imports, else the first one that leads to no
+/// value, and `OutOfMemory`.
+fn check_value_names<'t>(
+    alloc: Global,
+    sources: &[Source<'t>],
+    homes: &[Home<'_, 't>],
+) -> Result<(), ModuleError>
+    requires { map home_view homes.now ≡ spec.homes (map source_view sources.now) }
+    ensures { Checks (first_in_values (map source_view sources.now)) result }
+{
+    let index = index_of(alloc, Sort::Values, sources)?;
+    check_references(alloc, Sort::Values, &index, homes)?;
+    check_values(alloc, &index, homes)
+}
+
+/// Checks what is imported, and the names of types and values that are referred to.
 ///
 /// # Errors
 ///
 /// The first name that is imported against a rule, else the first name of a type that its module
-/// neither assigns nor imports, and `OutOfMemory`.
+/// neither assigns nor imports, else what is told of the names of values, and `OutOfMemory`.
 fn check_missing(alloc: Global, sources: &[Source<'_>]) -> Result<(), ModuleError>
     ensures { Checks (first_missing (map source_view sources.now)) result }
 {
     let homes = homes_of(alloc, sources)?;
     check_imports(alloc, homes.as_slice())?;
     let index = index_of(alloc, Sort::Types, sources)?;
-    check_references(alloc, &index, homes.as_slice())
+    check_references(alloc, Sort::Types, &index, homes.as_slice())?;
+    check_value_names(alloc, sources, homes.as_slice())
 }
 
 /// Checks the names and numbers of modules by all rules, over all texts that were read together.
@@ -48,8 +72,9 @@ fn check_missing(alloc: Global, sources: &[Source<'_>]) -> Result<(), ModuleErro
 ///
 /// The first name or number that breaks a rule, with its place, where the rules are in this order:
 /// modules have names of their own, and each assigns a name once; no name stands twice in a list;
-/// the numbers of items and bits; what is imported is exported by another module; and the types
-/// that are named are assigned or imported. `OutOfMemory` where memory runs out.
+/// the numbers of items and bits; what is imported is exported by another module; the types that
+/// are named are assigned or imported; so are the values; and their names lead to values.
+/// `OutOfMemory` where memory runs out.
 pub fn check_all(alloc: Global, sources: &[Source<'_>]) -> Result<(), ModuleError>
     ensures { Checks (first_broken (map source_view sources.now)) result }
 {

@@ -29,8 +29,10 @@ pub enum NameRule {
     NotExported,
     /// A module imports from others.
     OwnImport,
-    /// A type that is named is assigned or imported.
+    /// A type or value that is named is assigned or imported.
     NotAssigned,
+    /// The name of a value leads to a value, past other names.
+    NoValue,
 }
 
 /// Prints what is wrong with a name.
@@ -49,6 +51,7 @@ impl fmt::Display for NameRule {
             NameRule::NotExported => "isn't exported by its module",
             NameRule::OwnImport => "is imported by a module from itself",
             NameRule::NotAssigned => "is neither assigned nor imported",
+            NameRule::NoValue => "leads to no value",
         })
     }
 }

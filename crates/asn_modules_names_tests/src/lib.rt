@@ -18,3 +18,5 @@ mod numbers;
 mod references;
 #[cfg(test)]
 mod texts;
+#[cfg(test)]
+mod values;

@@ -45,8 +45,8 @@ const CHECKED: [(&str, &str); 11] = [
     ),
     (
         "M DEFINITIONS ::= BEGIN A ::= NULL END\nN DEFINITIONS ::= BEGIN \
-v SET { COMPONENTS OF CHOICE { a NULL, a NULL } } ::= { } END",
-        "f:2:64: `a` stands twice in its list",
+v SET { COMPONENTS OF SET { a NULL, a NULL } } ::= { } END",
+        "f:2:61: `a` stands twice in its list",
     ),
 ];
 

@@ -34,7 +34,7 @@ fn checks_references(rt: HostRuntime) -> Result<(), Fail> {
         }
         let index = index_of(rt.alloc(), Sort::Types, sources.as_slice())?;
         let homes = homes_of(rt.alloc(), sources.as_slice())?;
-        match check_references(rt.alloc(), &index, homes.as_slice()) {
+        match check_references(rt.alloc(), Sort::Types, &index, homes.as_slice()) {
             Ok(()) => assert_eq!(&rt; row.1, ""),
             Err(error) => tells(&rt, rt.alloc(), error, row.1)?,
         }

@@ -6,7 +6,7 @@ use std::process::Abort;
 use std::test::Fail;
 
 /// Lists texts with what is told of them.
-const REFUSED: [(&str, &str); 16] = [
+const REFUSED: [(&str, &str); 19] = [
     ("A ::= ", "f:1:7: expected a type, met the end of the text"),
     ("-- é\nA ::= 5", "f:2:7: expected a type, met `5`"),
     ("/* é */ A ::= 5", "f:1:15: expected a type, met `5`"),
@@ -37,6 +37,18 @@ const REFUSED: [(&str, &str); 16] = [
     (
         "M DEFINITIONS ::= BEGIN A ::= SEQUENCE { a NULL b NULL } END",
         "f:1:49: expected `,` or `}`, met `b`",
+    ),
+    (
+        "A ::= SEQUENCE { a NULL, COMPONENTS OF INTEGER, b NULL }",
+        "f:1:40: expected a name, met `INTEGER`",
+    ),
+    (
+        "A ::= SET { COMPONENTS OF SEQUENCE OF B }",
+        "f:1:27: expected a name, met `SEQUENCE`",
+    ),
+    (
+        "A ::= SEQUENCE { [[ COMPONENTS OF CHOICE { a B } ]] }",
+        "f:1:35: expected a name, met `CHOICE`",
     ),
 ];
 

@@ -75,7 +75,7 @@ fields =
     (next_member (marker_parses refl) refl
     (next_member (group_parses refl (last_member (component_parses refl (notation_parses fits_one (no_more refl) refl leaf_parses (no_more refl)) refl) refl)) refl
     (next_member (marker_parses refl) refl
-    (last_member (components_of_parses refl refl (notation_parses fits_one (no_more refl) refl reference_parses (no_more refl))) refl))))) refl)) (no_more refl)
+    (last_member (components_of_parses refl refl (notation_parses fits_one (no_more refl) refl reference_parses (no_more refl)) refl) refl))))) refl)) (no_more refl)
 
 -- The value of an alternative is kept by its first token alone: a : b : -1
 chosen : value_at (at kind.Name 0 ∷ at kind.Colon 1 ∷ at kind.Name 2 ∷ at kind.Colon 3 ∷ at kind.Minus 4 ∷ at kind.Number 5 ∷ []) ≡ Some (value.Other (at kind.Name 0), [])

@@ -92,7 +92,7 @@ other_word {x = x} (t ∷ u) k n h a =
 
 member_brace : {limit level : ℕ} {fields : Bool} {closing : Kind} {u r : List Token} {m : Member} → MemberParses limit level fields closing u m r → first_kind u ≡ Some kind.CloseBrace → ⊥
 member_brace {u = u} (component_parses a d p) o = other_word u kind.CloseBrace refl o a
-member_brace (components_of_parses a b d) o = let e : Some kind.CloseBrace ≡ Some (kind.Reserved keyword.Components) = sym o ∙ a in let y : ⊥ = cc in y
+member_brace (components_of_parses a b d g) o = let e : Some kind.CloseBrace ≡ Some (kind.Reserved keyword.Components) = sym o ∙ a in let y : ⊥ = cc in y
 member_brace (marker_parses a) o = let e : Some kind.CloseBrace ≡ Some kind.Ellipsis = sym o ∙ a in let y : ⊥ = cc in y
 member_brace (group_parses a d) o = let e : Some kind.CloseBrace ≡ Some kind.OpenVersion = sym o ∙ a in let y : ⊥ = cc in y
 
@@ -138,19 +138,19 @@ mutual
       let f = same_notation d (subst (λ y. NotationParses limit level y n' w') (sym (ap (λ y. y.1) e)) d') in
       let g = some_same h (subst (λ y. presence_at fields y ≡ Some (p', rest')) (sym f.1) h') in
       (ap (λ y. component y.0 n p) e ∙ ap (λ y. component name' y p) f.0 ∙ ap (λ y. component name' n' y.0) g, ap (λ y. y.1) g)
-  same_member {u = u} (component_parses a d h) (components_of_parses b c e) = absurd (other_word u (kind.Reserved keyword.Components) refl b a)
+  same_member {u = u} (component_parses a d h) (components_of_parses b c e g) = absurd (other_word u (kind.Reserved keyword.Components) refl b a)
   same_member {u = u} (component_parses a d h) (marker_parses b) = absurd (other_word u kind.Ellipsis refl b a)
   same_member {u = u} (component_parses a d h) (group_parses b c) = absurd (other_word u kind.OpenVersion refl b a)
-  same_member {u = u} (components_of_parses b c e) (component_parses a d h) = absurd (other_word u (kind.Reserved keyword.Components) refl b a)
-  same_member (components_of_parses a b d) (components_of_parses a' b' d') = let e = same_notation d d' in (ap components_of e.0, e.1)
-  same_member (components_of_parses a b d) (marker_parses c) = let e : kind.Reserved keyword.Components ≡ kind.Ellipsis = other_kind a c in let y : ⊥ = cc in absurd y
-  same_member (components_of_parses a b d) (group_parses c f) = let e : kind.Reserved keyword.Components ≡ kind.OpenVersion = other_kind a c in let y : ⊥ = cc in absurd y
+  same_member {u = u} (components_of_parses b c e g) (component_parses a d h) = absurd (other_word u (kind.Reserved keyword.Components) refl b a)
+  same_member (components_of_parses a b d g) (components_of_parses a' b' d' g') = let e = same_notation d d' in (ap components_of e.0, e.1)
+  same_member (components_of_parses a b d g) (marker_parses c) = let e : kind.Reserved keyword.Components ≡ kind.Ellipsis = other_kind a c in let y : ⊥ = cc in absurd y
+  same_member (components_of_parses a b d g) (group_parses c f) = let e : kind.Reserved keyword.Components ≡ kind.OpenVersion = other_kind a c in let y : ⊥ = cc in absurd y
   same_member {u = u} (marker_parses b) (component_parses a d h) = absurd (other_word u kind.Ellipsis refl b a)
-  same_member (marker_parses c) (components_of_parses a b d) = let e : kind.Reserved keyword.Components ≡ kind.Ellipsis = other_kind a c in let y : ⊥ = cc in absurd y
+  same_member (marker_parses c) (components_of_parses a b d g) = let e : kind.Reserved keyword.Components ≡ kind.Ellipsis = other_kind a c in let y : ⊥ = cc in absurd y
   same_member (marker_parses a) (marker_parses b) = (refl, refl)
   same_member (marker_parses a) (group_parses b d) = let e : kind.Ellipsis ≡ kind.OpenVersion = other_kind a b in let y : ⊥ = cc in absurd y
   same_member {u = u} (group_parses b c) (component_parses a d h) = absurd (other_word u kind.OpenVersion refl b a)
-  same_member (group_parses c f) (components_of_parses a b d) = let e : kind.Reserved keyword.Components ≡ kind.OpenVersion = other_kind a c in let y : ⊥ = cc in absurd y
+  same_member (group_parses c f) (components_of_parses a b d g) = let e : kind.Reserved keyword.Components ≡ kind.OpenVersion = other_kind a c in let y : ⊥ = cc in absurd y
   same_member (group_parses b d) (marker_parses a) = let e : kind.Ellipsis ≡ kind.OpenVersion = other_kind a b in let y : ⊥ = cc in absurd y
   same_member (group_parses a p) (group_parses b q) = let e = same_members p q version_closes in (ap (λ ms. group (members_of ms)) e.0, e.1)
 

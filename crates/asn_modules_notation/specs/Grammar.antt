@@ -8,7 +8,7 @@ use Rattle.asn_lexer.specs.declared.token.Token.{Token}
 use Rattle.asn_headers.specs.Fronts.{first_is}
 use Rattle.asn_model.specs.Shape.{SeqKind}
 use Rattle.asn_modules_notation.specs.Kinds.{first_kind, token_at, is_colon, is_component_word, is_number}
-use Rattle.asn_modules_notation.specs.Notation.{Notation, Base, Member, notation, leaf, integer, bit_string, enumerated, members, list_of, choice, reference, component, components_of, group, marker, members_of, is_marker}
+use Rattle.asn_modules_notation.specs.Notation.{Notation, Base, Member, notation, leaf, integer, bit_string, enumerated, members, list_of, choice, reference, component, components_of, group, marker, members_of, is_marker, may_have_components}
 use Rattle.asn_modules_notation.specs.Numbers.{NamedNumbersParse, ItemsParse}
 use Rattle.asn_modules_notation.specs.Sizes.{ConstraintsParse, of_at}
 use Rattle.asn_modules_notation.specs.Starts.{Start, start_at}
@@ -47,12 +47,12 @@ mutual
     list_parses : {level : ℕ} {u v rest : List Token} {seq : SeqKind} {n : Notation} → of_at u ≡ Some v → NotationParses limit (suc level) v n rest → BaseParses limit level (Start.members seq) u (list_of seq n) rest
     choice_parses : {level : ℕ} {u rest : List Token} {ms : List Member} → first_kind u ≡ Some kind.OpenBrace → BracesParse limit (suc level) false (drop 1 u) ms rest → BaseParses limit level Start.choice u (choice (members_of ms)) rest
 
-  -- Within what a token of the kind closes, an entry stands at the front of the tokens, whose types are looked for at the level. `fields` states whether it is one of a SEQUENCE or SET: only there may it be absent or COMPONENTS OF. Only braces hold markers and groups.
+  -- Within what a token of the kind closes, an entry stands at the front of the tokens, whose types are looked for at the level. `fields` states whether it is one of a SEQUENCE or SET: only there may it be absent or COMPONENTS OF, of a SEQUENCE, a SET or a name. Only braces hold markers and groups.
   pub data MemberParses (limit : ℕ) : ℕ → Bool → Kind → List Token → Member → List Token → Type 0 where
     component_parses : {level : ℕ} {fields : Bool} {closing : Kind} {u v w rest : List Token} {name : Token} {n : Notation} {presence : Presence} → token_at is_component_word u ≡ Some (name, v) → NotationParses limit level v n w
         → presence_at fields w ≡ Some (presence, rest) → MemberParses limit level fields closing u (component name n presence) rest
     components_of_parses : {level : ℕ} {closing : Kind} {u rest : List Token} {n : Notation} → first_kind u ≡ Some (kind.Reserved keyword.Components) → first_kind (drop 1 u) ≡ Some (kind.Reserved keyword.Of)
-        → NotationParses limit level (drop 1 (drop 1 u)) n rest → MemberParses limit level true closing u (components_of n) rest
+        → NotationParses limit level (drop 1 (drop 1 u)) n rest → may_have_components n ≡ true → MemberParses limit level true closing u (components_of n) rest
     marker_parses : {level : ℕ} {fields : Bool} {u : List Token} → first_kind u ≡ Some kind.Ellipsis → MemberParses limit level fields kind.CloseBrace u marker (drop 1 u)
     group_parses : {level : ℕ} {fields : Bool} {u rest : List Token} {ms : List Member} → first_kind u ≡ Some kind.OpenVersion → MembersParse limit level fields kind.CloseVersion (past_version (drop 1 u)) ms rest
         → MemberParses limit level fields kind.CloseBrace u (group (members_of ms)) rest

@@ -49,6 +49,15 @@ mutual
     no_members : Members
     member : Member → Members → Members
 
+-- Such a type is a SEQUENCE or SET, or a name.
+abbrev pub takes_components : Base → Bool
+takes_components (members kind ms) = true
+takes_components (reference home name) = true
+takes_components base = false
+
+abbrev pub may_have_components : Notation → Bool
+may_have_components (notation tags base sizes) = takes_components base
+
 -- The entries of a list, in order.
 abbrev pub members_of : List Member → Members
 members_of [] = no_members

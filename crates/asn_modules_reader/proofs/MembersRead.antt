@@ -7,7 +7,7 @@ use Rattle.asn_lexer.specs.declared.token.Token.{Token}
 use Rattle.asn_headers.specs.Fronts.{first_is}
 use Rattle.asn_modules_notation.specs.Grammar.{NotationParses, MemberParses, component_parses, components_of_parses, marker_parses, group_parses, MembersParse, last_member, next_member, past_version}
 use Rattle.asn_modules_notation.specs.Kinds.{first_kind, token_at, is_component_word}
-use Rattle.asn_modules_notation.specs.Notation.{Notation, Member, component, components_of, group, marker, members_of}
+use Rattle.asn_modules_notation.specs.Notation.{Notation, Member, component, components_of, group, marker, members_of, may_have_components}
 use Rattle.asn_modules_notation.specs.Values.{presence_at}
 use Rattle.asn_modules_notation.specs.declared.notation.Presence.{Presence}
 use Rattle.asn_modules_notation.proofs.OneText.{same_notation, same_member}
@@ -37,41 +37,48 @@ pub component_untyped : (limit level : ℕ) (fields : Bool) (u v : List Token) (
     → (m : Member) (rest : List Token) → MemberParses limit level fields kind.CloseVersion u m rest → ⊥
 component_untyped limit level fields u v name e h none m rest (component_parses {w = w} {n = n} a d p) =
     none n w (subst (λ z. NotationParses limit level z n w) (sym (ap (λ y. y.1) (some_same (word_here u v name e h) a))) d)
-component_untyped limit level fields u v name e h none m rest (components_of_parses a b d) = word_other e h a refl
+component_untyped limit level fields u v name e h none m rest (components_of_parses a b d g) = word_other e h a refl
 
 pub component_unstated : (limit level : ℕ) (fields : Bool) (u v w : List Token) (name : Token) (n : Notation) → u ≡ name ∷ v → is_component_word name.kind ≡ true → NotationParses limit level v n w → presence_at fields w ≡ None
     → (m : Member) (rest : List Token) → MemberParses limit level fields kind.CloseVersion u m rest → ⊥
 component_unstated limit level fields u v w name n e h d none m rest (component_parses {w = w'} {n = n'} a d' p) =
     let f = same_notation d (subst (λ z. NotationParses limit level z n' w') (sym (ap (λ y. y.1) (some_same (word_here u v name e h) a))) d') in
     none_some (sym (ap (presence_at fields) f.1) ∙ none) p
-component_unstated limit level fields u v w name n e h d none m rest (components_of_parses a b d') = word_other e h a refl
+component_unstated limit level fields u v w name n e h d none m rest (components_of_parses a b d' g) = word_other e h a refl
 
 -- COMPONENTS OF, by its type.
 pub components_of_read : (limit level : ℕ) (fields : Bool) (closing : Kind) (u v w rest : List Token) (n : Notation) → fields ≡ true → first_kind u ≡ Some (kind.Reserved keyword.Components) → v ≡ drop 1 u
-    → first_kind v ≡ Some (kind.Reserved keyword.Of) → w ≡ drop 1 v → NotationParses limit level w n rest → MemberParses limit level fields closing u (components_of n) rest
-components_of_read limit level fields closing u v w rest n f a e b g d =
+    → first_kind v ≡ Some (kind.Reserved keyword.Of) → w ≡ drop 1 v → NotationParses limit level w n rest → may_have_components n ≡ true → MemberParses limit level fields closing u (components_of n) rest
+components_of_read limit level fields closing u v w rest n f a e b g d k =
     let i : w ≡ drop 1 (drop 1 u) = g ∙ ap (drop 1) e in
     subst (λ z. MemberParses limit level z closing u (components_of n) rest) (sym f)
-    (components_of_parses a (subst (λ z. first_kind z ≡ Some (kind.Reserved keyword.Of)) e b) (subst (λ z. NotationParses limit level z n rest) i d))
+    (components_of_parses a (subst (λ z. first_kind z ≡ Some (kind.Reserved keyword.Of)) e b) (subst (λ z. NotationParses limit level z n rest) i d) k)
 
 pub alternative_unnamed : (limit level : ℕ) (fields : Bool) (u : List Token) → fields ≡ false → first_is is_component_word u ≡ false → (m : Member) (rest : List Token) → MemberParses limit level fields kind.CloseVersion u m rest → ⊥
 alternative_unnamed limit level fields u f h m rest (component_parses a d p) = word_first u a h
-alternative_unnamed limit level fields u f h m rest (components_of_parses a b d) = true_false f
+alternative_unnamed limit level fields u f h m rest (components_of_parses a b d g) = true_false f
 
 pub components_unnamed : (limit level : ℕ) (fields : Bool) (u : List Token) → first_is is_component_word u ≡ false → first_kind u ≢ Some (kind.Reserved keyword.Components)
     → (m : Member) (rest : List Token) → MemberParses limit level fields kind.CloseVersion u m rest → ⊥
 components_unnamed limit level fields u h c m rest (component_parses a d p) = word_first u a h
-components_unnamed limit level fields u h c m rest (components_of_parses a b d) = c a
+components_unnamed limit level fields u h c m rest (components_of_parses a b d g) = c a
 
 pub components_without_of : (limit level : ℕ) (fields : Bool) (u v : List Token) → first_is is_component_word u ≡ false → v ≡ drop 1 u → first_kind v ≢ Some (kind.Reserved keyword.Of)
     → (m : Member) (rest : List Token) → MemberParses limit level fields kind.CloseVersion u m rest → ⊥
 components_without_of limit level fields u v h e c m rest (component_parses a d p) = word_first u a h
-components_without_of limit level fields u v h e c m rest (components_of_parses a b d) = c (ap first_kind e ∙ b)
+components_without_of limit level fields u v h e c m rest (components_of_parses a b d g) = c (ap first_kind e ∙ b)
 
 pub components_untyped : (limit level : ℕ) (fields : Bool) (u v w : List Token) → first_is is_component_word u ≡ false → v ≡ drop 1 u → w ≡ drop 1 v → ((n : Notation) (rest : List Token) → NotationParses limit level w n rest → ⊥)
     → (m : Member) (rest : List Token) → MemberParses limit level fields kind.CloseVersion u m rest → ⊥
 components_untyped limit level fields u v w h e g none m rest (component_parses a d p) = word_first u a h
-components_untyped limit level fields u v w h e g none m rest (components_of_parses {n = n} a b d) = none n rest (subst (λ z. NotationParses limit level z n rest) (sym (g ∙ ap (drop 1) e)) d)
+components_untyped limit level fields u v w h e g none m rest (components_of_parses {n = n} a b d k) = none n rest (subst (λ z. NotationParses limit level z n rest) (sym (g ∙ ap (drop 1) e)) d)
+
+pub components_without_any : (limit level : ℕ) (fields : Bool) (u v w rest : List Token) (n : Notation) → first_is is_component_word u ≡ false → v ≡ drop 1 u → w ≡ drop 1 v → NotationParses limit level w n rest → may_have_components n ≡ false
+    → (m : Member) (rest : List Token) → MemberParses limit level fields kind.CloseVersion u m rest → ⊥
+components_without_any limit level fields u v w rest n h e g d none m rest' (component_parses a d' p) = word_first u a h
+components_without_any limit level fields u v w rest n h e g d none m rest' (components_of_parses {n = n'} a b d' k) =
+    let s = same_notation d (subst (λ z. NotationParses limit level z n' rest') (sym (g ∙ ap (drop 1) e)) d') in
+    true_false (sym k ∙ ap may_have_components (sym s.0) ∙ none)
 
 -- An extension marker.
 pub marker_read : (limit level : ℕ) (fields : Bool) (u v : List Token) → first_kind u ≡ Some kind.Ellipsis → v ≡ drop 1 u → MemberParses limit level fields kind.CloseBrace u marker v
@@ -93,7 +100,7 @@ pub group_none : (limit level : ℕ) (fields : Bool) (u v w : List Token) → fi
     → ((ms : List Member) (rest : List Token) → MembersParse limit level fields kind.CloseVersion w ms rest → ⊥)
     → (m : Member) (rest : List Token) → MemberParses limit level fields kind.CloseBrace u m rest → ⊥
 group_none limit level fields u v w h e f none m rest (component_parses a d p) = word_kind u kind.OpenVersion h refl a
-group_none limit level fields u v w h e f none m rest (components_of_parses a b d) = let k : kind.OpenVersion ≡ kind.Reserved keyword.Components = kinds_clash h a in let y : ⊥ = cc in y
+group_none limit level fields u v w h e f none m rest (components_of_parses a b d g) = let k : kind.OpenVersion ≡ kind.Reserved keyword.Components = kinds_clash h a in let y : ⊥ = cc in y
 group_none limit level fields u v w h e f none m rest (marker_parses a) = let k : kind.OpenVersion ≡ kind.Ellipsis = kinds_clash h a in let y : ⊥ = cc in y
 group_none limit level fields u v w h e f none m rest (group_parses {ms = ms} a p) =
     none ms rest (subst (λ z. MembersParse limit level fields kind.CloseVersion z ms rest) (sym (f ∙ ap past_version e)) p)
@@ -101,13 +108,13 @@ group_none limit level fields u v w h e f none m rest (group_parses {ms = ms} a 
 -- Another entry stands in either brackets.
 pub one_read : (limit level : ℕ) (fields : Bool) (u rest : List Token) (m : Member) → MemberParses limit level fields kind.CloseVersion u m rest → MemberParses limit level fields kind.CloseBrace u m rest
 one_read limit level fields u rest m (component_parses a d p) = component_parses a d p
-one_read limit level fields u rest m (components_of_parses a b d) = components_of_parses a b d
+one_read limit level fields u rest m (components_of_parses a b d g) = components_of_parses a b d g
 
 pub one_none : (limit level : ℕ) (fields : Bool) (u : List Token) → first_kind u ≢ Some kind.Ellipsis → first_kind u ≢ Some kind.OpenVersion
     → ((m : Member) (rest : List Token) → MemberParses limit level fields kind.CloseVersion u m rest → ⊥)
     → (m : Member) (rest : List Token) → MemberParses limit level fields kind.CloseBrace u m rest → ⊥
 one_none limit level fields u x y none m rest (component_parses a d p) = none m rest (component_parses a d p)
-one_none limit level fields u x y none m rest (components_of_parses a b d) = none m rest (components_of_parses a b d)
+one_none limit level fields u x y none m rest (components_of_parses a b d g) = none m rest (components_of_parses a b d g)
 one_none limit level fields u x y none m rest (marker_parses a) = x a
 one_none limit level fields u x y none m rest (group_parses a p) = y a
 

@@ -1,6 +1,7 @@
 //! Makes types without tags of what they hold.
 ghost use Rattle.asn_model.specs.ShapeView.{kind_view};
 ghost use Rattle.asn_modules_notation.specs.Notation as spec;
+ghost use Rattle.asn_modules_notation.specs.Notation.{may_have_components};
 ghost use Rattle.asn_modules_notation.specs.View.{members_view, notation_view};
 ghost use Rattle.asn_modules_reader.specs.Views.{base_view};
 ghost use Rattle.std.specs.Prelude.{◌≡◌, IfOk};
@@ -33,5 +34,17 @@ pub(crate) fn list_of(alloc: Global, kind: SeqKind, element: Notation) -> Result
     match kind {
         SeqKind::Sequence => Ok(Base::SequenceOf(element)),
         SeqKind::Set => Ok(Base::SetOf(element)),
+    }
+}
+
+/// Returns whether the type may have components: whether it is a SEQUENCE or SET, or a name.
+pub(crate) fn may_have_components(notation: &Notation) -> bool
+    ensures { result ≡ may_have_components (notation_view notation.now) }
+{
+    match &notation.base {
+        Base::Sequence(_) => true,
+        Base::Set(_) => true,
+        Base::Reference { .. } => true,
+        _ => false,
     }
 }

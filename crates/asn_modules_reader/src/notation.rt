@@ -12,7 +12,7 @@ ghost use Rattle.asn_modules_parts.specs.Starts.{start_view};
 ghost use Rattle.asn_modules_reader.specs.Views.{base_view, member_seen};
 ghost use Rattle.std.specs.Prelude.{◌≡◌, ◌<◌, ◌≤◌, ◌^◌, IfOk, false, length, map};
 
-use crate::bases::{fields_of, list_of};
+use crate::bases::{fields_of, list_of, may_have_components};
 use crate::limits::NESTING_LIMIT;
 use crate::members::members_of;
 use crate::version::past_version;
@@ -55,6 +55,9 @@ fn read_components_of(
         return Err(unexpected(behind, Expected::Of));
     };
     let (notation, rest) = read_notation(alloc, inner, level)?;
+    if !may_have_components(&notation) {
+        return Err(unexpected(inner, Expected::Name));
+    }
     Ok((Component::ComponentsOf(notation), rest))
 }
 

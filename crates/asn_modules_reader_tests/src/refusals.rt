@@ -7,7 +7,7 @@ use std::test::Fail;
 
 /// Lists texts that are refused, with the places of the tokens that fit nothing, or 999 for the
 /// end.
-const REFUSED: [(&str, usize); 23] = [
+const REFUSED: [(&str, usize); 25] = [
     ("A ::= ", 999),
     ("A ::= [ ] NULL", 8),
     ("A ::= SEQUENCE { a }", 19),
@@ -18,6 +18,8 @@ const REFUSED: [(&str, usize); 23] = [
     ("A ::= SEQUENCE SIZE (1) NULL", 24),
     ("A ::= CHOICE { a NULL OPTIONAL }", 22),
     ("A ::= CHOICE { COMPONENTS OF B }", 15),
+    ("A ::= SET { COMPONENTS OF INTEGER }", 26),
+    ("A ::= SET { COMPONENTS OF [5] SET OF B }", 26),
     ("A ::= ENUMERATED { a, ..., ... }", 27),
     ("A ::= ENUMERATED { a b }", 21),
     ("A ::= INTEGER { a(1) b(2) }", 21),

@@ -2,6 +2,8 @@
 use Rattle.std.proofs.Common.{◌≡◌, ℕ, ◌+◌, ◌<◌, ◌≤◌, refl, ap, sym, ◌∙◌, List, [], ◌∷◌, ◌++◌, map, Option, Some, None, append_assoc, append-nil, get_or, drop, length}
 use Rattle.std.proofs.lemmas.List.{drop_all}
 use Rattle.std.specs.Global.{Vec}
+use Rattle.std.specs.List.{cons_option}
+use Rattle.asn_modules_lookup.specs.declared.sort.Sort.{Sort}
 use Rattle.asn_lexer.specs.declared.token.Token.{Token}
 use Rattle.asn_modules_names.proofs.Founds.{drop_at, listed_more}
 use Rattle.asn_modules_notation.specs.Notation.{Member, members_of}
@@ -12,7 +14,7 @@ use Rattle.asn_modules_notation.specs.declared.notation.Extension.{Extension, ou
 use Rattle.asn_modules_notation.specs.declared.notation.Member as code
 use Rattle.asn_modules_notation.specs.declared.notation.Members.{Members, out-Members}
 use Rattle.asn_modules_reader.specs.Views.{member_view}
-use Rattle.asn_modules_references.specs.References.{all_references, assignment_references, member_references, members_references}
+use Rattle.asn_modules_references.specs.References.{all_references, member_references, members_references, references_as}
 use Rattle.asn_modules_references.specs.Extensions.{entries_references, extension_references, tail_references}
 use Rattle.asn_modules_references.proofs.Outs.{extension_seen, members_out, tail_seen}
 
@@ -59,16 +61,23 @@ pub components_end : (cs : List code_component.Component) (i : ℕ) → length c
 components_end cs i h = ap components_references (drop_all i cs h)
 
 -- Of assignments.
-abbrev pub assignments_references : List code_assignment.Assignment → List Token
-assignments_references xs = all_references (map assignment_view xs)
+abbrev pub assignments_references : Sort → List code_assignment.Assignment → List Token
+assignments_references sort xs = all_references sort (map assignment_view xs)
 
-pub assignment_added : (all before after : List Token) (xs : List code_assignment.Assignment) (i : ℕ) (x : code_assignment.Assignment) → i < length xs → x ≡ get_or xs i x → all ≡ before ++ assignments_references (drop i xs)
-    → after ≡ before ++ assignment_references (assignment_view x) → all ≡ after ++ assignments_references (drop (i + 1) xs)
-assignment_added all before after xs i x h e was a =
-    listed_more all before after (assignment_references (assignment_view x)) (assignments_references (drop i xs)) (assignments_references (drop (i + 1) xs)) was (ap assignments_references (drop_at xs i x h e)) a
+pub assignment_added : (all before after : List Token) (sort : Sort) (xs : List code_assignment.Assignment) (i : ℕ) (x : code_assignment.Assignment) → i < length xs → x ≡ get_or xs i x → all ≡ before ++ assignments_references sort (drop i xs)
+    → after ≡ before ++ references_as sort (assignment_view x) → all ≡ after ++ assignments_references sort (drop (i + 1) xs)
+assignment_added all before after sort xs i x h e was a =
+    listed_more all before after (references_as sort (assignment_view x)) (assignments_references sort (drop i xs)) (assignments_references sort (drop (i + 1) xs)) was (ap (assignments_references sort) (drop_at xs i x h e)) a
 
-pub assignments_end : (xs : List code_assignment.Assignment) (i : ℕ) → length xs ≤ i → assignments_references (drop i xs) ≡ []
-assignments_end xs i h = ap assignments_references (drop_all i xs h)
+pub assignments_end : (sort : Sort) (xs : List code_assignment.Assignment) (i : ℕ) → length xs ≤ i → assignments_references sort (drop i xs) ≡ []
+assignments_end sort xs i h = ap (assignments_references sort) (drop_all i xs h)
+
+-- None is added, or one.
+pub none_added : (new old : List Token) (o : Option Token) → new ≡ old → o ≡ None → new ≡ old ++ cons_option o []
+none_added new old o e n = e ∙ sym (append-nil old) ∙ ap (λ x. old ++ cons_option x []) (sym n)
+
+pub one_added : (new old : List Token) (o : Option Token) (t : Token) → new ≡ old ++ t ∷ [] → o ≡ Some t → new ≡ old ++ cons_option o []
+one_added new old o t e n = e ∙ ap (λ x. old ++ cons_option x []) (sym n)
 
 -- Those of the root and then of what stands behind the extension marker are those of the members.
 pub both_added : (m : Members) (old between new : List Token) (e : Extension) → between ≡ old ++ entries_references (out-Members m).root.items → (out-Members m).extension ≡ Some e → new ≡ between ++ extension_references (Some e)

@@ -1,2 +1,3 @@
+pub mod ValueNames
 pub mod References
 pub mod Extensions

@@ -1,16 +1,19 @@
 -- The names that types refer to.
 use Rattle.std.specs.Prelude.{ℕ, suc, List, [], ◌∷◌, ◌++◌, if◌then◌else◌, Option, Some, None}
+use Rattle.std.specs.List.{cons_option}
 use Rattle.std.specs.Option.{option_or}
 use Rattle.asn_lexer.specs.declared.token.Token.{Token}
 use Rattle.asn_modules_faults.specs.declared.cause.NameRule.TheVariants.{NotAssigned}
 use Rattle.asn_modules_lookup.specs.Homes.{Home, bytes_in}
 use Rattle.asn_modules_lookup.specs.Lookup.{is_known}
-use Rattle.asn_modules_lookup.specs.declared.sort.Sort.TheVariants.{Types}
+use Rattle.asn_modules_lookup.specs.declared.sort.Sort.{Sort}
+use Rattle.asn_modules_lookup.specs.declared.sort.Sort.TheVariants.{Types, Values}
 use Rattle.asn_modules_names.specs.Assigned.{first_found}
 use Rattle.asn_modules_names.specs.Faults.{Fault, fault_of}
 use Rattle.asn_modules_names.specs.Mentions.{Source, mention_in}
 use Rattle.asn_modules_notation.specs.Modules.{Assignment, type_assignment, value_assignment}
 use Rattle.asn_modules_notation.specs.Notation.{Notation, Base, Member, Members, notation, leaf, integer, bit_string, enumerated, members, list_of, choice, reference, component, components_of, group, marker, no_members, member}
+use Rattle.asn_modules_references.specs.ValueNames.{value_name}
 
 abbrev mutual
   -- The names of types that the type refers to without a module, in order.
@@ -35,20 +38,25 @@ abbrev mutual
   members_references no_members = []
   members_references (member m ms) = member_references m ++ members_references ms
 
--- Those that assignments refer to, with the types of values.
+-- Those that an assignment refers to, with the type of a value.
 abbrev pub assignment_references : Assignment → List Token
 assignment_references (type_assignment name n) = references n
 assignment_references (value_assignment name n value) = references n
 
-abbrev pub all_references : List Assignment → List Token
-all_references [] = []
-all_references (a ∷ more) = assignment_references a ++ all_references more
+-- The names of types that it refers to, or those of values.
+abbrev pub references_as : Sort → Assignment → List Token
+references_as Types a = assignment_references a
+references_as Values a = cons_option (value_name a) []
+
+abbrev pub all_references : Sort → List Assignment → List Token
+all_references sort [] = []
+all_references sort (a ∷ more) = references_as sort a ++ all_references sort more
 
 -- The name in the module of number k, where it isn't known there.
-abbrev pub unknown : List Source → ℕ → Home → Token → Option Fault
-unknown ss k h t = if is_known Types ss k (bytes_in h t) then None else Some (fault_of NotAssigned (mention_in h.source t))
+abbrev pub unknown : Sort → List Source → ℕ → Home → Token → Option Fault
+unknown sort ss k h t = if is_known sort ss k (bytes_in h t) then None else Some (fault_of NotAssigned (mention_in h.source t))
 
--- The first name that a module, of which the first has number k, refers to and neither assigns nor imports.
-abbrev pub first_unknown : List Source → ℕ → List Home → Option Fault
-first_unknown ss k [] = None
-first_unknown ss k (h ∷ hs) = option_or (first_found (unknown ss k h) (all_references h.parsed.assignments)) (first_unknown ss (suc k) hs)
+-- The first name of a type, or of a value, that a module, of which the first has number k, refers to and neither assigns nor imports.
+abbrev pub first_unknown : Sort → List Source → ℕ → List Home → Option Fault
+first_unknown sort ss k [] = None
+first_unknown sort ss k (h ∷ hs) = option_or (first_found (unknown sort ss k h) (all_references sort h.parsed.assignments)) (first_unknown sort ss (suc k) hs)

@@ -4,7 +4,7 @@ use std::alloc::Global;
 use std::test::Fail;
 
 /// Lists texts with what is told of them where each is the file `m.asn1`.
-const ROWS: [(&str, &str); 37] = [
+const ROWS: [(&str, &str); 40] = [
     // What begins no token.
     (
         "A ::= NULL ?",
@@ -30,6 +30,10 @@ const ROWS: [(&str, &str); 37] = [
     (
         "-- é\nM DEFINITIONS ::= BEGIN\n  A ::= SEQUENCE { a NULL b NULL }\nEND",
         "m.asn1:3:27: expected `,` or `}`, met `b`",
+    ),
+    (
+        "A ::= SEQUENCE { COMPONENTS OF INTEGER }",
+        "m.asn1:1:32: expected a name, met `INTEGER`",
     ),
     (
         "/* é */ A ::= [5 NULL",
@@ -134,6 +138,14 @@ N DEFINITIONS ::= BEGIN EXPORTS A; A ::= NULL B ::= NULL END",
         "M DEFINITIONS ::= BEGIN A ::= SEQUENCE OF B END\n\
 N DEFINITIONS ::= BEGIN B ::= NULL END",
         "m.asn1:1:43: `B` is neither assigned nor imported",
+    ),
+    (
+        "a INTEGER ::= b",
+        "m.asn1:1:15: `b` is neither assigned nor imported",
+    ),
+    (
+        "a INTEGER ::= b\nb INTEGER ::= a",
+        "m.asn1:1:1: `a` leads to no value",
     ),
     // What is right.
     ("", ""),

@@ -14,10 +14,18 @@ use Rattle.asn_model.specs.declared.shape_type.SeqKind.{SeqKind}
 use Rattle.asn_model.specs.declared.shape_type.Shape.{Enum, the_lemmas}
 use Rattle.asn_model.specs.declared.shape_type.Shape.TheViews.{Seq, Choice}
 use Rattle.asn_model.proofs.Viewing.{added_alternative_views, choice_viewed, sequence_viewed}
-use Rattle.asn_within.specs.Listed.{alternatives_in, fields_in, root_count_in}
+use Rattle.asn_within.specs.Listed.{alternatives_in, fields_in, items_in, root_count_in}
 
 pub view-Enum : (items : Vec (String Global)) (added : Option (Vec (String Global))) → shape_view (Enum items added) ≡ spec.Shape.enum (map string_bytes items.items) (option_map (λ (v : Vec (String Global)). map string_bytes v.items) added)
 view-Enum items added = search (rules, the_lemmas)
+
+pub items-counted : (items : Vec (String Global)) (added : Option (Vec (String Global))) → length (items_in (shape_view (Enum items added))) ≡ length items.items + length (entries_of added)
+items-counted items None =
+    let own : length (map string_bytes items.items) ≡ length items.items + 0 = omega (arith, length-map items.items string_bytes) in
+    ap (λ s. length (items_in s)) (view-Enum items None) ∙ own
+items-counted items (Some more) =
+    ap (λ s. length (items_in s)) (view-Enum items (Some more)) ∙ length-append (map string_bytes items.items) (map string_bytes more.items)
+    ∙ (λ i. length-map items.items string_bytes i + length-map more.items string_bytes i)
 
 -- The component that a field is.
 abbrev pub viewed : Standing → FieldShape → Component

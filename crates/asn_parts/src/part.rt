@@ -151,6 +151,11 @@ pub trait Part: Copy {
         ensures { (around : List Self)
             → result ≡ is_item (items_in (shape around self.now)) identifier.now };
 
+    /// Returns the number of items of an ENUMERATED, extension additions included. Any other part
+    /// has none.
+    fn item_count(&self) -> usize
+        ensures { (around : List Self) → result ≡ length (items_in (shape around self.now)) };
+
     // The names of fields are the same within all loops.
     ghost same_names: { (around : List Self) (part : Self)
         → component_names (fields_in (Self.shape around part))

@@ -119,6 +119,13 @@ impl<'a> Part for &'a Shape {
         }
     }
 
+    fn item_count(&self) -> usize {
+        match *self {
+            Shape::Enum { items, added } => items.len() + entries(added).len(),
+            _ => 0,
+        }
+    }
+
     ghost same_names = { λ around part. refl };
 
     ghost same_identifiers = { λ around part. refl };

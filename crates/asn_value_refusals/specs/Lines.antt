@@ -1,12 +1,13 @@
 -- The lines that say why a text isn't converted.
-use Rattle.std.specs.Prelude.{◌≡◌, ℕ, List, [], ◌∷◌, ◌++◌, Bool, true, false, if◌then◌else◌, chars, codes, decimal, encode_utf8_all, is_some, map, not, take, String, string_bytes, MatchBool, Option, Some, None}
+use Rattle.std.specs.Prelude.{◌≡◌, ℕ, List, [], ◌∷◌, ◌++◌, Bool, true, false, if◌then◌else◌, chars, codes, decimal, encode_utf8_all, is_some, map, not, take, string_bytes, MatchBool, Option, Some, None}
 use Rattle.std.specs.Char.{is_control}
-use Rattle.std.specs.Global.{Global}
 use Rattle.std.specs.List.{flat_map}
 use Rattle.asn_dynamic.specs.declared.conversion.ConvertError.{ConvertError}
 use Rattle.asn_dynamic.specs.declared.conversion.ConvertError.TheVariants.{Read, Write}
 use Rattle.asn_dynamic_faults.specs.Texts.{dyn_kind_text}
 use Rattle.asn_dynamic_faults.specs.declared.errors.DynKind.{DynKind}
+use Rattle.asn_dynamic_faults.specs.declared.errors.Step.{Step}
+use Rattle.asn_dynamic_faults.specs.declared.errors.Step.TheVariants.{Field, Alternative, Element}
 use Rattle.asn_dynamic_faults.specs.declared.errors.DynKind.TheVariants.{Other}
 use Rattle.asn_fault.specs.Texts.{encode_kind_text}
 use Rattle.asn_fault.specs.declared.avn.AvnDecodeErrorKind.TheVariants.{UnexpectedToken}
@@ -22,16 +23,18 @@ abbrev pub line_text : Option ℕ → List ℕ
 line_text None = []
 line_text (Some n) = codes ":" ++ decimal n
 
--- The fields behind the first one, each with a point before it.
-abbrev pub path_behind : List (String Global) → List ℕ
-path_behind ns = flat_map (λ n. 46 ∷ string_bytes n) ns
+-- A step behind this text: the name of a field or an alternative, or the place of an element.
+abbrev pub step_text : List ℕ → Step → List ℕ
+step_text point (Field n) = point ++ string_bytes n
+step_text point (Alternative n) = point ++ string_bytes n
+step_text point (Element i) = codes "[" ++ (decimal i ++ codes "]")
 
--- The fields on the way, with points between them, and a colon and a blank behind them.
-abbrev pub path_text : List (String Global) → List ℕ
+-- The steps on the way, as `head.list[2].item`, and a colon and a blank behind them.
+abbrev pub path_text : List Step → List ℕ
 path_text [] = []
-path_text (n ∷ ns) = (string_bytes n ++ path_behind ns) ++ codes ": "
+path_text (s ∷ ss) = (step_text [] s ++ flat_map (step_text (codes ".")) ss) ++ codes ": "
 
--- The fields on the way and the reason.
+-- The way to what is refused and the reason.
 abbrev pub reason_text : ConvertError → List ℕ
 reason_text (Read e) = path_text e.path.items ++ dyn_kind_text e.kind
 reason_text (Write e) = encode_kind_text e.kind

@@ -1,5 +1,5 @@
 //! Makes the lines that say why the text of a value isn't converted: the file, the line and column
-//! where the text itself is at fault, the fields on the way to what is refused, and the reason.
+//! where the text itself is at fault, the way to what is refused, and the reason.
 #![tactic(auto)]
 
 mod fault;

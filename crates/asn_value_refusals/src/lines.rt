@@ -1,38 +1,54 @@
 //! Makes the lines of a refusal.
 ghost use Rattle.asn_value_refusals.specs.Lines.{IsRefusalLines, on_one_line, path_text};
-ghost use Rattle.asn_value_refusals.specs.Lines.{place_text, reason_text};
+ghost use Rattle.asn_value_refusals.specs.Lines.{place_text, reason_text, step_text};
 ghost use Rattle.std.specs.Prelude.{◌≡◌, ◌++◌, IfOk, codes, string_bytes, take};
 
 use crate::fault::fault_offset;
 use crate::origin::{Origin, origin_of};
 use crate::shown::{on_one_line, shown};
 use asn_core::OutOfMemory;
-use asn_dynamic::ConvertError;
+use asn_dynamic::{ConvertError, Step};
 use asn_lexer::place_of;
 use std::alloc::Global;
 
-/// Returns the fields on the way, with points between them, and a colon and a blank behind them; it
-/// is empty where there are none.
+/// Returns a step on the way: the name of a field or an alternative behind `point`, or the place of
+/// an element in brackets.
 ///
 /// # Errors
 ///
 /// `OutOfMemory` alone.
-fn path_of(alloc: Global, path: &[String]) -> Result<String, OutOfMemory>
+fn step_text(alloc: Global, point: &str, step: &Step) -> Result<String, OutOfMemory>
+    ensures { IfOk result (λ s. string_bytes s ≡ step_text point.now step.now) }
+{
+    match step {
+        Step::Field(name) => Ok(format!(in alloc; "{point}{name}")?),
+        Step::Alternative(identifier) => Ok(format!(in alloc; "{point}{identifier}")?),
+        Step::Element(place) => Ok(format!(in alloc; "[{place}]")?),
+    }
+}
+
+/// Returns the steps on the way, as `head.list[2].item`, and a colon and a blank behind them; it is
+/// empty where there are none.
+///
+/// # Errors
+///
+/// `OutOfMemory` alone.
+fn path_of(alloc: Global, path: &[Step]) -> Result<String, OutOfMemory>
     ensures { IfOk result (λ s. string_bytes s ≡ path_text path.now) }
 {
     let Some((first, others)) = path.split_first() else {
         return Ok(String::new(alloc));
     };
-    let mut text = String::from_str(alloc, first.as_str())?;
-    for name in others {
-        text.push('.')?;
-        text.push_str(name.as_str())?;
+    let mut text = step_text(alloc, "", first)?;
+    for step in others {
+        let next = step_text(alloc, ".", step)?;
+        text.push_str(next.as_str())?;
     }
     text.push_str(": ")?;
     Ok(text)
 }
 
-/// Returns the fields on the way to what is refused, and the reason.
+/// Returns the way to what is refused, and the reason.
 ///
 /// # Errors
 ///
@@ -94,8 +110,8 @@ fn place_text(
 }
 
 /// Returns the lines for an error by which a text of this origin isn't converted, the first of
-/// which has no character that controls a terminal: the file and the line behind it, the names of
-/// the fields that lead to what is refused, as `head.next: `, and the reason. Where the text is
+/// which has no character that controls a terminal: the file and the line behind it, the way to
+/// what is refused, as `head.list[2].item: `, and the reason. Where the text is
 /// none of its notation, the file stands there with the line and the column, and with `explain` two
 /// more lines show that place.
 ///

@@ -1,8 +1,9 @@
 use Rattle.std.proofs.lemmas.Grind.{put_two}
-use Rattle.asn_dynamic_faults.proofs.Printed.{openings_more, was_ok}
+use Rattle.asn_dynamic_faults.specs.Texts.{opening}
+use Rattle.asn_dynamic_faults.proofs.Printed.{step_more, was_ok}
 use Rattle.asn_dynamic_faults.proofs.printing.write_openings.Goals as goal
 
-pub loop-name-preserved : goal.loop-name-preserved
-loop-name-preserved g c = λ p.
-    let h0 = c.loop-name.invariant p in
-    put_two g.W.Write.write_str_gives _ _ _ _ _ _ h0 (c.write.ensures.writes h0.plain (was_ok _ _ c.in_ok-write.was)) (openings_more c.args.path.now c.loop-name.name-index c.name-item.result c.loop-name-test.true c.name-item.is)
+pub loop-step-preserved : goal.loop-step-preserved
+loop-step-preserved g c = λ p.
+    let h0 = c.loop-step.invariant p in
+    put_two g.W.Write.write_str_gives _ _ _ _ _ _ h0 (c.write_opening.ensures h0.plain (was_ok _ _ c.in_ok-write_opening.was)) (step_more opening c.args.path.now c.loop-step.step-index c.step-item.result c.loop-step-test.true c.step-item.is)

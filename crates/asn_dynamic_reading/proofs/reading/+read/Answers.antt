@@ -61,8 +61,8 @@ read_value-returns-in-Err-read_item-clause-answer g t c =
     let bodies = bodies_of c.args.loops.now in
     let before = g.D.Decoder.pending c.args.decoder.now in
     let q = c.in-Enumerated.ensures in
-    told-refuses w.0 (failure_of c.in-Err-read_item.error) (dyn_failure c.told-in-Err-read_item.result) w.1 w.2
-    (same-refusal n before (failure_of c.in-Err-read_item.error) (item-meant g.P.Part.shape bodies c.args.part q.0 q.1 q.2) (c.in-Err-read_item.ensures.answer bodies q.0 q.1 q.2))
+    rw c.of_kind.ensures (told-refuses w.0 (failure_of c.in-Err-read_item.error) (dyn_failure c.told-in-Err-read_item.result) w.1 w.2
+    (same-refusal n before (failure_of c.in-Err-read_item.error) (item-meant g.P.Part.shape bodies c.args.part q.0 q.1 q.2) (c.in-Err-read_item.ensures.answer bodies q.0 q.1 q.2)))
 
 pub read_value-read_sequence-requires : goal.read_value-read_sequence-requires
 read_value-read_sequence-requires g t c κs within = (subst (λ m. 5 * cost (head_nodes (g.D.Decoder.pending c.args.decoder.now)) (meant g.P.Part.shape (bodies_of c.args.loops.now) c.args.part) + 2 < m) c.decreases (omega arith), (within.0, (within.1, (c.in-Sequence.ensures, c.requires))))
@@ -231,7 +231,7 @@ read_elements-read_value-requires g t c κs within =
 
 pub read_elements-returns-in-Err-read_value-clause-answer : goal.read_elements-returns-in-Err-read_value-clause-answer
 read_elements-returns-in-Err-read_value-clause-answer g t c =
-    list.refuse _ (kind_view c.args.kind) _ _ _ _ _ _ _ _ c.loop-i.invariant.read c.loop-i-test.true c.in-Err-read_value.ensures.answer
+    rw c.in_element.ensures (list.refuse _ (kind_view c.args.kind) _ _ _ _ _ _ _ _ c.loop-i.invariant.read c.loop-i-test.true c.in-Err-read_value.ensures.answer)
 
 pub read_elements-loop-i-preserved : goal.read_elements-loop-i-preserved
 read_elements-loop-i-preserved g t c =
@@ -583,7 +583,7 @@ read_choice-returns-in-Ok-None-clause-answer g t c =
     let before = g.D.Decoder.pending c.args.decoder.now in
     let mid = g.D.Decoder.pending c.open_choice.new.self in
     let opens = rw c.in-Ok-None.field-0-is at c.in-Ok-None.ensures in
-    choice.choice-unnamed shape bodies part names q.0 q.1 q.2 n before mid opens (dyn_failure c.no_choice-in-Ok-None.result) c.no_choice-in-Ok-None.ensures
+    choice.choice-unnamed shape bodies part names q.0 q.1 q.2 n before mid opens (dyn_failure c.of_kind.result) (rw c.of_kind.ensures c.no_choice-in-Ok-None.ensures)
 
 pub read_choice-returns-in-Err-clause-answer : goal.read_choice-returns-in-Err-clause-answer
 read_choice-returns-in-Err-clause-answer g t c =
@@ -596,7 +596,7 @@ read_choice-returns-in-Err-clause-answer g t c =
     let before = g.D.Decoder.pending c.args.decoder.now in
     let mid = g.D.Decoder.pending c.open_choice.new.self in
     let w = c.told.ensures in
-    told-refuses w.0 (failure_of c.in-Err.error) (dyn_failure c.told.result) w.1 w.2 (choice.unopened shape bodies part names q.0 q.1 q.2 n before (failure_of c.in-Err.error) c.in-Err.ensures)
+    rw c.of_kind-in-Err.ensures (told-refuses w.0 (failure_of c.in-Err.error) (dyn_failure c.told.result) w.1 w.2 (choice.unopened shape bodies part names q.0 q.1 q.2 n before (failure_of c.in-Err.error) c.in-Err.ensures))
 
 pub read_payload-read_value-requires : goal.read_payload-read_value-requires
 read_payload-read_value-requires g t c κs within =

@@ -13,7 +13,7 @@ use Rattle.asn_modules_parts.proofs.Runs.{going_start, going_next, going_last, g
 use Rattle.asn_modules_reader.specs.Views.{base_view, member_seen}
 use Rattle.asn_modules_reader.proofs.BasesRead.{leaf_base, reference_base, base_as, none_as, reads_as, enumerated_reads}
 use Rattle.asn_modules_reader.proofs.BracesRead.{more_seen, braces_empty, braces_all, braces_none, braces_over}
-use Rattle.asn_modules_reader.proofs.MembersRead.{component_read, component_untyped, component_unstated, components_of_read, alternative_unnamed, components_unnamed, components_without_of, components_untyped, marker_read, group_read, group_none, one_read, one_none, members_step, members_last, members_none, members_unended, version_no_comma, brace_no_comma}
+use Rattle.asn_modules_reader.proofs.MembersRead.{component_read, component_untyped, component_unstated, components_of_read, alternative_unnamed, components_unnamed, components_without_of, components_untyped, components_without_any, marker_read, group_read, group_none, one_read, one_none, members_step, members_last, members_none, members_unended, version_no_comma, brace_no_comma}
 use Rattle.asn_modules_reader.proofs.Notations.{notation_read, notation_untagged, notation_unstarted, notation_unbased, notation_unsized, integer_read, integer_none, bit_string_read, bit_string_none, fields_read, fields_none, list_read, list_unopened, list_none, choice_read, choice_unopened, choice_none}
 use Rattle.asn_modules_reader.proofs.Viewing.{leaf_viewed, integer_viewed, bit_string_viewed, choice_viewed, reference_viewed, named_viewed, components_of_viewed, one_viewed, group_viewed, notation_viewed}
 use Rattle.asn_modules_reader.proofs.notation.+read.Goals as goal
@@ -37,11 +37,17 @@ read_components_of-returns-in_err-notation-clause-found t c =
     components_untyped 64 c.args.level c.args.fields c.args.tokens.now c.in-Some.behind.now c.in-Some-take_sign.inner.now c.requires.other c.in-Some.ensures.1 c.in-Some-take_sign.ensures.1
     (c.in_err-notation.ensures.found syntax) m rest q)
 
+pub read_components_of-returns-then-not-may_have_components-clause-found : goal.read_components_of-returns-then-not-may_have_components-clause-found
+read_components_of-returns-then-not-may_have_components-clause-found t c = λ syntax m rest q.
+    components_without_any 64 c.args.level c.args.fields c.args.tokens.now c.in-Some.behind.now c.in-Some-take_sign.inner.now c.in_ok-notation.rest.now (notation_view c.in_ok-notation.notation) c.requires.other
+    c.in-Some.ensures.1 c.in-Some-take_sign.ensures.1 c.in_ok-notation.ensures.found (sym c.may_have_components.ensures ∙ c.if-not-may_have_components.true) m rest q
+
 pub read_components_of-returns-clause-found : goal.read_components_of-returns-clause-found
 read_components_of-returns-clause-found t c =
     subst (λ z. MemberParses 64 c.args.level c.args.fields kind.CloseVersion c.args.tokens.now z c.in_ok-notation.rest.now) (sym (components_of_viewed c.in_ok-notation.notation))
     (components_of_read 64 c.args.level c.args.fields kind.CloseVersion c.args.tokens.now c.in-Some.behind.now c.in-Some-take_sign.inner.now c.in_ok-notation.rest.now (notation_view c.in_ok-notation.notation)
-    c.if-not-fields.false c.in-Some.ensures.0 c.in-Some.ensures.1 c.in-Some-take_sign.ensures.0 c.in-Some-take_sign.ensures.1 c.in_ok-notation.ensures.found)
+    c.if-not-fields.false c.in-Some.ensures.0 c.in-Some.ensures.1 c.in-Some-take_sign.ensures.0 c.in-Some-take_sign.ensures.1 c.in_ok-notation.ensures.found
+    (sym c.may_have_components.ensures ∙ c.if-not-may_have_components.false))
 
 pub read_component-returns-in_err-notation-clause-found : goal.read_component-returns-in_err-notation-clause-found
 read_component-returns-in_err-notation-clause-found t c =

@@ -3,4 +3,4 @@ use Rattle.asn_modules_references.proofs.Referring.{assignments_references}
 use Rattle.asn_modules_references.proofs.check.references_of.Given as goal
 
 abbrev pub invariant-loop-assignment : goal.invariant-loop-assignment
-invariant-loop-assignment l = assignments_references l.assignments ≡ l.names.items ++ assignments_references (drop l.assignment-index l.assignments)
+invariant-loop-assignment l = assignments_references l.sort l.assignments ≡ l.names.items ++ assignments_references l.sort (drop l.assignment-index l.assignments)

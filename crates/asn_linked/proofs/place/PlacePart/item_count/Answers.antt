@@ -1,0 +1,15 @@
+use Rattle.std.proofs.Common.{◌∙◌, [], ap, length, sym}
+use Rattle.asn_linked.specs.Places.{part_view}
+use Rattle.asn_linked.proofs.Placing.{items-placed}
+use Rattle.asn_within.specs.Listed.{items_in}
+use Rattle.asn_linked.proofs.place.PlacePart.item_count.Goals as goal
+
+pub returns-in-Some : goal.returns-in-Some
+returns-in-Some c around =
+    let p = c.args.self.now in
+    c.item_count.ensures [] ∙ sym (ap length (items-placed around p ∙ ap (λ o. items_in (part_view p.number o)) c.in-Some.is))
+
+pub returns-in-None : goal.returns-in-None
+returns-in-None c around =
+    let p = c.args.self.now in
+    sym (ap length (items-placed around p ∙ ap (λ o. items_in (part_view p.number o)) c.in-None.is))

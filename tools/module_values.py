@@ -361,7 +361,10 @@ class Maker:
         if kind.endswith(" OF"):
             # The elements of a SET OF are written in another order, so at most one is made.
             count = 0 if depth > DEPTH else rng.choice([0, 1, 1, 1 if kind == "SET OF" else 2])
-            return [self.make(home, read["element"], depth + 1) for _ in range(count)]
+            try:
+                return [self.make(home, read["element"], depth + 1) for _ in range(count)]
+            except Unusable:
+                return []
         return self.leaf(home, read, sizes)
 
     def is_default(self, home, member, made):

@@ -1,34 +1,38 @@
 -- The first value that leads on in the end.
-use Rattle.std.proofs.Common.{◌≡◌, ◌≤◌, ℕ, suc, ◌+◌, ◌<◌, List, [], ◌∷◌, map, Bool, true, false, if◌then◌else◌, Option, Some, None, is_some, refl, sym, ap, subst, ◌∙◌, get_or, drop, length, add-one}
-use Rattle.std.proofs.lemmas.List.{drop_all, length-map}
+use Rattle.std.proofs.Common.{◌≡◌, ◌≤◌, ℕ, suc, ◌+◌, ◌<◌, List, [], ◌∷◌, map, Bool, true, false, if◌then◌else◌, Option, Some, None, is_some, refl, sym, ap, subst, ◌∙◌, get_or, drop, length, add-one, arith}
+use Rattle.std.proofs.lemmas.List.{drop_all, drop_more, length-map}
 use Rattle.std.specs.Option.{option_or}
 use Rattle.std.specs.Prelude.{Result}
 use Rattle.asn_modules_faults.specs.declared.cause.NameRule.TheVariants.{NoValue}
 use Rattle.asn_modules_faults.specs.declared.error.ModuleError.{ModuleError}
 use Rattle.asn_modules_names.proofs.Founds.{drop_at}
 use Rattle.asn_modules_names.specs.Faults.{Checks, Fault, Tells, fault_of}
-use Rattle.asn_modules_names.specs.Mentions.{Mention}
 use Rattle.asn_modules_values.specs.Leads.{leads, next_at}
 use Rattle.asn_modules_values.specs.ValueLinks as spec
 use Rattle.asn_modules_values.specs.ValueLinks.{endless_from, first_endless_in, link_view}
 use Rattle.asn_modules_values.specs.declared.links.ValueLink.{ValueLink}
+
+-- What stands at a place, and what follows it.
+drop_some : {A : Type 0} (xs : List A) (i : ℕ) → i < length xs → (x : A) × (drop i xs ≡ x ∷ drop (i + 1) xs)
+drop_some [] i h = absurd (omega (arith, h))
+drop_some (x ∷ xs) i h = (get_or (x ∷ xs) i x, drop_more (x ∷ xs) i x h)
 
 module _ (f : ℕ → Bool) (ls : List ValueLink) where
   -- The first from a place on.
   abbrev pub told_from : ℕ → Option Fault
   told_from i = endless_from f i (map link_view (drop i ls))
 
-  told_step : (i : ℕ) (l : ValueLink) → i < length ls → l ≡ get_or ls i l → (b : Bool) → f i ≡ b → told_from i ≡ option_or (if b then Some (fault_of NoValue (link_view l).name) else None) (told_from (i + 1))
-  told_step i l h e b is =
-      ap (λ x. endless_from f i (map link_view x)) (drop_at ls i l h e)
+  told_step : (i : ℕ) (l : ValueLink) (b : Bool) → drop i ls ≡ l ∷ drop (i + 1) ls → f i ≡ b → told_from i ≡ option_or (if b then Some (fault_of NoValue (link_view l).name) else None) (told_from (i + 1))
+  told_step i l b d is =
+      ap (λ x. endless_from f i (map link_view x)) d
       ∙ ap (λ x. option_or (if x then Some (fault_of NoValue (link_view l).name) else None) (endless_from f (suc i) (map link_view (drop (i + 1) ls)))) is
       ∙ ap (λ k. option_or (if b then Some (fault_of NoValue (link_view l).name) else None) (endless_from f k (map link_view (drop (i + 1) ls)))) (sym (add-one i))
 
-  pub ended : (i : ℕ) (l : ValueLink) → i < length ls → l ≡ get_or ls i l → f i ≡ false → told_from 0 ≡ told_from i → told_from 0 ≡ told_from (i + 1)
-  ended i l h e is was = was ∙ told_step i l h e false is
+  pub ended : (i : ℕ) → i < length ls → f i ≡ false → told_from 0 ≡ told_from i → told_from 0 ≡ told_from (i + 1)
+  ended i h is was = let d = drop_some ls i h in was ∙ told_step i d.0 false d.1 is
 
   pub endless_told : (i : ℕ) (l : ValueLink) (e : ModuleError) → i < length ls → l ≡ get_or ls i l → f i ≡ true → told_from 0 ≡ told_from i → Tells (Some (fault_of NoValue (link_view l).name)) e → Tells (told_from 0) e
-  endless_told i l e h at is was told = subst (λ o. Tells o e) (sym (was ∙ told_step i l h at true is)) told
+  endless_told i l e h at is was told = subst (λ o. Tells o e) (sym (was ∙ told_step i l true (drop_at ls i l h at) is)) told
 
   pub all_ended : (i : ℕ) → length ls ≤ i → told_from 0 ≡ told_from i → told_from 0 ≡ None
   all_ended i h was = was ∙ ap (λ x. endless_from f i (map link_view x)) (drop_all i ls h)

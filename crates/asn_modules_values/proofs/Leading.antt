@@ -21,11 +21,18 @@ and_then_twice : {A B C : Type 0} (f : B → Option C) (g : A → Option B) (o :
 and_then_twice f g None = refl
 and_then_twice f g (Some x) = refl
 
+none_more : (b : ℕ) → zero + b ≡ b
+none_more b = omega arith
+
+one_more : (a b : ℕ) → suc a + b ≡ suc (a + b)
+one_more a b = omega arith
+
 -- Past some others, and then past more.
 leads_more : (nexts : List (Option ℕ)) (a b n : ℕ) → leads nexts (suc (a + b)) n ≡ option_and_then (leads nexts b) (leads nexts a n)
-leads_more nexts zero b n = leads_suc nexts b n ∙ ap (option_and_then (leads nexts b)) (sym (leads_zero nexts n))
+leads_more nexts zero b n = ap (λ m. leads nexts (suc m) n) (none_more b) ∙ leads_suc nexts b n ∙ ap (option_and_then (leads nexts b)) (sym (leads_zero nexts n))
 leads_more nexts (suc a) b n =
-    leads_suc nexts (suc (a + b)) n
+    ap (λ m. leads nexts (suc m) n) (one_more a b)
+    ∙ leads_suc nexts (suc (a + b)) n
     ∙ and_then_same (leads nexts (suc (a + b))) (λ k. option_and_then (leads nexts b) (leads nexts a k)) (next_at nexts n) (leads_more nexts a b)
     ∙ and_then_twice (leads nexts b) (leads nexts a) (next_at nexts n)
     ∙ ap (option_and_then (leads nexts b)) (sym (leads_suc nexts a n))

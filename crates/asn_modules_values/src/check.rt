@@ -2,12 +2,13 @@
 ghost use Rattle.asn_modules_lookup.specs.Homes.{home_view};
 ghost use Rattle.asn_modules_lookup.specs.Indexes.{IsIndexOf};
 ghost use Rattle.asn_modules_lookup.specs.declared.sort.Sort.TheVariants.{Values};
-ghost use Rattle.asn_modules_names.specs.Faults.{Checks};
+ghost use Rattle.asn_modules_faults.specs.declared.cause.NameRule.TheVariants as rules;
+ghost use Rattle.asn_modules_names.specs.Faults.{Checks, Tells, fault_of};
 ghost use Rattle.asn_modules_names.specs.Mentions.{Source};
 ghost use Rattle.asn_modules_values.specs.Leads.{leads, next_at};
 ghost use Rattle.asn_modules_values.specs.ValueLinks.{endless_from, first_endless_in, link_view};
 ghost use Rattle.asn_modules_values.specs.ValueLinks.{links_of};
-ghost use Rattle.std.specs.Prelude.{◌≡◌, ℕ, IfOk, List, is_some, length, map};
+ghost use Rattle.std.specs.Prelude.{◌≡◌, ℕ, IfOk, List, Some, is_some, length, map};
 
 use crate::leads::{leads_past, next_at};
 use crate::links::{ValueLink, links_of};
@@ -54,6 +55,13 @@ fn leads_on(ends: &[Option<usize>], number: usize) -> bool
     next_at(ends, number).is_some()
 }
 
+/// Returns the error that the value leads to no value.
+fn endless(alloc: Global, link: &ValueLink<'_>) -> ModuleError
+    ensures { Tells (Some (fault_of rules.NoValue (link_view link.now).name)) result }
+{
+    broken(alloc, NameRule::NoValue, link.name)
+}
+
 /// Checks that none of these values leads anywhere in the end.
 ///
 /// # Errors
@@ -69,7 +77,7 @@ fn check_ends(
 {
     for (number, link) in links.iter().enumerate() {
         if leads_on(ends, number) {
-            return Err(broken(alloc, NameRule::NoValue, link.name));
+            return Err(endless(alloc, link));
         }
     }
     Ok(())

@@ -71,7 +71,7 @@ fn add_link<'t>(
     links: &mut Vec<ValueLink<'t>>,
     link: Option<ValueLink<'t>>,
 ) -> Result<(), AllocError>
-    ensures { OnOk result (links.new.items ≡ links.old.items ++ cons_option link []) }
+    ensures { OnOk result (links.new.items ≡ links.old.items ++ cons_option link.entry []) }
 {
     match link {
         Some(link) => {

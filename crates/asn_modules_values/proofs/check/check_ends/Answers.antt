@@ -9,11 +9,11 @@ loop-number-init c = refl
 pub returns-then-leads_on : goal.returns-then-leads_on
 returns-then-leads_on c =
     endless_told (λ n. is_some (next_at c.args.ends.now n)) c.args.links.now c.loop-number.number c.index-links-number.result _ c.loop-number-test.true c.index-links-number.is
-    (sym c.leads_on.ensures ∙ c.if-leads_on.true) c.loop-number.invariant c.broken.ensures
+    (sym c.leads_on.ensures ∙ c.if-leads_on.true) c.loop-number.invariant c.endless.ensures
 
 pub loop-number-preserved : goal.loop-number-preserved
 loop-number-preserved c =
-    ended (λ n. is_some (next_at c.args.ends.now n)) c.args.links.now c.loop-number.number c.index-links-number.result c.loop-number-test.true c.index-links-number.is
+    ended (λ n. is_some (next_at c.args.ends.now n)) c.args.links.now c.loop-number.number c.loop-number-test.true
     (sym c.leads_on.ensures ∙ c.if-leads_on.false) c.loop-number.invariant
 
 pub returns : goal.returns

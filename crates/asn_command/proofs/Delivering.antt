@@ -81,6 +81,33 @@ module _ (A R : List ℕ → List ℕ → Type 0) (file : List ℕ) (source outp
   told_of TooLong e = e.0.1
   told_of NotText e = e.0.1
 
+  pub done_of : (r : Status) → Ends r → r ≡ Done → ReadWhole source (λ input. Wrote output (A input))
+  done_of r e h = (subst Ends h e).0
+
+  pub quiet_of : (r : Status) → Ends r → r ≡ Done → IsSilent errors
+  quiet_of r e h = (subst Ends h e).1
+
+  pub refused_of : (r : Status) → Ends r → r ≡ Refused → ReadWhole source (λ input. Wrote errors (R input))
+  refused_of r e h = (subst Ends h e).0
+
+  pub fault_of : (r : Status) → Ends r → r ≡ ReadFault → Increased source.faults_before source.faults_after
+  fault_of r e h = (subst Ends h e).0.0
+
+  pub write_of : (r : Status) → Ends r → r ≡ WriteFault → Increased output.faults_before output.faults_after ⊎ Increased errors.faults_before errors.faults_after
+  write_of r e h = (subst Ends h e).0
+
+  pub cut_of : (r : Status) → Ends r → r ≡ WriteFault → IsSilent output ⊎ ReadWhole source (λ input. WroteFront output (A input))
+  cut_of r e h = (subst Ends h e).1
+
+  pub long_of : (r : Status) → Ends r → r ≡ TooLong → ReadPastLimit source
+  long_of r e h = (subst Ends h e).0.0
+
+  pub text_of : (r : Status) → Ends r → r ≡ NotText → ReadWhole source (λ input. IsUtf8 input → ⊥)
+  text_of r e h = (subst Ends h e).0.0
+
+  pub other_of : (r : Status) → Ends r → r ≡ BadCommand → ⊥
+  other_of r e h = subst Ends h e
+
   -- Nothing is written to the output.
   pub silent_of : (r : Status) → Ends r → (r ≡ Refused) ⊎ ((r ≡ ReadFault) ⊎ ((r ≡ WantOfMemory) ⊎ ((r ≡ TooLong) ⊎ (r ≡ NotText)))) → IsSilent output
   silent_of r e (inl h) = (subst Ends h e).1

@@ -1,5 +1,5 @@
 -- Texts on one line, byte by byte.
-use Rattle.std.proofs.Common.{◌≡◌, ◌≢◌, ◌<◌, ◌≤◌, ◌+◌, ◌++◌, ℕ, List, [], ◌∷◌, length, drop, get_or, Bool, true, false, nat_eq, ◌==◌, if◌then◌else◌, Option, Some, None, option_map, refl, sym, ap, subst, ◌∙◌, append-assoc, append-nil, eqb→eq}
+use Rattle.std.proofs.Common.{◌≡◌, ◌≢◌, ◌<◌, ◌≤◌, ◌+◌, ◌++◌, ℕ, List, [], ◌∷◌, length, drop, get_or, Bool, true, false, nat_eq, ◌==◌, if◌then◌else◌, Option, Some, None, option_map, refl, sym, ap, subst, ◌∙◌, append_assoc, append-nil, eqb→eq}
 use Rattle.std.proofs.lemmas.List.{drop_all, drop_more}
 use Rattle.asn_command.specs.OneLine.{behind, joined, laid, step_of}
 use Rattle.asn_command.specs.declared.one_line.Step.{Step}
@@ -13,7 +13,7 @@ put front rest = option_map (λ bytes. front ++ bytes) rest
 
 put_more : (front : List ℕ) (b : ℕ) (rest : Option (List ℕ)) → put front (option_map (λ bytes. b ∷ bytes) rest) ≡ put (front ++ b ∷ []) rest
 put_more front b None = refl
-put_more front b (Some bytes) = ap (λ l. Some l) (sym (append-assoc front (b ∷ []) bytes))
+put_more front b (Some bytes) = ap (λ l. Some l) (sym (append_assoc front (b ∷ []) bytes))
 
 -- The first byte of those from a place on.
 one_more : (place : Within) (text : List ℕ) (i b : ℕ) → i < length text → b ≡ get_or text i b → laid place (drop i text) ≡ joined (step_of place b) (laid (behind place b) (drop (i + 1) text))

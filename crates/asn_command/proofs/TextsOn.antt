@@ -1,5 +1,5 @@
 -- Texts on types, one after another.
-use Rattle.std.proofs.Common.{◌≡◌, ◌<◌, ◌≤◌, ◌+◌, ◌++◌, ℕ, List, [], ◌∷◌, length, take, drop, get_or, map, min, Bool, true, false, nat_le, String, Global, string_bytes, refl, sym, ap, ap₂, ◌∙◌, append-assoc, append-nil, arith}
+use Rattle.std.proofs.Common.{◌≡◌, ◌<◌, ◌≤◌, ◌+◌, ◌++◌, ℕ, List, [], ◌∷◌, length, take, drop, get_or, map, min, Bool, true, false, nat_le, String, Global, string_bytes, refl, sym, ap, ap₂, ◌∙◌, append_assoc, append-nil, arith}
 use Rattle.std.proofs.lemmas.Bool.{leb-true, leb-false}
 use Rattle.std.specs.List.{flat_map}
 use Rattle.std.proofs.lemmas.List.{drop_all, drop_more, flat_map_more, map-append, take_more}
@@ -45,5 +45,5 @@ module _ (f : names.TypeName → spec.Shape → List ℕ) where
       let front : drop i ns ≡ n ∷ drop (i + 1) ns = drop_more ns i n h ∙ ap (λ x. x ∷ drop (i + 1) ns) (sym is_n) in
       let back : drop i ss ≡ s ∷ drop (i + 1) ss = drop_more ss i s k ∙ ap (λ x. x ∷ drop (i + 1) ss) (sym is_s) in
       let next : texts_from ns ss i ≡ f (type_name_view n) (shape_view s) ++ texts_from ns ss (i + 1) = ap₂ (λ x y. for_each f (map type_name_view x) (map shape_view y)) front back in
-      e ∙ ap (λ x. now ++ x) next ∙ sym (append-assoc now (f (type_name_view n) (shape_view s)) (texts_from ns ss (i + 1)))
+      e ∙ ap (λ x. now ++ x) next ∙ sym (append_assoc now (f (type_name_view n) (shape_view s)) (texts_from ns ss (i + 1)))
       ∙ ap (λ x. x ++ texts_from ns ss (i + 1)) (ap (λ x. now ++ x) (sym l) ∙ sym a)

@@ -1,5 +1,5 @@
 -- What a text is converted to.
-use Rattle.std.specs.Prelude.{◌≡◌, ◌⊎◌, ℕ, List, [], ◌∷◌, ◌++◌, codes, String, string_bytes, IsUtf8, Bool, Option, Some, None}
+use Rattle.std.specs.Prelude.{◌≡◌, ◌⊎◌, ℕ, List, [], ◌∷◌, ◌++◌, codes, String, string_bytes, IsUtf8, Bool, Option, Some, None, Result, Ok, Err}
 use Rattle.std.specs.Borrow.{Bor}
 use Rattle.std.specs.Global.{Global}
 use Rattle.avn_grammar.specs.declared.limits.TheConstants.{LEVEL_LIMIT}
@@ -31,15 +31,15 @@ pub record IsRefusal (from to : Codec) (s : Shape) (o : Origin) (explain : Bool)
   pub refuses : Refuses LEVEL_LIMIT from to s text (convert_refusal_of error)
   pub lines : IsRefusalLines o error text explain due
 
+-- The text is the canonical one of the value that the text of this origin decodes to, or these are the lines of its refusal.
+abbrev pub IsConverted : Codec → Codec → Shape → Origin → Bool → List ℕ → Result (String Global) (String Global) → Type 0
+IsConverted from to s o explain text (Ok written) = Converts LEVEL_LIMIT from to s text (string_bytes written)
+IsConverted from to s o explain text (Err lines) = IsRefusal from to s o explain text (string_bytes lines)
+
 -- The reply answers the text, or refuses it.
 abbrev pub IsConversion : Codec → Codec → Shape → Origin → Bool → List ℕ → Reply → Type 0
 IsConversion from to s o explain text (Answer due) = IsAnswer from to s text (string_bytes due)
 IsConversion from to s o explain text (Refusal status lines) = (status ≡ Refused) × IsRefusal from to s o explain text (string_bytes lines)
-
--- Nothing is refused.
-abbrev pub IsAnswered : Reply → Type 0
-IsAnswered (Answer due) = Unit {0}
-IsAnswered (Refusal status lines) = ⊥
 
 -- A file, whole.
 abbrev pub file_origin : Bor (List ℕ) → Origin

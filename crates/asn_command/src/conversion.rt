@@ -1,14 +1,10 @@
 //! Converts a text by a type.
-ghost use Rattle.asn_codec.specs.Conversion.{IsConvertible, is_refusal_out_of_memory};
-ghost use Rattle.asn_command.specs.Conversions.{IsAnswered, IsConversion, not_text_line};
-ghost use Rattle.asn_dynamic.specs.Converting.{convert_refusal_of};
+ghost use Rattle.asn_command.specs.Conversions.{IsConversion, IsConverted, not_text_line};
 ghost use Rattle.asn_model.specs.Readable.{is_readable};
-ghost use Rattle.avn_grammar.specs.declared.limits.TheConstants.{LEVEL_LIMIT};
-ghost use Rattle.asn_value_refusals.specs.Lines.{IsRefusalLines};
-ghost use Rattle.std.specs.Prelude.{◌≡◌, ◌∷◌, ◌++◌, [], IfOk, OnOk, false, string_bytes, true};
+ghost use Rattle.std.specs.Prelude.{◌≡◌, ◌∷◌, ◌++◌, [], IfOk, string_bytes, true};
 
 use asn_core::{Codec, OutOfMemory};
-use asn_dynamic::{ConvertError, Part, convert_part};
+use asn_dynamic::{Part, convert_part};
 use asn_replies::Reply;
 use asn_value_refusals::{Origin, origin_of, refusal_lines};
 use std::alloc::Global;
@@ -51,27 +47,37 @@ pub fn not_text_line(alloc: Global, origin: Origin<'_>) -> Result<String, OutOfM
     Ok(format!(in alloc; "{front}: isn't UTF-8\n")?)
 }
 
-/// Returns the lines for the error by which the text of this origin isn't converted.
+/// Returns the canonical text of the value that the text of this origin stands for, or the lines that
+/// say why it is refused.
 ///
 /// # Errors
 ///
-/// `OutOfMemory` alone, and always where that is the error.
-pub fn refused_lines(
+/// `OutOfMemory` alone.
+pub fn converted<P: Part>(
     alloc: Global,
+    conversion: Conversion<P>,
     origin: Origin<'_>,
     text: &str,
-    error: &ConvertError,
-    explain: bool,
-) -> Result<String, OutOfMemory>
-    ensures lines { IfOk result (λ s.
-        IsRefusalLines origin.entry error.now text.now explain (string_bytes s)) }
-    ensures memory { OnOk result
-        (is_refusal_out_of_memory (convert_refusal_of error.now) ≡ false) }
+) -> Result<Result<String, String>, OutOfMemory>
+    requires { is_readable (P.shape [] conversion.part) ≡ true }
+    ensures { IfOk result (IsConverted conversion.from conversion.to
+        (P.shape [] conversion.part) origin.entry conversion.explain text.now) }
 {
-    if error.is_out_of_memory() {
-        return Err(OutOfMemory);
+    let Conversion {
+        part,
+        from,
+        to,
+        explain,
+    } = conversion;
+    match convert_part(alloc, from, to, part, text) {
+        Ok(written) => Ok(Ok(written)),
+        Err(error) => {
+            if error.is_out_of_memory() {
+                return Err(OutOfMemory);
+            }
+            Ok(Err(refusal_lines(alloc, origin, text, &error, explain)?))
+        }
     }
-    refusal_lines(alloc, origin, text, error, explain)
 }
 
 /// Returns the canonical text of the value that the text of this origin stands for, with a line
@@ -87,20 +93,11 @@ pub fn conversion_reply<P: Part>(
     text: &str,
 ) -> Result<Reply, OutOfMemory>
     requires { is_readable (P.shape [] conversion.part) ≡ true }
-    ensures reply { IfOk result (IsConversion conversion.from conversion.to
+    ensures { IfOk result (IsConversion conversion.from conversion.to
         (P.shape [] conversion.part) origin.entry conversion.explain text.now) }
-    // A text that stands for a value which can be written is answered.
-    ensures complete { IsConvertible LEVEL_LIMIT conversion.from conversion.to
-        (P.shape [] conversion.part) text.now → IfOk result IsAnswered }
 {
-    let Conversion {
-        part,
-        from,
-        to,
-        explain,
-    } = conversion;
-    match convert_part(alloc, from, to, part, text) {
+    match converted(alloc, conversion, origin, text)? {
         Ok(written) => Ok(Reply::Answer(with_feed(written)?)),
-        Err(error) => Ok(Reply::refused(refused_lines(alloc, origin, text, &error, explain)?)),
+        Err(lines) => Ok(Reply::refused(lines)),
     }
 }

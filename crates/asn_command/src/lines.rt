@@ -3,7 +3,7 @@ ghost use Rattle.asn_command.specs.Conversions.{IsLineConversion, IsLineOf, IsSa
 ghost use Rattle.asn_model.specs.Readable.{is_readable};
 ghost use Rattle.std.specs.Prelude.{◌≡◌, [], IfOk, string_bytes, true};
 
-use crate::conversion::{Conversion, not_text_line, refused_lines, with_feed};
+use crate::conversion::{Conversion, converted, not_text_line, with_feed};
 use crate::one_line::one_line;
 use asn_core::{Codec, OutOfMemory};
 use asn_dynamic::{Part, convert_part};
@@ -52,10 +52,20 @@ fn same_on_one_line<P: Part>(
         return Ok(None);
     };
     match convert_part(alloc, Codec::Avn, Codec::Avn, part, &line) {
-        Ok(again) if again.as_str() == text => Ok(Some(line)),
-        Ok(_other) => Ok(None),
-        Err(error) if error.is_out_of_memory() => Err(OutOfMemory),
-        Err(_error) => Ok(None),
+        Ok(again) => {
+            if again.as_str() == text {
+                Ok(Some(line))
+            } else {
+                Ok(None)
+            }
+        }
+        Err(error) => {
+            if error.is_out_of_memory() {
+                Err(OutOfMemory)
+            } else {
+                Ok(None)
+            }
+        }
     }
 }
 
@@ -103,14 +113,9 @@ impl<P: Part> LineWork for ConvertLines<'_, P> {
         let Ok(text) = str::from_utf8(line) else {
             return Ok(LineReply::Refusal(not_text_line(alloc, origin)?));
         };
-        let conversion = self.conversion;
-        match convert_part(alloc, conversion.from, conversion.to, conversion.part, text) {
-            Ok(written) => line_reply(alloc, conversion, origin, written),
-            Err(error) => {
-                let explain = conversion.explain;
-                let lines = refused_lines(alloc, origin, text, &error, explain)?;
-                Ok(LineReply::Refusal(lines))
-            }
+        match converted(alloc, self.conversion, origin, text)? {
+            Ok(written) => line_reply(alloc, self.conversion, origin, written),
+            Err(lines) => Ok(LineReply::Refusal(lines)),
         }
     }
 }

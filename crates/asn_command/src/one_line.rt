@@ -70,13 +70,12 @@ fn laid(alloc: Global, text: &[u8]) -> Result<Option<Vec<u8>>, OutOfMemory>
     let mut bytes = Vec::new(alloc);
     let mut place = Within::Line;
     for byte in text {
-        let byte = *byte;
-        match place.next(byte) {
+        match place.next(*byte) {
             Step::Stop => return Ok(None),
             Step::Skip => {}
             Step::Put(put) => bytes.push(put)?,
         }
-        place = place.behind(byte);
+        place = place.behind(*byte);
     }
     Ok(Some(bytes))
 }

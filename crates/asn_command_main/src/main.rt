@@ -29,9 +29,17 @@ fn usage(line: String) -> Ended {
     })
 }
 
-/// Does what the words of the command line ask for, and returns how it ended.
-fn run(rt: &HostRuntime, words: &[String]) -> Status {
-    match read_command_line(rt.alloc(), words) {
+/// Does what the words of the command line ask for, and returns how it ended. The first of them is
+/// the name of the program, which is `asn`, whatever its file is called.
+fn run(rt: &HostRuntime, words: Vec<String>) -> Status {
+    let mut words = words;
+    if let Some(first) = words.first_mut() {
+        match String::from_str(rt.alloc(), "asn") {
+            Ok(name) => *first = name,
+            Err(_refused) => return Status::WantOfMemory,
+        }
+    }
+    match read_command_line(rt.alloc(), words.as_slice()) {
         Ok(asked) => reply_to(rt, &asked),
         Err(Unasked::Help(text)) => write(rt, Ok(Reply::Answer(text))),
         Err(Unasked::Usage(line)) => write(rt, usage(line)),
@@ -52,7 +60,7 @@ fn unread_words(rt: &HostRuntime, error: &Error) -> Ended {
 fn main(rt: HostRuntime) -> ExitCode {
     let status = match env::args(&rt) {
         Ok(words) => match words.collect::<Vec<String>>(rt.alloc()) {
-            Ok(words) => run(&rt, words.as_slice()),
+            Ok(words) => run(&rt, words),
             Err(_refused) => Status::WantOfMemory,
         },
         Err(error) => write(&rt, unread_words(&rt, &error)),

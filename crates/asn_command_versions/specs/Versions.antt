@@ -1,7 +1,7 @@
 -- Older and newer versions of a type of modules.
 use Rattle.std.specs.Prelude.{◌≡◌, ◌⊎◌, ℕ, ◌<◌, ◌^◌, List, ◌++◌, codes, string_bytes, true, Some, None, Result, Ok, Err}
 use Rattle.asn_command.specs.Namings.{IsMissingReply}
-use Rattle.asn_command_versions.specs.declared.versions.Versions as code
+use Rattle.asn_command_versions.specs.declared.pair.Versions as code
 use Rattle.asn_growth.specs.Differences.{differences_of}
 use Rattle.asn_growth.specs.Grows.{Grows}
 use Rattle.asn_growth.specs.Parts.{node_count}

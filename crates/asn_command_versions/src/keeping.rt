@@ -3,7 +3,7 @@ ghost use Rattle.asn_command_versions.specs.Keeping.{IsLineKept};
 ghost use Rattle.asn_model.specs.ShapeView.{shape_view};
 ghost use Rattle.std.specs.Prelude.{◌≡◌, IfOk};
 
-use crate::versions::Versions;
+use crate::pair::Versions;
 use asn_command::{not_text_line, with_feed};
 use asn_core::{Codec, OutOfMemory};
 use asn_filter::cut;

@@ -4,8 +4,10 @@
 
 mod growth;
 mod keeping;
+mod pair;
 mod versions;
 
 pub use growth::growth_reply;
 pub use keeping::KeepLines;
-pub use versions::{Versions, versions_of};
+pub use pair::Versions;
+pub use versions::versions_of;

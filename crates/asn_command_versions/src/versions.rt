@@ -1,38 +1,20 @@
 //! Finds an older and a newer version of a type.
 ghost use Rattle.asn_command_versions.specs.Versions.{AreVersions, IsWhole, large_line};
-ghost use Rattle.asn_growth.specs.Grows.{Grows};
-ghost use Rattle.asn_model.specs.Readable.{is_readable};
-ghost use Rattle.asn_model.specs.ShapeView.{shape_view};
 ghost use Rattle.asn_modules.specs.Modules.{modules_view};
 ghost use Rattle.asn_replies.specs.Reading.{IsRefusal};
 ghost use Rattle.asn_replies.specs.declared.status.Status.TheVariants as status;
-ghost use Rattle.std.specs.Prelude.{◌≡◌, IfOk, true};
+ghost use Rattle.std.specs.Prelude.{IfOk};
 
+use crate::pair::Versions;
 use asn_command::missing_reply;
 use asn_core::OutOfMemory;
 use asn_growth::{Growth, grows_check};
 use asn_linked_expansion::{ExpansionFault, expand};
 use asn_model::Shape;
 use asn_modules::Modules;
-use asn_replies::Reply;
+use asn_replies::{Reply, Status};
 use asn_version_reports::differences_report;
 use std::alloc::Global;
-
-/// Holds an older and a newer version of a type. In each of them every type that it names stands in
-/// the place of its name.
-#[derive(Drop)]
-pub struct Versions {
-    /// Is the older version.
-    pub(crate) older: Shape,
-    /// Is the newer version.
-    pub(crate) newer: Shape,
-    /// Values can be read and written by the older version.
-    ghost readable_older: { is_readable (shape_view older) ≡ true },
-    /// And by the newer one.
-    ghost readable_newer: { is_readable (shape_view newer) ≡ true },
-    /// The newer one is a later version of the older one.
-    ghost grown: { Grows (shape_view older) (shape_view newer) },
-}
 
 /// Returns the refusal of a command whose type is too large to be compared.
 ///
@@ -42,8 +24,10 @@ pub struct Versions {
 fn large_reply(alloc: Global, name: &str) -> Result<Reply, OutOfMemory>
     ensures { IfOk result (IsRefusal status.Refused (large_line name.now)) }
 {
-    let line = format!(in alloc; "asn: the type `{name}` is too large to be compared\n")?;
-    Ok(Reply::refused(line))
+    Ok(Reply::Refusal {
+        status: Status::Refused,
+        line: format!(in alloc; "asn: the type `{name}` is too large to be compared\n")?,
+    })
 }
 
 /// Returns the shape of the type that the text names, in which each type stands in the place of its
@@ -62,8 +46,7 @@ fn whole_type(
     let Some(number) = modules.number(name) else {
         return Ok(Err(missing_reply(alloc, name)?));
     };
-    let types = modules.types();
-    match expand(alloc, types, number as u32) {
+    match expand(alloc, modules.types(), number as u32) {
         Ok(shape) => Ok(Ok(shape)),
         Err(ExpansionFault::TooLarge) => Ok(Err(large_reply(alloc, name)?)),
         Err(ExpansionFault::OutOfMemory) => Err(OutOfMemory),

@@ -57,7 +57,9 @@ impl Progress for Meter<'_> {
             self.shown = seconds;
             self.refused = Some(refused);
             // That it can't be shown is no reason to stop.
-            let _shown = eprintln!(self.rt; "{front}asn: {lines} lines, {refused} refused, {rate}/s");
+            let _shown = eprintln!(self.rt;
+                "{front}asn: {lines} lines, {refused} refused, {rate}/s"
+            );
         }
     }
 }

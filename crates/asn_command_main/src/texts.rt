@@ -4,9 +4,8 @@ use crate::streams::{Stream, convert, work_through, write};
 use asn_command::{Conversion, missing_reply};
 use asn_command_versions::{KeepLines, Versions, versions_of};
 use asn_core::{Codec, OutOfMemory};
-use asn_samples::shape_of;
-
 use asn_replies::Status;
+use asn_samples::shape_of;
 
 /// States how values are converted, aside from their type.
 #[derive(Clone, Copy)]

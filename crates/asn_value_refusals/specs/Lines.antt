@@ -16,7 +16,7 @@ use Rattle.asn_fault.specs.declared.decode.DecodeErrorKind.{DecodeErrorKind}
 use Rattle.asn_fault.specs.declared.decode.DecodeErrorKind.TheVariants.{CodecSpecific, Parser}
 use Rattle.asn_lexer.specs.Places.{column_after, line_after}
 use Rattle.asn_value_refusals.specs.declared.origin.Origin.{Origin}
-use Rattle.serde_json.specs.Read.{read_text}
+use Rattle.serde_json.specs.Read.{read as read_text}
 
 -- The number of a line behind a colon, if there is one.
 abbrev pub line_text : Option ℕ → List ℕ

@@ -1,6 +1,6 @@
 //! Finds the place at which a text is at fault.
 ghost use Rattle.asn_value_refusals.specs.Lines.{is_text_at_fault};
-ghost use Rattle.serde_json.specs.Read.{read_text};
+ghost use Rattle.serde_json.specs.Read.{read as read_text};
 ghost use Rattle.std.specs.Prelude.{◌≡◌, IfOk, is_some, not};
 
 use asn_core::OutOfMemory;

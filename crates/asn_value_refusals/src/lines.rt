@@ -1,6 +1,6 @@
 //! Makes the lines of a refusal.
-ghost use Rattle.asn_value_refusals.specs.Lines.{IsRefusalLines, on_one_line, path_text};
-ghost use Rattle.asn_value_refusals.specs.Lines.{place_text, reason_text, step_text};
+ghost use Rattle.asn_value_refusals.specs.Lines.{IsExplanation, IsRefusalLines, on_one_line};
+ghost use Rattle.asn_value_refusals.specs.Lines.{path_text, place_text, reason_text, step_text};
 ghost use Rattle.std.specs.Prelude.{◌≡◌, ◌++◌, IfOk, codes, string_bytes, take};
 
 use crate::fault::fault_offset;
@@ -109,6 +109,25 @@ fn place_text(
     Ok(format!(in alloc; "{file}:{line}:{column}")?)
 }
 
+/// Returns the lines that show the place of the text, if that is asked for, and else no text.
+///
+/// # Errors
+///
+/// `OutOfMemory` alone.
+fn explanation(
+    alloc: Global,
+    text: &str,
+    offset: usize,
+    explain: bool,
+) -> Result<String, OutOfMemory>
+    ensures { IfOk result (λ s. IsExplanation explain (string_bytes s)) }
+{
+    if explain {
+        return shown(alloc, text, offset);
+    }
+    Ok(String::new(alloc))
+}
+
 /// Returns the lines for an error by which a text of this origin isn't converted, the first of
 /// which has no character that controls a terminal: the file and the line behind it, the way to
 /// what is refused, as `head.list[2].item: `, and the reason. Where the text is
@@ -134,10 +153,8 @@ pub fn refusal_lines(
         return line_of(alloc, &front, &reason);
     };
     let front = place_text(alloc, origin, text, offset)?;
+    let more = explanation(alloc, text, offset, explain)?;
     let mut lines = line_of(alloc, &front, &reason)?;
-    if explain {
-        let more = shown(alloc, text, offset)?;
-        lines.push_str(more.as_str())?;
-    }
+    lines.push_str(more.as_str())?;
     Ok(lines)
 }

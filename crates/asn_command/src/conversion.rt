@@ -47,8 +47,8 @@ pub fn not_text_line(alloc: Global, origin: Origin<'_>) -> Result<String, OutOfM
     Ok(format!(in alloc; "{front}: isn't UTF-8\n")?)
 }
 
-/// Returns the canonical text of the value that the text of this origin stands for, or the lines that
-/// say why it is refused.
+/// Returns the canonical text of the value that the text of this origin stands for, or the lines
+/// that say why it is refused.
 ///
 /// # Errors
 ///

@@ -45,7 +45,8 @@ fn whole_reply<P: Part, S: Source>(
 }
 
 /// Reads the file to its end, and writes the canonical text of the value that its text stands for,
-/// with a line feed behind it, to the output, or to the errors the lines that say why there is none.
+/// with a line feed behind it, to the output, or to the errors the lines that say why there is
+/// none.
 pub fn convert_whole<P: Part, S: Source, K: Sink, E: Sink>(
     alloc: Global,
     conversion: Conversion<P>,

@@ -64,8 +64,8 @@ fn copies_a_type(rt: HostRuntime) -> Result<(), Fail> {
     Ok(())
 }
 
-/// Lists types, and whether the type 0 can be expanded: as many types are open at once as may be, and
-/// one more.
+/// Lists types, and whether the type 0 can be expanded: as many types are open at once as may be,
+/// and one more.
 const OPEN: [(Sample, bool); 2] = [(Sample::Chain(64), true), (Sample::Chain(65), false)];
 
 /// Lists types, and whether the type 0 can be expanded: it has two nodes fewer than the limit, and

@@ -22,18 +22,7 @@ whole_known (Some xs) (Some ys) input read e c t =
     let same : xs ≡ input = cc e in
     sym (append-nil read) ∙ ap (λ z. read ++ z) (sym t) ∙ sym c ∙ same
 
-module _ (A R : List ℕ → List ℕ → Type 0) (file : List ℕ) (source output errors : Transfer) where
-  -- What a status says.
-  abbrev pub Ends : Status → Type 0
-  Ends Done = ReadWhole source (λ input. Wrote output (A input)) × IsSilent errors
-  Ends Refused = ReadWhole source (λ input. Wrote errors (R input)) × IsSilent output
-  Ends BadCommand = ⊥
-  Ends ReadFault = (Increased source.faults_before source.faults_after × Appends errors.bytes_before errors.bytes_after (fault_line file)) × IsSilent output
-  Ends WriteFault = (Increased output.faults_before output.faults_after ⊎ Increased errors.faults_before errors.faults_after) × (IsSilent output ⊎ ReadWhole source (λ input. WroteFront output (A input)))
-  Ends WantOfMemory = IsSilent output
-  Ends TooLong = (ReadPastLimit source × Appends errors.bytes_before errors.bytes_after (length_line file)) × IsSilent output
-  Ends NotText = (ReadWhole source (λ input. IsUtf8 input → ⊥) × Appends errors.bytes_before errors.bytes_after (no_text_line file)) × IsSilent output
-
+module _ (A R : List ℕ → List ℕ → Type 0) (file : List ℕ) (source : Transfer) where
   refusal_so : (told st : Status) (lines is : List ℕ) → IsWholeRefusal R file source is told → st ≡ told → lines ≡ is → IsWholeRefusal R file source lines st
   refusal_so told st lines is w t l = subst (λ x. IsWholeRefusal R file source lines x) (sym t) (subst (λ x. IsWholeRefusal R file source x told) (sym l) w)
 
@@ -47,6 +36,18 @@ module _ (A R : List ℕ → List ℕ → Type 0) (file : List ℕ) (source outp
   of_unread unread.NotText (Answer t) f l n p = absurd p
   of_unread unread.NotText (Refusal st lines) f l n p = refusal_so NotText st (string_bytes lines) (no_text_line file) (n refl, refl) p.0 p.1
   of_unread unread.OutOfMemory reply f l n p = absurd p
+
+module _ (A R : List ℕ → List ℕ → Type 0) (file : List ℕ) (source output errors : Transfer) where
+  -- What a status says.
+  abbrev pub Ends : Status → Type 0
+  Ends Done = ReadWhole source (λ input. Wrote output (A input)) × IsSilent errors
+  Ends Refused = ReadWhole source (λ input. Wrote errors (R input)) × IsSilent output
+  Ends BadCommand = ⊥
+  Ends ReadFault = (Increased source.faults_before source.faults_after × Appends errors.bytes_before errors.bytes_after (fault_line file)) × IsSilent output
+  Ends WriteFault = (Increased output.faults_before output.faults_after ⊎ Increased errors.faults_before errors.faults_after) × (IsSilent output ⊎ ReadWhole source (λ input. WroteFront output (A input)))
+  Ends WantOfMemory = IsSilent output
+  Ends TooLong = (ReadPastLimit source × Appends errors.bytes_before errors.bytes_after (length_line file)) × IsSilent output
+  Ends NotText = (ReadWhole source (λ input. IsUtf8 input → ⊥) × Appends errors.bytes_before errors.bytes_after (no_text_line file)) × IsSilent output
 
   answered : (due : List ℕ) (r : Status) → ReadWhole source (λ input. A input due) → Outcome due Done output r → IsSilent errors → Ends r
   answered due r w (Outcome.whole a) q = (record { input = w.input; whole = w.whole; has = record { bytes = due; has = w.has; appended = a } }, q)

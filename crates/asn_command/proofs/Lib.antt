@@ -1,5 +1,5 @@
 mod Delivering
 mod Laid
-mod SameLine
+mod Refused
 mod TextsOn
 mod Wholes

@@ -1,5 +1,5 @@
 -- What is told of modules that are refused.
-use Rattle.std.specs.Prelude.{◌≡◌, ◌≢◌, ℕ, List, ◌++◌, codes, string_bytes}
+use Rattle.std.specs.Prelude.{◌≡◌, ◌≢◌, ◌⊎◌, ℕ, List, ◌++◌, codes, string_bytes}
 use Rattle.asn_modules.specs.Modules.{Modules}
 use Rattle.asn_modules.specs.Reading.{AreModules, IsModulesRefusal}
 use Rattle.asn_modules_faults.specs.Errors.{error_text}
@@ -21,7 +21,17 @@ pub record IsModulesReply (texts : List Named) (reply : Reply) : Type 0 where
   pub refusal : IsModulesRefusal texts error
   pub told : IsReplyTo error reply
 
+-- The bytes are what this says of the modules that the texts are.
+pub record IsModulesText (text : Modules → List ℕ) (texts : List Named) (due : List ℕ) : Type 0 where
+  pub modules : Modules
+  pub read : AreModules texts modules
+  pub is : due ≡ text modules
+
+-- The reply is what this says of them.
+abbrev pub IsModulesAnswer : (Modules → List ℕ) → List Named → Reply → Type 0
+IsModulesAnswer text texts (Answer due) = IsModulesText text texts (string_bytes due)
+IsModulesAnswer text texts (Refusal status line) = ⊥
+
 -- The reply is what this says of the modules that the texts are, or refuses the texts.
 abbrev pub IsReport : (Modules → List ℕ) → List Named → Reply → Type 0
-IsReport text texts (Answer due) = (m : Modules) × AreModules texts m × (string_bytes due ≡ text m)
-IsReport text texts (Refusal status line) = IsModulesReply texts (Refusal status line)
+IsReport text texts reply = IsModulesAnswer text texts reply ⊎ IsModulesReply texts reply

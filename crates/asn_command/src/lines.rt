@@ -1,5 +1,7 @@
 //! Converts a stream of texts, one a line.
 ghost use Rattle.asn_command.specs.Conversions.{IsLineConversion, IsLineOf, IsSameLine};
+ghost use Rattle.asn_command.specs.Conversions.{no_line_line};
+ghost use Rattle.asn_core.specs.declared.codec.Codec.TheVariants as codec;
 ghost use Rattle.asn_model.specs.Readable.{is_readable};
 ghost use Rattle.std.specs.Prelude.{◌≡◌, [], IfOk, string_bytes, true};
 
@@ -69,6 +71,39 @@ fn same_on_one_line<P: Part>(
     }
 }
 
+/// Returns the line that says that a value of this origin has no text on one line.
+///
+/// # Errors
+///
+/// `OutOfMemory` alone.
+fn no_line(alloc: Global, origin: Origin<'_>) -> Result<String, OutOfMemory>
+    ensures { IfOk result (λ s. string_bytes s ≡ no_line_line origin.entry) }
+{
+    let front = origin_of(alloc, origin)?;
+    Ok(format!(in alloc; "{front}: has no text on one line\n")?)
+}
+
+/// Returns what a line of this origin comes to that is converted to this text in value notation: a
+/// text of the same value on one line, if there is one.
+///
+/// # Errors
+///
+/// `OutOfMemory` alone.
+fn laid_reply<P: Part>(
+    alloc: Global,
+    part: P,
+    origin: Origin<'_>,
+    written: &str,
+) -> Result<LineReply, OutOfMemory>
+    requires { is_readable (P.shape [] part) ≡ true }
+    ensures { IfOk result (IsLineOf codec.Avn (P.shape [] part) origin.entry written.now) }
+{
+    match same_on_one_line(alloc, part, written)? {
+        Some(line) => Ok(LineReply::Answer(with_feed(line)?)),
+        None => Ok(LineReply::Refusal(no_line(alloc, origin)?)),
+    }
+}
+
 /// Returns what a line of this origin comes to that is converted to this text: itself, or where it
 /// has line feeds, as value notation has, a text of the same value on one line.
 ///
@@ -85,17 +120,12 @@ fn line_reply<P: Part>(
     ensures { IfOk result (IsLineOf conversion.to (P.shape [] conversion.part)
         origin.entry (string_bytes written)) }
 {
-    if conversion.to != Codec::Avn || !written.contains('\n') {
-        return Ok(LineReply::Answer(with_feed(written)?));
-    }
-    match same_on_one_line(alloc, conversion.part, &written)? {
-        Some(line) => Ok(LineReply::Answer(with_feed(line)?)),
-        None => {
-            let front = origin_of(alloc, origin)?;
-            let line = format!(in alloc; "{front}: has no text on one line\n")?;
-            Ok(LineReply::Refusal(line))
+    if let Codec::Avn = conversion.to {
+        if written.contains('\n') {
+            return Ok(laid_reply(alloc, conversion.part, origin, &written)?);
         }
     }
+    Ok(LineReply::Answer(with_feed(written)?))
 }
 
 /// Answers a line by a text of its value on one line, the canonical one in JSON, or refuses it
@@ -114,7 +144,7 @@ impl<P: Part> LineWork for ConvertLines<'_, P> {
             return Ok(LineReply::Refusal(not_text_line(alloc, origin)?));
         };
         match converted(alloc, self.conversion, origin, text)? {
-            Ok(written) => line_reply(alloc, self.conversion, origin, written),
+            Ok(written) => Ok(line_reply(alloc, self.conversion, origin, written)?),
             Err(lines) => Ok(LineReply::Refusal(lines)),
         }
     }

@@ -22,7 +22,7 @@ pub fn check_reply(alloc: Global, texts: &[(&str, &str)]) -> Result<Reply, OutOf
 {
     match types_of(alloc, texts) {
         Ok(modules) => Ok(Reply::Answer(check_text(alloc, &modules)?)),
-        Err(refused) => refused,
+        Err(refused) => Ok(refused?),
     }
 }
 
@@ -36,6 +36,6 @@ pub fn types_reply(alloc: Global, texts: &[(&str, &str)]) -> Result<Reply, OutOf
 {
     match types_of(alloc, texts) {
         Ok(modules) => Ok(Reply::Answer(types_text(alloc, &modules)?)),
-        Err(refused) => refused,
+        Err(refused) => Ok(refused?),
     }
 }

@@ -4,4 +4,4 @@ use Rattle.asn_command.specs.Listings.{valueless_line}
 use Rattle.asn_command.proofs.checking.lines_on_parts.Given as goal
 
 abbrev pub invariant-loop-part : goal.invariant-loop-part
-invariant-loop-part l = string_bytes l.lines ≡ flat_map (valueless_line l.name.now) (map string_bytes (take l.part-index l.parts))
+invariant-loop-part l = string_bytes l.lines ≡ flat_map (valueless_line l.name) (map string_bytes (take l.part-index l.parts))

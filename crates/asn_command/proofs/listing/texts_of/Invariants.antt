@@ -6,4 +6,4 @@ use Rattle.asn_modules.specs.Names.{type_name_view}
 use Rattle.asn_command.proofs.listing.texts_of.Given as goal
 
 abbrev pub invariant-loop-number : goal.invariant-loop-number
-invariant-loop-number g l = for_each g.T.TypeText.text (map type_name_view l.names.now) (map shape_view l.types.now) ≡ string_bytes l.lines ++ texts_from g.T.TypeText.text l.names.now l.types.now l.number
+invariant-loop-number g l = for_each g.T.TypeText.text (map type_name_view l.names) (map shape_view l.types) ≡ string_bytes l.lines ++ texts_from g.T.TypeText.text l.names l.types l.number

@@ -5,7 +5,7 @@ use asn_modules_text::read_source;
 use std::test::Fail;
 
 /// Lists texts with what is told of the values that they name, or nothing where all are right.
-const CHconst CHECKED: [(&str, &str); 13] = [
+const CHECKED: [(&str, &str); 13] = [
     ("a INTEGER ::= b b INTEGER ::= 5", ""),
     // What isn't assigned is none of these.
     ("a INTEGER ::= b", ""),

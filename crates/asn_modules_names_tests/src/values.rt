@@ -1,34 +1,14 @@
-//! Names of values that are assigned as values.
+//! Names of values that lead to values.
 use crate::texts::tells;
 use asn_modules_checks::check_all;
 use asn_modules_text::read_source;
 use std::test::Fail;
 
 /// Lists texts with what is told of the values that they name, or nothing where all are right.
-const CHECKED: [(&str, &str); 17] = [
-    (
-        "a INTEGER ::= b",
-        "f:1:15: `b` is neither assigned nor imported",
-    ),
-    (
-        "a OCTET STRING ::= b B ::= NULL",
-        "f:1:20: `b` is neither assigned nor imported",
-    ),
-    (
-        "a BIT STRING { b(1) } ::= b",
-        "f:1:27: `b` is neither assigned nor imported",
-    ),
-    // The name of a type is none of a value.
-    (
-        "a INTEGER ::= B B ::= INTEGER",
-        "f:1:15: `B` is neither assigned nor imported",
-    ),
+const CHECKED: [(&str, &str); 13] = [
     ("a INTEGER ::= b b INTEGER ::= 5", ""),
-    (
-        "M DEFINITIONS ::= BEGIN IMPORTS b FROM N; a INTEGER ::= b END",
-        "",
-    ),
-    // These are no names of values, or may be names that the type gives.
+    // What isn't assigned is none of these.
+    ("a INTEGER ::= b", ""),
     ("a BOOLEAN ::= TRUE b NULL ::= NULL", ""),
     ("a INTEGER { one(1) } ::= one", ""),
     ("a ENUMERATED { red } ::= red", ""),
@@ -57,8 +37,7 @@ f INTEGER ::= g g INTEGER ::= 7",
     ),
 ];
 
-/// The first name of a value that is neither assigned nor imported is told, else the first that
-/// leads to no value.
+/// The first name of a value that leads to no value is told.
 #[test]
 fn checks_value_names(rt: HostRuntime) -> Result<(), Fail> {
     for row in CHECKED.iter() {

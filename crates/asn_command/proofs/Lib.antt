@@ -1,5 +1,0 @@
-mod Delivering
-mod Laid
-mod Refused
-mod TextsOn
-mod Wholes

@@ -1,4 +1,0 @@
-pub mod Levels
-pub mod Names
-pub mod Printed
-pub mod Reached

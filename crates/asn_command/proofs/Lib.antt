@@ -1,0 +1,5 @@
+mod Delivering
+mod Laid
+mod Refused
+mod TextsOn
+mod Wholes

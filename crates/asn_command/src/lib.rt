@@ -1,0 +1,24 @@
+//! Does the work of the command `asn` over texts of published modules and of values: what goes to
+//! standard output where it is done, and what goes to standard error where it is refused. The
+//! program (`asn_command_main`) reads the command line and opens the files.
+#![tactic(auto)]
+
+mod checking;
+mod conversion;
+mod lines;
+mod listing;
+mod naming;
+mod one_line;
+mod reading;
+mod reports;
+mod running;
+mod types;
+mod whole;
+
+pub use conversion::{Conversion, conversion_reply, not_text_line, with_feed};
+pub use lines::ConvertLines;
+pub use naming::missing_reply;
+pub use reading::types_of;
+pub use reports::{check_reply, types_reply};
+pub use running::answer_lines;
+pub use whole::convert_whole;

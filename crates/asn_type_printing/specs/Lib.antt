@@ -1,0 +1,4 @@
+pub mod Levels
+pub mod Names
+pub mod Printed
+pub mod Reached

@@ -1,0 +1,164 @@
+#!/bin/bash
+# Reads published ASN.1 modules, and converts values of their types.
+#
+# usage: tools/published_modules.sh [FOLDER]
+#
+# The program is $ASN, or else ./asn. The modules are those of Debian's source packages asn1c (UMTS
+# RRC, and its parser's tests), libtasn1-6 (PKIX) and heimdal (Kerberos, X.509, CMS and others). They
+# are fetched into FOLDER, or into a new one, by `apt-get source`, which takes deb-src among apt's
+# sources; what is there already isn't fetched again. None of them is part of this repository.
+#
+# Of each file it prints how many types are read, or why it is refused. Of RRC, PKIX and Heimdal it
+# prints the types that lead to nothing that is read. Of each other type, tools/module_values.py
+# makes ten random values. They are converted from JSON to JSON and to value notation, and what is
+# written is converted again, to both: the JSON has to be what was made, and each text has to come
+# out again as it was. Then it prints the time and the memory that RRC takes. The last lines have the
+# counts. The status is 1 where one of them isn't as it is expected, and 2 where a package can't be
+# had.
+set -u
+tools=$(dirname -- "$(readlink -f -- "$0")")
+asn=$(readlink -f -- "${ASN:-$tools/../asn}")
+folder=${1:-$(mktemp -d)}
+mkdir -p "$folder" && cd "$folder" || exit 2
+room=$(mktemp -d)
+trap 'rm -rf "$room"' EXIT
+
+# Fetches the sources of a package, unless they are there. apt-get may lack Debian's own part of
+# them, which isn't used.
+fetch() {
+    ls -d "$1"-*/ >/dev/null 2>&1 && return
+    apt-get source --download-only "$2" >"$room/fetched" 2>&1
+    for archive in "$2"_*.orig.tar.*z; do
+        tar xf "$archive" 2>/dev/null || {
+            tail -n 2 "$room/fetched"
+            echo "can't be had: the source package $2 (is deb-src switched on, and apt-get update done?)"
+            exit 2
+        }
+    done
+}
+
+# Prints what is said of the file, and returns whether it is read.
+check() {
+    "$asn" check "$1" >"$room/out" 2>"$room/err"
+    local status=$?
+    case $status in
+        0) echo "$1: $(head -n 1 "$room/out"), $(($(wc -l <"$room/out") - 1)) parts without values" ;;
+        1) grep -F "$1:" "$room/err" | head -n 1 ;;
+        *) echo "$1: status $status: $(tail -n 1 "$room/err")" ;;
+    esac
+    return $status
+}
+
+# Converts lines of values of the type Trials.Trial.
+convert() {
+    "$asn" convert "${modules[@]}" -t Trials.Trial --lines --from "$1" --to "$2" "$room/$3" >"$room/$4" 2>"$room/err"
+    local status=$?
+    [ $status = 0 ] && return
+    bad=$((bad + 1))
+    echo "  from $1 to $2: status $status: $(grep -v '^asn: ' "$room/err" | head -n 3)"
+}
+
+# Whether the two texts are the same.
+same() {
+    cmp "$room/$1" "$room/$2" >"$room/err" && return
+    bad=$((bad + 1))
+    echo "  $3 isn't the same: $(cat "$room/err")"
+}
+
+# Converts random values of the types of these files, which are read together.
+values() {
+    python3 "$tools/module_values.py" --trials "$room/trials.asn" "$@" >"$room/made" 2>"$room/unmade"
+    sed 's/^/  /' "$room/unmade"
+    local file
+    modules=(-m "$room/trials.asn")
+    for file; do
+        modules+=(-m "$file")
+    done
+    convert jer jer made json
+    convert jer avn made notation
+    convert jer jer json json-json
+    convert avn jer notation notation-json
+    convert avn avn notation notation-notation
+    python3 "$tools/module_values.py" --compare "$room/made" "$room/json" || bad=$((bad + 1))
+    same json json-json "JSON, read again,"
+    same json notation-json "JSON from value notation"
+    same notation notation-notation "value notation, read again,"
+    made=$((made + $(wc -l <"$room/made")))
+}
+
+# Prints what is said of the files, lists those that are read, and counts them.
+group() {
+    local name=$1 file
+    shift
+    read=()
+    for file; do
+        check "$file" && read+=("$file")
+    done
+    count=${#read[@]}
+    echo "$name: $count of $# files are read"
+}
+
+# Prints the processor time and the memory that a command takes.
+measure() {
+    python3 -c '
+import os, subprocess, sys
+child = subprocess.Popen(sys.argv[1:], stdout=subprocess.DEVNULL, stderr=subprocess.DEVNULL)
+_, status, used = os.wait4(child.pid, 0)
+status = os.waitstatus_to_exitcode(status)
+print(f"status {status}, {used.ru_utime + used.ru_stime:.2f} s of processor time, {used.ru_maxrss / 1024:.0f} MB")
+' "$@"
+}
+
+fetch asn1c asn1c
+fetch libtasn1 libtasn1-6
+fetch heimdal heimdal
+made=0 bad=0
+
+group RRC asn1c-*/examples/*.asn1
+rrc=$count
+values "${read[@]}"
+group PKIX libtasn1-*/examples/*.asn libtasn1-*/tests/pkix.asn
+pkix=$count
+values libtasn1-*/examples/*.asn
+values libtasn1-*/tests/pkix.asn
+group Heimdal heimdal-*/lib/*/*.asn1 heimdal-*/lib/*/*/*.asn1
+heimdal=$count
+# Two of these have modules of one name, and so aren't read together.
+others=()
+for file in "${read[@]}"; do
+    [ "${file##*/}" = crmf.asn1 ] || others+=("$file")
+done
+values "${others[@]}"
+values heimdal-*/lib/hx509/crmf.asn1 heimdal-*/lib/asn1/rfc2459.asn1
+
+for file in libtasn1-*/tests/*.asn asn1c-*/skeletons/*/*.asn1 asn1c-*/tests/*-NP.asn1 asn1c-*/tests/*-SW.asn1; do
+    check "$file"
+done
+# Of asn1c's tests, those named OK are modules, and those named SE break a rule: these fifteen one
+# that means nothing for a text.
+ok=0 se=0
+for file in asn1c-*/tests/*-OK.asn1; do
+    check "$file" && ok=$((ok + 1))
+done
+for file in asn1c-*/tests/*-SE.asn1; do
+    check "$file"
+    refused=$?
+    number=${file##*/}
+    case ${number%%-*} in
+        09 | 12 | 26 | 27 | 28 | 36 | 40 | 51 | 52 | 53 | 54 | 61 | 63 | 71 | 78) expected=0 ;;
+        *) expected=1 se=$((se + refused)) ;;
+    esac
+    [ $refused = $expected ] || {
+        bad=$((bad + 1))
+        echo "  expected status $expected"
+    }
+done
+
+file=$(ls asn1c-*/examples/rrc-7.1.0.asn1)
+python3 "$tools/module_values.py" --only DL-DCCH-Message --count 1000 "$file" >"$room/values"
+echo "RRC, $(wc -c <"$file") bytes, is read: $(measure "$asn" check "$file")"
+echo "and $(wc -c <"$room/values") bytes of values of DL-DCCH-Message are converted from JSON to value notation:" \
+    "$(measure "$asn" convert -m "$file" -t DL-DCCH-Message --lines --from jer --to avn "$room/values")"
+echo "RRC $rrc, PKIX $pkix, Heimdal $heimdal files read; tests OK $ok read, SE $se refused; $made values; $bad faults"
+echo "expected: RRC 1, PKIX 3, Heimdal 18 files read; tests OK 74 or more read, SE 19 refused; 0 faults"
+[ "$rrc $pkix $heimdal $se $bad" = "1 3 18 19 0" ] && [ "$ok" -ge 74 ] && [ "$made" -gt 0 ]

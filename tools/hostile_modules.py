@@ -155,7 +155,7 @@ ROWS = [
     ("values of the next and themselves", lambda n: "a INTEGER ::= a0\n" + joined("a{i} INTEGER ::= a{i}", n, "\n"), 25_000, "`a` leads to no value"),
     ("values of the next", lambda n: values(n) + " A ::= SEQUENCE { a INTEGER DEFAULT a0 }", 25_000, ""),
     ("values of the one before", lambda n: "a0 INTEGER ::= 5\n" + "\n".join(f"a{i} INTEGER ::= a{i - 1}" for i in range(1, n)), 25_000, ""),
-    ("values of one that isn't there", lambda n: joined("a{i} INTEGER ::= b", n, "\n"), 25_000, ""),
+    ("values of one that isn't there", lambda n: joined("a{i} INTEGER ::= b", n, "\n"), 25_000, "`b` is neither assigned nor imported"),
     ("sizes by values of the next", lambda n: values(n) + joined("A{i} ::= BIT STRING (SIZE (a{i}))", n, "\n"), 10_000, ""),
     ("values through imports in a circle", lambda n: "".join(module(f"a{i} INTEGER ::= a{(i + 1) % n}", f"IMPORTS a{(i + 1) % n} FROM M{(i + 1) % n};", f"M{i}") for i in range(n)), 5_000, "`a0` leads to no value"),
     ("components of the type before", lambda n: "A0 ::= SEQUENCE { a0 NULL }\n" + "\n".join(f"A{i} ::= SEQUENCE {{ a{i} NULL, COMPONENTS OF A{i - 1} }}" for i in range(1, n)), 500, None),

@@ -4,7 +4,7 @@ use Rattle.std.specs.Option.{option_or}
 use Rattle.asn_modules_imports.specs.Imported.{first_import_fault}
 use Rattle.asn_modules_lists.specs.Listed.{first_listed_twice}
 use Rattle.asn_modules_lookup.specs.Homes.{homes}
-use Rattle.asn_modules_lookup.specs.declared.sort.Sort.TheVariants.{Types}
+use Rattle.asn_modules_lookup.specs.declared.sort.Sort.TheVariants.{Types, Values}
 use Rattle.asn_modules_names.specs.Faults.{Fault}
 use Rattle.asn_modules_names.specs.Mentions.{Source}
 use Rattle.asn_modules_names.specs.Names.{first_fault}
@@ -12,9 +12,13 @@ use Rattle.asn_modules_numbers.specs.Faults.{first_number_fault}
 use Rattle.asn_modules_references.specs.References.{first_unknown}
 use Rattle.asn_modules_values.specs.ValueLinks.{first_endless}
 
--- The first name that is imported against a rule, else the first name of a type that is neither assigned nor imported, else the first name of a value that leads to no value.
+-- The first name of a value that is neither assigned nor imported, else the first that leads to no value.
+abbrev pub first_in_values : List Source → Option Fault
+first_in_values ss = option_or (first_unknown Values ss 0 (homes ss)) (first_endless ss)
+
+-- The first name that is imported against a rule, else the first name of a type that is neither assigned nor imported, else the first that breaks a rule on values.
 abbrev pub first_missing : List Source → Option Fault
-first_missing ss = option_or (first_import_fault (homes ss)) (option_or (first_unknown Types ss 0 (homes ss)) (first_endless ss))
+first_missing ss = option_or (first_import_fault (homes ss)) (option_or (first_unknown Types ss 0 (homes ss)) (first_in_values ss))
 
 -- The first name or number in a list that breaks a rule.
 abbrev pub first_in_lists : List Source → Option Fault

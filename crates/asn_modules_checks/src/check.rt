@@ -1,10 +1,10 @@
 //! Checks names and numbers, rule by rule.
-ghost use Rattle.asn_modules_checks.specs.Checks.{first_broken, first_in_lists, first_missing};
+ghost use Rattle.asn_modules_checks.specs.Checks.{first_broken, first_in_lists, first_in_values};
+ghost use Rattle.asn_modules_checks.specs.Checks.{first_missing};
 ghost use Rattle.asn_modules_lookup.specs.Homes as spec;
 ghost use Rattle.asn_modules_lookup.specs.Homes.{home_view};
 ghost use Rattle.asn_modules_names.specs.Faults.{Checks};
 ghost use Rattle.asn_modules_names.specs.Mentions.{source_view};
-ghost use Rattle.asn_modules_values.specs.ValueLinks.{first_endless};
 ghost use Rattle.std.specs.Prelude.{◌≡◌, map};
 
 use asn_modules_faults::ModuleError;
@@ -35,16 +35,18 @@ fn check_in_lists(alloc: Global, sources: &[Source<'_>]) -> Result<(), ModuleErr
 ///
 /// # Errors
 ///
-/// The first one that leads to no value, and `OutOfMemory`.
+/// The first one that its module neither assigns nor imports, else the first one that leads to no
+/// value, and `OutOfMemory`.
 fn check_value_names<'t>(
     alloc: Global,
     sources: &[Source<'t>],
     homes: &[Home<'_, 't>],
 ) -> Result<(), ModuleError>
     requires { map home_view homes.now ≡ spec.homes (map source_view sources.now) }
-    ensures { Checks (first_endless (map source_view sources.now)) result }
+    ensures { Checks (first_in_values (map source_view sources.now)) result }
 {
     let index = index_of(alloc, Sort::Values, sources)?;
+    check_references(alloc, Sort::Values, &index, homes)?;
     check_values(alloc, &index, homes)
 }
 
@@ -71,7 +73,7 @@ fn check_missing(alloc: Global, sources: &[Source<'_>]) -> Result<(), ModuleErro
 /// The first name or number that breaks a rule, with its place, where the rules are in this order:
 /// modules have names of their own, and each assigns a name once; no name stands twice in a list;
 /// the numbers of items and bits; what is imported is exported by another module; the types that
-/// are named are assigned or imported; and the names of values lead to values.
+/// are named are assigned or imported; so are the values; and their names lead to values.
 /// `OutOfMemory` where memory runs out.
 pub fn check_all(alloc: Global, sources: &[Source<'_>]) -> Result<(), ModuleError>
     ensures { Checks (first_broken (map source_view sources.now)) result }

@@ -6,7 +6,7 @@ use std::test::Fail;
 
 /// Lists texts, each of which breaks the rules that those behind it break, with what is told, or
 /// nothing where they are right.
-const CHECKED: [(&str, &str); 10] = [
+const CHECKED: [(&str, &str); 11] = [
     (
         "M DEFINITIONS ::= BEGIN EXPORTS; IMPORTS A FROM M; B ::= C \
 D ::= ENUMERATED { a(1), b(1) } E ::= ENUMERATED { a, a } F ::= NULL F ::= NULL END \
@@ -43,6 +43,10 @@ D ::= ENUMERATED { a(1), b(1) } END",
     (
         "M DEFINITIONS ::= BEGIN a INTEGER ::= b b INTEGER ::= a c INTEGER ::= d B ::= C END",
         "f:1:79: `C` is neither assigned nor imported",
+    ),
+    (
+        "M DEFINITIONS ::= BEGIN a INTEGER ::= b b INTEGER ::= a c INTEGER ::= d END",
+        "f:1:71: `d` is neither assigned nor imported",
     ),
     (
         "M DEFINITIONS ::= BEGIN a INTEGER ::= b b INTEGER ::= a c INTEGER ::= 5 END",

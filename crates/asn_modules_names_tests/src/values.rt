@@ -1,15 +1,36 @@
-//! Names of values that lead to values.
+//! Names of values that are assigned as values.
 use crate::texts::tells;
 use asn_modules_checks::check_all;
 use asn_modules_text::read_source;
 use std::test::Fail;
 
 /// Lists texts with what is told of the values that they name, or nothing where all are right.
-const CHECKED: [(&str, &str); 13] = [
+const CHECKED: [(&str, &str); 18] = [
+    (
+        "a INTEGER ::= b",
+        "f:1:15: `b` is neither assigned nor imported",
+    ),
+    (
+        "a OCTET STRING ::= b B ::= NULL",
+        "f:1:20: `b` is neither assigned nor imported",
+    ),
+    (
+        "a BIT STRING { b(1) } ::= b",
+        "f:1:27: `b` is neither assigned nor imported",
+    ),
+    // The name of a type is none of a value.
+    (
+        "a INTEGER ::= B B ::= INTEGER",
+        "f:1:15: `B` is neither assigned nor imported",
+    ),
     ("a INTEGER ::= b b INTEGER ::= 5", ""),
-    // What isn't assigned is none of these.
-    ("a INTEGER ::= b", ""),
+    (
+        "M DEFINITIONS ::= BEGIN IMPORTS b FROM N; a INTEGER ::= b END",
+        "",
+    ),
+    // These are no names of values, or may be names that the type gives.
     ("a BOOLEAN ::= TRUE b NULL ::= NULL", ""),
+    ("a REAL ::= PLUS-INFINITY b BOOLEAN ::= c", ""),
     ("a INTEGER { one(1) } ::= one", ""),
     ("a ENUMERATED { red } ::= red", ""),
     ("a Color ::= red Color ::= ENUMERATED { red }", ""),
@@ -37,7 +58,8 @@ f INTEGER ::= g g INTEGER ::= 7",
     ),
 ];
 
-/// The first name of a value that leads to no value is told.
+/// The first name of a value that is neither assigned nor imported is told, else the first that
+/// leads to no value.
 #[test]
 fn checks_value_names(rt: HostRuntime) -> Result<(), Fail> {
     for row in CHECKED.iter() {

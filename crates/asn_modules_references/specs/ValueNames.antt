@@ -4,7 +4,9 @@ use Rattle.asn_lexer.specs.declared.kind.Kind.{Kind}
 use Rattle.asn_lexer.specs.declared.kind.Kind.TheVariants as kind
 use Rattle.asn_lexer.specs.declared.token.Token.{Token}
 use Rattle.asn_modules_notation.specs.Modules.{Assignment, type_assignment, value_assignment}
-use Rattle.asn_modules_notation.specs.Notation.{Notation, Base, notation, integer, enumerated, reference}
+use Rattle.asn_modules_notation.specs.Notation.{Notation, Base, notation, leaf, integer, enumerated, reference}
+use Rattle.asn_modules_notation.specs.declared.leaf.Leaf.{Leaf}
+use Rattle.asn_modules_notation.specs.declared.leaf.Leaf.TheVariants.{Boolean, Closed}
 use Rattle.asn_modules_notation.specs.declared.number.NamedNumber.{NamedNumber}
 use Rattle.asn_modules_notation.specs.declared.value.Value.{Value}
 use Rattle.asn_modules_notation.specs.declared.value.Value.TheVariants as value
@@ -13,8 +15,15 @@ abbrev pub has_named : List NamedNumber → Bool
 has_named [] = false
 has_named (n ∷ ns) = true
 
--- The type may give names to values: it has named numbers or items, or it is a name itself.
+-- Values of BOOLEAN have names, and values of types that aren't read may.
+abbrev pub leaf_names : Leaf → Bool
+leaf_names Boolean = true
+leaf_names (Closed c) = true
+leaf_names l = false
+
+-- The type may give names to values: it has named numbers or items, its values have names, or it is a name itself.
 abbrev pub base_names : Base → Bool
+base_names (leaf l) = leaf_names l
 base_names (integer ns) = has_named ns
 base_names (enumerated items) = true
 base_names (reference home name) = true
@@ -23,7 +32,7 @@ base_names base = false
 abbrev pub names_values : Notation → Bool
 names_values (notation tags base sizes) = base_names base
 
--- The token, where it is a name: TRUE, FALSE and NULL are none.
+-- The token, where it is a name: NULL is none.
 abbrev pub if_name : Kind → Token → Option Token
 if_name kind.Name t = Some t
 if_name k t = None

@@ -5,7 +5,7 @@ ghost use Rattle.asn_modules_references.specs.ValueNames.{names_values, value_na
 ghost use Rattle.std.specs.Prelude.{◌≡◌};
 
 use asn_lexer::{Kind, Token};
-use asn_modules_notation::{Assignment, Base, NamedNumber, Notation, Value};
+use asn_modules_notation::{Assignment, Base, Leaf, NamedNumber, Notation, Value};
 
 /// Returns whether there are named numbers.
 fn has_named(numbers: &[NamedNumber]) -> bool
@@ -17,8 +17,28 @@ fn has_named(numbers: &[NamedNumber]) -> bool
     }
 }
 
-/// Returns whether the type may give names to values: whether it has named numbers or items, or is
-/// a name itself.
+/// Returns whether values of the type may have names: those of BOOLEAN do, and those of types that
+/// aren't read may.
+fn leaf_names(leaf: Leaf) -> bool
+    ensures { result ≡ spec.leaf_names leaf }
+{
+    match leaf {
+        Leaf::Boolean => true,
+        Leaf::Closed(_) => true,
+        Leaf::Null => false,
+        Leaf::OctetString => false,
+        Leaf::ObjectIdentifier => false,
+        Leaf::Text(_) => false,
+        Leaf::Bmp => false,
+        Leaf::Teletex => false,
+        Leaf::UtcTime => false,
+        Leaf::GeneralizedTime => false,
+        Leaf::Date => false,
+    }
+}
+
+/// Returns whether the type may give names to values: whether it has named numbers or items, its
+/// values have names, or it is a name itself.
 fn names_values(notation: &Notation) -> bool
     ensures { result ≡ names_values (notation_view notation.now) }
 {
@@ -26,7 +46,7 @@ fn names_values(notation: &Notation) -> bool
         Base::Integer(numbers) => has_named(numbers.as_slice()),
         Base::Enumerated { .. } => true,
         Base::Reference { .. } => true,
-        Base::Leaf(_) => false,
+        Base::Leaf(leaf) => leaf_names(*leaf),
         Base::BitString(_) => false,
         Base::Sequence(_) => false,
         Base::Set(_) => false,
@@ -36,7 +56,7 @@ fn names_values(notation: &Notation) -> bool
     }
 }
 
-/// Returns the token where it is a name, and `None` else: TRUE, FALSE and NULL are none.
+/// Returns the token where it is a name, and `None` else: NULL is none.
 fn if_name(token: Token) -> Option<Token>
     ensures { result ≡ spec.if_name token.kind token }
 {

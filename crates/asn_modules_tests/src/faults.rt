@@ -4,7 +4,7 @@ use std::alloc::Global;
 use std::test::Fail;
 
 /// Lists texts with what is told of them where each is the file `m.asn1`.
-const ROWS: [(&str, &str); 39] = [
+const ROWS: [(&str, &str); 40] = [
     // What begins no token.
     (
         "A ::= NULL ?",
@@ -138,6 +138,10 @@ N DEFINITIONS ::= BEGIN EXPORTS A; A ::= NULL B ::= NULL END",
         "M DEFINITIONS ::= BEGIN A ::= SEQUENCE OF B END\n\
 N DEFINITIONS ::= BEGIN B ::= NULL END",
         "m.asn1:1:43: `B` is neither assigned nor imported",
+    ),
+    (
+        "a INTEGER ::= b",
+        "m.asn1:1:15: `b` is neither assigned nor imported",
     ),
     (
         "a INTEGER ::= b\nb INTEGER ::= a",

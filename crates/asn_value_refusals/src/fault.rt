@@ -10,20 +10,6 @@ use serde_json::Value;
 use serde_json::error::Category;
 use std::alloc::Global;
 
-/// Returns the offset at which the bytes leave off that are this many before the end.
-fn before_end(text: &str, count: usize) -> usize {
-    text.len().saturating_sub(count)
-}
-
-/// Returns the offset at which a text stands that the parser of AVN shows: what follows a value
-/// whole, or the beginning of what is no value.
-fn excerpt_offset(text: &str, excerpt: &str) -> usize {
-    if text.ends_with(excerpt) {
-        return before_end(text, excerpt.len());
-    }
-    text.find(excerpt).unwrap_or(0)
-}
-
 /// Returns the offset of a line and a byte in it, both counted from 1.
 fn offset_of(text: &str, line: usize, column: usize) -> usize {
     let mut begin: usize = 0;
@@ -79,8 +65,8 @@ pub fn fault_offset(
     match kind {
         DecodeErrorKind::Parser { .. } => json_offset(alloc, text),
         DecodeErrorKind::CodecSpecific {
-            inner: CodecDecodeError::Avn(AvnDecodeErrorKind::UnexpectedToken { found }),
-        } => Ok(Some(excerpt_offset(text, found.as_str()))),
+            inner: CodecDecodeError::Avn(AvnDecodeErrorKind::UnexpectedToken { .. }),
+        } => Ok(Some(avn_places::fault_offset(alloc, text)?)),
         _ => Ok(None),
     }
 }

@@ -1,0 +1,10 @@
+//! Finds the place at which a text is no value notation (X.680), so that a reader can be shown it.
+#![tactic(auto)]
+
+mod braces;
+#[cfg(test)]
+mod rows;
+mod scan;
+mod tokens;
+
+pub use scan::fault_offset;

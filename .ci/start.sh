@@ -66,7 +66,7 @@ choose() {
     program=$unproved
     # A check at run time that fails ends the program with a status that isn't one of its own.
     export ASAN_OPTIONS=exitcode=125
-    state="this answer comes from a program that isn't proved yet"
+    state="this answer comes from a program that isn't proved yet, with checks that make it very slow"
     how="'rt ci' proves it in about an hour, and so does './$command --prove', step by step"
     if is_current "$program"; then
         say "$state; $how"

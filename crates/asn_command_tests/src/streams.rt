@@ -1,7 +1,7 @@
 //! Streams and whole files, and those of which a read or a write fails.
 use asn_command::{Conversion, ConvertLines, answer_lines, convert_whole, types_of};
 use asn_core::Codec;
-use asn_lines::Progress;
+use asn_lines::NoProgress;
 use asn_modules::Place;
 use asn_replies::{Status, deliver};
 use asn_streams::{MemorySink, MemorySource};
@@ -184,14 +184,6 @@ const ROWS: [Row; 14] = [
     },
 ];
 
-/// Shows nothing.
-#[derive(Drop)]
-struct Quiet;
-
-impl Progress for Quiet {
-    fn show(&mut self, _lines: u64, _refused: u64) {}
-}
-
 /// Returns the number as the list of the calls that fail.
 fn failing(alloc: Global, number: u64) -> Result<Vec<u64>, Fail> {
     let mut numbers = Vec::new(alloc);
@@ -238,7 +230,7 @@ fn run(alloc: Global, part: Place<'_>, row: Row) -> Result<(Status, MemorySink, 
         &mut source,
         &mut output,
         &mut errors,
-        &mut Quiet,
+        &mut NoProgress,
     );
     let status = match ended {
         Ok(status) => status,

@@ -2,7 +2,7 @@
 use asn_command::{Conversion, ConvertLines, answer_lines, convert_whole, types_of};
 use asn_core::Codec;
 use asn_lines::NoProgress;
-use asn_modules::Place;
+use asn_modules::Modules;
 use asn_replies::{Status, deliver};
 use asn_streams::{MemorySink, MemorySource};
 use std::alloc::Global;
@@ -200,8 +200,16 @@ fn bytes_of(alloc: Global, input: &str) -> Result<Vec<u8>, Fail> {
     Ok(bytes)
 }
 
-/// Converts what is read, and returns how it ends, the output and the errors.
-fn run(alloc: Global, part: Place<'_>, row: Row) -> Result<(Status, MemorySink, MemorySink), Fail> {
+/// Converts what is read by the type of the modules, and returns how it ends, the output and the
+/// errors.
+fn run(
+    alloc: Global,
+    modules: &Modules,
+    row: Row,
+) -> Result<(Status, MemorySink, MemorySink), Fail> {
+    let Some(part) = modules.find("Note") else {
+        return Err(Fail::from("there is no such type"));
+    };
     let conversion = Conversion {
         part,
         from: Codec::Jer,
@@ -245,11 +253,8 @@ fn streams_are_converted(rt: HostRuntime) -> Result<(), Fail> {
     let Ok(modules) = types_of(rt.alloc(), &[("notes.asn", NOTES)]) else {
         return Err(Fail::from("the module is refused"));
     };
-    let Some(part) = modules.find("Note") else {
-        return Err(Fail::from("there is no such type"));
-    };
     for row in ROWS.iter() {
-        let (status, output, errors) = run(rt.alloc(), part, *row)?;
+        let (status, output, errors) = run(rt.alloc(), &modules, *row)?;
         assert_eq!(rt; output.bytes(), row.output.as_bytes());
         assert_eq!(rt; errors.bytes(), row.errors.as_bytes());
         assert_eq!(rt; status, row.status);

@@ -8,7 +8,7 @@ use Rattle.asn_lexer.specs.declared.token.Token.{Token}
 use Rattle.asn_linked_types.specs.Expansion.{no_values}
 use Rattle.asn_model.specs.Shape.{Alphabet, Alternatives, AlternativeAdditions, Fields, FieldAdditions, Plain, Presence, SeqKind, Shape}
 use Rattle.asn_model.specs.declared.shape_type.Alphabet.TheVariants as alphabet
-use Rattle.asn_modules_notation.specs.Notation.{Base, Member, Notation, bit_string, choice, component, components_of, enumerated, group, integer, leaf, marker, members, members_of, notation, reference}
+use Rattle.asn_modules_notation.specs.Notation.{Base, Member, Notation, bit_string, choice, component, components_of, enumerated, group, integer, leaf, marker, members, members_of, no_members, notation, reference}
 use Rattle.asn_modules_notation.specs.declared.leaf.Leaf.TheVariants.{Boolean, Null, Text}
 use Rattle.asn_modules_notation.specs.declared.notation.Presence.TheVariants.{Default, Optional, Required}
 use Rattle.asn_modules_notation.specs.declared.number.Constant.TheVariants as constant
@@ -133,7 +133,7 @@ unsuited = refl
 
 -- SET { COMPONENTS OF T, a BOOLEAN }, where T has a component h.
 abbrev one_root : Roots
-one_root grouped home name = Some (record { name = codes "h"; presence = if grouped then Presence.optional else Presence.required; shape = Shape.null } ∷ [])
+one_root place home name = Some (record { name = codes "h"; presence = if place.grouped then Presence.optional else Presence.required; shape = Shape.null } ∷ [])
 
 abbrev named_root : Member
 named_root = components_of (plain (reference None (word 7)))
@@ -152,9 +152,15 @@ between : notation_shape one_root (example false) (plain (members SeqKind.sequen
     ≡ Shape.seq SeqKind.sequence Fields.no_fields (FieldAdditions.extended_fields (Fields.field (codes "h") (context_tag 0) Presence.optional Shape.null Fields.no_fields))
 between = refl
 
--- COMPONENTS OF NULL, and of a name that stands for no SEQUENCE or SET, leave no values.
-unincluded : notation_shape one_root (example false) (plain (members SeqKind.set (members_of (components_of (plain (leaf Null)) ∷ [])))) ≡ no_values
-unincluded = refl
+-- COMPONENTS OF a SET in a SEQUENCE, or of a SEQUENCE in a SET, or of what is neither, leaves no values.
+other_kind : notation_shape no_roots (example false) (plain (members SeqKind.sequence (members_of (components_of (plain (members SeqKind.set no_members)) ∷ [])))) ≡ no_values
+other_kind = refl
+
+another_kind : notation_shape no_roots (example false) (plain (members SeqKind.set (members_of (components_of (plain (members SeqKind.sequence no_members)) ∷ [])))) ≡ no_values
+another_kind = refl
+
+no_kind : notation_shape one_root (example false) (plain (members SeqKind.set (members_of (components_of (plain (leaf Null)) ∷ [])))) ≡ no_values
+no_kind = refl
 
 unnamed : notation_shape no_roots (example false) (plain (members SeqKind.set (members_of (named_root ∷ [])))) ≡ no_values
 unnamed = refl

@@ -15,7 +15,7 @@ use Rattle.asn_modules_notation.specs.declared.number.NamedNumber.{NamedNumber}
 use Rattle.asn_modules_types.specs.Assigned.{Assigned, assigned, notation_of}
 use Rattle.asn_modules_types.specs.Linked.{base_of, has_parts, named_by, named_type, no_roots, number_by, number_word, opened_type, parts_shape, roots_by, scope_in, scope_of, type_roots}
 use Rattle.asn_modules_types.specs.Numbers.{constant_in, named_number}
-use Rattle.asn_modules_types.specs.Types.{notation_shape, number_in_type}
+use Rattle.asn_modules_types.specs.Types.{Place, notation_shape, number_in_type}
 
 -- No more names are followed.
 pub follows_none : (ss : List Source) (more n : ℕ) → more ≡ 0 → named_type ss more n ≡ no_values
@@ -28,10 +28,10 @@ unfolding number_word
 follows_word_none ss zero n word e = refl
 follows_word_none ss (suc more) n word e = absurd (omega (arith, e))
 
-pub roots_none : (ss : List Source) (more n : ℕ) (grouped : Bool) → more ≡ 0 → type_roots ss more n grouped ≡ None
+pub roots_none : (ss : List Source) (more n : ℕ) (place : Place) → more ≡ 0 → type_roots ss more n place ≡ None
 unfolding type_roots
-roots_none ss zero n grouped e = refl
-roots_none ss (suc more) n grouped e = absurd (omega (arith, e))
+roots_none ss zero n place e = refl
+roots_none ss (suc more) n place e = absurd (omega (arith, e))
 
 -- The type is assigned, or missing.
 follows_once : (ss : List Source) (less n : ℕ) → named_type ss (suc less) n ≡ named_by ss (named_type ss less) (number_word ss less) n (slice_get (assigned Types ss) n)
@@ -42,9 +42,9 @@ follows_word_once : (ss : List Source) (less n : ℕ) (word : List ℕ) → numb
 unfolding number_word
 follows_word_once ss less n word = refl
 
-roots_once : (ss : List Source) (less n : ℕ) (grouped : Bool) → type_roots ss (suc less) n grouped ≡ roots_by ss (type_roots ss less) grouped (slice_get (assigned Types ss) n)
+roots_once : (ss : List Source) (less n : ℕ) (place : Place) → type_roots ss (suc less) n place ≡ roots_by ss (type_roots ss less) place (slice_get (assigned Types ss) n)
 unfolding type_roots
-roots_once ss less n grouped = refl
+roots_once ss less n place = refl
 
 module _ (ss : List Source) (more less n : ℕ) (above : more ≡ less + 1) (list : List Assigned) (all : list ≡ assigned Types ss) where
   above_suc : more ≡ suc less
@@ -58,9 +58,9 @@ module _ (ss : List Source) (more less n : ℕ) (above : more ≡ less + 1) (lis
   follows_word word o e =
       ap (λ x. number_by ss (number_word ss less) x word) (e ∙ ap (λ l. slice_get l n) all) ∙ sym (follows_word_once ss less n word) ∙ ap (λ k. number_word ss k n word) (sym above_suc)
 
-  pub follows_roots : (grouped : Bool) (o : Option Assigned) → o ≡ slice_get list n → roots_by ss (type_roots ss less) grouped o ≡ type_roots ss more n grouped
-  follows_roots grouped o e =
-      ap (roots_by ss (type_roots ss less) grouped) (e ∙ ap (λ l. slice_get l n) all) ∙ sym (roots_once ss less n grouped) ∙ ap (λ k. type_roots ss k n grouped) (sym above_suc)
+  pub follows_roots : (place : Place) (o : Option Assigned) → o ≡ slice_get list n → roots_by ss (type_roots ss less) place o ≡ type_roots ss more n place
+  follows_roots place o e =
+      ap (roots_by ss (type_roots ss less) place) (e ∙ ap (λ l. slice_get l n) all) ∙ sym (roots_once ss less n place) ∙ ap (λ k. type_roots ss k n place) (sym above_suc)
 
   -- A type with parts is named by its number, and another one has its shape.
   module _ (t : Assigned) (there : Some t ≡ slice_get list n) (held : Notation) (is : notation_of t.assignment ≡ held) where

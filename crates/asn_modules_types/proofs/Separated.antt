@@ -24,7 +24,7 @@ use Rattle.asn_modules_references.proofs.Outs.{extension_seen, members_out, tail
 use Rattle.asn_modules_types.specs.Known.{items_of, known_parts, part_view, tail_of}
 use Rattle.asn_modules_types.specs.Lists.{added_of, all_known, behind, front, front_of, if_marked, implied, root_of}
 use Rattle.asn_modules_types.specs.Scopes.{Scope}
-use Rattle.asn_modules_types.specs.Types.{Part, Roots, entry_parts, included, lists_of, notation_roots, parts}
+use Rattle.asn_modules_types.specs.Types.{Part, Place, Roots, between_brackets, entry_parts, included, lists_of, notation_roots, parts}
 use Rattle.asn_modules_types.specs.declared.parts.Part as code
 
 -- All are up to the first marker.
@@ -119,42 +119,42 @@ module _ (roots : Roots) (s : Scope) where
   included_unmarked None = refl
   included_unmarked (Some ps) = behind_none (λ p. Some p) ps
 
-  component_rolled : (grouped : Bool) (l : Component-F Base Component code_member.Member Extension Members Notation) → behind (entry_parts roots s grouped (component_view (roll-Component l))) ≡ None
-  component_rolled grouped (layer.Named name n presence) = ap (λ m. behind (entry_parts roots s grouped m)) (fold-roll-Component spec.Base spec.Member spec.Member (List spec.Member) (List spec.Member) spec.Notation base_step component_step member_step extension_step members_step notation_step (layer.Named name n presence))
-  component_rolled grouped (layer.ComponentsOf n) = ap (λ m. behind (entry_parts roots s grouped m)) (fold-roll-Component spec.Base spec.Member spec.Member (List spec.Member) (List spec.Member) spec.Notation base_step component_step member_step extension_step members_step notation_step (layer.ComponentsOf n))
-      ∙ included_unmarked (notation_roots roots s grouped (notation_view n))
+  component_rolled : (place : Place) (l : Component-F Base Component code_member.Member Extension Members Notation) → behind (entry_parts roots s place (component_view (roll-Component l))) ≡ None
+  component_rolled place (layer.Named name n presence) = ap (λ m. behind (entry_parts roots s place m)) (fold-roll-Component spec.Base spec.Member spec.Member (List spec.Member) (List spec.Member) spec.Notation base_step component_step member_step extension_step members_step notation_step (layer.Named name n presence))
+  component_rolled place (layer.ComponentsOf n) = ap (λ m. behind (entry_parts roots s place m)) (fold-roll-Component spec.Base spec.Member spec.Member (List spec.Member) (List spec.Member) spec.Notation base_step component_step member_step extension_step members_step notation_step (layer.ComponentsOf n))
+      ∙ included_unmarked (notation_roots roots s place (notation_view n))
 
-  pub component_unmarked : (grouped : Bool) (c : Component) → behind (entry_parts roots s grouped (component_view c)) ≡ None
-  component_unmarked grouped c = ap (λ m. behind (entry_parts roots s grouped m)) (fold_out-Component spec.Base spec.Member spec.Member (List spec.Member) (List spec.Member) spec.Notation base_step component_step member_step extension_step members_step notation_step c ∙ sym (fold-roll-Component spec.Base spec.Member spec.Member (List spec.Member) (List spec.Member) spec.Notation base_step component_step member_step extension_step members_step notation_step (out-Component c))) ∙ component_rolled grouped (out-Component c)
+  pub component_unmarked : (place : Place) (c : Component) → behind (entry_parts roots s place (component_view c)) ≡ None
+  component_unmarked place c = ap (λ m. behind (entry_parts roots s place m)) (fold_out-Component spec.Base spec.Member spec.Member (List spec.Member) (List spec.Member) spec.Notation base_step component_step member_step extension_step members_step notation_step c ∙ sym (fold-roll-Component spec.Base spec.Member spec.Member (List spec.Member) (List spec.Member) spec.Notation base_step component_step member_step extension_step members_step notation_step (out-Component c))) ∙ component_rolled place (out-Component c)
 
   -- Nor are those that are seen by v, if none of them is.
-  entries_unmarked : {A : Type 0} (grouped : Bool) (v : A → Member) → ((x : A) → behind (entry_parts roots s grouped (v x)) ≡ None) → (xs : List A) → behind (parts roots s grouped (members_of (map v xs))) ≡ None
-  entries_unmarked grouped v h [] = refl
-  entries_unmarked grouped v h (x ∷ xs) = behind_append (entry_parts roots s grouped (v x)) (parts roots s grouped (members_of (map v xs))) (h x) ∙ entries_unmarked grouped v h xs
+  entries_unmarked : {A : Type 0} (place : Place) (v : A → Member) → ((x : A) → behind (entry_parts roots s place (v x)) ≡ None) → (xs : List A) → behind (parts roots s place (members_of (map v xs))) ≡ None
+  entries_unmarked place v h [] = refl
+  entries_unmarked place v h (x ∷ xs) = behind_append (entry_parts roots s place (v x)) (parts roots s place (members_of (map v xs))) (h x) ∙ entries_unmarked place v h xs
 
-  member_rolled : (grouped : Bool) (l : Member-F Base Component code_member.Member Extension Members Notation) → behind (entry_parts roots s grouped (member_view (roll-Member l))) ≡ None
-  member_rolled grouped (layer.One c) = ap (λ m. behind (entry_parts roots s grouped m)) (fold-roll-Member spec.Base spec.Member spec.Member (List spec.Member) (List spec.Member) spec.Notation base_step component_step member_step extension_step members_step notation_step (layer.One c)) ∙ component_unmarked grouped c
-  member_rolled grouped (layer.Group cs) = ap (λ m. behind (entry_parts roots s grouped m)) (fold-roll-Member spec.Base spec.Member spec.Member (List spec.Member) (List spec.Member) spec.Notation base_step component_step member_step extension_step members_step notation_step (layer.Group cs))
-      ∙ entries_unmarked true component_view (component_unmarked true) cs.items
+  member_rolled : (place : Place) (l : Member-F Base Component code_member.Member Extension Members Notation) → behind (entry_parts roots s place (member_view (roll-Member l))) ≡ None
+  member_rolled place (layer.One c) = ap (λ m. behind (entry_parts roots s place m)) (fold-roll-Member spec.Base spec.Member spec.Member (List spec.Member) (List spec.Member) spec.Notation base_step component_step member_step extension_step members_step notation_step (layer.One c)) ∙ component_unmarked place c
+  member_rolled place (layer.Group cs) = ap (λ m. behind (entry_parts roots s place m)) (fold-roll-Member spec.Base spec.Member spec.Member (List spec.Member) (List spec.Member) spec.Notation base_step component_step member_step extension_step members_step notation_step (layer.Group cs))
+      ∙ entries_unmarked (between_brackets place) component_view (component_unmarked (between_brackets place)) cs.items
 
-  pub member_unmarked : (grouped : Bool) (m : code_member.Member) → behind (entry_parts roots s grouped (member_view m)) ≡ None
-  member_unmarked grouped m = ap (λ x. behind (entry_parts roots s grouped x)) (fold_out-Member spec.Base spec.Member spec.Member (List spec.Member) (List spec.Member) spec.Notation base_step component_step member_step extension_step members_step notation_step m ∙ sym (fold-roll-Member spec.Base spec.Member spec.Member (List spec.Member) (List spec.Member) spec.Notation base_step component_step member_step extension_step members_step notation_step (out-Member m))) ∙ member_rolled grouped (out-Member m)
+  pub member_unmarked : (place : Place) (m : code_member.Member) → behind (entry_parts roots s place (member_view m)) ≡ None
+  member_unmarked place m = ap (λ x. behind (entry_parts roots s place x)) (fold_out-Member spec.Base spec.Member spec.Member (List spec.Member) (List spec.Member) spec.Notation base_step component_step member_step extension_step members_step notation_step m ∙ sym (fold-roll-Member spec.Base spec.Member spec.Member (List spec.Member) (List spec.Member) spec.Notation base_step component_step member_step extension_step members_step notation_step (out-Member m))) ∙ member_rolled place (out-Member m)
 
   -- A group.
-  pub group_known : (grouped : Bool) (cs : List Component) → known_parts roots s true (map component_view cs) ≡ known_parts roots s grouped (spec.group (members_of (map component_view cs)) ∷ [])
-  group_known grouped cs = ap (λ l. all_known (front l)) (sym (append-nil (parts roots s true (members_of (map component_view cs)))))
+  pub group_known : (place : Place) (cs : List Component) → known_parts roots s (between_brackets place) (map component_view cs) ≡ known_parts roots s place (spec.group (members_of (map component_view cs)) ∷ [])
+  group_known place cs = ap (λ l. all_known (front l)) (sym (append-nil (parts roots s (between_brackets place) (members_of (map component_view cs)))))
 
   -- Entries one after another, of which each is seen by v, and none is a marker.
-  module _ (grouped : Bool) {A : Type 0} (v : A → Member) (unmarked : (x : A) → behind (entry_parts roots s grouped (v x)) ≡ None) where
+  module _ (place : Place) {A : Type 0} (v : A → Member) (unmarked : (x : A) → behind (entry_parts roots s place (v x)) ≡ None) where
     abbrev left : List A → Option (List Part)
-    left xs = known_parts roots s grouped (map v xs)
+    left xs = known_parts roots s place (map v xs)
 
-    parts_step : (xs : List A) (i : ℕ) (x : A) → i < length xs → x ≡ get_or xs i x → left (drop i xs) ≡ of_both (λ a b. a ++ b) (known_parts roots s grouped (v x ∷ [])) (left (drop (i + 1) xs))
+    parts_step : (xs : List A) (i : ℕ) (x : A) → i < length xs → x ≡ get_or xs i x → left (drop i xs) ≡ of_both (λ a b. a ++ b) (known_parts roots s place (v x ∷ [])) (left (drop (i + 1) xs))
     parts_step xs i x h e =
         ap left (drop_at xs i x h e)
-        ∙ ap all_known (front_append (entry_parts roots s grouped (v x)) (parts roots s grouped (members_of (map v (drop (i + 1) xs)))) (unmarked x))
-        ∙ known_append (front (entry_parts roots s grouped (v x))) (front (parts roots s grouped (members_of (map v (drop (i + 1) xs)))))
-        ∙ ap (λ l. of_both (λ a b. a ++ b) (all_known (front l)) (left (drop (i + 1) xs))) (sym (append-nil (entry_parts roots s grouped (v x))))
+        ∙ ap all_known (front_append (entry_parts roots s place (v x)) (parts roots s place (members_of (map v (drop (i + 1) xs)))) (unmarked x))
+        ∙ known_append (front (entry_parts roots s place (v x))) (front (parts roots s place (members_of (map v (drop (i + 1) xs)))))
+        ∙ ap (λ l. of_both (λ a b. a ++ b) (all_known (front l)) (left (drop (i + 1) xs))) (sym (append-nil (entry_parts roots s place (v x))))
 
     more_behind : (found new after : List code.Part) (o : Option (List Part)) → after ≡ found ++ new → option_map (λ ys. map part_view found ++ ys) (of_both (λ a b. a ++ b) (Some (map part_view new)) o) ≡ option_map (λ ys. map part_view after ++ ys) o
     more_behind found new after None a = refl
@@ -162,11 +162,11 @@ module _ (roots : Roots) (s : Scope) where
         sym (ap (λ l. Some (l ++ ys)) (ap (map part_view) a ∙ map-append part_view found new) ∙ ap Some (append_assoc (map part_view found) (map part_view new) ys))
 
     pub parts_more : (all : Option (List Part)) (found new after : List code.Part) (xs : List A) (i : ℕ) (x : A) → i < length xs → x ≡ get_or xs i x → all ≡ option_map (λ ys. map part_view found ++ ys) (left (drop i xs))
-        → Some (map part_view new) ≡ known_parts roots s grouped (v x ∷ []) → after ≡ found ++ new → all ≡ option_map (λ ys. map part_view after ++ ys) (left (drop (i + 1) xs))
+        → Some (map part_view new) ≡ known_parts roots s place (v x ∷ []) → after ≡ found ++ new → all ≡ option_map (λ ys. map part_view after ++ ys) (left (drop (i + 1) xs))
     parts_more all found new after xs i x h e was is a =
         was ∙ ap (option_map (λ ys. map part_view found ++ ys)) (parts_step xs i x h e ∙ ap (λ o. of_both (λ p q. p ++ q) o (left (drop (i + 1) xs))) (sym is)) ∙ more_behind found new after (left (drop (i + 1) xs)) a
 
-    pub parts_missed : (all : Option (List Part)) (found : List code.Part) (xs : List A) (i : ℕ) (x : A) → i < length xs → x ≡ get_or xs i x → all ≡ option_map (λ ys. map part_view found ++ ys) (left (drop i xs)) → None ≡ known_parts roots s grouped (v x ∷ []) → None ≡ all
+    pub parts_missed : (all : Option (List Part)) (found : List code.Part) (xs : List A) (i : ℕ) (x : A) → i < length xs → x ≡ get_or xs i x → all ≡ option_map (λ ys. map part_view found ++ ys) (left (drop i xs)) → None ≡ known_parts roots s place (v x ∷ []) → None ≡ all
     parts_missed all found xs i x h e was is =
         sym (was ∙ ap (option_map (λ ys. map part_view found ++ ys)) (parts_step xs i x h e ∙ ap (λ o. of_both (λ p q. p ++ q) o (left (drop (i + 1) xs))) (sym is)))
 
@@ -174,19 +174,19 @@ module _ (roots : Roots) (s : Scope) where
     parts_end all found xs i h was = sym (was ∙ ap (λ l. option_map (λ ys. map part_view found ++ ys) (left l)) (drop_all i xs h) ∙ ap Some (append-nil (map part_view found)))
 
   -- The entries between the braces of a type.
-  module _ (grouped : Bool) where
+  module _ (place : Place) where
     abbrev seen : List Member → List (Option (Option Part))
-    seen ms = parts roots s grouped (members_of ms)
+    seen ms = parts roots s place (members_of ms)
 
     abbrev held : List code_member.Member → List (Option (Option Part))
     held ms = seen (map member_view ms)
 
     seen_append : (xs ys : List Member) → seen (xs ++ ys) ≡ seen xs ++ seen ys
     seen_append [] ys = refl
-    seen_append (x ∷ xs) ys = ap (λ l. entry_parts roots s grouped x ++ l) (seen_append xs ys) ∙ sym (append_assoc (entry_parts roots s grouped x) (seen xs) (seen ys))
+    seen_append (x ∷ xs) ys = ap (λ l. entry_parts roots s place x ++ l) (seen_append xs ys) ∙ sym (append_assoc (entry_parts roots s place x) (seen xs) (seen ys))
 
     held_unmarked : (ms : List code_member.Member) → behind (held ms) ≡ None
-    held_unmarked ms = entries_unmarked grouped member_view (member_unmarked grouped) ms
+    held_unmarked ms = entries_unmarked place member_view (member_unmarked place) ms
 
     -- The root stands before the first marker and behind the second one.
     tail_root : (tail : Option (Vec code_member.Member)) → front_of (behind (seen (tail_seen tail))) ≡ front (held (items_of tail))
@@ -204,17 +204,17 @@ module _ (roots : Roots) (s : Scope) where
         ∙ ap (λ l. front (held root) ++ l) (tail_root (out-Extension e).tail)
 
     root_joined : (m : Members) → all_known (root_of (seen (members_view m)))
-        ≡ of_both (λ a b. a ++ b) (known_parts roots s grouped (map member_view (out-Members m).root.items)) (known_parts roots s grouped (map member_view (tail_of (out-Members m).extension)))
+        ≡ of_both (λ a b. a ++ b) (known_parts roots s place (map member_view (out-Members m).root.items)) (known_parts roots s place (map member_view (tail_of (out-Members m).extension)))
     root_joined m =
         ap (λ l. all_known (root_of (seen l))) (members_out m) ∙ ap all_known (root_seen (out-Members m).root.items (out-Members m).extension)
         ∙ known_append (front (held (out-Members m).root.items)) (front (held (tail_of (out-Members m).extension)))
 
     module _ (m : Members) where
       abbrev known_front : Option (List Part)
-      known_front = known_parts roots s grouped (map member_view (out-Members m).root.items)
+      known_front = known_parts roots s place (map member_view (out-Members m).root.items)
 
       abbrev known_tail : Option (List Part)
-      known_tail = known_parts roots s grouped (map member_view (tail_of (out-Members m).extension))
+      known_tail = known_parts roots s place (map member_view (tail_of (out-Members m).extension))
 
       pub root_frontless : None ≡ known_front → None ≡ all_known (root_of (seen (members_view m)))
       root_frontless e = sym (root_joined m ∙ ap (λ o. of_both (λ a b. a ++ b) o known_tail) (sym e))

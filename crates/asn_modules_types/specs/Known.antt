@@ -1,9 +1,9 @@
 -- What contracts see of types and values and of where they stand.
-use Rattle.std.specs.Prelude.{◌≡◌, ◌<◌, ℕ, List, [], length, map, string_bytes, Bool, Option, Some, None}
+use Rattle.std.specs.Prelude.{◌≡◌, ◌<◌, ℕ, List, [], length, map, string_bytes, Option, Some, None}
 use Rattle.std.specs.Global.{Vec}
 use Rattle.std.specs.Option.{option_map}
 use Rattle.asn_linked_types.specs.declared.limits.TheConstants.{TYPE_LIMIT}
-use Rattle.asn_model.specs.ShapeView.{presence_view, shape_view}
+use Rattle.asn_model.specs.ShapeView.{kind_view, presence_view, shape_view}
 use Rattle.asn_modules_lookup.specs.Homes.{home_view}
 use Rattle.asn_modules_lookup.specs.Indexes.{IsIndexOf}
 use Rattle.asn_modules_lookup.specs.declared.sort.Sort.TheVariants.{Types, Values}
@@ -23,6 +23,7 @@ use Rattle.asn_modules_types.specs.declared.assigned.Assigned.{Assigned}
 use Rattle.asn_modules_types.specs.declared.names.Names.{Names}
 use Rattle.asn_modules_types.specs.declared.parts.Lists.{Lists}
 use Rattle.asn_modules_types.specs.declared.parts.Part.{Part}
+use Rattle.asn_modules_types.specs.declared.parts.Place.{Place}
 use Rattle.asn_modules_types.specs.declared.scope.Scope.{Scope}
 use Rattle.asn_modules_types.specs.declared.values.StatedValue.{StatedValue}
 
@@ -52,6 +53,9 @@ scope_view limit s = scope_of (sources_of s.names.now) limit s.number (home_view
 abbrev pub roots_view : ℕ → Scope → types.Roots
 roots_view limit s = roots_of (sources_of s.names.now) limit s.number (home_view s.home)
 
+abbrev pub place_view : Place → types.Place
+place_view p = record { kind = kind_view p.kind; grouped = p.grouped }
+
 abbrev pub part_view : Part → types.Part
 part_view p = record { name = string_bytes p.name; presence = presence_view p.presence; shape = shape_view p.shape }
 
@@ -63,8 +67,8 @@ abbrev pub lists_view : Lists → List types.Part × Option (List types.Part)
 lists_view l = (parts_view l.root, option_map parts_view l.added)
 
 -- What entries without a marker among them are, if each of their parts is understood.
-abbrev pub known_parts : types.Roots → scopes.Scope → Bool → List notation.Member → Option (List types.Part)
-known_parts roots s grouped ms = all_known (front (types.parts roots s grouped (members_of ms)))
+abbrev pub known_parts : types.Roots → scopes.Scope → types.Place → List notation.Member → Option (List types.Part)
+known_parts roots s place ms = all_known (front (types.parts roots s place (members_of ms)))
 
 abbrev pub items_of : Option (Vec Member) → List Member
 items_of None = []

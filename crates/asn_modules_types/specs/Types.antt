@@ -68,9 +68,26 @@ presence_of s grouped n shape (Default v) = option_map (λ p. Presence.default p
 abbrev pub part_of : Scope → Bool → Token → Notation → stated.Presence → Shape → Option Part
 part_of s grouped name n presence shape = option_map (λ p. record { name = name_in s.text name; presence = p; shape = shape }) (presence_of s grouped n shape presence)
 
--- The root components of the SEQUENCE or SET that a name stands for, behind that of its module where it is stated, if they are understood. The first argument states whether they stand between version brackets.
+-- Where components stand: in a SEQUENCE or a SET, and whether between version brackets there. In a CHOICE it doesn't matter: alternatives have no presence, and there is no COMPONENTS OF.
+pub record Place : Type 0 where
+  pub kind : SeqKind
+  pub grouped : Bool
+
+abbrev pub outside_brackets : SeqKind → Place
+outside_brackets kind = record { kind = kind; grouped = false }
+
+abbrev pub between_brackets : Place → Place
+between_brackets place = record { kind = place.kind; grouped = true }
+
+-- The components that COMPONENTS OF a name is there, behind that of its module where it is stated, if they are understood.
 abbrev pub Roots : Type 0
-Roots = Bool → Option Token → Token → Option (List Part)
+Roots = Place → Option Token → Token → Option (List Part)
+
+-- Those of a type of the second kind, where it is that of the type that they stand in.
+abbrev pub of_kind : SeqKind → SeqKind → Option (List Part) → Option (List Part)
+of_kind SeqKind.sequence SeqKind.sequence ps = ps
+of_kind SeqKind.set SeqKind.set ps = ps
+of_kind outer inner ps = None
 
 -- What COMPONENTS OF is: these parts, or one that isn't understood.
 abbrev pub included : Option (List Part) → List (Option (Option Part))
@@ -88,27 +105,27 @@ abbrev mutual
   base_shape roots s (integer ns) = integer_shape
   base_shape roots s (bit_string ns) = Shape.bits None
   base_shape roots s (enumerated items) = enumerated_shape s items
-  base_shape roots s (members kind ms) = members_shape kind (lists_of s.extensible (parts roots s false ms))
+  base_shape roots s (members kind ms) = members_shape kind (lists_of s.extensible (parts roots s (outside_brackets kind) ms))
   base_shape roots s (list_of kind n) = list_shape kind (notation_shape roots s n)
-  base_shape roots s (choice ms) = choice_shape (lists_of s.extensible (parts roots s false ms))
+  base_shape roots s (choice ms) = choice_shape (lists_of s.extensible (parts roots s (outside_brackets SeqKind.sequence) ms))
   base_shape roots s (reference home name) = s.type_named home name
 
   -- What entries between braces are: parts, of which `None` is one that isn't understood, and extension markers, which are `None` in their place.
-  pub parts : Roots → Scope → Bool → Members → List (Option (Option Part))
-  parts roots s grouped no_members = []
-  parts roots s grouped (member m ms) = entry_parts roots s grouped m ++ parts roots s grouped ms
+  pub parts : Roots → Scope → Place → Members → List (Option (Option Part))
+  parts roots s place no_members = []
+  parts roots s place (member m ms) = entry_parts roots s place m ++ parts roots s place ms
 
-  pub entry_parts : Roots → Scope → Bool → Member → List (Option (Option Part))
-  entry_parts roots s grouped (component name n presence) = Some (part_of s grouped name n presence (notation_shape roots s n)) ∷ []
-  entry_parts roots s grouped (components_of n) = included (notation_roots roots s grouped n)
-  entry_parts roots s grouped (group ms) = parts roots s true ms
-  entry_parts roots s grouped marker = None ∷ []
+  pub entry_parts : Roots → Scope → Place → Member → List (Option (Option Part))
+  entry_parts roots s place (component name n presence) = Some (part_of s place.grouped name n presence (notation_shape roots s n)) ∷ []
+  entry_parts roots s place (components_of n) = included (notation_roots roots s place n)
+  entry_parts roots s place (group ms) = parts roots s (between_brackets place) ms
+  entry_parts roots s place marker = None ∷ []
 
-  -- The root components of a type (X.680, section 25.5), if it is a SEQUENCE or SET and they are understood.
-  pub notation_roots : Roots → Scope → Bool → Notation → Option (List Part)
-  notation_roots roots s grouped (notation tags base sizes) = base_roots roots s grouped base
+  -- What COMPONENTS OF a type is there: the components of its root (X.680, sections 25.4 and 25.5, 27.2), if it is a SEQUENCE in a SEQUENCE or a SET in a SET, and they are understood.
+  pub notation_roots : Roots → Scope → Place → Notation → Option (List Part)
+  notation_roots roots s place (notation tags base sizes) = base_roots roots s place base
 
-  pub base_roots : Roots → Scope → Bool → Base → Option (List Part)
-  base_roots roots s grouped (members kind ms) = all_known (root_of (parts roots s grouped ms))
-  base_roots roots s grouped (reference home name) = roots grouped home name
-  base_roots roots s grouped base = None
+  pub base_roots : Roots → Scope → Place → Base → Option (List Part)
+  base_roots roots s place (members kind ms) = of_kind place.kind kind (all_known (root_of (parts roots s place ms)))
+  base_roots roots s place (reference home name) = roots place home name
+  base_roots roots s place base = None

@@ -5,13 +5,14 @@ ghost use Rattle.asn_modules_notation.specs.View.{component_view, members_view, 
 ghost use Rattle.asn_modules_notation.specs.declared.notation.Members.{out-Members};
 ghost use Rattle.asn_modules_reader.specs.Views.{base_view, member_view};
 ghost use Rattle.asn_modules_types.specs.Known.{KnowsNames, known_parts, lists_view};
-ghost use Rattle.asn_modules_types.specs.Known.{parts_view, roots_view, scope_view, sources_of};
-ghost use Rattle.asn_modules_types.specs.Known.{tail_of};
+ghost use Rattle.asn_modules_types.specs.Known.{parts_view, place_view, roots_view, scope_view};
+ghost use Rattle.asn_modules_types.specs.Known.{sources_of, tail_of};
 ghost use Rattle.asn_modules_types.specs.Linked.{has_parts, no_roots, type_roots};
 ghost use Rattle.asn_modules_types.specs.Lists.{all_known, root_of};
-ghost use Rattle.asn_modules_types.specs.Types.{Roots, base_shape, choice_shape, lists_of};
-ghost use Rattle.asn_modules_types.specs.Types.{members_shape, notation_roots, notation_shape};
-ghost use Rattle.asn_modules_types.specs.Types.{parts};
+ghost use Rattle.asn_modules_types.specs.Types.{Roots, base_roots, base_shape, between_brackets};
+ghost use Rattle.asn_modules_types.specs.Types.{choice_shape, lists_of, members_shape};
+ghost use Rattle.asn_modules_types.specs.Types.{notation_roots, notation_shape};
+ghost use Rattle.asn_modules_types.specs.Types.{outside_brackets, parts};
 ghost use Rattle.std.specs.Prelude.{◌≡◌, ◌≤◌, ◌+◌, ◌∷◌, [], IfOk, OnOk, false, map, option_map};
 ghost use Rattle.std.specs.Prelude.{true};
 
@@ -21,7 +22,7 @@ use crate::defaults::presence_of;
 use crate::fault::LinkFault;
 use crate::limits::NAME_LIMIT;
 use crate::names::{Names, unit_shape};
-use crate::parts::{Lists, Part, alternatives_of, fields_of};
+use crate::parts::{Lists, Part, Place, alternatives_of, fields_of};
 use crate::scope::{Scope, find, is_extensible};
 use crate::sizes::sized;
 use crate::words::name_in;
@@ -82,11 +83,15 @@ fn base_shape_of(
             members_shape(
                 alloc,
                 SeqKind::Sequence,
-                lists_of(scope, depth, left, members)?,
+                lists_of(scope, depth, left, SeqKind::Sequence, members)?,
             )
         }
         Base::Set(members) => {
-            members_shape(alloc, SeqKind::Set, lists_of(scope, depth, left, members)?)
+            members_shape(
+                alloc,
+                SeqKind::Set,
+                lists_of(scope, depth, left, SeqKind::Set, members)?,
+            )
         }
         Base::SequenceOf(element) => {
             let element = shape_of(scope, depth, left, element)?;
@@ -96,7 +101,10 @@ fn base_shape_of(
             let element = shape_of(scope, depth, left, element)?;
             Ok(Shape::SetOf(Box::new(alloc, element)?))
         }
-        Base::Choice(members) => choice_shape(alloc, lists_of(scope, depth, left, members)?),
+        Base::Choice(members) => choice_shape(
+            alloc,
+            lists_of(scope, depth, left, SeqKind::Sequence, members)?,
+        ),
         Base::Leaf(_) => without_parts(scope, base),
         Base::Integer(_) => without_parts(scope, base),
         Base::BitString(_) => without_parts(scope, base),
@@ -181,22 +189,27 @@ fn lists_of(
     scope: &Scope<'_, '_, '_>,
     depth: Depth,
     left: &mut Allowance,
+    kind: SeqKind,
     members: &Members,
 ) -> Result<Option<Lists>, LinkFault>
     requires known { KnowsNames scope.now.names.now }
     ensures lists { IfOk result (λ o. option_map lists_view o
         ≡ lists_of (scope_view NAME_LIMIT scope.now).extensible
-        (parts (roots_view depth.names scope.now) (scope_view NAME_LIMIT scope.now) false
-        (members_of (members_view members.now)))) }
+        (parts (roots_view depth.names scope.now) (scope_view NAME_LIMIT scope.now)
+        (outside_brackets (kind_view kind)) (members_of (members_view members.now)))) }
     ensures fewer { OnOk result (left.new.types ≤ left.old.types) }
 {
-    let Some(root) = root_of(scope, depth, left, false, members)? else {
+    let place = Place {
+        kind,
+        grouped: false,
+    };
+    let Some(root) = root_of(scope, depth, left, place, members)? else {
         return Ok(None);
     };
     let added = match &members.extension {
         Some(extension) => {
             let additions = extension.additions.as_slice();
-            let Some(added) = parts_of(scope, depth, left, false, additions)? else {
+            let Some(added) = parts_of(scope, depth, left, place, additions)? else {
                 return Ok(None);
             };
             Some(added)
@@ -226,8 +239,7 @@ fn tail_of(extension: &Option<Extension>) -> &[Member]
 }
 
 /// Returns the parts of the root of a type: those before the first extension marker and behind the
-/// second one, or `None` where one of them isn't understood. `grouped` states whether they stand
-/// between version brackets.
+/// second one, or `None` where one of them isn't understood.
 ///
 /// # Errors
 ///
@@ -237,20 +249,20 @@ fn root_of(
     scope: &Scope<'_, '_, '_>,
     depth: Depth,
     left: &mut Allowance,
-    grouped: bool,
+    place: Place,
     members: &Members,
 ) -> Result<Option<Vec<Part>>, LinkFault>
     requires known { KnowsNames scope.now.names.now }
     ensures root { IfOk result (λ o. option_map parts_view o
         ≡ all_known (root_of (parts (roots_view depth.names scope.now)
-        (scope_view NAME_LIMIT scope.now) grouped (members_of (members_view members.now))))) }
+        (scope_view NAME_LIMIT scope.now) (place_view place) (members_of (members_view members.now))))) }
     ensures fewer { OnOk result (left.new.types ≤ left.old.types) }
 {
-    let Some(mut root) = parts_of(scope, depth, left, grouped, members.root.as_slice())? else {
+    let Some(mut root) = parts_of(scope, depth, left, place, members.root.as_slice())? else {
         return Ok(None);
     };
     let tail = tail_of(&members.extension);
-    let Some(mut behind) = parts_of(scope, depth, left, grouped, tail)? else {
+    let Some(mut behind) = parts_of(scope, depth, left, place, tail)? else {
         return Ok(None);
     };
     root.append(&mut behind)?;
@@ -258,7 +270,6 @@ fn root_of(
 }
 
 /// Returns the parts that these entries are, or `None` where one of them isn't understood.
-/// `grouped` states whether they stand between version brackets.
 ///
 /// # Errors
 ///
@@ -268,18 +279,19 @@ fn parts_of(
     scope: &Scope<'_, '_, '_>,
     depth: Depth,
     left: &mut Allowance,
-    grouped: bool,
+    place: Place,
     entries: &[Member],
 ) -> Result<Option<Vec<Part>>, LinkFault>
     requires known { KnowsNames scope.now.names.now }
     ensures parts { IfOk result (λ o. option_map parts_view o
-        ≡ known_parts (roots_view depth.names scope.now) (scope_view NAME_LIMIT scope.now) grouped
+        ≡ known_parts (roots_view depth.names scope.now) (scope_view NAME_LIMIT scope.now)
+        (place_view place)
         (map member_view entries.now)) }
     ensures fewer { OnOk result (left.new.types ≤ left.old.types) }
 {
     let mut found = Vec::new(scope.names.alloc);
     for entry in entries {
-        match parts_of_entry(scope, depth, left, grouped, entry)? {
+        match parts_of_entry(scope, depth, left, place, entry)? {
             Some(mut parts) => found.append(&mut parts)?,
             None => return Ok(None),
         }
@@ -287,8 +299,7 @@ fn parts_of(
     Ok(Some(found))
 }
 
-/// Returns the parts that an entry is, or `None` where one of them isn't understood. `grouped`
-/// states whether it stands between version brackets.
+/// Returns the parts that an entry is, or `None` where one of them isn't understood.
 ///
 /// # Errors
 ///
@@ -298,18 +309,19 @@ fn parts_of_entry(
     scope: &Scope<'_, '_, '_>,
     depth: Depth,
     left: &mut Allowance,
-    grouped: bool,
+    place: Place,
     entry: &Member,
 ) -> Result<Option<Vec<Part>>, LinkFault>
     requires known { KnowsNames scope.now.names.now }
     ensures parts { IfOk result (λ o. option_map parts_view o
-        ≡ known_parts (roots_view depth.names scope.now) (scope_view NAME_LIMIT scope.now) grouped
+        ≡ known_parts (roots_view depth.names scope.now) (scope_view NAME_LIMIT scope.now)
+        (place_view place)
         (member_view entry.now ∷ [])) }
     ensures fewer { OnOk result (left.new.types ≤ left.old.types) }
 {
     match entry {
-        Member::One(component) => part_of(scope, depth, left, grouped, component),
-        Member::Group(components) => group_of(scope, depth, left, components.as_slice()),
+        Member::One(component) => part_of(scope, depth, left, place, component),
+        Member::Group(components) => group_of(scope, depth, left, place, components.as_slice()),
     }
 }
 
@@ -323,17 +335,22 @@ fn group_of(
     scope: &Scope<'_, '_, '_>,
     depth: Depth,
     left: &mut Allowance,
+    place: Place,
     components: &[Component],
 ) -> Result<Option<Vec<Part>>, LinkFault>
     requires known { KnowsNames scope.now.names.now }
     ensures parts { IfOk result (λ o. option_map parts_view o
-        ≡ known_parts (roots_view depth.names scope.now) (scope_view NAME_LIMIT scope.now) true
-        (map component_view components.now)) }
+        ≡ known_parts (roots_view depth.names scope.now) (scope_view NAME_LIMIT scope.now)
+        (between_brackets (place_view place)) (map component_view components.now)) }
     ensures fewer { OnOk result (left.new.types ≤ left.old.types) }
 {
+    let within = Place {
+        kind: place.kind,
+        grouped: true,
+    };
     let mut found = Vec::new(scope.names.alloc);
     for component in components {
-        match part_of(scope, depth, left, true, component)? {
+        match part_of(scope, depth, left, within, component)? {
             Some(mut parts) => found.append(&mut parts)?,
             None => return Ok(None),
         }
@@ -342,7 +359,7 @@ fn group_of(
 }
 
 /// Returns the part that a component is, or those that COMPONENTS OF is, or `None` where they
-/// aren't understood. `grouped` states whether it stands between version brackets.
+/// aren't understood.
 ///
 /// # Errors
 ///
@@ -352,12 +369,13 @@ fn part_of(
     scope: &Scope<'_, '_, '_>,
     depth: Depth,
     left: &mut Allowance,
-    grouped: bool,
+    place: Place,
     component: &Component,
 ) -> Result<Option<Vec<Part>>, LinkFault>
     requires known { KnowsNames scope.now.names.now }
     ensures parts { IfOk result (λ o. option_map parts_view o
-        ≡ known_parts (roots_view depth.names scope.now) (scope_view NAME_LIMIT scope.now) grouped
+        ≡ known_parts (roots_view depth.names scope.now) (scope_view NAME_LIMIT scope.now)
+        (place_view place)
         (component_view component.now ∷ [])) }
     ensures fewer { OnOk result (left.new.types ≤ left.old.types) }
 {
@@ -368,7 +386,8 @@ fn part_of(
             presence,
         } => {
             let shape = shape_of(scope, depth, left, notation)?;
-            let Some(presence) = presence_of(scope, grouped, notation, &shape, *presence)? else {
+            let Some(presence) = presence_of(scope, place.grouped, notation, &shape, *presence)?
+            else {
                 return Ok(None);
             };
             let name = name_in(scope.names.alloc, scope.home.source.text, *name)?;
@@ -379,12 +398,12 @@ fn part_of(
             };
             Ok(Some(vec![in scope.names.alloc; part]?))
         }
-        Component::ComponentsOf(notation) => roots_of(scope, depth, left, grouped, notation),
+        Component::ComponentsOf(notation) => roots_of(scope, depth, left, place, notation),
     }
 }
 
-/// Returns the root components of the type, or `None` where it is no SEQUENCE or SET or they aren't
-/// understood. `grouped` states whether they stand between version brackets.
+/// Returns what COMPONENTS OF the type is there: the components of its root, or `None` where it
+/// isn't of the kind of the type around them, or they aren't understood.
 ///
 /// # Errors
 ///
@@ -394,24 +413,52 @@ fn roots_of(
     scope: &Scope<'_, '_, '_>,
     depth: Depth,
     left: &mut Allowance,
-    grouped: bool,
+    place: Place,
     notation: &Notation,
 ) -> Result<Option<Vec<Part>>, LinkFault>
     requires known { KnowsNames scope.now.names.now }
     ensures roots { IfOk result (λ o. option_map parts_view o
         ≡ notation_roots (roots_view depth.names scope.now) (scope_view NAME_LIMIT scope.now)
-        grouped (notation_view notation.now)) }
+        (place_view place) (notation_view notation.now)) }
     ensures fewer { OnOk result (left.new.types ≤ left.old.types) }
 {
     let within = Depth {
         names: depth.names,
         levels: take_type(left, depth)?,
     };
-    match &notation.base {
-        Base::Sequence(members) => root_of(scope, within, left, grouped, members),
-        Base::Set(members) => root_of(scope, within, left, grouped, members),
+    base_roots_of(scope, within, left, place, &notation.base)
+}
+
+/// Returns what COMPONENTS OF the type is there, as `roots_of`, without its tags and sizes.
+///
+/// # Errors
+///
+/// Those of `shape_of`.
+#[cycle(shapes)]
+fn base_roots_of(
+    scope: &Scope<'_, '_, '_>,
+    depth: Depth,
+    left: &mut Allowance,
+    place: Place,
+    base: &Base,
+) -> Result<Option<Vec<Part>>, LinkFault>
+    requires known { KnowsNames scope.now.names.now }
+    ensures roots { IfOk result (λ o. option_map parts_view o
+        ≡ base_roots (roots_view depth.names scope.now) (scope_view NAME_LIMIT scope.now)
+        (place_view place) (base_view base.now)) }
+    ensures fewer { OnOk result (left.new.types ≤ left.old.types) }
+{
+    match base {
+        Base::Sequence(members) => match place.kind {
+            SeqKind::Sequence => root_of(scope, depth, left, place, members),
+            SeqKind::Set => Ok(None),
+        },
+        Base::Set(members) => match place.kind {
+            SeqKind::Sequence => Ok(None),
+            SeqKind::Set => root_of(scope, depth, left, place, members),
+        },
         Base::Reference { module, name } => match find(scope, *module, *name) {
-            Some(number) => type_roots(scope.names, within, left, grouped, number),
+            Some(number) => type_roots(scope.names, depth, left, place, number),
             None => Ok(None),
         },
         Base::Leaf(_) => Ok(None),
@@ -424,8 +471,7 @@ fn roots_of(
     }
 }
 
-/// Returns the root components of the type of the number, or `None` where it is no SEQUENCE or SET
-/// or they aren't understood. `grouped` states whether they stand between version brackets.
+/// Returns what COMPONENTS OF the type of the number is there, as `roots_of`.
 ///
 /// # Errors
 ///
@@ -435,12 +481,12 @@ fn type_roots(
     names: &Names<'_, '_>,
     depth: Depth,
     left: &mut Allowance,
-    grouped: bool,
+    place: Place,
     number: usize,
 ) -> Result<Option<Vec<Part>>, LinkFault>
     requires known { KnowsNames names.now }
     ensures roots { IfOk result (λ o. option_map parts_view o
-        ≡ type_roots (sources_of names.now) depth.names number grouped) }
+        ≡ type_roots (sources_of names.now) depth.names number (place_view place)) }
     ensures fewer { OnOk result (left.new.types ≤ left.old.types) }
 {
     if depth.names == 0 {
@@ -458,7 +504,7 @@ fn type_roots(
                 levels: depth.levels,
             };
             let notation = notation_of(assigned.assignment);
-            roots_of(&scope, past, left, grouped, notation)
+            roots_of(&scope, past, left, place, notation)
         }
         None => Ok(None),
     }

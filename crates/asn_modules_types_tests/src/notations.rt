@@ -45,7 +45,7 @@ U ::= SEQUENCE { b INTEGER, c BOOLEAN OPTIONAL }",
     ),
     (
         "T ::= SET { COMPONENTS OF V } V ::= [1] U (CONSTRAINED BY {}) \
-U ::= [2] SEQUENCE { a NULL }",
+U ::= [2] SET { a NULL }",
         r#"{"a":null}"#,
         r#"{"a":null}"#,
         "{\n  a NULL\n}",
@@ -53,7 +53,7 @@ U ::= [2] SEQUENCE { a NULL }",
     // Within another one, of a type that is written out, and of none.
     (
         "T ::= SEQUENCE { COMPONENTS OF U, c NULL } U ::= SEQUENCE { a NULL, COMPONENTS OF W } \
-W ::= SEQUENCE { COMPONENTS OF SEQUENCE { b NULL }, COMPONENTS OF SET {} }",
+W ::= SEQUENCE { COMPONENTS OF SEQUENCE { b NULL }, COMPONENTS OF SEQUENCE {} }",
         r#"{"a":null,"b":null,"c":null}"#,
         r#"{"a":null,"b":null,"c":null}"#,
         "{\n  a NULL,\n  b NULL,\n  c NULL\n}",
@@ -63,7 +63,7 @@ W ::= SEQUENCE { COMPONENTS OF SEQUENCE { b NULL }, COMPONENTS OF SET {} }",
         "M DEFINITIONS ::= BEGIN IMPORTS U FROM N; B ::= NULL v INTEGER ::= 1 \
 T ::= SEQUENCE { COMPONENTS OF U, COMPONENTS OF L.B } END \
 N DEFINITIONS ::= BEGIN U ::= SEQUENCE { a B, b INTEGER DEFAULT v } B ::= BOOLEAN \
-v INTEGER ::= 7 END L DEFINITIONS ::= BEGIN B ::= SET { c NULL } END",
+v INTEGER ::= 7 END L DEFINITIONS ::= BEGIN B ::= SEQUENCE { c NULL } END",
         r#"{"a":true,"b":7,"c":null}"#,
         r#"{"a":true,"c":null}"#,
         "{\n  a TRUE,\n  c NULL\n}",
@@ -85,8 +85,8 @@ U ::= SEQUENCE { b NULL, ..., COMPONENTS OF T }",
     ),
     // Between version brackets each may be absent.
     (
-        "T ::= SEQUENCE { a NULL, ..., [[ COMPONENTS OF U, e NULL, COMPONENTS OF SET { d NULL } ]] \
-} U ::= SEQUENCE { COMPONENTS OF SET { b BOOLEAN }, c INTEGER DEFAULT 5 }",
+        "T ::= SEQUENCE { a NULL, ..., [[ COMPONENTS OF U, e NULL, COMPONENTS OF SEQUENCE { d NULL } \
+]] } U ::= SEQUENCE { COMPONENTS OF SEQUENCE { b BOOLEAN }, c INTEGER DEFAULT 5 }",
         r#"{"a":null,"c":5,"e":null}"#,
         r#"{"a":null,"e":null}"#,
         "{\n  a NULL,\n  e NULL\n}",

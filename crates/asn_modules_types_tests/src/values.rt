@@ -4,7 +4,7 @@ use asn_core::Codec;
 use std::test::Fail;
 
 /// Lists texts of modules with a JSON text and the canonical text of its value by the type `T`.
-const ROWS: [(&str, &str, &str); 49] = [
+const ROWS: [(&str, &str, &str); 51] = [
     // Tags mean nothing for a text.
     (
         "T ::= [APPLICATION 5] IMPLICIT SEQUENCE { a [7] BOOLEAN }",
@@ -102,9 +102,20 @@ F ::= ENUMERATED { x, y } w F ::= y",
         r#"{"a":null}"#,
         r#"{"a":null}"#,
     ),
-    // COMPONENTS OF what is no SEQUENCE or SET, is missing, or isn't understood.
+    // COMPONENTS OF what is no SEQUENCE in a SEQUENCE, or no SET in a SET, is missing, or isn't
+    // understood.
     (
         "T ::= SEQUENCE { COMPONENTS OF U } U ::= CHOICE { a NULL }",
+        r#"{"a":null}"#,
+        "refused",
+    ),
+    (
+        "T ::= SEQUENCE { COMPONENTS OF U } U ::= SET { a NULL }",
+        r#"{"a":null}"#,
+        "refused",
+    ),
+    (
+        "T ::= SET { COMPONENTS OF SEQUENCE { a NULL } }",
         r#"{"a":null}"#,
         "refused",
     ),
@@ -144,7 +155,7 @@ F ::= ENUMERATED { x, y } w F ::= y",
     ("T ::= SEQUENCE { COMPONENTS OF T }", "{}", "refused"),
     (
         "T ::= SEQUENCE { a SEQUENCE { COMPONENTS OF U } OPTIONAL, b NULL } \
-U ::= SET { COMPONENTS OF V } V ::= SET { COMPONENTS OF U }",
+U ::= SEQUENCE { COMPONENTS OF V } V ::= SEQUENCE { COMPONENTS OF U }",
         r#"{"b":null}"#,
         r#"{"b":null}"#,
     ),

@@ -1,13 +1,13 @@
 use Rattle.std.proofs.Common.{◌≡◌, ◌≤◌, ◌+◌, ◌-◌, ◌∙◌, ◌∷◌, [], List, None, Option, Some, ap, arith, false, map, option_map, string_bytes, sym, true}
 use Rattle.std.proofs.lemmas.Result.{IfOk-weaker}
-use Rattle.asn_model.specs.ShapeView.{presence_view, shape_view}
+use Rattle.asn_model.specs.ShapeView.{kind_view, presence_view, shape_view}
 use Rattle.asn_modules_notation.specs.View.{component_view, notation_view}
 use Rattle.asn_modules_notation.specs.declared.notation.Notation.{out-Notation}
 use Rattle.asn_modules_reader.proofs.Viewing.{components_of_viewed, group_viewed, named_viewed, one_viewed, reference_viewed, sequence_viewed, set_viewed}
 use Rattle.asn_modules_reader.specs.Views.{base_view, member_view}
-use Rattle.asn_modules_types.specs.Known.{assigned_view, known_parts, parts_view, part_view, roots_view, scope_view, sources_of}
+use Rattle.asn_modules_types.specs.Known.{assigned_view, known_parts, parts_view, part_view, place_view, roots_view, scope_view, sources_of}
 use Rattle.asn_modules_types.specs.Linked.{roots_of, scope_of}
-use Rattle.asn_modules_types.specs.Types.{Part, notation_roots}
+use Rattle.asn_modules_types.specs.Types.{Part, between_brackets, notation_roots, outside_brackets}
 use Rattle.asn_modules_types.specs.declared.limits.TheConstants.{NAME_LIMIT}
 use Rattle.asn_modules_types.proofs.Following.{follows_roots, roots_none}
 use Rattle.asn_modules_types.proofs.Seen.{included_known, notation_made, part_made, part_missed, roots_made}
@@ -24,14 +24,14 @@ shape_of-returns-clause-shape t c =
 pub lists_of-returns-in_default-clause-lists : goal.lists_of-returns-in_default-clause-lists
 lists_of-returns-in_default-clause-lists t c =
     let s = scope_view NAME_LIMIT c.args.scope.now in
-    lists_rootless (roots_view c.args.depth.names c.args.scope.now) s false s.extensible c.args.members.now (sym (ap (option_map parts_view) c.in_default.is) ∙ c.in_ok-root.ensures.root)
+    lists_rootless (roots_view c.args.depth.names c.args.scope.now) s (outside_brackets (kind_view c.args.kind)) s.extensible c.args.members.now (sym (ap (option_map parts_view) c.in_default.is) ∙ c.in_ok-root.ensures.root)
 
 pub lists_of-returns-in_default-2-clause-lists : goal.lists_of-returns-in_default-2-clause-lists
 lists_of-returns-in_default-2-clause-lists t c =
     let s = scope_view NAME_LIMIT c.args.scope.now in
     let roots = roots_view c.args.depth.names c.args.scope.now in
-    lists_addless roots s false s.extensible c.args.members.now c.in-Some-extension.extension (parts_view c.in-Some.root) c.in-Some-extension.is (sym (ap (option_map parts_view) c.in-Some.is) ∙ c.in_ok-root.ensures.root)
-    (sym (ap (option_map parts_view) c.in_default-2.is) ∙ c.in_ok-added.ensures.parts ∙ ap (λ l. known_parts roots s false (map member_view l)) c.as_slice.ensures.value)
+    lists_addless roots s (outside_brackets (kind_view c.args.kind)) s.extensible c.args.members.now c.in-Some-extension.extension (parts_view c.in-Some.root) c.in-Some-extension.is (sym (ap (option_map parts_view) c.in-Some.is) ∙ c.in_ok-root.ensures.root)
+    (sym (ap (option_map parts_view) c.in_default-2.is) ∙ c.in_ok-added.ensures.parts ∙ ap (λ l. known_parts roots s (outside_brackets (kind_view c.args.kind)) (map member_view l)) c.as_slice.ensures.value)
 
 pub lists_of-returns-clause-lists : goal.lists_of-returns-clause-lists
 lists_of-returns-clause-lists t c =
@@ -42,38 +42,38 @@ lists_of-returns-clause-lists t c =
     elim c.match-extension.branch [
       | lists_of-in-Some-extension+in_ok-added+in-Some-2 w ↦
           ap (λ o. Some (root, option_map parts_view o)) w.added-is
-          ∙ sym (lists_extended roots s false s.extensible c.args.members.now w.in-Some-extension.extension root (parts_view w.in-Some-2.added) w.in-Some-extension.is known
-          (sym (ap (option_map parts_view) w.in-Some-2.is) ∙ w.in_ok-added.ensures.parts ∙ ap (λ l. known_parts roots s false (map member_view l)) w.as_slice.ensures.value))
+          ∙ sym (lists_extended roots s (outside_brackets (kind_view c.args.kind)) s.extensible c.args.members.now w.in-Some-extension.extension root (parts_view w.in-Some-2.added) w.in-Some-extension.is known
+          (sym (ap (option_map parts_view) w.in-Some-2.is) ∙ w.in_ok-added.ensures.parts ∙ ap (λ l. known_parts roots s (outside_brackets (kind_view c.args.kind)) (map member_view l)) w.as_slice.ensures.value))
       | lists_of-in-None+then-is_extensible w ↦
           ap (λ o. Some (root, option_map parts_view o)) w.added-is ∙ ap (λ l. Some (root, Some (map part_view l))) w.new.ensures.items
-          ∙ sym (lists_implied roots s false s.extensible c.args.members.now root w.in-None.is known (sym w.is_extensible.ensures ∙ w.if-is_extensible.true))
+          ∙ sym (lists_implied roots s (outside_brackets (kind_view c.args.kind)) s.extensible c.args.members.now root w.in-None.is known (sym w.is_extensible.ensures ∙ w.if-is_extensible.true))
       | lists_of-in-None+else-is_extensible w ↦
           ap (λ o. Some (root, option_map parts_view o)) w.added-is
-          ∙ sym (lists_closed roots s false s.extensible c.args.members.now root w.in-None.is known (sym w.is_extensible.ensures ∙ w.if-is_extensible.false))
+          ∙ sym (lists_closed roots s (outside_brackets (kind_view c.args.kind)) s.extensible c.args.members.now root w.in-None.is known (sym w.is_extensible.ensures ∙ w.if-is_extensible.false))
     ]
 
 pub root_of-returns-in_default-clause-root : goal.root_of-returns-in_default-clause-root
 root_of-returns-in_default-clause-root t c =
     let s = scope_view NAME_LIMIT c.args.scope.now in
     let roots = roots_view c.args.depth.names c.args.scope.now in
-    root_frontless roots s c.args.grouped c.args.members.now
-    (sym (ap (option_map parts_view) c.in_default.is) ∙ c.in_ok-root.ensures.parts ∙ ap (λ l. known_parts roots s c.args.grouped (map member_view l)) c.as_slice.ensures.value)
+    root_frontless roots s (place_view c.args.place) c.args.members.now
+    (sym (ap (option_map parts_view) c.in_default.is) ∙ c.in_ok-root.ensures.parts ∙ ap (λ l. known_parts roots s (place_view c.args.place) (map member_view l)) c.as_slice.ensures.value)
 
 pub root_of-returns-in_default-2-clause-root : goal.root_of-returns-in_default-2-clause-root
 root_of-returns-in_default-2-clause-root t c =
     let s = scope_view NAME_LIMIT c.args.scope.now in
     let roots = roots_view c.args.depth.names c.args.scope.now in
-    root_tailless roots s c.args.grouped c.args.members.now (parts_view c.in-Some.root)
-    (sym (ap (option_map parts_view) c.in-Some.is) ∙ c.in_ok-root.ensures.parts ∙ ap (λ l. known_parts roots s c.args.grouped (map member_view l)) c.as_slice.ensures.value)
-    (sym (ap (option_map parts_view) c.in_default-2.is) ∙ c.in_ok-behind.ensures.parts ∙ ap (λ l. known_parts roots s c.args.grouped (map member_view l)) c.tail_of-tail.ensures)
+    root_tailless roots s (place_view c.args.place) c.args.members.now (parts_view c.in-Some.root)
+    (sym (ap (option_map parts_view) c.in-Some.is) ∙ c.in_ok-root.ensures.parts ∙ ap (λ l. known_parts roots s (place_view c.args.place) (map member_view l)) c.as_slice.ensures.value)
+    (sym (ap (option_map parts_view) c.in_default-2.is) ∙ c.in_ok-behind.ensures.parts ∙ ap (λ l. known_parts roots s (place_view c.args.place) (map member_view l)) c.tail_of-tail.ensures)
 
 pub root_of-returns-clause-root : goal.root_of-returns-clause-root
 root_of-returns-clause-root t c =
     let s = scope_view NAME_LIMIT c.args.scope.now in
     let roots = roots_view c.args.depth.names c.args.scope.now in
-    root_made roots s c.args.grouped c.args.members.now c.in-Some.root.items c.in-Some-2.behind.items c.append.new.self.items
-    (sym (ap (option_map parts_view) c.in-Some.is) ∙ c.in_ok-root.ensures.parts ∙ ap (λ l. known_parts roots s c.args.grouped (map member_view l)) c.as_slice.ensures.value)
-    (sym (ap (option_map parts_view) c.in-Some-2.is) ∙ c.in_ok-behind.ensures.parts ∙ ap (λ l. known_parts roots s c.args.grouped (map member_view l)) c.tail_of-tail.ensures)
+    root_made roots s (place_view c.args.place) c.args.members.now c.in-Some.root.items c.in-Some-2.behind.items c.append.new.self.items
+    (sym (ap (option_map parts_view) c.in-Some.is) ∙ c.in_ok-root.ensures.parts ∙ ap (λ l. known_parts roots s (place_view c.args.place) (map member_view l)) c.as_slice.ensures.value)
+    (sym (ap (option_map parts_view) c.in-Some-2.is) ∙ c.in_ok-behind.ensures.parts ∙ ap (λ l. known_parts roots s (place_view c.args.place) (map member_view l)) c.tail_of-tail.ensures)
     c.in_ok-append.ensures.items
 
 pub parts_of-loop-entry-preserved : goal.parts_of-loop-entry-preserved
@@ -82,7 +82,7 @@ parts_of-loop-entry-preserved t c =
     let roots = roots_view c.args.depth.names c.args.scope.now in
     record {
       known =
-          parts_more roots s c.args.grouped member_view (member_unmarked roots s c.args.grouped) (known_parts roots s c.args.grouped (map member_view c.args.entries.now)) c.loop-entry.found.items c.in-Some.parts.items _ c.args.entries.now c.loop-entry.entry-index c.entry-item.result
+          parts_more roots s (place_view c.args.place) member_view (member_unmarked roots s (place_view c.args.place)) (known_parts roots s (place_view c.args.place) (map member_view c.args.entries.now)) c.loop-entry.found.items c.in-Some.parts.items _ c.args.entries.now c.loop-entry.entry-index c.entry-item.result
           c.loop-entry-test.true c.entry-item.is c.loop-entry.invariant.known (sym (ap (option_map parts_view) c.in-Some.is) ∙ c.in_ok-parts_of_entry.ensures.parts) c.in_ok-append.ensures.items;
       fewer = omega arith;
     }
@@ -91,14 +91,14 @@ pub parts_of-returns-in-None-clause-parts : goal.parts_of-returns-in-None-clause
 parts_of-returns-in-None-clause-parts t c =
     let s = scope_view NAME_LIMIT c.args.scope.now in
     let roots = roots_view c.args.depth.names c.args.scope.now in
-    parts_missed roots s c.args.grouped member_view (member_unmarked roots s c.args.grouped) (known_parts roots s c.args.grouped (map member_view c.args.entries.now)) c.loop-entry.found.items c.args.entries.now c.loop-entry.entry-index c.entry-item.result
+    parts_missed roots s (place_view c.args.place) member_view (member_unmarked roots s (place_view c.args.place)) (known_parts roots s (place_view c.args.place) (map member_view c.args.entries.now)) c.loop-entry.found.items c.args.entries.now c.loop-entry.entry-index c.entry-item.result
     c.loop-entry-test.true c.entry-item.is c.loop-entry.invariant.known (sym (ap (option_map parts_view) c.in-None.is) ∙ c.in_ok-parts_of_entry.ensures.parts)
 
 pub parts_of-returns-clause-parts : goal.parts_of-returns-clause-parts
 parts_of-returns-clause-parts t c =
     let s = scope_view NAME_LIMIT c.args.scope.now in
     let roots = roots_view c.args.depth.names c.args.scope.now in
-    parts_end roots s c.args.grouped member_view (member_unmarked roots s c.args.grouped) (known_parts roots s c.args.grouped (map member_view c.args.entries.now)) c.loop-entry.found.items c.args.entries.now c.loop-entry.entry-index
+    parts_end roots s (place_view c.args.place) member_view (member_unmarked roots s (place_view c.args.place)) (known_parts roots s (place_view c.args.place) (map member_view c.args.entries.now)) c.loop-entry.found.items c.args.entries.now c.loop-entry.entry-index
     (omega (arith, c.loop-entry-test.false)) c.loop-entry.invariant.known
 
 pub parts_of_entry-returns-in-One-clause-parts : goal.parts_of_entry-returns-in-One-clause-parts
@@ -106,7 +106,7 @@ parts_of_entry-returns-in-One-clause-parts t c =
     let s = scope_view NAME_LIMIT c.args.scope.now in
     let roots = roots_view c.args.depth.names c.args.scope.now in
     let seen = ap member_view c.in-One.is ∙ one_viewed c.in-One.component in
-    IfOk-weaker c.part_of.result _ _ (λ o e. e ∙ ap (λ m. known_parts roots s c.args.grouped (m ∷ [])) (sym seen)) c.part_of.ensures.parts
+    IfOk-weaker c.part_of.result _ _ (λ o e. e ∙ ap (λ m. known_parts roots s (place_view c.args.place) (m ∷ [])) (sym seen)) c.part_of.ensures.parts
 
 pub parts_of_entry-returns-in-Group-clause-parts : goal.parts_of_entry-returns-in-Group-clause-parts
 parts_of_entry-returns-in-Group-clause-parts t c =
@@ -114,8 +114,8 @@ parts_of_entry-returns-in-Group-clause-parts t c =
     let roots = roots_view c.args.depth.names c.args.scope.now in
     let seen = ap member_view c.in-Group.is ∙ group_viewed c.in-Group.components in
     IfOk-weaker c.group_of.result _ _
-    (λ o e. e ∙ ap (λ l. known_parts roots s true (map component_view l)) c.as_slice.ensures.value ∙ group_known roots s c.args.grouped c.in-Group.components.items
-    ∙ ap (λ m. known_parts roots s c.args.grouped (m ∷ [])) (sym seen)) c.group_of.ensures.parts
+    (λ o e. e ∙ ap (λ l. known_parts roots s (between_brackets (place_view c.args.place)) (map component_view l)) c.as_slice.ensures.value ∙ group_known roots s (place_view c.args.place) c.in-Group.components.items
+    ∙ ap (λ m. known_parts roots s (place_view c.args.place) (m ∷ [])) (sym seen)) c.group_of.ensures.parts
 
 pub group_of-loop-component-preserved : goal.group_of-loop-component-preserved
 group_of-loop-component-preserved t c =
@@ -123,7 +123,7 @@ group_of-loop-component-preserved t c =
     let roots = roots_view c.args.depth.names c.args.scope.now in
     record {
       known =
-          parts_more roots s true component_view (component_unmarked roots s true) (known_parts roots s true (map component_view c.args.components.now)) c.loop-component.found.items c.in-Some.parts.items _ c.args.components.now c.loop-component.component-index c.component-item.result
+          parts_more roots s (between_brackets (place_view c.args.place)) component_view (component_unmarked roots s (between_brackets (place_view c.args.place))) (known_parts roots s (between_brackets (place_view c.args.place)) (map component_view c.args.components.now)) c.loop-component.found.items c.in-Some.parts.items _ c.args.components.now c.loop-component.component-index c.component-item.result
           c.loop-component-test.true c.component-item.is c.loop-component.invariant.known (sym (ap (option_map parts_view) c.in-Some.is) ∙ c.in_ok-part_of.ensures.parts) c.in_ok-append.ensures.items;
       fewer = omega arith;
     }
@@ -132,14 +132,14 @@ pub group_of-returns-in-None-clause-parts : goal.group_of-returns-in-None-clause
 group_of-returns-in-None-clause-parts t c =
     let s = scope_view NAME_LIMIT c.args.scope.now in
     let roots = roots_view c.args.depth.names c.args.scope.now in
-    parts_missed roots s true component_view (component_unmarked roots s true) (known_parts roots s true (map component_view c.args.components.now)) c.loop-component.found.items c.args.components.now c.loop-component.component-index c.component-item.result
+    parts_missed roots s (between_brackets (place_view c.args.place)) component_view (component_unmarked roots s (between_brackets (place_view c.args.place))) (known_parts roots s (between_brackets (place_view c.args.place)) (map component_view c.args.components.now)) c.loop-component.found.items c.args.components.now c.loop-component.component-index c.component-item.result
     c.loop-component-test.true c.component-item.is c.loop-component.invariant.known (sym (ap (option_map parts_view) c.in-None.is) ∙ c.in_ok-part_of.ensures.parts)
 
 pub group_of-returns-clause-parts : goal.group_of-returns-clause-parts
 group_of-returns-clause-parts t c =
     let s = scope_view NAME_LIMIT c.args.scope.now in
     let roots = roots_view c.args.depth.names c.args.scope.now in
-    parts_end roots s true component_view (component_unmarked roots s true) (known_parts roots s true (map component_view c.args.components.now)) c.loop-component.found.items c.args.components.now c.loop-component.component-index
+    parts_end roots s (between_brackets (place_view c.args.place)) component_view (component_unmarked roots s (between_brackets (place_view c.args.place))) (known_parts roots s (between_brackets (place_view c.args.place)) (map component_view c.args.components.now)) c.loop-component.found.items c.args.components.now c.loop-component.component-index
     (omega (arith, c.loop-component-test.false)) c.loop-component.invariant.known
 
 pub part_of-returns-in_default-clause-parts : goal.part_of-returns-in_default-clause-parts
@@ -147,9 +147,9 @@ part_of-returns-in_default-clause-parts t c =
     let s = scope_view NAME_LIMIT c.args.scope.now in
     let roots = roots_view c.args.depth.names c.args.scope.now in
     let n = c.in-Named in
-    part_missed roots s c.args.grouped n.name (notation_view n.notation) n.presence (shape_view c.in_ok-shape.shape) c.in_ok-shape.ensures.shape
+    part_missed roots s (place_view c.args.place) n.name (notation_view n.notation) n.presence (shape_view c.in_ok-shape.shape) c.in_ok-shape.ensures.shape
     (sym (ap (option_map presence_view) c.in_default.is) ∙ c.in_ok-presence.ensures)
-    ∙ ap (λ m. known_parts roots s c.args.grouped (m ∷ [])) (sym (ap component_view n.is ∙ named_viewed n.name n.notation n.presence))
+    ∙ ap (λ m. known_parts roots s (place_view c.args.place) (m ∷ [])) (sym (ap component_view n.is ∙ named_viewed n.name n.notation n.presence))
 
 pub part_of-returns-in_ok-from_array-clause-parts : goal.part_of-returns-in_ok-from_array-clause-parts
 part_of-returns-in_ok-from_array-clause-parts t c =
@@ -157,9 +157,9 @@ part_of-returns-in_ok-from_array-clause-parts t c =
     let roots = roots_view c.args.depth.names c.args.scope.now in
     let n = c.in-Named in
     ap (λ l. Some (map part_view l)) c.in_ok-from_array.ensures.items
-    ∙ part_made roots s c.args.grouped n.name (notation_view n.notation) n.presence (shape_view c.in_ok-shape.shape) c.in_ok-shape.ensures.shape (string_bytes c.in_ok-name.name) (presence_view c.in-Some.presence)
+    ∙ part_made roots s (place_view c.args.place) n.name (notation_view n.notation) n.presence (shape_view c.in_ok-shape.shape) c.in_ok-shape.ensures.shape (string_bytes c.in_ok-name.name) (presence_view c.in-Some.presence)
     (sym (ap (option_map presence_view) c.in-Some.is) ∙ c.in_ok-presence.ensures) c.in_ok-name.ensures
-    ∙ ap (λ m. known_parts roots s c.args.grouped (m ∷ [])) (sym (ap component_view n.is ∙ named_viewed n.name n.notation n.presence))
+    ∙ ap (λ m. known_parts roots s (place_view c.args.place) (m ∷ [])) (sym (ap component_view n.is ∙ named_viewed n.name n.notation n.presence))
 
 pub part_of-returns-in-ComponentsOf-clause-parts : goal.part_of-returns-in-ComponentsOf-clause-parts
 part_of-returns-in-ComponentsOf-clause-parts t c =
@@ -167,23 +167,16 @@ part_of-returns-in-ComponentsOf-clause-parts t c =
     let roots = roots_view c.args.depth.names c.args.scope.now in
     let n = c.in-ComponentsOf in
     IfOk-weaker c.roots_of.result _ _
-    (λ o e. e ∙ included_known roots s c.args.grouped (notation_view n.notation)
-    ∙ ap (λ m. known_parts roots s c.args.grouped (m ∷ [])) (sym (ap component_view n.is ∙ components_of_viewed n.notation))) c.roots_of.ensures.roots
+    (λ o e. e ∙ included_known roots s (place_view c.args.place) (notation_view n.notation)
+    ∙ ap (λ m. known_parts roots s (place_view c.args.place) (m ∷ [])) (sym (ap component_view n.is ∙ components_of_viewed n.notation))) c.roots_of.ensures.roots
 
-pub roots_of-returns-in-Sequence-clause-roots : goal.roots_of-returns-in-Sequence-clause-roots
-roots_of-returns-in-Sequence-clause-roots t c =
-    let s = scope_view NAME_LIMIT c.args.scope.now in
-    IfOk-weaker c.root_of.result _ _
-    (λ o e. roots_made (roots_view c.args.depth.names c.args.scope.now) s c.args.grouped c.args.notation.now _ (option_map parts_view o) (ap base_view c.in-Sequence.is ∙ sequence_viewed c.in-Sequence.members) e) c.root_of.ensures.root
-
-pub roots_of-returns-in-Set-clause-roots : goal.roots_of-returns-in-Set-clause-roots
-roots_of-returns-in-Set-clause-roots t c =
-    let s = scope_view NAME_LIMIT c.args.scope.now in
-    IfOk-weaker c.root_of.result _ _
-    (λ o e. roots_made (roots_view c.args.depth.names c.args.scope.now) s c.args.grouped c.args.notation.now _ (option_map parts_view o) (ap base_view c.in-Set.is ∙ set_viewed c.in-Set.members) e) c.root_of.ensures.root
+pub roots_of-returns-clause-roots : goal.roots_of-returns-clause-roots
+roots_of-returns-clause-roots t c =
+    IfOk-weaker c.base_roots_of.result _ _
+    (λ o e. roots_made (roots_view c.args.depth.names c.args.scope.now) (scope_view NAME_LIMIT c.args.scope.now) (place_view c.args.place) c.args.notation.now (option_map parts_view o) e) c.base_roots_of.ensures.roots
 
 pub type_roots-returns-then-names-eq0-clause-roots : goal.type_roots-returns-then-names-eq0-clause-roots
-type_roots-returns-then-names-eq0-clause-roots t c = sym (roots_none (sources_of c.args.names.now) c.args.depth.names c.args.number c.args.grouped c.if-names-eq0.true)
+type_roots-returns-then-names-eq0-clause-roots t c = sym (roots_none (sources_of c.args.names.now) c.args.depth.names c.args.number (place_view c.args.place) c.if-names-eq0.true)
 
 pub type_roots-returns-in-Some-clause-roots : goal.type_roots-returns-in-Some-clause-roots
 type_roots-returns-in-Some-clause-roots t c =
@@ -192,11 +185,11 @@ type_roots-returns-in-Some-clause-roots t c =
     let above : c.args.depth.names ≡ less + 1 = omega (arith, c.if-names-eq0.false) in
     let a = assigned_view c.in-Some.assigned in
     IfOk-weaker c.roots_of.result _ _
-    (λ o e. e ∙ ap (notation_roots (roots_of ss less a.number a.home) (scope_of ss NAME_LIMIT a.number a.home) c.args.grouped) c.notation_of-notation.ensures
-    ∙ follows_roots ss c.args.depth.names less c.args.number above (map assigned_view c.args.names.now.types.now) c.requires.known.types c.args.grouped (Some a) c.in-Some.ensures.there) c.roots_of.ensures.roots
+    (λ o e. e ∙ ap (notation_roots (roots_of ss less a.number a.home) (scope_of ss NAME_LIMIT a.number a.home) (place_view c.args.place)) c.notation_of-notation.ensures
+    ∙ follows_roots ss c.args.depth.names less c.args.number above (map assigned_view c.args.names.now.types.now) c.requires.known.types (place_view c.args.place) (Some a) c.in-Some.ensures.there) c.roots_of.ensures.roots
 
 pub type_roots-returns-in-None-clause-roots : goal.type_roots-returns-in-None-clause-roots
 type_roots-returns-in-None-clause-roots t c =
     let less = c.args.depth.names - 1 in
     let above : c.args.depth.names ≡ less + 1 = omega (arith, c.if-names-eq0.false) in
-    follows_roots (sources_of c.args.names.now) c.args.depth.names less c.args.number above (map assigned_view c.args.names.now.types.now) c.requires.known.types c.args.grouped None c.in-None.ensures.there
+    follows_roots (sources_of c.args.names.now) c.args.depth.names less c.args.number above (map assigned_view c.args.names.now.types.now) c.requires.known.types (place_view c.args.place) None c.in-None.ensures.there

@@ -1,7 +1,8 @@
-use Rattle.std.proofs.Common.{◌≡◌, ◌≤◌, ◌+◌, ◌*◌, ◌++◌, drop, map, option_map, true}
+use Rattle.std.proofs.Common.{◌≡◌, ◌≤◌, ◌+◌, ◌*◌, ◌++◌, drop, map, option_map}
 use Rattle.asn_modules_notation.specs.View.{component_view}
 use Rattle.asn_modules_reader.specs.Views.{member_view}
-use Rattle.asn_modules_types.specs.Known.{known_parts, parts_view, roots_view, scope_view}
+use Rattle.asn_modules_types.specs.Known.{known_parts, parts_view, place_view, roots_view, scope_view}
+use Rattle.asn_modules_types.specs.Types.{between_brackets}
 use Rattle.asn_modules_types.specs.declared.limits.TheConstants.{NAME_LIMIT}
 use Rattle.asn_modules_types.proofs.shapes.+shapes.Given as goal
 
@@ -33,6 +34,9 @@ decreases-part_of l = 8 * l.left.now.types + 1
 abbrev pub decreases-roots_of : goal.decreases-roots_of
 decreases-roots_of l = 8 * l.left.now.types
 
+abbrev pub decreases-base_roots_of : goal.decreases-base_roots_of
+decreases-base_roots_of l = 8 * l.left.now.types + 6
+
 abbrev pub decreases-type_roots : goal.decreases-type_roots
 decreases-type_roots l = 8 * l.left.now.types + 1
 
@@ -40,13 +44,13 @@ decreases-type_roots l = 8 * l.left.now.types + 1
 abbrev pub invariant-parts_of-loop-entry : goal.invariant-parts_of-loop-entry
 invariant-parts_of-loop-entry l =
     record {
-      known : known_parts (roots_view l.depth.names l.scope) (scope_view NAME_LIMIT l.scope) l.grouped (map member_view l.entries) ≡ option_map (λ ys. parts_view l.found ++ ys) (known_parts (roots_view l.depth.names l.scope) (scope_view NAME_LIMIT l.scope) l.grouped (map member_view (drop l.entry-index l.entries)));
+      known : known_parts (roots_view l.depth.names l.scope) (scope_view NAME_LIMIT l.scope) (place_view l.place) (map member_view l.entries) ≡ option_map (λ ys. parts_view l.found ++ ys) (known_parts (roots_view l.depth.names l.scope) (scope_view NAME_LIMIT l.scope) (place_view l.place) (map member_view (drop l.entry-index l.entries)));
       fewer : l.left.types ≤ l.fn.left.types;
     }
 
 abbrev pub invariant-group_of-loop-component : goal.invariant-group_of-loop-component
 invariant-group_of-loop-component l =
     record {
-      known : known_parts (roots_view l.depth.names l.scope) (scope_view NAME_LIMIT l.scope) true (map component_view l.components) ≡ option_map (λ ys. parts_view l.found ++ ys) (known_parts (roots_view l.depth.names l.scope) (scope_view NAME_LIMIT l.scope) true (map component_view (drop l.component-index l.components)));
+      known : known_parts (roots_view l.depth.names l.scope) (scope_view NAME_LIMIT l.scope) (between_brackets (place_view l.place)) (map component_view l.components) ≡ option_map (λ ys. parts_view l.found ++ ys) (known_parts (roots_view l.depth.names l.scope) (scope_view NAME_LIMIT l.scope) (between_brackets (place_view l.place)) (map component_view (drop l.component-index l.components)));
       fewer : l.left.types ≤ l.fn.left.types;
     }

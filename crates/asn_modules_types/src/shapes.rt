@@ -9,7 +9,7 @@ ghost use Rattle.asn_modules_types.specs.Known.{parts_view, place_view, roots_vi
 ghost use Rattle.asn_modules_types.specs.Known.{sources_of, tail_of};
 ghost use Rattle.asn_modules_types.specs.Linked.{has_parts, no_roots, type_roots};
 ghost use Rattle.asn_modules_types.specs.Lists.{all_known, root_of};
-ghost use Rattle.asn_modules_types.specs.Types.{Roots, base_roots, base_shape, between_brackets};
+ghost use Rattle.asn_modules_types.specs.Types.{Roots, base_roots, base_shape};
 ghost use Rattle.asn_modules_types.specs.Types.{choice_shape, lists_of, members_shape};
 ghost use Rattle.asn_modules_types.specs.Types.{notation_roots, notation_shape};
 ghost use Rattle.asn_modules_types.specs.Types.{outside_brackets, parts};
@@ -321,7 +321,13 @@ fn parts_of_entry(
 {
     match entry {
         Member::One(component) => part_of(scope, depth, left, place, component),
-        Member::Group(components) => group_of(scope, depth, left, place, components.as_slice()),
+        Member::Group(components) => {
+            let within = Place {
+                kind: place.kind,
+                grouped: true,
+            };
+            group_of(scope, depth, left, within, components.as_slice())
+        }
     }
 }
 
@@ -341,16 +347,12 @@ fn group_of(
     requires known { KnowsNames scope.now.names.now }
     ensures parts { IfOk result (λ o. option_map parts_view o
         ≡ known_parts (roots_view depth.names scope.now) (scope_view NAME_LIMIT scope.now)
-        (between_brackets (place_view place)) (map component_view components.now)) }
+        (place_view place) (map component_view components.now)) }
     ensures fewer { OnOk result (left.new.types ≤ left.old.types) }
 {
-    let within = Place {
-        kind: place.kind,
-        grouped: true,
-    };
     let mut found = Vec::new(scope.names.alloc);
     for component in components {
-        match part_of(scope, depth, left, within, component)? {
+        match part_of(scope, depth, left, place, component)? {
             Some(mut parts) => found.append(&mut parts)?,
             None => return Ok(None),
         }

@@ -7,12 +7,14 @@ use Rattle.asn_modules_reader.proofs.Viewing.{components_of_viewed, group_viewed
 use Rattle.asn_modules_reader.specs.Views.{base_view, member_view}
 use Rattle.asn_modules_types.specs.Known.{assigned_view, known_parts, parts_view, part_view, place_view, roots_view, scope_view, sources_of}
 use Rattle.asn_modules_types.specs.Linked.{roots_of, scope_of}
+use Rattle.asn_modules_types.specs.Sizes.{sized}
 use Rattle.asn_modules_types.specs.Types.{Part, between_brackets, notation_roots, outside_brackets}
 use Rattle.asn_modules_types.specs.declared.limits.TheConstants.{NAME_LIMIT}
 use Rattle.asn_modules_types.proofs.Following.{follows_roots, roots_none}
 use Rattle.asn_modules_types.proofs.Seen.{included_known, notation_made, part_made, part_missed, roots_made}
 use Rattle.asn_modules_types.proofs.Separated.{component_unmarked, group_known, lists_addless, lists_closed, lists_extended, lists_implied, lists_rootless, member_unmarked, parts_end, parts_missed, parts_more, root_frontless, root_made, root_tailless}
 use Rattle.asn_modules_types.proofs.shapes.+shapes.Goals as goal
+use Rattle.asn_modules_types.proofs.shapes.+shapes.Goals.{lists_of-in-Some-extension+in_ok-added-in-Some-extension+in-Some-2, lists_of-in-None+then-is_extensible, lists_of-in-None+else-is_extensible}
 
 pub shape_of-returns-clause-shape : goal.shape_of-returns-clause-shape
 shape_of-returns-clause-shape t c =
@@ -31,7 +33,7 @@ lists_of-returns-in_default-2-clause-lists t c =
     let s = scope_view NAME_LIMIT c.args.scope.now in
     let roots = roots_view c.args.depth.names c.args.scope.now in
     lists_addless roots s (outside_brackets (kind_view c.args.kind)) s.extensible c.args.members.now c.in-Some-extension.extension (parts_view c.in-Some.root) c.in-Some-extension.is (sym (ap (option_map parts_view) c.in-Some.is) ∙ c.in_ok-root.ensures.root)
-    (sym (ap (option_map parts_view) c.in_default-2.is) ∙ c.in_ok-added.ensures.parts ∙ ap (λ l. known_parts roots s (outside_brackets (kind_view c.args.kind)) (map member_view l)) c.as_slice.ensures.value)
+    (sym (ap (option_map parts_view) c.in_default-2.is) ∙ c.in_ok-added-in-Some-extension.ensures.parts ∙ ap (λ l. known_parts roots s (outside_brackets (kind_view c.args.kind)) (map member_view l)) c.as_slice-additions.ensures.value)
 
 pub lists_of-returns-clause-lists : goal.lists_of-returns-clause-lists
 lists_of-returns-clause-lists t c =
@@ -40,10 +42,10 @@ lists_of-returns-clause-lists t c =
     let root = parts_view c.in-Some.root in
     let known = sym (ap (option_map parts_view) c.in-Some.is) ∙ c.in_ok-root.ensures.root in
     elim c.match-extension.branch [
-      | lists_of-in-Some-extension+in_ok-added+in-Some-2 w ↦
+      | lists_of-in-Some-extension+in_ok-added-in-Some-extension+in-Some-2 w ↦
           ap (λ o. Some (root, option_map parts_view o)) w.added-is
           ∙ sym (lists_extended roots s (outside_brackets (kind_view c.args.kind)) s.extensible c.args.members.now w.in-Some-extension.extension root (parts_view w.in-Some-2.added) w.in-Some-extension.is known
-          (sym (ap (option_map parts_view) w.in-Some-2.is) ∙ w.in_ok-added.ensures.parts ∙ ap (λ l. known_parts roots s (outside_brackets (kind_view c.args.kind)) (map member_view l)) w.as_slice.ensures.value))
+          (sym (ap (option_map parts_view) w.in-Some-2.is) ∙ w.in_ok-added-in-Some-extension.ensures.parts ∙ ap (λ l. known_parts roots s (outside_brackets (kind_view c.args.kind)) (map member_view l)) w.as_slice-additions.ensures.value))
       | lists_of-in-None+then-is_extensible w ↦
           ap (λ o. Some (root, option_map parts_view o)) w.added-is ∙ ap (λ l. Some (root, Some (map part_view l))) w.new.ensures.items
           ∙ sym (lists_implied roots s (outside_brackets (kind_view c.args.kind)) s.extensible c.args.members.now root w.in-None.is known (sym w.is_extensible.ensures ∙ w.if-is_extensible.true))
@@ -83,8 +85,8 @@ parts_of-loop-entry-preserved t c =
     record {
       known =
           parts_more roots s (place_view c.args.place) member_view (member_unmarked roots s (place_view c.args.place)) (known_parts roots s (place_view c.args.place) (map member_view c.args.entries.now)) c.loop-entry.found.items c.in-Some.parts.items _ c.args.entries.now c.loop-entry.entry-index c.entry-item.result
-          c.loop-entry-test.true c.entry-item.is c.loop-entry.invariant.known (sym (ap (option_map parts_view) c.in-Some.is) ∙ c.in_ok-parts_of_entry.ensures.parts) c.in_ok-append.ensures.items;
-      fewer = omega arith;
+          c.loop-entry-test.true c.entry-item.is c.loop-entry.invariant.known (sym (ap (option_map parts_view) c.in-Some.is) ∙ c.in_ok-parts.ensures.parts) c.in_ok-append-in-Some.ensures.items;
+      fewer = omega (arith, c.loop-entry.invariant.fewer, c.in_ok-parts.ensures.fewer);
     }
 
 pub parts_of-returns-in-None-clause-parts : goal.parts_of-returns-in-None-clause-parts
@@ -92,7 +94,7 @@ parts_of-returns-in-None-clause-parts t c =
     let s = scope_view NAME_LIMIT c.args.scope.now in
     let roots = roots_view c.args.depth.names c.args.scope.now in
     parts_missed roots s (place_view c.args.place) member_view (member_unmarked roots s (place_view c.args.place)) (known_parts roots s (place_view c.args.place) (map member_view c.args.entries.now)) c.loop-entry.found.items c.args.entries.now c.loop-entry.entry-index c.entry-item.result
-    c.loop-entry-test.true c.entry-item.is c.loop-entry.invariant.known (sym (ap (option_map parts_view) c.in-None.is) ∙ c.in_ok-parts_of_entry.ensures.parts)
+    c.loop-entry-test.true c.entry-item.is c.loop-entry.invariant.known (sym (ap (option_map parts_view) c.in-None.is) ∙ c.in_ok-parts.ensures.parts)
 
 pub parts_of-returns-clause-parts : goal.parts_of-returns-clause-parts
 parts_of-returns-clause-parts t c =
@@ -123,23 +125,23 @@ group_of-loop-component-preserved t c =
     let roots = roots_view c.args.depth.names c.args.scope.now in
     record {
       known =
-          parts_more roots s (between_brackets (place_view c.args.place)) component_view (component_unmarked roots s (between_brackets (place_view c.args.place))) (known_parts roots s (between_brackets (place_view c.args.place)) (map component_view c.args.components.now)) c.loop-component.found.items c.in-Some.parts.items _ c.args.components.now c.loop-component.component-index c.component-item.result
-          c.loop-component-test.true c.component-item.is c.loop-component.invariant.known (sym (ap (option_map parts_view) c.in-Some.is) ∙ c.in_ok-part_of.ensures.parts) c.in_ok-append.ensures.items;
-      fewer = omega arith;
+          parts_more roots s (place_view c.args.place) component_view (component_unmarked roots s (place_view c.args.place)) (known_parts roots s (place_view c.args.place) (map component_view c.args.components.now)) c.loop-component.found.items c.in-Some.parts.items _ c.args.components.now c.loop-component.component-index c.component-item.result
+          c.loop-component-test.true c.component-item.is c.loop-component.invariant.known (sym (ap (option_map parts_view) c.in-Some.is) ∙ c.in_ok-parts.ensures.parts) c.in_ok-append-in-Some.ensures.items;
+      fewer = omega (arith, c.loop-component.invariant.fewer, c.in_ok-parts.ensures.fewer);
     }
 
 pub group_of-returns-in-None-clause-parts : goal.group_of-returns-in-None-clause-parts
 group_of-returns-in-None-clause-parts t c =
     let s = scope_view NAME_LIMIT c.args.scope.now in
     let roots = roots_view c.args.depth.names c.args.scope.now in
-    parts_missed roots s (between_brackets (place_view c.args.place)) component_view (component_unmarked roots s (between_brackets (place_view c.args.place))) (known_parts roots s (between_brackets (place_view c.args.place)) (map component_view c.args.components.now)) c.loop-component.found.items c.args.components.now c.loop-component.component-index c.component-item.result
-    c.loop-component-test.true c.component-item.is c.loop-component.invariant.known (sym (ap (option_map parts_view) c.in-None.is) ∙ c.in_ok-part_of.ensures.parts)
+    parts_missed roots s (place_view c.args.place) component_view (component_unmarked roots s (place_view c.args.place)) (known_parts roots s (place_view c.args.place) (map component_view c.args.components.now)) c.loop-component.found.items c.args.components.now c.loop-component.component-index c.component-item.result
+    c.loop-component-test.true c.component-item.is c.loop-component.invariant.known (sym (ap (option_map parts_view) c.in-None.is) ∙ c.in_ok-parts.ensures.parts)
 
 pub group_of-returns-clause-parts : goal.group_of-returns-clause-parts
 group_of-returns-clause-parts t c =
     let s = scope_view NAME_LIMIT c.args.scope.now in
     let roots = roots_view c.args.depth.names c.args.scope.now in
-    parts_end roots s (between_brackets (place_view c.args.place)) component_view (component_unmarked roots s (between_brackets (place_view c.args.place))) (known_parts roots s (between_brackets (place_view c.args.place)) (map component_view c.args.components.now)) c.loop-component.found.items c.args.components.now c.loop-component.component-index
+    parts_end roots s (place_view c.args.place) component_view (component_unmarked roots s (place_view c.args.place)) (known_parts roots s (place_view c.args.place) (map component_view c.args.components.now)) c.loop-component.found.items c.args.components.now c.loop-component.component-index
     (omega (arith, c.loop-component-test.false)) c.loop-component.invariant.known
 
 pub part_of-returns-in_default-clause-parts : goal.part_of-returns-in_default-clause-parts
@@ -147,18 +149,18 @@ part_of-returns-in_default-clause-parts t c =
     let s = scope_view NAME_LIMIT c.args.scope.now in
     let roots = roots_view c.args.depth.names c.args.scope.now in
     let n = c.in-Named in
-    part_missed roots s (place_view c.args.place) n.name (notation_view n.notation) n.presence (shape_view c.in_ok-shape.shape) c.in_ok-shape.ensures.shape
-    (sym (ap (option_map presence_view) c.in_default.is) ∙ c.in_ok-presence.ensures)
+    part_missed roots s (place_view c.args.place) n.name (notation_view n.notation) n.presence (shape_view c.in_ok-shape-in-Named.shape) c.in_ok-shape-in-Named.ensures.shape
+    (sym (ap (option_map presence_view) c.in_default.is) ∙ c.in_ok-presence-in-Named.ensures)
     ∙ ap (λ m. known_parts roots s (place_view c.args.place) (m ∷ [])) (sym (ap component_view n.is ∙ named_viewed n.name n.notation n.presence))
 
-pub part_of-returns-in_ok-from_array-clause-parts : goal.part_of-returns-in_ok-from_array-clause-parts
-part_of-returns-in_ok-from_array-clause-parts t c =
+pub part_of-returns-in_ok-vec-in-Named-clause-parts : goal.part_of-returns-in_ok-vec-in-Named-clause-parts
+part_of-returns-in_ok-vec-in-Named-clause-parts t c =
     let s = scope_view NAME_LIMIT c.args.scope.now in
     let roots = roots_view c.args.depth.names c.args.scope.now in
     let n = c.in-Named in
-    ap (λ l. Some (map part_view l)) c.in_ok-from_array.ensures.items
-    ∙ part_made roots s (place_view c.args.place) n.name (notation_view n.notation) n.presence (shape_view c.in_ok-shape.shape) c.in_ok-shape.ensures.shape (string_bytes c.in_ok-name.name) (presence_view c.in-Some.presence)
-    (sym (ap (option_map presence_view) c.in-Some.is) ∙ c.in_ok-presence.ensures) c.in_ok-name.ensures
+    ap (λ l. Some (map part_view l)) c.in_ok-vec-in-Named.ensures.items
+    ∙ part_made roots s (place_view c.args.place) n.name (notation_view n.notation) n.presence (shape_view c.in_ok-shape-in-Named.shape) c.in_ok-shape-in-Named.ensures.shape (string_bytes c.in_ok-name-in-Named.name) (presence_view c.in-Some.presence)
+    (sym (ap (option_map presence_view) c.in-Some.is) ∙ c.in_ok-presence-in-Named.ensures) c.in_ok-name-in-Named.ensures
     ∙ ap (λ m. known_parts roots s (place_view c.args.place) (m ∷ [])) (sym (ap component_view n.is ∙ named_viewed n.name n.notation n.presence))
 
 pub part_of-returns-in-ComponentsOf-clause-parts : goal.part_of-returns-in-ComponentsOf-clause-parts
@@ -175,14 +177,14 @@ roots_of-returns-clause-roots t c =
     IfOk-weaker c.base_roots_of.result _ _
     (λ o e. roots_made (roots_view c.args.depth.names c.args.scope.now) (scope_view NAME_LIMIT c.args.scope.now) (place_view c.args.place) c.args.notation.now (option_map parts_view o) e) c.base_roots_of.ensures.roots
 
-pub type_roots-returns-then-names-eq0-clause-roots : goal.type_roots-returns-then-names-eq0-clause-roots
-type_roots-returns-then-names-eq0-clause-roots t c = sym (roots_none (sources_of c.args.names.now) c.args.depth.names c.args.number (place_view c.args.place) c.if-names-eq0.true)
+pub type_roots-returns-then-depth-eq0-clause-roots : goal.type_roots-returns-then-depth-eq0-clause-roots
+type_roots-returns-then-depth-eq0-clause-roots t c = sym (roots_none (sources_of c.args.names.now) c.args.depth.names c.args.number (place_view c.args.place) c.if-depth-eq0.true)
 
 pub type_roots-returns-in-Some-clause-roots : goal.type_roots-returns-in-Some-clause-roots
 type_roots-returns-in-Some-clause-roots t c =
     let ss = sources_of c.args.names.now in
     let less = c.args.depth.names - 1 in
-    let above : c.args.depth.names ≡ less + 1 = omega (arith, c.if-names-eq0.false) in
+    let above : c.args.depth.names ≡ less + 1 = omega (arith, c.if-depth-eq0.false) in
     let a = assigned_view c.in-Some.assigned in
     IfOk-weaker c.roots_of.result _ _
     (λ o e. e ∙ ap (notation_roots (roots_of ss less a.number a.home) (scope_of ss NAME_LIMIT a.number a.home) (place_view c.args.place)) c.notation_of-notation.ensures
@@ -191,5 +193,5 @@ type_roots-returns-in-Some-clause-roots t c =
 pub type_roots-returns-in-None-clause-roots : goal.type_roots-returns-in-None-clause-roots
 type_roots-returns-in-None-clause-roots t c =
     let less = c.args.depth.names - 1 in
-    let above : c.args.depth.names ≡ less + 1 = omega (arith, c.if-names-eq0.false) in
+    let above : c.args.depth.names ≡ less + 1 = omega (arith, c.if-depth-eq0.false) in
     follows_roots (sources_of c.args.names.now) c.args.depth.names less c.args.number above (map assigned_view c.args.names.now.types.now) c.requires.known.types (place_view c.args.place) None c.in-None.ensures.there

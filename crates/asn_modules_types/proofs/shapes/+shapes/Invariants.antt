@@ -2,7 +2,6 @@ use Rattle.std.proofs.Common.{◌≡◌, ◌≤◌, ◌+◌, ◌*◌, ◌++◌, 
 use Rattle.asn_modules_notation.specs.View.{component_view}
 use Rattle.asn_modules_reader.specs.Views.{member_view}
 use Rattle.asn_modules_types.specs.Known.{known_parts, parts_view, place_view, roots_view, scope_view}
-use Rattle.asn_modules_types.specs.Types.{between_brackets}
 use Rattle.asn_modules_types.specs.declared.limits.TheConstants.{NAME_LIMIT}
 use Rattle.asn_modules_types.proofs.shapes.+shapes.Given as goal
 
@@ -51,6 +50,6 @@ invariant-parts_of-loop-entry l =
 abbrev pub invariant-group_of-loop-component : goal.invariant-group_of-loop-component
 invariant-group_of-loop-component l =
     record {
-      known : known_parts (roots_view l.depth.names l.scope) (scope_view NAME_LIMIT l.scope) (between_brackets (place_view l.place)) (map component_view l.components) ≡ option_map (λ ys. parts_view l.found ++ ys) (known_parts (roots_view l.depth.names l.scope) (scope_view NAME_LIMIT l.scope) (between_brackets (place_view l.place)) (map component_view (drop l.component-index l.components)));
+      known : known_parts (roots_view l.depth.names l.scope) (scope_view NAME_LIMIT l.scope) (place_view l.place) (map component_view l.components) ≡ option_map (λ ys. parts_view l.found ++ ys) (known_parts (roots_view l.depth.names l.scope) (scope_view NAME_LIMIT l.scope) (place_view l.place) (map component_view (drop l.component-index l.components)));
       fewer : l.left.types ≤ l.fn.left.types;
     }

@@ -7,5 +7,5 @@ use Rattle.asn_modules_types.proofs.shapes.without_parts.Goals as goal
 
 pub returns-in-Some : goal.returns-in-Some
 returns-in-Some c =
-    let unit = rw c.in-Some.is at c.in_ok-unit_shape.ensures in
+    let unit = rw c.in-Some.is at c.in_ok-shape.ensures in
     λ roots. unit.1 ∙ unit_same roots (scope_view NAME_LIMIT c.args.scope.now) (base_view c.args.base.now) c.requires.unit

@@ -41,7 +41,7 @@ lists_of-returns-clause-lists t c =
     let roots = roots_view c.args.depth.names c.args.scope.now in
     let root = parts_view c.in-Some.root in
     let known = sym (ap (option_map parts_view) c.in-Some.is) ∙ c.in_ok-root.ensures.root in
-    elim c.match-extension.branch [
+    elim c.match-members.branch [
       | lists_of-in-Some-extension+in_ok-added-in-Some-extension+in-Some-2 w ↦
           ap (λ o. Some (root, option_map parts_view o)) w.added-is
           ∙ sym (lists_extended roots s (outside_brackets (kind_view c.args.kind)) s.extensible c.args.members.now w.in-Some-extension.extension root (parts_view w.in-Some-2.added) w.in-Some-extension.is known

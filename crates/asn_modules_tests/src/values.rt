@@ -5,7 +5,7 @@ use std::test::Fail;
 
 /// Lists texts of modules, the name of a type, a text in JSON, and the canonical texts of its value
 /// in JSON and in AVN.
-const ROWS: [(&str, &str, &str, &str, &str); 12] = [
+const ROWS: [(&str, &str, &str, &str, &str); 13] = [
     // A type that names itself.
     (
         "Chain ::= SEQUENCE { head BOOLEAN, next Chain OPTIONAL }",
@@ -94,6 +94,15 @@ Level ::= INTEGER { low(1), high(top) } top INTEGER ::= 9",
         r#"{"level":1,"on":true}"#,
         r#"{"level":1,"on":true}"#,
         "{\n  level 1,\n  on TRUE\n}",
+    ),
+    // The components of the root of another type, and DEFAULT by a string.
+    (
+        "Call ::= SEQUENCE { COMPONENTS OF Head, text UTF8String DEFAULT \"none\" }\n\
+Head ::= SEQUENCE { id INTEGER, ..., note NULL }",
+        "Call",
+        r#"{"text":"none","id":7}"#,
+        r#"{"id":7}"#,
+        "{\n  id 7\n}",
     ),
     // Components between version brackets, and a later version's that isn't known here.
     (

@@ -1,5 +1,5 @@
 -- Types by example, each computed from its notation.
-use Rattle.std.proofs.Common.{◌≡◌, ℕ, pos, suc, List, [], ◌∷◌, ◌++◌, codes, Bool, true, false, Some, None, refl}
+use Rattle.std.proofs.Common.{◌≡◌, ℕ, ℤ, pos, suc, ◌+◌, List, [], ◌∷◌, ◌++◌, codes, Bool, true, false, if◌then◌else◌, Option, Some, None, refl}
 use Rattle.std.specs.Str.{chars, is_utf8}
 use Rattle.asn_expansion.specs.Expansion.{context_tag}
 use Rattle.asn_lexer.specs.declared.kind.Kind.{Kind}
@@ -8,16 +8,17 @@ use Rattle.asn_lexer.specs.declared.token.Token.{Token}
 use Rattle.asn_linked_types.specs.Expansion.{no_values}
 use Rattle.asn_model.specs.Shape.{Alphabet, Alternatives, AlternativeAdditions, Fields, FieldAdditions, Plain, Presence, SeqKind, Shape}
 use Rattle.asn_model.specs.declared.shape_type.Alphabet.TheVariants as alphabet
-use Rattle.asn_modules_notation.specs.Notation.{Base, Member, Notation, bit_string, choice, component, components_of, enumerated, group, integer, leaf, marker, members, members_of, notation, reference}
+use Rattle.asn_modules_notation.specs.Notation.{Base, Member, Notation, bit_string, choice, component, components_of, enumerated, group, integer, leaf, marker, members, members_of, no_members, notation, reference}
 use Rattle.asn_modules_notation.specs.declared.leaf.Leaf.TheVariants.{Boolean, Null, Text}
 use Rattle.asn_modules_notation.specs.declared.notation.Presence.TheVariants.{Default, Optional, Required}
 use Rattle.asn_modules_notation.specs.declared.number.Constant.TheVariants as constant
 use Rattle.asn_modules_notation.specs.declared.value.Value.{Value}
 use Rattle.asn_modules_notation.specs.declared.value.Value.TheVariants as value
 use Rattle.asn_modules_types.specs.Leaves.{integer_shape}
+use Rattle.asn_modules_types.specs.Linked.{no_roots}
 use Rattle.asn_modules_types.specs.Lists.{added_of, root_of}
 use Rattle.asn_modules_types.specs.Scopes.{Scope}
-use Rattle.asn_modules_types.specs.Types.{notation_shape}
+use Rattle.asn_modules_types.specs.Types.{Roots, notation_shape}
 
 -- The text of these examples, in which each token is one character.
 abbrev letters : List ℕ
@@ -69,31 +70,31 @@ additions : added_of {A = ℕ} (Some 1 ∷ Some 2 ∷ None ∷ Some 3 ∷ None �
 additions = refl
 
 -- BIT STRING (SIZE (8)) has that size, and BIT STRING (SIZE (a..3)) that of the value of a.
-eight : notation_shape (example false) (notation [] (bit_string []) (record { low = at kind.Number 16; high = at kind.Number 16 } ∷ [])) ≡ Shape.bits (Some 8)
+eight : notation_shape no_roots (example false) (notation [] (bit_string []) (record { low = at kind.Number 16; high = at kind.Number 16 } ∷ [])) ≡ Shape.bits (Some 8)
 eight = refl
 
-three : notation_shape (example false) (notation [] (bit_string []) (record { low = word 0; high = at kind.Number 11 } ∷ [])) ≡ Shape.bits (Some 3)
+three : notation_shape no_roots (example false) (notation [] (bit_string []) (record { low = word 0; high = at kind.Number 11 } ∷ [])) ≡ Shape.bits (Some 3)
 three = refl
 
 -- BIT STRING (SIZE (3..8)) has none, and around BIT STRING (SIZE (3)) it changes none.
-many : notation_shape (example false) (notation [] (bit_string []) (record { low = at kind.Number 11; high = at kind.Number 16 } ∷ [])) ≡ Shape.bits None
+many : notation_shape no_roots (example false) (notation [] (bit_string []) (record { low = at kind.Number 11; high = at kind.Number 16 } ∷ [])) ≡ Shape.bits None
 many = refl
 
-within : notation_shape (example false) (notation [] (bit_string []) (record { low = at kind.Number 11; high = at kind.Number 11 } ∷ record { low = at kind.Number 11; high = at kind.Number 16 } ∷ [])) ≡ Shape.bits (Some 3)
+within : notation_shape no_roots (example false) (notation [] (bit_string []) (record { low = at kind.Number 11; high = at kind.Number 11 } ∷ record { low = at kind.Number 11; high = at kind.Number 16 } ∷ [])) ≡ Shape.bits (Some 3)
 within = refl
 
 -- SEQUENCE { a BOOLEAN, ..., [[ b NULL ]], ..., c T OPTIONAL }
 abbrev both_markers : List Member
 both_markers = component (word 0) (plain (leaf Boolean)) Required ∷ marker ∷ group (members_of (component (word 1) (plain (leaf Null)) Required ∷ [])) ∷ marker ∷ component (word 2) (plain (reference None (word 7))) Optional ∷ []
 
-sequence : notation_shape (example false) (plain (members SeqKind.sequence (members_of both_markers)))
+sequence : notation_shape no_roots (example false) (plain (members SeqKind.sequence (members_of both_markers)))
     ≡ Shape.seq SeqKind.sequence
     (Fields.field (codes "a") (context_tag 0) Presence.required Shape.boolean (Fields.field (codes "c") (context_tag 1) Presence.optional (Shape.back 7) Fields.no_fields))
     (FieldAdditions.extended_fields (Fields.field (codes "b") (context_tag 2) Presence.optional Shape.null Fields.no_fields))
 sequence = refl
 
 -- CHOICE { a BOOLEAN } where EXTENSIBILITY IMPLIED stands.
-extended : notation_shape (example true) (plain (choice (members_of (component (word 0) (plain (leaf Boolean)) Required ∷ []))))
+extended : notation_shape no_roots (example true) (plain (choice (members_of (component (word 0) (plain (leaf Boolean)) Required ∷ []))))
     ≡ Shape.choice (Alternatives.alternative (codes "a") (context_tag 0) Shape.boolean Alternatives.no_alternatives) (AlternativeAdditions.extended_alternatives Alternatives.no_alternatives)
 extended = refl
 
@@ -104,14 +105,14 @@ defaulted b v = plain (members SeqKind.sequence (members_of (component (word 0) 
 abbrev by_default : Plain → Shape → Shape
 by_default p s = Shape.seq SeqKind.sequence (Fields.field (codes "a") (context_tag 0) (Presence.default p) s Fields.no_fields) FieldAdditions.closed_fields
 
-named : notation_shape (example false) (defaulted (integer (record { name = word 1; number = constant.Number (record { negative = false; digits = at kind.Number 12 }) } ∷ [])) (value.Word (word 1))) ≡ by_default (Plain.int (pos 4)) integer_shape
+named : notation_shape no_roots (example false) (defaulted (integer (record { name = word 1; number = constant.Number (record { negative = false; digits = at kind.Number 12 }) } ∷ [])) (value.Word (word 1))) ≡ by_default (Plain.int (pos 4)) integer_shape
 named = refl
 
-assigned : notation_shape (example false) (defaulted (integer []) (value.Word (word 2))) ≡ by_default (Plain.int (pos 3)) integer_shape
+assigned : notation_shape no_roots (example false) (defaulted (integer []) (value.Word (word 2))) ≡ by_default (Plain.int (pos 3)) integer_shape
 assigned = refl
 
 -- ENUMERATED { b, c, ... } with DEFAULT c
-item : notation_shape (example false) (defaulted (enumerated (Some (record { name = word 1; number = None }) ∷ Some (record { name = word 2; number = None }) ∷ None ∷ [])) (value.Word (word 2)))
+item : notation_shape no_roots (example false) (defaulted (enumerated (Some (record { name = word 1; number = None }) ∷ Some (record { name = word 2; number = None }) ∷ None ∷ [])) (value.Word (word 2)))
     ≡ by_default (Plain.item (codes "c")) (Shape.enum (codes "b" ∷ codes "c" ∷ []) (Some []))
 item = refl
 
@@ -119,16 +120,47 @@ item = refl
 abbrev quoted : ℕ → ℕ → Value
 quoted first past = value.Cstring (record { kind = kind.Cstring; start = first; end = past })
 
-string : notation_shape quoting (defaulted (leaf (Text alphabet.Ia5)) (quoted 1 5)) ≡ by_default (Plain.text (codes "en")) (Shape.text Alphabet.ia5)
+string : notation_shape no_roots quoting (defaulted (leaf (Text alphabet.Ia5)) (quoted 1 5)) ≡ by_default (Plain.text (codes "en")) (Shape.text Alphabet.ia5)
 unfolding is_utf8 chars lib.Utf8.encode
 string = refl
 
-doubled : notation_shape quoting (defaulted (leaf (Text alphabet.Ia5)) (quoted 6 12)) ≡ no_values
+doubled : notation_shape no_roots quoting (defaulted (leaf (Text alphabet.Ia5)) (quoted 6 12)) ≡ no_values
 doubled = refl
 
--- A DEFAULT that isn't understood leaves no values, and so does COMPONENTS OF in this version.
-unsuited : notation_shape (example false) (defaulted (leaf Null) (value.Word (word 2))) ≡ no_values
+-- A DEFAULT that isn't understood leaves no values.
+unsuited : notation_shape no_roots (example false) (defaulted (leaf Null) (value.Word (word 2))) ≡ no_values
 unsuited = refl
 
-included : notation_shape (example false) (plain (members SeqKind.set (members_of (components_of (plain (reference None (word 7))) ∷ [])))) ≡ no_values
+-- SET { COMPONENTS OF T, a BOOLEAN }, where T has a component h.
+abbrev one_root : Roots
+one_root place home name = Some (record { name = codes "h"; presence = if place.grouped then Presence.optional else Presence.required; shape = Shape.null } ∷ [])
+
+abbrev named_root : Member
+named_root = components_of (plain (reference None (word 7)))
+
+included : notation_shape one_root (example false) (plain (members SeqKind.set (members_of (named_root ∷ component (word 0) (plain (leaf Boolean)) Required ∷ []))))
+    ≡ Shape.seq SeqKind.set (Fields.field (codes "h") (context_tag 0) Presence.required Shape.null (Fields.field (codes "a") (context_tag 1) Presence.required Shape.boolean Fields.no_fields)) FieldAdditions.closed_fields
 included = refl
+
+-- SEQUENCE { COMPONENTS OF SEQUENCE { a BOOLEAN, ..., [[ b NULL ]], ..., c T OPTIONAL } } has the root of that alone.
+written : notation_shape no_roots (example false) (plain (members SeqKind.sequence (members_of (components_of (plain (members SeqKind.sequence (members_of both_markers))) ∷ []))))
+    ≡ Shape.seq SeqKind.sequence (Fields.field (codes "a") (context_tag 0) Presence.required Shape.boolean (Fields.field (codes "c") (context_tag 1) Presence.optional (Shape.back 7) Fields.no_fields)) FieldAdditions.closed_fields
+written = refl
+
+-- SEQUENCE { ..., [[ COMPONENTS OF T ]] }
+between : notation_shape one_root (example false) (plain (members SeqKind.sequence (members_of (marker ∷ group (members_of (named_root ∷ [])) ∷ []))))
+    ≡ Shape.seq SeqKind.sequence Fields.no_fields (FieldAdditions.extended_fields (Fields.field (codes "h") (context_tag 0) Presence.optional Shape.null Fields.no_fields))
+between = refl
+
+-- COMPONENTS OF a SET in a SEQUENCE, or of a SEQUENCE in a SET, or of what is neither, leaves no values.
+other_kind : notation_shape no_roots (example false) (plain (members SeqKind.sequence (members_of (components_of (plain (members SeqKind.set no_members)) ∷ [])))) ≡ no_values
+other_kind = refl
+
+another_kind : notation_shape no_roots (example false) (plain (members SeqKind.set (members_of (components_of (plain (members SeqKind.sequence no_members)) ∷ [])))) ≡ no_values
+another_kind = refl
+
+no_kind : notation_shape one_root (example false) (plain (members SeqKind.set (members_of (components_of (plain (leaf Null)) ∷ [])))) ≡ no_values
+no_kind = refl
+
+unnamed : notation_shape no_roots (example false) (plain (members SeqKind.set (members_of (named_root ∷ [])))) ≡ no_values
+unnamed = refl

@@ -13,9 +13,9 @@ use Rattle.asn_modules_notation.specs.declared.number.Constant.{Constant}
 use Rattle.asn_modules_notation.specs.declared.number.Constant.TheVariants as constant
 use Rattle.asn_modules_notation.specs.declared.number.NamedNumber.{NamedNumber}
 use Rattle.asn_modules_types.specs.Assigned.{Assigned, assigned, notation_of}
-use Rattle.asn_modules_types.specs.Linked.{base_of, has_parts, named_by, named_type, number_by, number_word, opened_type, parts_shape, scope_in, scope_of}
+use Rattle.asn_modules_types.specs.Linked.{base_of, has_parts, named_by, named_type, no_roots, number_by, number_word, opened_type, parts_shape, roots_by, scope_in, scope_of, type_roots}
 use Rattle.asn_modules_types.specs.Numbers.{constant_in, named_number}
-use Rattle.asn_modules_types.specs.Types.{notation_shape, number_in_type}
+use Rattle.asn_modules_types.specs.Types.{Place, notation_shape, number_in_type}
 
 -- No more names are followed.
 pub follows_none : (ss : List Source) (more n : ℕ) → more ≡ 0 → named_type ss more n ≡ no_values
@@ -28,6 +28,11 @@ unfolding number_word
 follows_word_none ss zero n word e = refl
 follows_word_none ss (suc more) n word e = absurd (omega (arith, e))
 
+pub roots_none : (ss : List Source) (more n : ℕ) (place : Place) → more ≡ 0 → type_roots ss more n place ≡ None
+unfolding type_roots
+roots_none ss zero n place e = refl
+roots_none ss (suc more) n place e = absurd (omega (arith, e))
+
 -- The type is assigned, or missing.
 follows_once : (ss : List Source) (less n : ℕ) → named_type ss (suc less) n ≡ named_by ss (named_type ss less) (number_word ss less) n (slice_get (assigned Types ss) n)
 unfolding named_type
@@ -36,6 +41,10 @@ follows_once ss less n = refl
 follows_word_once : (ss : List Source) (less n : ℕ) (word : List ℕ) → number_word ss (suc less) n word ≡ number_by ss (number_word ss less) (slice_get (assigned Types ss) n) word
 unfolding number_word
 follows_word_once ss less n word = refl
+
+roots_once : (ss : List Source) (less n : ℕ) (place : Place) → type_roots ss (suc less) n place ≡ roots_by ss (type_roots ss less) place (slice_get (assigned Types ss) n)
+unfolding type_roots
+roots_once ss less n place = refl
 
 module _ (ss : List Source) (more less n : ℕ) (above : more ≡ less + 1) (list : List Assigned) (all : list ≡ assigned Types ss) where
   above_suc : more ≡ suc less
@@ -49,15 +58,19 @@ module _ (ss : List Source) (more less n : ℕ) (above : more ≡ less + 1) (lis
   follows_word word o e =
       ap (λ x. number_by ss (number_word ss less) x word) (e ∙ ap (λ l. slice_get l n) all) ∙ sym (follows_word_once ss less n word) ∙ ap (λ k. number_word ss k n word) (sym above_suc)
 
+  pub follows_roots : (place : Place) (o : Option Assigned) → o ≡ slice_get list n → roots_by ss (type_roots ss less) place o ≡ type_roots ss more n place
+  follows_roots place o e =
+      ap (roots_by ss (type_roots ss less) place) (e ∙ ap (λ l. slice_get l n) all) ∙ sym (roots_once ss less n place) ∙ ap (λ k. type_roots ss k n place) (sym above_suc)
+
   -- A type with parts is named by its number, and another one has its shape.
   module _ (t : Assigned) (there : Some t ≡ slice_get list n) (held : Notation) (is : notation_of t.assignment ≡ held) where
     abbrev chosen : Bool → Notation → Shape
-    chosen b x = if b then Shape.back n else notation_shape (scope_of ss less t.number t.home) x
+    chosen b x = if b then Shape.back n else notation_shape no_roots (scope_of ss less t.number t.home) x
 
     pub follows_parts : has_parts (base_of held) ≡ true → Shape.back n ≡ named_type ss more n
     follows_parts e = sym (ap (λ b. chosen b held) e) ∙ sym (ap (λ x. chosen (has_parts (base_of x)) x) is) ∙ follows (Some t) there
 
-    pub follows_unit : has_parts (base_of held) ≡ false → notation_shape (scope_of ss less t.number t.home) held ≡ named_type ss more n
+    pub follows_unit : has_parts (base_of held) ≡ false → notation_shape no_roots (scope_of ss less t.number t.home) held ≡ named_type ss more n
     follows_unit e = sym (ap (λ b. chosen b held) e) ∙ sym (ap (λ x. chosen (has_parts (base_of x)) x) is) ∙ follows (Some t) there
 
 -- What words name doesn't depend on the shapes of types.

@@ -1,22 +1,30 @@
 -- Lists of entries, with and without markers among them.
-use Rattle.std.proofs.Common.{◌≡◌, ◌≤◌, ◌<◌, ◌+◌, ℕ, refl, sym, ap, ◌∙◌, List, [], ◌∷◌, ◌++◌, map, Bool, false, if◌then◌else◌, append_assoc, append-nil, drop, get_or, length, Option, Some, None}
+use Rattle.std.proofs.Common.{◌≡◌, ◌≤◌, ◌<◌, ◌+◌, ℕ, refl, sym, ap, ◌∙◌, List, [], ◌∷◌, ◌++◌, map, Bool, true, false, if◌then◌else◌, append_assoc, append-nil, drop, get_or, length, Option, Some, None}
 use Rattle.std.proofs.lemmas.List.{drop_all, map-append, map-id}
 use Rattle.std.specs.Global.{Vec}
 use Rattle.std.specs.Option.{option_and_then, option_map}
 use Rattle.asn_expansion.specs.Expansion.{of_both}
 use Rattle.asn_modules_names.proofs.Founds.{drop_at}
+use Rattle.asn_modules_notation.specs.Notation as spec
 use Rattle.asn_modules_notation.specs.Notation.{Member, marker, members_of}
-use Rattle.asn_modules_notation.specs.View.{items_view, members_view}
+use Rattle.asn_modules_notation.specs.View.{items_view, base_step, component_step, component_view, extension_step, member_step, members_step, members_view, notation_step, notation_view}
+use Rattle.asn_modules_notation.specs.declared.notation.Base.{Base}
+use Rattle.asn_modules_notation.specs.declared.notation.Base.TheFolds.{fold_out-Component, fold_out-Member, fold-roll-Component, fold-roll-Member}
+use Rattle.asn_modules_notation.specs.declared.notation.Base.TheOpen as layer
+use Rattle.asn_modules_notation.specs.declared.notation.Base.TheOpen.{Component-F, Member-F}
+use Rattle.asn_modules_notation.specs.declared.notation.Base.TheViews.{out-Component, out-Member, roll-Component, roll-Member}
+use Rattle.asn_modules_notation.specs.declared.notation.Component.{Component}
 use Rattle.asn_modules_notation.specs.declared.notation.Extension.{Extension, out-Extension}
 use Rattle.asn_modules_notation.specs.declared.notation.Member as code_member
 use Rattle.asn_modules_notation.specs.declared.notation.Members.{Members, out-Members}
+use Rattle.asn_modules_notation.specs.declared.notation.Notation.{Notation}
 use Rattle.asn_modules_notation.specs.declared.number.Item.{Item}
 use Rattle.asn_modules_reader.specs.Views.{member_view}
 use Rattle.asn_modules_references.proofs.Outs.{extension_seen, members_out, tail_seen}
-use Rattle.asn_modules_types.specs.Known.{extension_view, listed, listed_behind, part_view, tail_view, unmarked}
-use Rattle.asn_modules_types.specs.Lists.{added_of, behind, front, front_of, implied, root_of}
+use Rattle.asn_modules_types.specs.Known.{items_of, known_parts, part_view, tail_of}
+use Rattle.asn_modules_types.specs.Lists.{added_of, all_known, behind, front, front_of, if_marked, implied, root_of}
 use Rattle.asn_modules_types.specs.Scopes.{Scope}
-use Rattle.asn_modules_types.specs.Types.{Part, entry_parts, parts}
+use Rattle.asn_modules_types.specs.Types.{Part, Place, Roots, between_brackets, entry_parts, included, lists_of, notation_roots, parts}
 use Rattle.asn_modules_types.specs.declared.parts.Part as code
 
 -- All are up to the first marker.
@@ -69,126 +77,205 @@ items_closed items = added_none (λ i. i) items.items
 pub items_added : (items added : Vec Item) → added_of (items_view items (Some added)) ≡ Some added.items
 items_added items added = added_marked (λ i. i) items.items (map (λ i. Some i) added.items) ∙ ap Some (front_all (λ i. i) added.items ∙ map-id added.items)
 
--- The parts of entries that follow others.
-joined : {A : Type 0} (o p q : Option (List A)) → of_both (λ xs ys. xs ++ ys) (of_both (λ xs ys. xs ++ ys) o p) q ≡ of_both (λ xs ys. xs ++ ys) o (of_both (λ xs ys. xs ++ ys) p q)
-joined None p q = refl
-joined (Some x) None q = refl
-joined (Some x) (Some y) None = refl
-joined (Some x) (Some y) (Some z) = ap Some (append_assoc x y z)
+-- Entries before others, without a marker among them.
+front_append : {A : Type 0} (xs ys : List (Option A)) → behind xs ≡ None → front (xs ++ ys) ≡ front xs ++ front ys
+front_append [] ys e = refl
+front_append (None ∷ xs) ys e = cc e
+front_append (Some x ∷ xs) ys e = ap (λ l. x ∷ l) (front_append xs ys e)
 
-none_before : {A : Type 0} (o : Option (List A)) → o ≡ of_both (λ xs ys. xs ++ ys) (Some []) o
+behind_append : {A : Type 0} (xs ys : List (Option A)) → behind xs ≡ None → behind (xs ++ ys) ≡ behind ys
+behind_append [] ys e = refl
+behind_append (None ∷ xs) ys e = cc e
+behind_append (Some x ∷ xs) ys e = behind_append xs ys e
+
+-- They are the root where no marker follows them, and else the root begins with them.
+root_closed : {A : Type 0} (xs : List (Option A)) → behind xs ≡ None → root_of xs ≡ front xs
+root_closed xs e = ap (λ o. front xs ++ front_of (option_and_then behind o)) e ∙ append-nil (front xs)
+
+root_extended : {A : Type 0} (xs ys : List (Option A)) → behind xs ≡ None → root_of (xs ++ None ∷ ys) ≡ front xs ++ front_of (behind ys)
+root_extended xs ys e =
+    ap (λ o. front (xs ++ None ∷ ys) ++ front_of (option_and_then behind o)) (behind_append xs (None ∷ ys) e)
+    ∙ ap (λ l. l ++ front_of (behind ys)) (front_append xs (None ∷ ys) e ∙ append-nil (front xs))
+
+-- Lists one after another are known if each is.
+put_first : {A : Type 0} (x : A) (o p : Option (List A)) → option_map (λ l. x ∷ l) (of_both (λ a b. a ++ b) o p) ≡ of_both (λ a b. a ++ b) (option_map (λ l. x ∷ l) o) p
+put_first x None p = refl
+put_first x (Some a) None = refl
+put_first x (Some a) (Some b) = refl
+
+none_before : {A : Type 0} (o : Option (List A)) → o ≡ of_both (λ a b. a ++ b) (Some []) o
 none_before None = refl
 none_before (Some x) = refl
 
-module _ (s : Scope) where
-  parts_append : (xs ys : List Member) → parts s false (members_of (xs ++ ys)) ≡ of_both (λ a b. a ++ b) (parts s false (members_of xs)) (parts s false (members_of ys))
-  parts_append [] ys = none_before (parts s false (members_of ys))
-  parts_append (x ∷ xs) ys =
-      ap (of_both (λ a b. a ++ b) (entry_parts s false x)) (parts_append xs ys) ∙ sym (joined (entry_parts s false x) (parts s false (members_of xs)) (parts s false (members_of ys)))
+known_append : {A : Type 0} (xs ys : List (Option A)) → all_known (xs ++ ys) ≡ of_both (λ a b. a ++ b) (all_known xs) (all_known ys)
+known_append [] ys = none_before (all_known ys)
+known_append (None ∷ xs) ys = refl
+known_append (Some x ∷ xs) ys = ap (option_map (λ l. x ∷ l)) (known_append xs ys) ∙ put_first x (all_known xs) (all_known ys)
 
-  parts_fail : (xs ys : List Member) → parts s false (members_of xs) ≡ None → parts s false (members_of (xs ++ ys)) ≡ None
-  parts_fail xs ys e = parts_append xs ys ∙ ap (λ o. of_both (λ a b. a ++ b) o (parts s false (members_of ys))) e
+-- What entries are.
+module _ (roots : Roots) (s : Scope) where
+  -- No component is an extension marker.
+  included_unmarked : (o : Option (List Part)) → behind (included o) ≡ None
+  included_unmarked None = refl
+  included_unmarked (Some ps) = behind_none (λ p. Some p) ps
 
-  parts_follow : (xs ys : List Member) (found : List (Option Part)) (o : Option (List (Option Part))) → parts s false (members_of xs) ≡ Some found → parts s false (members_of ys) ≡ o → parts s false (members_of (xs ++ ys)) ≡ option_map (λ b. found ++ b) o
-  parts_follow xs ys found o e f = parts_append xs ys ∙ ap (λ p. of_both (λ a b. a ++ b) p (parts s false (members_of ys))) e ∙ ap (option_map (λ b. found ++ b)) f
+  component_rolled : (place : Place) (l : Component-F Base Component code_member.Member Extension Members Notation) → behind (entry_parts roots s place (component_view (roll-Component l))) ≡ None
+  component_rolled place (layer.Named name n presence) = ap (λ m. behind (entry_parts roots s place m)) (fold-roll-Component spec.Base spec.Member spec.Member (List spec.Member) (List spec.Member) spec.Notation base_step component_step member_step extension_step members_step notation_step (layer.Named name n presence))
+  component_rolled place (layer.ComponentsOf n) = ap (λ m. behind (entry_parts roots s place m)) (fold-roll-Component spec.Base spec.Member spec.Member (List spec.Member) (List spec.Member) spec.Notation base_step component_step member_step extension_step members_step notation_step (layer.ComponentsOf n))
+      ∙ included_unmarked (notation_roots roots s place (notation_view n))
 
-  -- What stands behind a marker.
-  module _ (root : List Part) (e : Extension) where
-    abbrev additions : List Member
-    additions = map member_view (out-Extension e).additions.items
+  pub component_unmarked : (place : Place) (c : Component) → behind (entry_parts roots s place (component_view c)) ≡ None
+  component_unmarked place c = ap (λ m. behind (entry_parts roots s place m)) (fold_out-Component spec.Base spec.Member spec.Member (List spec.Member) (List spec.Member) spec.Notation base_step component_step member_step extension_step members_step notation_step c ∙ sym (fold-roll-Component spec.Base spec.Member spec.Member (List spec.Member) (List spec.Member) spec.Notation base_step component_step member_step extension_step members_step notation_step (out-Component c))) ∙ component_rolled place (out-Component c)
 
-    pub additions_fail : parts s false (members_of additions) ≡ None → None ≡ listed_behind root (parts s false (members_of (extension_view e)))
-    additions_fail h = sym (ap (listed_behind root) (parts_fail additions (tail_view (out-Extension e).tail) h))
+  -- Nor are those that are seen by v, if none of them is.
+  entries_unmarked : {A : Type 0} (place : Place) (v : A → Member) → ((x : A) → behind (entry_parts roots s place (v x)) ≡ None) → (xs : List A) → behind (parts roots s place (members_of (map v xs))) ≡ None
+  entries_unmarked place v h [] = refl
+  entries_unmarked place v h (x ∷ xs) = behind_append (entry_parts roots s place (v x)) (parts roots s place (members_of (map v xs))) (h x) ∙ entries_unmarked place v h xs
 
-    with_tail : (tail : Vec code_member.Member) (found : List (Option Part)) (o : Option (List (Option Part))) → (out-Extension e).tail ≡ Some tail → parts s false (members_of additions) ≡ Some found → parts s false (members_of (map member_view tail.items)) ≡ o
-        → parts s false (members_of (extension_view e)) ≡ option_map (λ b. found ++ None ∷ b) o
-    with_tail tail found o is h t =
-        ap (λ x. parts s false (members_of (additions ++ tail_view x))) is
-        ∙ parts_follow additions (marker ∷ map member_view tail.items) found (option_map (λ b. None ∷ b) o) h (ap (option_map (λ b. None ∷ b)) t)
-        ∙ both found o
-      where
-        both : (found : List (Option Part)) (o : Option (List (Option Part))) → option_map (λ b. found ++ b) (option_map (λ b. None ∷ b) o) ≡ option_map (λ b. found ++ None ∷ b) o
-        both found None = refl
-        both found (Some b) = refl
+  member_rolled : (place : Place) (l : Member-F Base Component code_member.Member Extension Members Notation) → behind (entry_parts roots s place (member_view (roll-Member l))) ≡ None
+  member_rolled place (layer.One c) = ap (λ m. behind (entry_parts roots s place m)) (fold-roll-Member spec.Base spec.Member spec.Member (List spec.Member) (List spec.Member) spec.Notation base_step component_step member_step extension_step members_step notation_step (layer.One c)) ∙ component_unmarked place c
+  member_rolled place (layer.Group cs) = ap (λ m. behind (entry_parts roots s place m)) (fold-roll-Member spec.Base spec.Member spec.Member (List spec.Member) (List spec.Member) spec.Notation base_step component_step member_step extension_step members_step notation_step (layer.Group cs))
+      ∙ entries_unmarked (between_brackets place) component_view (component_unmarked (between_brackets place)) cs.items
 
-    pub tail_fails : (tail : Vec code_member.Member) (added : List (Option Part)) → (out-Extension e).tail ≡ Some tail → parts s false (members_of additions) ≡ Some added → parts s false (members_of (map member_view tail.items)) ≡ None
-        → None ≡ listed_behind root (parts s false (members_of (extension_view e)))
-    tail_fails tail added is h t = sym (ap (listed_behind root) (with_tail tail added None is h t))
+  pub member_unmarked : (place : Place) (m : code_member.Member) → behind (entry_parts roots s place (member_view m)) ≡ None
+  member_unmarked place m = ap (λ x. behind (entry_parts roots s place x)) (fold_out-Member spec.Base spec.Member spec.Member (List spec.Member) (List spec.Member) spec.Notation base_step component_step member_step extension_step members_step notation_step m ∙ sym (fold-roll-Member spec.Base spec.Member spec.Member (List spec.Member) (List spec.Member) spec.Notation base_step component_step member_step extension_step members_step notation_step (out-Member m))) ∙ member_rolled place (out-Member m)
 
-    pub tail_made : (tail : Vec code_member.Member) (added more : List code.Part) → (out-Extension e).tail ≡ Some tail → parts s false (members_of additions) ≡ Some (unmarked added) → parts s false (members_of (map member_view tail.items)) ≡ Some (unmarked more)
-        → listed_behind root (parts s false (members_of (extension_view e))) ≡ Some (root ++ map part_view more, Some (map part_view added))
-    tail_made tail added more is h t =
-        let all = unmarked added ++ None ∷ unmarked more in
-        ap (listed_behind root) (with_tail tail (unmarked added) (Some (unmarked more)) is h t)
-        ∙ ap (λ o. Some (root ++ front_of o, Some (front all))) (behind_marked part_view added (unmarked more))
-        ∙ ap (λ l. Some (root ++ l, Some (front all))) (front_all part_view more)
-        ∙ ap (λ l. Some (root ++ map part_view more, Some l)) (front_marked part_view added (unmarked more))
+  -- A group.
+  pub group_known : (place : Place) (cs : List Component) → known_parts roots s (between_brackets place) (map component_view cs) ≡ known_parts roots s place (spec.group (members_of (map component_view cs)) ∷ [])
+  group_known place cs = ap (λ l. all_known (front l)) (sym (append-nil (parts roots s (between_brackets place) (members_of (map component_view cs)))))
 
-    pub no_tail_made : (added : List code.Part) → (out-Extension e).tail ≡ None → parts s false (members_of additions) ≡ Some (unmarked added) → listed_behind root (parts s false (members_of (extension_view e))) ≡ Some (root, Some (map part_view added))
-    no_tail_made added is h =
-        ap (λ x. listed_behind root (parts s false (members_of (additions ++ tail_view x)))) is
-        ∙ ap (listed_behind root) (parts_follow additions [] (unmarked added) (Some []) h refl ∙ ap Some (append-nil (unmarked added)))
-        ∙ ap (λ o. Some (root ++ front_of o, Some (front (unmarked added)))) (behind_none part_view added)
-        ∙ ap (λ l. Some (l, Some (front (unmarked added)))) (append-nil root)
-        ∙ ap (λ l. Some (root, Some l)) (front_all part_view added)
+  -- Entries one after another, of which each is seen by v, and none is a marker.
+  module _ (place : Place) {A : Type 0} (v : A → Member) (unmarked : (x : A) → behind (entry_parts roots s place (v x)) ≡ None) where
+    abbrev left : List A → Option (List Part)
+    left xs = known_parts roots s place (map v xs)
 
-  -- All entries between braces.
-  module _ (extensible : Bool) (m : Members) where
-    abbrev roots : List Member
-    roots = map member_view (out-Members m).root.items
+    parts_step : (xs : List A) (i : ℕ) (x : A) → i < length xs → x ≡ get_or xs i x → left (drop i xs) ≡ of_both (λ a b. a ++ b) (known_parts roots s place (v x ∷ [])) (left (drop (i + 1) xs))
+    parts_step xs i x h e =
+        ap left (drop_at xs i x h e)
+        ∙ ap all_known (front_append (entry_parts roots s place (v x)) (parts roots s place (members_of (map v (drop (i + 1) xs)))) (unmarked x))
+        ∙ known_append (front (entry_parts roots s place (v x))) (front (parts roots s place (members_of (map v (drop (i + 1) xs)))))
+        ∙ ap (λ l. of_both (λ a b. a ++ b) (all_known (front l)) (left (drop (i + 1) xs))) (sym (append-nil (entry_parts roots s place (v x))))
 
-    tail_same : (tail : Option (Vec code_member.Member)) → tail_seen tail ≡ tail_view tail
-    tail_same None = refl
-    tail_same (Some ms) = refl
+    more_behind : (found new after : List code.Part) (o : Option (List Part)) → after ≡ found ++ new → option_map (λ ys. map part_view found ++ ys) (of_both (λ a b. a ++ b) (Some (map part_view new)) o) ≡ option_map (λ ys. map part_view after ++ ys) o
+    more_behind found new after None a = refl
+    more_behind found new after (Some ys) a =
+        sym (ap (λ l. Some (l ++ ys)) (ap (map part_view) a ∙ map-append part_view found new) ∙ ap Some (append_assoc (map part_view found) (map part_view new) ys))
 
-    pub root_fails : parts s false (members_of roots) ≡ None → None ≡ listed extensible (parts s false (members_of (members_view m)))
-    root_fails h = sym (ap (λ l. listed extensible (parts s false (members_of l))) (members_out m) ∙ ap (listed extensible) (parts_fail roots (extension_seen (out-Members m).extension) h))
+    pub parts_more : (all : Option (List Part)) (found new after : List code.Part) (xs : List A) (i : ℕ) (x : A) → i < length xs → x ≡ get_or xs i x → all ≡ option_map (λ ys. map part_view found ++ ys) (left (drop i xs))
+        → Some (map part_view new) ≡ known_parts roots s place (v x ∷ []) → after ≡ found ++ new → all ≡ option_map (λ ys. map part_view after ++ ys) (left (drop (i + 1) xs))
+    parts_more all found new after xs i x h e was is a =
+        was ∙ ap (option_map (λ ys. map part_view found ++ ys)) (parts_step xs i x h e ∙ ap (λ o. of_both (λ p q. p ++ q) o (left (drop (i + 1) xs))) (sym is)) ∙ more_behind found new after (left (drop (i + 1) xs)) a
 
-    listed_marked : (root : List code.Part) (o : Option (List (Option Part))) → listed extensible (option_map (λ b. unmarked root ++ b) (option_map (λ b. None ∷ b) o)) ≡ listed_behind (map part_view root) o
-    listed_marked root None = refl
-    listed_marked root (Some ys) =
-        ap (λ r. Some (r, implied extensible (added_of (unmarked root ++ None ∷ ys)))) (root_marked part_view root ys)
-        ∙ ap (λ a. Some (map part_view root ++ front_of (behind ys), implied extensible a)) (added_marked part_view root ys)
+    pub parts_missed : (all : Option (List Part)) (found : List code.Part) (xs : List A) (i : ℕ) (x : A) → i < length xs → x ≡ get_or xs i x → all ≡ option_map (λ ys. map part_view found ++ ys) (left (drop i xs)) → None ≡ known_parts roots s place (v x ∷ []) → None ≡ all
+    parts_missed all found xs i x h e was is =
+        sym (was ∙ ap (option_map (λ ys. map part_view found ++ ys)) (parts_step xs i x h e ∙ ap (λ o. of_both (λ p q. p ++ q) o (left (drop (i + 1) xs))) (sym is)))
 
-    pub extended_made : (e : Extension) (root : List code.Part) → (out-Members m).extension ≡ Some e → parts s false (members_of roots) ≡ Some (unmarked root)
-        → listed_behind (map part_view root) (parts s false (members_of (extension_view e))) ≡ listed extensible (parts s false (members_of (members_view m)))
-    extended_made e root is h =
-        sym (ap (λ l. listed extensible (parts s false (members_of l))) (members_out m)
-        ∙ ap (λ x. listed extensible (parts s false (members_of (roots ++ extension_seen x)))) is
-        ∙ ap (λ t. listed extensible (parts s false (members_of (roots ++ marker ∷ (map member_view (out-Extension e).additions.items ++ t))))) (tail_same (out-Extension e).tail)
-        ∙ ap (listed extensible) (parts_follow roots (marker ∷ extension_view e) (unmarked root) (option_map (λ b. None ∷ b) (parts s false (members_of (extension_view e)))) h refl)
-        ∙ listed_marked root (parts s false (members_of (extension_view e))))
+    pub parts_end : (all : Option (List Part)) (found : List code.Part) (xs : List A) (i : ℕ) → length xs ≤ i → all ≡ option_map (λ ys. map part_view found ++ ys) (left (drop i xs)) → Some (map part_view found) ≡ all
+    parts_end all found xs i h was = sym (was ∙ ap (λ l. option_map (λ ys. map part_view found ++ ys) (left l)) (drop_all i xs h) ∙ ap Some (append-nil (map part_view found)))
 
-    pub closed_made : (root : List code.Part) → (out-Members m).extension ≡ None → parts s false (members_of roots) ≡ Some (unmarked root)
-        → listed extensible (parts s false (members_of (members_view m))) ≡ Some (map part_view root, if extensible then Some [] else None)
-    closed_made root is h =
-        ap (λ l. listed extensible (parts s false (members_of l))) (members_out m)
-        ∙ ap (λ x. listed extensible (parts s false (members_of (roots ++ extension_seen x)))) is
-        ∙ ap (listed extensible) (parts_follow roots [] (unmarked root) (Some []) h refl ∙ ap Some (append-nil (unmarked root)))
-        ∙ ap (λ r. Some (r, implied extensible (added_of (unmarked root)))) (root_all part_view root)
-        ∙ ap (λ a. Some (map part_view root, implied extensible a)) (added_none part_view root)
+  -- The entries between the braces of a type.
+  module _ (place : Place) where
+    abbrev seen : List Member → List (Option (Option Part))
+    seen ms = parts roots s place (members_of ms)
 
--- Entries one after another, of which each is seen by v.
-module _ {A : Type 0} (v : A → Member) (s : Scope) (grouped : Bool) where
-  abbrev left : List A → Option (List (Option Part))
-  left xs = parts s grouped (members_of (map v xs))
+    abbrev held : List code_member.Member → List (Option (Option Part))
+    held ms = seen (map member_view ms)
 
-  parts_step : (xs : List A) (i : ℕ) (x : A) → i < length xs → x ≡ get_or xs i x → left (drop i xs) ≡ of_both (λ a b. a ++ b) (entry_parts s grouped (v x)) (left (drop (i + 1) xs))
-  parts_step xs i x h e = ap left (drop_at xs i x h e)
+    seen_append : (xs ys : List Member) → seen (xs ++ ys) ≡ seen xs ++ seen ys
+    seen_append [] ys = refl
+    seen_append (x ∷ xs) ys = ap (λ l. entry_parts roots s place x ++ l) (seen_append xs ys) ∙ sym (append_assoc (entry_parts roots s place x) (seen xs) (seen ys))
 
-  more_behind : (found new after : List code.Part) (o : Option (List (Option Part))) → after ≡ found ++ new → option_map (λ ys. unmarked found ++ ys) (of_both (λ a b. a ++ b) (Some (unmarked new)) o) ≡ option_map (λ ys. unmarked after ++ ys) o
-  more_behind found new after None a = refl
-  more_behind found new after (Some ys) a =
-      sym (ap (λ l. Some (l ++ ys)) (ap unmarked a ∙ map-append (λ p. Some (part_view p)) found new) ∙ ap Some (append_assoc (unmarked found) (unmarked new) ys))
+    held_unmarked : (ms : List code_member.Member) → behind (held ms) ≡ None
+    held_unmarked ms = entries_unmarked place member_view (member_unmarked place) ms
 
-  pub parts_more : (all : Option (List (Option Part))) (found new after : List code.Part) (xs : List A) (i : ℕ) (x : A) → i < length xs → x ≡ get_or xs i x → all ≡ option_map (λ ys. unmarked found ++ ys) (left (drop i xs)) → Some (unmarked new) ≡ entry_parts s grouped (v x)
-      → after ≡ found ++ new → all ≡ option_map (λ ys. unmarked after ++ ys) (left (drop (i + 1) xs))
-  parts_more all found new after xs i x h e was is a =
-      was ∙ ap (option_map (λ ys. unmarked found ++ ys)) (parts_step xs i x h e ∙ ap (λ o. of_both (λ p q. p ++ q) o (left (drop (i + 1) xs))) (sym is)) ∙ more_behind found new after (left (drop (i + 1) xs)) a
+    -- The root stands before the first marker and behind the second one.
+    tail_root : (tail : Option (Vec code_member.Member)) → front_of (behind (seen (tail_seen tail))) ≡ front (held (items_of tail))
+    tail_root None = refl
+    tail_root (Some ms) = refl
 
-  pub parts_missed : (all : Option (List (Option Part))) (found : List code.Part) (xs : List A) (i : ℕ) (x : A) → i < length xs → x ≡ get_or xs i x → all ≡ option_map (λ ys. unmarked found ++ ys) (left (drop i xs)) → None ≡ entry_parts s grouped (v x) → None ≡ all
-  parts_missed all found xs i x h e was is =
-      sym (was ∙ ap (option_map (λ ys. unmarked found ++ ys)) (parts_step xs i x h e ∙ ap (λ o. of_both (λ p q. p ++ q) o (left (drop (i + 1) xs))) (sym is)))
+    root_seen : (root : List code_member.Member) (x : Option Extension) → root_of (seen (map member_view root ++ extension_seen x)) ≡ front (held root) ++ front (held (tail_of x))
+    root_seen root None =
+        ap (λ l. root_of (seen l)) (append-nil (map member_view root)) ∙ root_closed (held root) (held_unmarked root) ∙ sym (append-nil (front (held root)))
+    root_seen root (Some e) =
+        let added = (out-Extension e).additions.items in
+        let behind_added = map member_view added ++ tail_seen (out-Extension e).tail in
+        ap root_of (seen_append (map member_view root) (marker ∷ behind_added)) ∙ root_extended (held root) (seen behind_added) (held_unmarked root)
+        ∙ ap (λ o. front (held root) ++ front_of o) (ap behind (seen_append (map member_view added) (tail_seen (out-Extension e).tail)) ∙ behind_append (held added) (seen (tail_seen (out-Extension e).tail)) (held_unmarked added))
+        ∙ ap (λ l. front (held root) ++ l) (tail_root (out-Extension e).tail)
 
-  pub parts_end : (all : Option (List (Option Part))) (found : List code.Part) (xs : List A) (i : ℕ) → length xs ≤ i → all ≡ option_map (λ ys. unmarked found ++ ys) (left (drop i xs)) → Some (unmarked found) ≡ all
-  parts_end all found xs i h was = sym (was ∙ ap (λ l. option_map (λ ys. unmarked found ++ ys) (left l)) (drop_all i xs h) ∙ ap Some (append-nil (unmarked found)))
+    root_joined : (m : Members) → all_known (root_of (seen (members_view m)))
+        ≡ of_both (λ a b. a ++ b) (known_parts roots s place (map member_view (out-Members m).root.items)) (known_parts roots s place (map member_view (tail_of (out-Members m).extension)))
+    root_joined m =
+        ap (λ l. all_known (root_of (seen l))) (members_out m) ∙ ap all_known (root_seen (out-Members m).root.items (out-Members m).extension)
+        ∙ known_append (front (held (out-Members m).root.items)) (front (held (tail_of (out-Members m).extension)))
+
+    module _ (m : Members) where
+      abbrev known_front : Option (List Part)
+      known_front = known_parts roots s place (map member_view (out-Members m).root.items)
+
+      abbrev known_tail : Option (List Part)
+      known_tail = known_parts roots s place (map member_view (tail_of (out-Members m).extension))
+
+      pub root_frontless : None ≡ known_front → None ≡ all_known (root_of (seen (members_view m)))
+      root_frontless e = sym (root_joined m ∙ ap (λ o. of_both (λ a b. a ++ b) o known_tail) (sym e))
+
+      pub root_tailless : (before : List Part) → Some before ≡ known_front → None ≡ known_tail → None ≡ all_known (root_of (seen (members_view m)))
+      root_tailless before e f = sym (root_joined m ∙ ap (λ o. of_both (λ a b. a ++ b) o known_tail) (sym e) ∙ ap (of_both (λ a b. a ++ b) (Some before)) (sym f))
+
+      pub root_made : (before after all : List code.Part) → Some (map part_view before) ≡ known_front → Some (map part_view after) ≡ known_tail → all ≡ before ++ after → Some (map part_view all) ≡ all_known (root_of (seen (members_view m)))
+      root_made before after all e f a =
+          ap Some (ap (map part_view) a ∙ map-append part_view before after)
+          ∙ sym (root_joined m ∙ ap (λ o. of_both (λ a b. a ++ b) o known_tail) (sym e) ∙ ap (of_both (λ a b. a ++ b) (Some (map part_view before))) (sym f))
+
+    -- The extension additions stand between them.
+    abbrev additions : Extension → List (Option Part)
+    additions e = front (held (out-Extension e).additions.items)
+
+    tail_front : (tail : Option (Vec code_member.Member)) → front (seen (tail_seen tail)) ≡ []
+    tail_front None = refl
+    tail_front (Some ms) = refl
+
+    added_seen : (root : List code_member.Member) (x : Option Extension) → added_of (seen (map member_view root ++ extension_seen x)) ≡ option_map additions x
+    added_seen root None = ap (λ l. added_of (seen l)) (append-nil (map member_view root)) ∙ ap (option_map front) (held_unmarked root)
+    added_seen root (Some e) =
+        let added = (out-Extension e).additions.items in
+        let behind_added = map member_view added ++ tail_seen (out-Extension e).tail in
+        ap added_of (seen_append (map member_view root) (marker ∷ behind_added)) ∙ ap (option_map front) (behind_append (held root) (None ∷ seen behind_added) (held_unmarked root))
+        ∙ ap (λ l. Some (front l)) (seen_append (map member_view added) (tail_seen (out-Extension e).tail))
+        ∙ ap Some (front_append (held added) (seen (tail_seen (out-Extension e).tail)) (held_unmarked added)
+        ∙ ap (λ l. front (held added) ++ l) (tail_front (out-Extension e).tail) ∙ append-nil (front (held added)))
+
+    added_out : (m : Members) → added_of (seen (members_view m)) ≡ option_map additions (out-Members m).extension
+    added_out m = ap (λ l. added_of (seen l)) (members_out m) ∙ added_seen (out-Members m).root.items (out-Members m).extension
+
+    -- The lists of a type, by its root and its additions.
+    module _ (extensible : Bool) (m : Members) where
+      abbrev joined : Option (List Part) → Option (Option (List Part)) → Option (List Part × Option (List Part))
+      joined o p = of_both (λ root added. (root, added)) o p
+
+      abbrev known_root : Option (List Part)
+      known_root = all_known (root_of (seen (members_view m)))
+
+      abbrev marked : Option Extension → Option (Option (List Part))
+      marked x = if_marked all_known (implied extensible (option_map additions x))
+
+      lists_out : lists_of extensible (seen (members_view m)) ≡ joined known_root (marked (out-Members m).extension)
+      lists_out = ap (λ a. joined known_root (if_marked all_known (implied extensible a))) (added_out m)
+
+      pub lists_rootless : None ≡ known_root → None ≡ lists_of extensible (seen (members_view m))
+      lists_rootless e = sym (lists_out ∙ ap (λ o. joined o (marked (out-Members m).extension)) (sym e))
+
+      lists_with : (x : Option Extension) (root : List Part) → (out-Members m).extension ≡ x → Some root ≡ known_root → lists_of extensible (seen (members_view m)) ≡ joined (Some root) (marked x)
+      lists_with x root is e = lists_out ∙ ap (λ o. joined o (marked (out-Members m).extension)) (sym e) ∙ ap (λ y. joined (Some root) (marked y)) is
+
+      pub lists_addless : (x : Extension) (root : List Part) → (out-Members m).extension ≡ Some x → Some root ≡ known_root → None ≡ all_known (additions x) → None ≡ lists_of extensible (seen (members_view m))
+      lists_addless x root is e none = sym (lists_with (Some x) root is e ∙ ap (λ o. joined (Some root) (option_map (λ y. Some y) o)) (sym none))
+
+      pub lists_extended : (x : Extension) (root added : List Part) → (out-Members m).extension ≡ Some x → Some root ≡ known_root → Some added ≡ all_known (additions x) → lists_of extensible (seen (members_view m)) ≡ Some (root, Some added)
+      lists_extended x root added is e known = lists_with (Some x) root is e ∙ ap (λ o. joined (Some root) (option_map (λ y. Some y) o)) (sym known)
+
+      pub lists_implied : (root : List Part) → (out-Members m).extension ≡ None → Some root ≡ known_root → extensible ≡ true → lists_of extensible (seen (members_view m)) ≡ Some (root, Some [])
+      lists_implied root is e x = lists_with None root is e ∙ ap (λ b. joined (Some root) (if_marked all_known (if b then Some [] else None))) x
+
+      pub lists_closed : (root : List Part) → (out-Members m).extension ≡ None → Some root ≡ known_root → extensible ≡ false → lists_of extensible (seen (members_view m)) ≡ Some (root, None)
+      lists_closed root is e x = lists_with None root is e ∙ ap (λ b. joined (Some root) (if_marked all_known (if b then Some [] else None))) x

@@ -10,7 +10,7 @@ use Rattle.asn_model.specs.Shape.{AlternativeAdditions, Alternatives, FieldAddit
 use Rattle.asn_model.specs.ShapeView.{added_field_views, alternative_views, field_views, presence_view, shape_view}
 use Rattle.asn_model.specs.declared.shape_type.AlternativeShape.{AlternativeShape}
 use Rattle.asn_model.specs.declared.shape_type.FieldShape.{FieldShape}
-use Rattle.asn_modules_types.specs.Known.{listed, part_view}
+use Rattle.asn_modules_types.specs.Known.{part_view, parts_view}
 use Rattle.asn_modules_types.specs.Lists.{added_of, implied, root_of}
 use Rattle.asn_modules_types.specs.Types as spec
 use Rattle.asn_modules_types.specs.Types.{added_alternatives_from, added_fields_from, alternatives_from, choice_shape, fields_from, members_shape}
@@ -47,40 +47,20 @@ alternatives_more first tag fs new f ps p so t one n =
     ∙ sym (ap (alternatives_from first) (map-append part_view ps (p ∷ [])) ∙ alternatives_apart first tag (map part_view ps) (part_view p ∷ []) (omega (arith, t, length-map ps part_view)))
 
 -- The extension additions that were made of parts.
-abbrev pub parts_added : Option (Vec Part) → Option (List spec.Part)
-parts_added o = option_map (λ v. map part_view v.items) o
-
 pub fields_extended : (tag : ℕ) (root : List Part) (o : Option (Vec Part)) (ps : Vec Part) (made : Option (Vec FieldShape)) (fs : Vec FieldShape) → tag ≡ 0 + length root → o ≡ Some ps → made ≡ Some fs → field_views fs.items ≡ fields_from tag (map part_view ps.items)
-    → added_field_views made ≡ added_fields_from (length (map part_view root)) (parts_added o)
+    → added_field_views made ≡ added_fields_from (length (map part_view root)) (option_map parts_view o)
 fields_extended tag root o ps made fs t is m e =
     let place : tag ≡ length (map part_view root) = omega (arith, t, length-map root part_view) in
-    ap added_field_views m ∙ ap FieldAdditions.extended_fields (e ∙ ap (λ k. fields_from k (map part_view ps.items)) place) ∙ sym (ap (λ x. added_fields_from (length (map part_view root)) (parts_added x)) is)
+    ap added_field_views m ∙ ap FieldAdditions.extended_fields (e ∙ ap (λ k. fields_from k (map part_view ps.items)) place) ∙ sym (ap (λ x. added_fields_from (length (map part_view root)) (option_map parts_view x)) is)
 
-pub fields_closed : (n : ℕ) (o : Option (Vec Part)) (made : Option (Vec FieldShape)) → o ≡ None → made ≡ None → added_field_views made ≡ added_fields_from n (parts_added o)
-fields_closed n o made is m = ap added_field_views m ∙ sym (ap (λ x. added_fields_from n (parts_added x)) is)
+pub fields_closed : (n : ℕ) (o : Option (Vec Part)) (made : Option (Vec FieldShape)) → o ≡ None → made ≡ None → added_field_views made ≡ added_fields_from n (option_map parts_view o)
+fields_closed n o made is m = ap added_field_views m ∙ sym (ap (λ x. added_fields_from n (option_map parts_view x)) is)
 
 pub alternatives_extended : (tag : ℕ) (root : List Part) (o : Option (Vec Part)) (ps : Vec Part) (made : Option (Vec AlternativeShape)) (fs : Vec AlternativeShape) → tag ≡ 0 + length root → o ≡ Some ps → made ≡ Some fs → alternative_views fs.items ≡ alternatives_from tag (map part_view ps.items)
-    → added_alternative_views made ≡ added_alternatives_from (length (map part_view root)) (parts_added o)
+    → added_alternative_views made ≡ added_alternatives_from (length (map part_view root)) (option_map parts_view o)
 alternatives_extended tag root o ps made fs t is m e =
     let place : tag ≡ length (map part_view root) = omega (arith, t, length-map root part_view) in
-    ap added_alternative_views m ∙ ap AlternativeAdditions.extended_alternatives (e ∙ ap (λ k. alternatives_from k (map part_view ps.items)) place) ∙ sym (ap (λ x. added_alternatives_from (length (map part_view root)) (parts_added x)) is)
+    ap added_alternative_views m ∙ ap AlternativeAdditions.extended_alternatives (e ∙ ap (λ k. alternatives_from k (map part_view ps.items)) place) ∙ sym (ap (λ x. added_alternatives_from (length (map part_view root)) (option_map parts_view x)) is)
 
-pub alternatives_closed : (n : ℕ) (o : Option (Vec Part)) (made : Option (Vec AlternativeShape)) → o ≡ None → made ≡ None → added_alternative_views made ≡ added_alternatives_from n (parts_added o)
-alternatives_closed n o made is m = ap added_alternative_views m ∙ sym (ap (λ x. added_alternatives_from n (parts_added x)) is)
-
--- A SEQUENCE or SET of these parts, and a CHOICE.
-pub sequence_made : (extensible : Bool) (kind : SeqKind) (ps : Option (List (Option spec.Part))) (root : List spec.Part) (added : Option (List spec.Part)) → ◌≡◌ {A = Option (List spec.Part × Option (List spec.Part))} (Some (root, added)) (listed extensible ps)
-    → Shape.seq kind (fields_from 0 root) (added_fields_from (length root) added) ≡ members_shape extensible kind ps
-sequence_made extensible kind None root added e = cc e
-sequence_made extensible kind (Some xs) root added e =
-    let both = some_pair_parts root (root_of xs) added (implied extensible (added_of xs)) e in
-    ap (λ r. Shape.seq kind (fields_from 0 r) (added_fields_from (length r) added)) both.0
-    ∙ ap (λ a. Shape.seq kind (fields_from 0 (root_of xs)) (added_fields_from (length (root_of xs)) a)) both.1
-
-pub choice_made : (extensible : Bool) (ps : Option (List (Option spec.Part))) (root : List spec.Part) (added : Option (List spec.Part)) → ◌≡◌ {A = Option (List spec.Part × Option (List spec.Part))} (Some (root, added)) (listed extensible ps)
-    → Shape.choice (alternatives_from 0 root) (added_alternatives_from (length root) added) ≡ choice_shape extensible ps
-choice_made extensible None root added e = cc e
-choice_made extensible (Some xs) root added e =
-    let both = some_pair_parts root (root_of xs) added (implied extensible (added_of xs)) e in
-    ap (λ r. Shape.choice (alternatives_from 0 r) (added_alternatives_from (length r) added)) both.0
-    ∙ ap (λ a. Shape.choice (alternatives_from 0 (root_of xs)) (added_alternatives_from (length (root_of xs)) a)) both.1
+pub alternatives_closed : (n : ℕ) (o : Option (Vec Part)) (made : Option (Vec AlternativeShape)) → o ≡ None → made ≡ None → added_alternative_views made ≡ added_alternatives_from n (option_map parts_view o)
+alternatives_closed n o made is m = ap added_alternative_views m ∙ sym (ap (λ x. added_alternatives_from n (option_map parts_view x)) is)

@@ -1,21 +1,21 @@
 -- What contracts see of types and values and of where they stand.
-use Rattle.std.specs.Prelude.{◌≡◌, ◌<◌, ℕ, List, [], ◌∷◌, ◌++◌, length, map, string_bytes, Bool, Option, Some, None}
+use Rattle.std.specs.Prelude.{◌≡◌, ◌<◌, ℕ, List, [], length, map, string_bytes, Option, Some, None}
 use Rattle.std.specs.Global.{Vec}
 use Rattle.std.specs.Option.{option_map}
 use Rattle.asn_linked_types.specs.declared.limits.TheConstants.{TYPE_LIMIT}
-use Rattle.asn_model.specs.ShapeView.{presence_view, shape_view}
+use Rattle.asn_model.specs.ShapeView.{kind_view, presence_view, shape_view}
 use Rattle.asn_modules_lookup.specs.Homes.{home_view}
 use Rattle.asn_modules_lookup.specs.Indexes.{IsIndexOf}
 use Rattle.asn_modules_lookup.specs.declared.sort.Sort.TheVariants.{Types, Values}
 use Rattle.asn_modules_names.specs.Mentions.{Source, source_view}
 use Rattle.asn_modules_notation.specs.Notation as notation
+use Rattle.asn_modules_notation.specs.Notation.{members_of}
 use Rattle.asn_modules_notation.specs.View.{assignment_view}
 use Rattle.asn_modules_notation.specs.declared.notation.Extension.{Extension, out-Extension}
 use Rattle.asn_modules_notation.specs.declared.notation.Member.{Member}
-use Rattle.asn_modules_reader.specs.Views.{member_view}
 use Rattle.asn_modules_types.specs.Assigned as spec
-use Rattle.asn_modules_types.specs.Linked.{scope_of}
-use Rattle.asn_modules_types.specs.Lists.{added_of, behind, front, front_of, implied, root_of}
+use Rattle.asn_modules_types.specs.Linked.{roots_of, scope_of}
+use Rattle.asn_modules_types.specs.Lists.{all_known, front}
 use Rattle.asn_modules_types.specs.Scopes as scopes
 use Rattle.asn_modules_types.specs.Types as types
 use Rattle.asn_modules_types.specs.Values as values
@@ -23,6 +23,7 @@ use Rattle.asn_modules_types.specs.declared.assigned.Assigned.{Assigned}
 use Rattle.asn_modules_types.specs.declared.names.Names.{Names}
 use Rattle.asn_modules_types.specs.declared.parts.Lists.{Lists}
 use Rattle.asn_modules_types.specs.declared.parts.Part.{Part}
+use Rattle.asn_modules_types.specs.declared.parts.Place.{Place}
 use Rattle.asn_modules_types.specs.declared.scope.Scope.{Scope}
 use Rattle.asn_modules_types.specs.declared.values.StatedValue.{StatedValue}
 
@@ -48,33 +49,32 @@ pub record KnowsNames (names : Names) : Type 0 where
 abbrev pub scope_view : ℕ → Scope → scopes.Scope
 scope_view limit s = scope_of (sources_of s.names.now) limit s.number (home_view s.home)
 
+-- The root components of types that names stand for there, past at most so many names.
+abbrev pub roots_view : ℕ → Scope → types.Roots
+roots_view limit s = roots_of (sources_of s.names.now) limit s.number (home_view s.home)
+
+abbrev pub place_view : Place → types.Place
+place_view p = record { kind = kind_view p.kind; grouped = p.grouped }
+
 abbrev pub part_view : Part → types.Part
 part_view p = record { name = string_bytes p.name; presence = presence_view p.presence; shape = shape_view p.shape }
 
--- Parts without a marker among them.
-abbrev pub unmarked : List Part → List (Option types.Part)
-unmarked ps = map (λ p. Some (part_view p)) ps
-
-abbrev pub unmarked_view : Option (Vec Part) → Option (List (Option types.Part))
-unmarked_view o = option_map (λ v. unmarked v.items) o
+abbrev pub parts_view : Vec Part → List types.Part
+parts_view ps = map part_view ps.items
 
 -- The root, and the extension additions if there is a marker.
 abbrev pub lists_view : Lists → List types.Part × Option (List types.Part)
-lists_view l = (map part_view l.root.items, option_map (λ v. map part_view v.items) l.added)
+lists_view l = (parts_view l.root, option_map parts_view l.added)
 
--- Those that entries are.
-abbrev pub listed : Bool → Option (List (Option types.Part)) → Option (List types.Part × Option (List types.Part))
-listed extensible ps = option_map (λ xs. (root_of xs, implied extensible (added_of xs))) ps
+-- What entries without a marker among them are, if each of their parts is understood.
+abbrev pub known_parts : types.Roots → scopes.Scope → types.Place → List notation.Member → Option (List types.Part)
+known_parts roots s place ms = all_known (front (types.parts roots s place (members_of ms)))
 
--- The root and the extension additions of a type, of these parts before a marker and of what stands behind that.
-abbrev pub listed_behind : List types.Part → Option (List (Option types.Part)) → Option (List types.Part × Option (List types.Part))
-listed_behind root ps = option_map (λ xs. (root ++ front_of (behind xs), Some (front xs))) ps
+abbrev pub items_of : Option (Vec Member) → List Member
+items_of None = []
+items_of (Some ms) = ms.items
 
--- Entries behind the second extension marker, with it.
-abbrev pub tail_view : Option (Vec Member) → List notation.Member
-tail_view None = []
-tail_view (Some ms) = notation.marker ∷ map member_view ms.items
-
--- The entries that an `Extension` is.
-abbrev pub extension_view : Extension → List notation.Member
-extension_view e = map member_view (out-Extension e).additions.items ++ tail_view (out-Extension e).tail
+-- The entries behind the second extension marker, if there is one.
+abbrev pub tail_of : Option Extension → List Member
+tail_of None = []
+tail_of (Some e) = items_of (out-Extension e).tail

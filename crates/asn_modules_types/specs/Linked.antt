@@ -12,7 +12,7 @@ use Rattle.asn_modules_names.specs.Mentions.{Source}
 use Rattle.asn_modules_notation.specs.Notation.{Base, Notation, choice, list_of, members, notation}
 use Rattle.asn_modules_types.specs.Assigned.{Assigned, assigned, notation_of}
 use Rattle.asn_modules_types.specs.Scopes.{Scope}
-use Rattle.asn_modules_types.specs.Types.{notation_shape, number_in_type}
+use Rattle.asn_modules_types.specs.Types.{Part, Place, Roots, notation_roots, notation_shape, number_in_type}
 use Rattle.asn_modules_types.specs.Values.{found_in, value_in, values_from}
 use Rattle.asn_modules_types.specs.declared.limits.TheConstants.{NAME_LIMIT}
 
@@ -46,11 +46,19 @@ has_parts b = false
 abbrev pub base_of : Notation → Base
 base_of (notation tags base sizes) = base
 
+-- The root components of types, where types of these numbers have these.
+abbrev pub roots_in : List Source → ℕ → Home → (ℕ → Place → Option (List Part)) → Roots
+roots_in ss k h roots = λ place home name. option_and_then (λ n. roots n place) (found_in Types ss k h home name)
+
+-- Names that stand for no type.
+abbrev pub no_roots : Roots
+no_roots = λ place home name. None
+
 -- What the name of the type of number n stands for, by its assignment: the number, where it has parts; else its shape, where names in it have these shapes and numbers.
 abbrev pub named_by : List Source → (ℕ → Shape) → (ℕ → List ℕ → Option ℤ) → ℕ → Option Assigned → Shape
 named_by ss shapes numbers n None = no_values
 named_by ss shapes numbers n (Some t) =
-    if has_parts (base_of (notation_of t.assignment)) then Shape.back n else notation_shape (scope_in ss t.number t.home shapes numbers) (notation_of t.assignment)
+    if has_parts (base_of (notation_of t.assignment)) then Shape.back n else notation_shape no_roots (scope_in ss t.number t.home shapes numbers) (notation_of t.assignment)
 
 abbrev pub number_by : List Source → (ℕ → List ℕ → Option ℤ) → Option Assigned → List ℕ → Option ℤ
 number_by ss numbers None word = None
@@ -70,10 +78,24 @@ named_type ss (suc more) n = named_by ss (named_type ss more) (number_word ss mo
 abbrev pub scope_of : List Source → ℕ → ℕ → Home → Scope
 scope_of ss limit k h = scope_in ss k h (named_type ss limit) (number_word ss limit)
 
+-- The root components of a type, by its assignment, where types of these numbers have these.
+abbrev pub roots_by : List Source → (ℕ → Place → Option (List Part)) → Place → Option Assigned → Option (List Part)
+roots_by ss roots place None = None
+roots_by ss roots place (Some t) = notation_roots (roots_in ss t.number t.home roots) (scope_of ss NAME_LIMIT t.number t.home) place (notation_of t.assignment)
+
+-- The root components of the type of number n, past at most so many names behind COMPONENTS OF or that stand for it. Names that stand for each other have none, and so has a type that includes its own.
+unfoldable pub type_roots : List Source → ℕ → ℕ → Place → Option (List Part)
+type_roots ss zero n place = None
+type_roots ss (suc more) n place = roots_by ss (type_roots ss more) place (slice_get (assigned Types ss) n)
+
+-- The root components of the types that a module names, past at most so many names.
+abbrev pub roots_of : List Source → ℕ → ℕ → Home → Roots
+roots_of ss limit k h = roots_in ss k h (type_roots ss limit)
+
 -- The shape of a type with parts, by its assignment.
 abbrev pub parts_shape : List Source → Option Assigned → Shape
 parts_shape ss None = no_values
-parts_shape ss (Some t) = notation_shape (scope_of ss NAME_LIMIT t.number t.home) (notation_of t.assignment)
+parts_shape ss (Some t) = notation_shape (roots_of ss NAME_LIMIT t.number t.home) (scope_of ss NAME_LIMIT t.number t.home) (notation_of t.assignment)
 
 -- What a name stands for, opened: a number is the shape of the type of that number.
 abbrev pub opened_type : List Source → Shape → Shape

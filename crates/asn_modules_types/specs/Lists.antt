@@ -1,6 +1,7 @@
 -- Lists with extension markers among them (X.680, section 25): an entry is `None` where a marker stands.
 use Rattle.std.specs.Prelude.{List, [], ◌∷◌, ◌++◌, Bool, if◌then◌else◌, Option, Some, None}
 use Rattle.std.specs.Option.{option_and_then, option_map}
+use Rattle.asn_expansion.specs.Expansion.{of_both}
 
 -- The entries up to the first marker.
 abbrev pub front : {A : Type 0} → List (Option A) → List A
@@ -31,3 +32,13 @@ added_of xs = option_map front (behind xs)
 abbrev pub implied : {A : Type 0} → Bool → Option (List A) → Option (List A)
 implied extensible None = if extensible then Some [] else None
 implied extensible (Some xs) = Some xs
+
+-- All of them, if each is known.
+abbrev pub all_known : {A : Type 0} → List (Option A) → Option (List A)
+all_known [] = Some []
+all_known (o ∷ os) = of_both (λ x xs. x ∷ xs) o (all_known os)
+
+-- What f gives of a list that is behind a marker, if it gives anything; where there is no marker, that there is none.
+abbrev pub if_marked : {A B : Type 0} → (A → Option B) → Option A → Option (Option B)
+if_marked f None = Some None
+if_marked f (Some x) = option_map (λ y. Some y) (f x)

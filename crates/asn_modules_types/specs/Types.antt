@@ -1,6 +1,7 @@
--- The shapes of types as modules state them. Tags are by place; those that are stated aren't read in this version.
-use Rattle.std.specs.Prelude.{ℕ, ℤ, suc, List, [], ◌∷◌, ◌++◌, length, Bool, true, false, if◌then◌else◌, Option, Some, None, option_map}
+-- The shapes of types as modules state them. Tags are by place: those that are stated mean nothing.
+use Rattle.std.specs.Prelude.{ℕ, ℤ, suc, List, [], ◌∷◌, ◌++◌, length, map, Bool, true, false, if◌then◌else◌, Option, Some, None, option_map}
 use Rattle.asn_expansion.specs.Expansion.{context_tag, list_shape, of_both}
+use Rattle.asn_lexer.specs.declared.token.Token.{Token}
 use Rattle.asn_linked_types.specs.Expansion.{no_values}
 use Rattle.asn_model.specs.Shape.{Alternatives, AlternativeAdditions, Fields, FieldAdditions, Presence, SeqKind, Shape}
 use Rattle.asn_modules_notation.specs.Notation.{Base, Member, Members, Notation, bit_string, choice, component, components_of, enumerated, group, integer, leaf, list_of, marker, member, members, no_members, notation, reference}
@@ -8,7 +9,7 @@ use Rattle.asn_modules_notation.specs.declared.notation.Presence as stated
 use Rattle.asn_modules_notation.specs.declared.notation.Presence.TheVariants.{Default, Optional, Required}
 use Rattle.asn_modules_types.specs.Defaults.{default_of}
 use Rattle.asn_modules_types.specs.Leaves.{enumerated_shape, integer_shape, leaf_shape}
-use Rattle.asn_modules_types.specs.Lists.{added_of, implied, root_of}
+use Rattle.asn_modules_types.specs.Lists.{added_of, all_known, if_marked, implied, root_of}
 use Rattle.asn_modules_types.specs.Numbers.{named_number}
 use Rattle.asn_modules_types.specs.Scopes.{Scope, name_in}
 use Rattle.asn_modules_types.specs.Sizes.{sized}
@@ -37,15 +38,19 @@ abbrev pub added_alternatives_from : ℕ → Option (List Part) → AlternativeA
 added_alternatives_from tag None = AlternativeAdditions.closed_alternatives
 added_alternatives_from tag (Some ps) = AlternativeAdditions.extended_alternatives (alternatives_from tag ps)
 
--- SEQUENCE or SET, by its parts: tags are by place, those of the root first.
-abbrev pub members_shape : Bool → SeqKind → Option (List (Option Part)) → Shape
-members_shape extensible kind None = no_values
-members_shape extensible kind (Some ps) = Shape.seq kind (fields_from 0 (root_of ps)) (added_fields_from (length (root_of ps)) (implied extensible (added_of ps)))
+-- The root and the extension additions, of which there are none without a marker, by what entries between braces are. There are no such lists where a part of them isn't understood.
+abbrev pub lists_of : Bool → List (Option (Option Part)) → Option (List Part × Option (List Part))
+lists_of extensible ps = of_both (λ root added. (root, added)) (all_known (root_of ps)) (if_marked all_known (implied extensible (added_of ps)))
+
+-- SEQUENCE or SET, by these lists: tags are by place, those of the root first.
+abbrev pub members_shape : SeqKind → Option (List Part × Option (List Part)) → Shape
+members_shape kind None = no_values
+members_shape kind (Some lists) = Shape.seq kind (fields_from 0 lists.0) (added_fields_from (length lists.0) lists.1)
 
 -- CHOICE, in the same way.
-abbrev pub choice_shape : Bool → Option (List (Option Part)) → Shape
-choice_shape extensible None = no_values
-choice_shape extensible (Some ps) = Shape.choice (alternatives_from 0 (root_of ps)) (added_alternatives_from (length (root_of ps)) (implied extensible (added_of ps)))
+abbrev pub choice_shape : Option (List Part × Option (List Part)) → Shape
+choice_shape None = no_values
+choice_shape (Some lists) = Shape.choice (alternatives_from 0 lists.0) (added_alternatives_from (length lists.0) lists.1)
 
 -- The number that a word names in the type.
 abbrev pub number_in_type : Scope → Notation → List ℕ → Option ℤ
@@ -59,31 +64,68 @@ presence_of s grouped n shape Required = Some (if grouped then Presence.optional
 presence_of s grouped n shape Optional = Some Presence.optional
 presence_of s grouped n shape (Default v) = option_map (λ p. Presence.default p) (default_of s (number_in_type s n) shape v)
 
+-- The part that a component with the shape is, if its presence is understood.
+abbrev pub part_of : Scope → Bool → Token → Notation → stated.Presence → Shape → Option Part
+part_of s grouped name n presence shape = option_map (λ p. record { name = name_in s.text name; presence = p; shape = shape }) (presence_of s grouped n shape presence)
+
+-- Where components stand: in a SEQUENCE or a SET, and whether between version brackets there. In a CHOICE it doesn't matter: alternatives have no presence, and there is no COMPONENTS OF.
+pub record Place : Type 0 where
+  pub kind : SeqKind
+  pub grouped : Bool
+
+abbrev pub outside_brackets : SeqKind → Place
+outside_brackets kind = record { kind = kind; grouped = false }
+
+abbrev pub between_brackets : Place → Place
+between_brackets place = record { kind = place.kind; grouped = true }
+
+-- The components that COMPONENTS OF a name is there, behind that of its module where it is stated, if they are understood.
+abbrev pub Roots : Type 0
+Roots = Place → Option Token → Token → Option (List Part)
+
+-- Those of a type of the second kind, where it is that of the type that they stand in.
+abbrev pub of_kind : SeqKind → SeqKind → Option (List Part) → Option (List Part)
+of_kind SeqKind.sequence SeqKind.sequence ps = ps
+of_kind SeqKind.set SeqKind.set ps = ps
+of_kind outer inner ps = None
+
+-- What COMPONENTS OF is: these parts, or one that isn't understood.
+abbrev pub included : Option (List Part) → List (Option (Option Part))
+included None = Some None ∷ []
+included (Some ps) = map (λ p. Some (Some p)) ps
+
 abbrev mutual
-  -- The shape of a type.
-  pub notation_shape : Scope → Notation → Shape
-  notation_shape s (notation tags base sizes) = sized s sizes (base_shape s base)
+  -- The shape of a type, where names behind COMPONENTS OF have these root components.
+  pub notation_shape : Roots → Scope → Notation → Shape
+  notation_shape roots s (notation tags base sizes) = sized s sizes (base_shape roots s base)
 
   -- That of a type without its tags and sizes.
-  pub base_shape : Scope → Base → Shape
-  base_shape s (leaf l) = leaf_shape l
-  base_shape s (integer ns) = integer_shape
-  base_shape s (bit_string ns) = Shape.bits None
-  base_shape s (enumerated items) = enumerated_shape s items
-  base_shape s (members kind ms) = members_shape s.extensible kind (parts s false ms)
-  base_shape s (list_of kind n) = list_shape kind (notation_shape s n)
-  base_shape s (choice ms) = choice_shape s.extensible (parts s false ms)
-  base_shape s (reference home name) = s.type_named home name
+  pub base_shape : Roots → Scope → Base → Shape
+  base_shape roots s (leaf l) = leaf_shape l
+  base_shape roots s (integer ns) = integer_shape
+  base_shape roots s (bit_string ns) = Shape.bits None
+  base_shape roots s (enumerated items) = enumerated_shape s items
+  base_shape roots s (members kind ms) = members_shape kind (lists_of s.extensible (parts roots s (outside_brackets kind) ms))
+  base_shape roots s (list_of kind n) = list_shape kind (notation_shape roots s n)
+  base_shape roots s (choice ms) = choice_shape (lists_of s.extensible (parts roots s (outside_brackets SeqKind.sequence) ms))
+  base_shape roots s (reference home name) = s.type_named home name
 
-  -- The parts that entries between braces are, of which `None` is an extension marker. There is no such list where one of them isn't understood.
-  pub parts : Scope → Bool → Members → Option (List (Option Part))
-  parts s grouped no_members = Some []
-  parts s grouped (member m ms) = of_both (λ xs ys. xs ++ ys) (entry_parts s grouped m) (parts s grouped ms)
+  -- What entries between braces are: parts, of which `None` is one that isn't understood, and extension markers, which are `None` in their place.
+  pub parts : Roots → Scope → Place → Members → List (Option (Option Part))
+  parts roots s place no_members = []
+  parts roots s place (member m ms) = entry_parts roots s place m ++ parts roots s place ms
 
-  -- Those that one entry is. COMPONENTS OF isn't understood in this version.
-  pub entry_parts : Scope → Bool → Member → Option (List (Option Part))
-  entry_parts s grouped (component name n presence) =
-      option_map (λ p. Some (record { name = name_in s.text name; presence = p; shape = notation_shape s n }) ∷ []) (presence_of s grouped n (notation_shape s n) presence)
-  entry_parts s grouped (components_of n) = None
-  entry_parts s grouped (group ms) = parts s true ms
-  entry_parts s grouped marker = Some (None ∷ [])
+  pub entry_parts : Roots → Scope → Place → Member → List (Option (Option Part))
+  entry_parts roots s place (component name n presence) = Some (part_of s place.grouped name n presence (notation_shape roots s n)) ∷ []
+  entry_parts roots s place (components_of n) = included (notation_roots roots s place n)
+  entry_parts roots s place (group ms) = parts roots s (between_brackets place) ms
+  entry_parts roots s place marker = None ∷ []
+
+  -- What COMPONENTS OF a type is there: the components of its root (X.680, sections 25.4 and 25.5, 27.2), if it is a SEQUENCE in a SEQUENCE or a SET in a SET, and they are understood.
+  pub notation_roots : Roots → Scope → Place → Notation → Option (List Part)
+  notation_roots roots s place (notation tags base sizes) = base_roots roots s place base
+
+  pub base_roots : Roots → Scope → Place → Base → Option (List Part)
+  base_roots roots s place (members kind ms) = of_kind place.kind kind (all_known (root_of (parts roots s place ms)))
+  base_roots roots s place (reference home name) = roots place home name
+  base_roots roots s place base = None

@@ -5,7 +5,8 @@ use std::alloc::{AllocError, AllocFailed};
 /// States why types are not linked.
 #[derive(Clone, Copy, Debug, Drop, PartialEq, Eq)]
 pub enum LinkFault {
-    /// There are 2^32 types or more, or so many parts of one.
+    /// There are 2^32 types or more, or so many parts of one, or COMPONENTS OF includes more types
+    /// or nests them deeper than the limits.
     TooMany,
     /// Memory ran out.
     OutOfMemory,

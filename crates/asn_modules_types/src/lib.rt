@@ -3,6 +3,7 @@
 //! expansion, which is never built.
 #![tactic(auto)]
 
+mod allowance;
 mod assigned;
 mod defaults;
 mod fault;
@@ -20,6 +21,6 @@ mod words;
 
 pub use assigned::{Assigned, assigned_of};
 pub use fault::LinkFault;
-pub use limits::NAME_LIMIT;
+pub use limits::{INCLUDED_LIMIT, LEVEL_LIMIT, NAME_LIMIT};
 pub use linked::linked_types;
 pub use words::name_in;

@@ -9,9 +9,10 @@ ghost use Rattle.asn_modules_types.specs.Linked.{linked_type, linked_types, name
 ghost use Rattle.asn_modules_types.specs.Linked.{opened_type};
 ghost use Rattle.std.specs.Prelude.{◌≡◌, IfOk, length, map, true};
 
+use crate::allowance::{Allowance, Depth};
 use crate::assigned::{assigned_at, assigned_of, notation_of};
 use crate::fault::LinkFault;
-use crate::limits::NAME_LIMIT;
+use crate::limits::{INCLUDED_LIMIT, LEVEL_LIMIT, NAME_LIMIT};
 use crate::names::{Names, named_type};
 use crate::scope::Scope;
 use crate::shapes::shape_of;
@@ -21,12 +22,17 @@ use asn_modules_lookup::{Index, Sort, homes_of, index_of};
 use asn_modules_text::Source;
 use std::alloc::Global;
 
-/// Returns what the name of the type of the number stands for, opened.
+/// Returns what the name of the type of the number stands for, opened. It takes the types that it
+/// makes off those that are left.
 ///
 /// # Errors
 ///
 /// Those of `linked_types`.
-fn opened_type(names: &Names<'_, '_>, number: usize) -> Result<Shape, LinkFault>
+fn opened_type(
+    names: &Names<'_, '_>,
+    left: &mut Allowance,
+    number: usize,
+) -> Result<Shape, LinkFault>
     requires known { KnowsNames names.now }
     ensures { IfOk result (λ s. shape_view s ≡ opened_type (sources_of names.now)
         (named_type (sources_of names.now) NAME_LIMIT number)) }
@@ -39,7 +45,12 @@ fn opened_type(names: &Names<'_, '_>, number: usize) -> Result<Shape, LinkFault>
                     number: assigned.number,
                     home: assigned.home,
                 };
-                shape_of(&scope, notation_of(assigned.assignment))
+                let notation = notation_of(assigned.assignment);
+                let depth = Depth {
+                    names: NAME_LIMIT,
+                    levels: LEVEL_LIMIT,
+                };
+                shape_of(&scope, depth, left, notation)
             }
             None => Ok(no_values(names.alloc)),
         },
@@ -47,17 +58,22 @@ fn opened_type(names: &Names<'_, '_>, number: usize) -> Result<Shape, LinkFault>
     }
 }
 
-/// Returns the shape of the type of the number; it has no values where it can't be read.
+/// Returns the shape of the type of the number; it has no values where it can't be read. It takes
+/// the types that it makes off those that are left.
 ///
 /// # Errors
 ///
 /// Those of `linked_types`.
-fn linked_type(names: &Names<'_, '_>, number: usize) -> Result<Shape, LinkFault>
+fn linked_type(
+    names: &Names<'_, '_>,
+    left: &mut Allowance,
+    number: usize,
+) -> Result<Shape, LinkFault>
     requires known { KnowsNames names.now }
     ensures { IfOk result (λ s. shape_view s
         ≡ linked_type (sources_of names.now) (length names.now.types.now) number) }
 {
-    let shape = opened_type(names, number)?;
+    let shape = opened_type(names, left, number)?;
     if is_readable_within(&shape, names.types.len()) {
         Ok(shape)
     } else {
@@ -75,9 +91,13 @@ fn all_types(names: &Names<'_, '_>) -> Result<Vec<Shape>, LinkFault>
     ensures { IfOk result (λ types. map shape_view types.items
         ≡ linked_types (sources_of names.now)) }
 {
+    let mut left = Allowance {
+        types: TYPE_LIMIT,
+        included: INCLUDED_LIMIT,
+    };
     let mut linked = Vec::new(names.alloc);
     for number in 0..names.types.len() {
-        linked.push(linked_type(names, number)?)?;
+        linked.push(linked_type(names, &mut left, number)?)?;
     }
     Ok(linked)
 }
@@ -89,7 +109,8 @@ fn all_types(names: &Names<'_, '_>) -> Result<Vec<Shape>, LinkFault>
 ///
 /// # Errors
 ///
-/// `TooMany` where there are 2^32 types, or parts of one, and `OutOfMemory`.
+/// `TooMany` where there are 2^32 types, or parts of one, or COMPONENTS OF includes more types or
+/// nests them deeper than the limits, and `OutOfMemory`.
 pub fn linked_types<'t>(
     alloc: Global,
     sources: &[Source<'t>],

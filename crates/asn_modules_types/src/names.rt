@@ -2,7 +2,7 @@
 ghost use Rattle.asn_model.specs.ShapeView.{shape_view};
 ghost use Rattle.asn_modules_reader.specs.Views.{base_view};
 ghost use Rattle.asn_modules_types.specs.Known.{KnowsNames, scope_view, sources_of};
-ghost use Rattle.asn_modules_types.specs.Linked.{has_parts, named_type};
+ghost use Rattle.asn_modules_types.specs.Linked.{has_parts, named_type, no_roots};
 ghost use Rattle.asn_modules_types.specs.Types.{base_shape};
 ghost use Rattle.std.specs.Prelude.{◌≡◌, IfOk, MatchOption, false, true};
 
@@ -82,7 +82,8 @@ pub fn unit_shape(
     requires known { KnowsNames scope.now.names.now }
     ensures { IfOk result (λ o. MatchOption o (has_parts (base_view base.now) ≡ true) (λ s.
         (has_parts (base_view base.now) ≡ false)
-        × (shape_view s ≡ base_shape (scope_view more scope.now) (base_view base.now)))) }
+        × (shape_view s
+        ≡ base_shape no_roots (scope_view more scope.now) (base_view base.now)))) }
 {
     match base {
         Base::Leaf(leaf) => Ok(Some(leaf_shape(scope.names.alloc, *leaf))),

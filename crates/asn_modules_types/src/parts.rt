@@ -7,8 +7,18 @@ ghost use Rattle.std.specs.Prelude.{◌≡◌, ◌+◌, ◌∷◌, [], IfOk, OnO
 
 use crate::fault::LinkFault;
 use asn_core::{Class, Tag};
-use asn_model::{AlternativeShape, FieldShape, PresenceShape, Shape};
+use asn_model::{AlternativeShape, FieldShape, PresenceShape, SeqKind, Shape};
 use std::alloc::Global;
+
+/// States where components stand. In a CHOICE it doesn't matter: alternatives have no presence, and
+/// there is no COMPONENTS OF.
+#[derive(Clone, Copy, Drop)]
+pub struct Place {
+    /// Is the kind of the type that they stand in.
+    pub kind: SeqKind,
+    /// States whether they stand between version brackets there.
+    pub grouped: bool,
+}
 
 /// Is a component of a SEQUENCE or SET, or an alternative of a CHOICE.
 #[derive(Drop)]

@@ -2,6 +2,8 @@
 #![tactic(auto)]
 
 #[cfg(test)]
+mod included;
+#[cfg(test)]
 mod markers;
 #[cfg(test)]
 mod notations;

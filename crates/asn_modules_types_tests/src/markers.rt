@@ -27,7 +27,7 @@ fn has_marker(alloc: Global, text: &str) -> Result<bool, Fail> {
 }
 
 /// Lists texts of modules, and whether their first type has an extension marker.
-const ROWS: [(&str, bool); 6] = [
+const ROWS: [(&str, bool); 8] = [
     ("T ::= SEQUENCE { a NULL }", false),
     ("T ::= SEQUENCE { a NULL, ... }", true),
     (
@@ -43,6 +43,15 @@ const ROWS: [(&str, bool); 6] = [
         true,
     ),
     ("M DEFINITIONS ::= BEGIN T ::= ENUMERATED { a } END", false),
+    // COMPONENTS OF brings none.
+    (
+        "T ::= SET { COMPONENTS OF U } U ::= SET { a NULL, ... }",
+        false,
+    ),
+    (
+        "T ::= SET { COMPONENTS OF U, ... } U ::= SET { a NULL }",
+        true,
+    ),
 ];
 
 /// EXTENSIBILITY IMPLIED puts a marker into each list that has none.

@@ -4,7 +4,7 @@ use asn_core::Codec;
 use std::test::Fail;
 
 /// Lists texts of modules with a JSON text and the canonical text of its value by the type `T`.
-const ROWS: [(&str, &str, &str); 39] = [
+const ROWS: [(&str, &str, &str); 51] = [
     // Tags mean nothing for a text.
     (
         "T ::= [APPLICATION 5] IMPLICIT SEQUENCE { a [7] BOOLEAN }",
@@ -101,6 +101,69 @@ F ::= ENUMERATED { x, y } w F ::= y",
         "T ::= SEQUENCE { a NULL, b U OPTIONAL } U ::= SEQUENCE { c NULL DEFAULT v }",
         r#"{"a":null}"#,
         r#"{"a":null}"#,
+    ),
+    // COMPONENTS OF what is no SEQUENCE in a SEQUENCE, or no SET in a SET, is missing, or isn't
+    // understood.
+    (
+        "T ::= SEQUENCE { COMPONENTS OF U } U ::= CHOICE { a NULL }",
+        r#"{"a":null}"#,
+        "refused",
+    ),
+    (
+        "T ::= SEQUENCE { COMPONENTS OF U } U ::= SET { a NULL }",
+        r#"{"a":null}"#,
+        "refused",
+    ),
+    (
+        "T ::= SET { COMPONENTS OF SEQUENCE { a NULL } }",
+        r#"{"a":null}"#,
+        "refused",
+    ),
+    (
+        "T ::= SET { COMPONENTS OF U } U ::= SEQUENCE OF NULL",
+        "{}",
+        "refused",
+    ),
+    (
+        "M DEFINITIONS ::= BEGIN IMPORTS X FROM N; T ::= SEQUENCE { COMPONENTS OF X } END",
+        "{}",
+        "refused",
+    ),
+    (
+        "T ::= SEQUENCE { COMPONENTS OF U } U ::= SEQUENCE { a NULL DEFAULT v }",
+        "{}",
+        "refused",
+    ),
+    // An extension addition that isn't understood isn't included.
+    (
+        "T ::= SEQUENCE { COMPONENTS OF U } U ::= SEQUENCE { a NULL, ..., b NULL DEFAULT v }",
+        r#"{"a":null}"#,
+        r#"{"a":null}"#,
+    ),
+    // Neither is any other one: a member of its name has no meaning.
+    (
+        "T ::= SEQUENCE { COMPONENTS OF U } U ::= SEQUENCE { a NULL, ..., b NULL }",
+        r#"{"a":null,"b":null}"#,
+        r#"{"a":null}"#,
+    ),
+    // Names that stand for each other, and types that include each other.
+    (
+        "T ::= SEQUENCE { COMPONENTS OF U } U ::= V V ::= U",
+        "{}",
+        "refused",
+    ),
+    ("T ::= SEQUENCE { COMPONENTS OF T }", "{}", "refused"),
+    (
+        "T ::= SEQUENCE { a SEQUENCE { COMPONENTS OF U } OPTIONAL, b NULL } \
+U ::= SEQUENCE { COMPONENTS OF V } V ::= SEQUENCE { COMPONENTS OF U }",
+        r#"{"b":null}"#,
+        r#"{"b":null}"#,
+    ),
+    // A name twice.
+    (
+        "T ::= SEQUENCE { a NULL, COMPONENTS OF U } U ::= SEQUENCE { a NULL }",
+        r#"{"a":null}"#,
+        "refused",
     ),
     // Between version brackets each component may be absent.
     (

@@ -3,7 +3,7 @@ use Rattle.std.proofs.lemmas.Result.{IfOk-weaker}
 use Rattle.asn_model.specs.Shape.{Shape}
 use Rattle.asn_model.specs.ShapeView.{shape_view}
 use Rattle.asn_modules_types.specs.Known.{assigned_view, sources_of}
-use Rattle.asn_modules_types.specs.Linked.{named_type, scope_of}
+use Rattle.asn_modules_types.specs.Linked.{named_type, roots_of, scope_of}
 use Rattle.asn_modules_types.specs.Types.{notation_shape}
 use Rattle.asn_modules_types.specs.declared.limits.TheConstants.{NAME_LIMIT}
 use Rattle.asn_modules_types.proofs.Following.{opened_number}
@@ -16,8 +16,8 @@ returns-in-Some c =
     let a = assigned_view c.in-Some.assigned in
     let named : named_type ss NAME_LIMIT c.args.number ≡ Shape.back c.in-Back.place = sym c.in_ok-shape.ensures ∙ ap shape_view c.in-Back.is ∙ back_viewed c.in-Back.place in
     IfOk-weaker c.shape_of.result _ _
-    (λ s e. e ∙ ap (notation_shape (scope_of ss NAME_LIMIT a.number a.home)) c.notation_of.ensures
-    ∙ sym (opened_number ss (named_type ss NAME_LIMIT c.args.number) c.in-Back.place (map assigned_view c.args.names.now.types.now) (Some a) named c.requires.known.types c.in-Some.ensures.there)) c.shape_of.ensures
+    (λ s e. e ∙ ap (notation_shape (roots_of ss NAME_LIMIT a.number a.home) (scope_of ss NAME_LIMIT a.number a.home)) c.notation_of.ensures
+    ∙ sym (opened_number ss (named_type ss NAME_LIMIT c.args.number) c.in-Back.place (map assigned_view c.args.names.now.types.now) (Some a) named c.requires.known.types c.in-Some.ensures.there)) c.shape_of.ensures.shape
 
 pub returns-in-None : goal.returns-in-None
 returns-in-None c =

@@ -2,7 +2,7 @@ use Rattle.std.proofs.Common.{◌≡◌, ◌+◌, ◌-◌, ◌∙◌, None, ap, 
 use Rattle.asn_model.specs.ShapeView.{shape_view}
 use Rattle.asn_modules_notation.specs.View.{notation_view}
 use Rattle.asn_modules_types.specs.Known.{assigned_view, sources_of}
-use Rattle.asn_modules_types.specs.Linked.{base_of, has_parts, scope_of}
+use Rattle.asn_modules_types.specs.Linked.{base_of, has_parts, no_roots, scope_of}
 use Rattle.asn_modules_types.specs.Sizes.{sized}
 use Rattle.asn_modules_types.proofs.Following.{follows, follows_none, follows_parts, follows_unit}
 use Rattle.asn_modules_types.proofs.Seen.{back_viewed, notation_made, notation_out}
@@ -20,7 +20,7 @@ named_type-returns-in-Some-2 t c =
     let s = scope_of ss less a.number a.home in
     let n = c.notation_of-notation.result.now in
     let unit = rw c.in-Some-2.is at c.in_ok-shape-in-Some.ensures in
-    notation_made s n (shape_view c.in-Some-2.shape) (shape_view c.sized.result) unit.1 (c.sized.ensures less ∙ ap (λ l. sized s l (shape_view c.in-Some-2.shape)) c.as_slice.ensures.value)
+    notation_made no_roots s n (shape_view c.in-Some-2.shape) (shape_view c.sized.result) unit.1 (c.sized.ensures less ∙ ap (λ l. sized s l (shape_view c.in-Some-2.shape)) c.as_slice.ensures.value)
     ∙ follows_unit ss c.args.more less c.args.number above (map assigned_view c.args.names.now.types.now) c.requires.known.types a c.in-Some.ensures.there (notation_view n) (sym c.notation_of-notation.ensures)
     (ap (λ x. has_parts (base_of x)) (notation_out n) ∙ unit.0)
 

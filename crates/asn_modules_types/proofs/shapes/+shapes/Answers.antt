@@ -1,68 +1,197 @@
-use Rattle.std.proofs.Common.{◌∙◌, [], None, Some, ap, false, if◌then◌else◌, map, sym}
-use Rattle.std.proofs.lemmas.List.{map-append}
+use Rattle.std.proofs.Common.{◌≡◌, ◌≤◌, ◌+◌, ◌-◌, ◌∙◌, ◌∷◌, [], List, None, Option, Some, ap, arith, false, map, option_map, string_bytes, sym, true}
 use Rattle.std.proofs.lemmas.Result.{IfOk-weaker}
-use Rattle.asn_modules_notation.specs.Notation.{members_of}
-use Rattle.asn_modules_reader.specs.Views.{member_view}
-use Rattle.asn_modules_types.specs.Known.{part_view, scope_view, unmarked_view}
-use Rattle.asn_modules_types.specs.Types.{parts}
+use Rattle.asn_model.specs.ShapeView.{kind_view, presence_view, shape_view}
+use Rattle.asn_modules_notation.specs.View.{component_view, notation_view}
+use Rattle.asn_modules_notation.specs.declared.notation.Notation.{out-Notation}
+use Rattle.asn_modules_reader.proofs.Viewing.{components_of_viewed, group_viewed, named_viewed, one_viewed, reference_viewed, sequence_viewed, set_viewed}
+use Rattle.asn_modules_reader.specs.Views.{base_view, member_view}
+use Rattle.asn_modules_types.specs.Known.{assigned_view, known_parts, parts_view, part_view, place_view, roots_view, scope_view, sources_of}
+use Rattle.asn_modules_types.specs.Linked.{roots_of, scope_of}
+use Rattle.asn_modules_types.specs.Sizes.{sized}
+use Rattle.asn_modules_types.specs.Types.{Part, between_brackets, notation_roots, outside_brackets}
 use Rattle.asn_modules_types.specs.declared.limits.TheConstants.{NAME_LIMIT}
-use Rattle.asn_modules_types.proofs.Separated.{additions_fail, closed_made, extended_made, no_tail_made, root_fails, tail_fails, tail_made}
-use Rattle.asn_modules_types.proofs.Tagged.{parts_added}
+use Rattle.asn_modules_types.proofs.Following.{follows_roots, roots_none}
+use Rattle.asn_modules_types.proofs.Seen.{included_known, notation_made, part_made, part_missed, roots_made}
+use Rattle.asn_modules_types.proofs.Separated.{component_unmarked, group_known, lists_addless, lists_closed, lists_extended, lists_implied, lists_rootless, member_unmarked, parts_end, parts_missed, parts_more, root_frontless, root_made, root_tailless}
 use Rattle.asn_modules_types.proofs.shapes.+shapes.Goals as goal
-use Rattle.asn_modules_types.proofs.shapes.+shapes.Goals.{lists_behind-in-Some-tail+in_ok-more+in-Some-2+in_ok-append, lists_behind-in_default-tail, lists_of-then-is_extensible, lists_of-else-is_extensible}
+use Rattle.asn_modules_types.proofs.shapes.+shapes.Goals.{lists_of-in-Some-extension+in_ok-added-in-Some-extension+in-Some-2, lists_of-in-None+then-is_extensible, lists_of-in-None+else-is_extensible}
 
-pub lists_behind-returns-in_default : goal.lists_behind-returns-in_default
-lists_behind-returns-in_default t c =
+pub shape_of-returns-clause-shape : goal.shape_of-returns-clause-shape
+shape_of-returns-clause-shape t c =
     let s = scope_view NAME_LIMIT c.args.scope.now in
-    additions_fail s (map part_view c.args.root.items) c.args.extension.now
-    (ap (λ l. parts s false (members_of (map member_view l))) (sym c.as_slice.ensures.value) ∙ sym c.in_ok-added.ensures ∙ ap unmarked_view c.in_default.is)
+    let inner = shape_view c.in_ok-shape.shape in
+    notation_made (roots_view c.args.depth.names c.args.scope.now) s c.args.notation.now inner (shape_view c.sized.result) c.in_ok-shape.ensures.shape
+    (c.sized.ensures NAME_LIMIT ∙ ap (λ l. sized s l inner) c.as_slice.ensures.value)
 
-pub lists_behind-returns-in_default-2 : goal.lists_behind-returns-in_default-2
-lists_behind-returns-in_default-2 t c =
+pub lists_of-returns-in_default-clause-lists : goal.lists_of-returns-in_default-clause-lists
+lists_of-returns-in_default-clause-lists t c =
     let s = scope_view NAME_LIMIT c.args.scope.now in
-    tail_fails s (map part_view c.args.root.items) c.args.extension.now c.in-Some-tail.tail _ c.in-Some-tail.is
-    (ap (λ l. parts s false (members_of (map member_view l))) (sym c.as_slice.ensures.value) ∙ sym c.in_ok-added.ensures ∙ ap unmarked_view c.in-Some.is)
-    (ap (λ l. parts s false (members_of (map member_view l))) (sym c.as_slice-in-Some-tail.ensures.value) ∙ sym c.in_ok-more.ensures ∙ ap unmarked_view c.in_default-2.is)
+    lists_rootless (roots_view c.args.depth.names c.args.scope.now) s (outside_brackets (kind_view c.args.kind)) s.extensible c.args.members.now (sym (ap (option_map parts_view) c.in_default.is) ∙ c.in_ok-root.ensures.root)
 
-pub lists_behind-returns : goal.lists_behind-returns
-lists_behind-returns t c =
+pub lists_of-returns-in_default-2-clause-lists : goal.lists_of-returns-in_default-2-clause-lists
+lists_of-returns-in_default-2-clause-lists t c =
     let s = scope_view NAME_LIMIT c.args.scope.now in
-    let root = map part_view c.args.root.items in
-    let behind = Some (map part_view c.in-Some.added.items) in
-    let added = ap (λ l. parts s false (members_of (map member_view l))) (sym c.as_slice.ensures.value) ∙ sym c.in_ok-added.ensures ∙ ap unmarked_view c.in-Some.is in
-    elim c.match-extension.branch [
-      | lists_behind-in-Some-tail+in_ok-more+in-Some-2+in_ok-append w ↦
-          ap (λ v. Some (map part_view v.items, behind)) w.root-is ∙ ap (λ l. Some (map part_view l, behind)) w.in_ok-append.ensures.items
-          ∙ ap (λ l. Some (l, behind)) (map-append part_view c.args.root.items w.in-Some-2.more.items)
-          ∙ sym (tail_made s root c.args.extension.now w.in-Some-tail.tail c.in-Some.added.items w.in-Some-2.more.items w.in-Some-tail.is added
-          (ap (λ l. parts s false (members_of (map member_view l))) (sym w.as_slice-in-Some-tail.ensures.value) ∙ sym w.in_ok-more.ensures ∙ ap unmarked_view w.in-Some-2.is))
-      | lists_behind-in_default-tail w ↦
-          ap (λ v. Some (map part_view v.items, behind)) w.root-is ∙ sym (no_tail_made s root c.args.extension.now c.in-Some.added.items w.in_default-tail.is added)
+    let roots = roots_view c.args.depth.names c.args.scope.now in
+    lists_addless roots s (outside_brackets (kind_view c.args.kind)) s.extensible c.args.members.now c.in-Some-extension.extension (parts_view c.in-Some.root) c.in-Some-extension.is (sym (ap (option_map parts_view) c.in-Some.is) ∙ c.in_ok-root.ensures.root)
+    (sym (ap (option_map parts_view) c.in_default-2.is) ∙ c.in_ok-added-in-Some-extension.ensures.parts ∙ ap (λ l. known_parts roots s (outside_brackets (kind_view c.args.kind)) (map member_view l)) c.as_slice-additions.ensures.value)
+
+pub lists_of-returns-clause-lists : goal.lists_of-returns-clause-lists
+lists_of-returns-clause-lists t c =
+    let s = scope_view NAME_LIMIT c.args.scope.now in
+    let roots = roots_view c.args.depth.names c.args.scope.now in
+    let root = parts_view c.in-Some.root in
+    let known = sym (ap (option_map parts_view) c.in-Some.is) ∙ c.in_ok-root.ensures.root in
+    elim c.match-members.branch [
+      | lists_of-in-Some-extension+in_ok-added-in-Some-extension+in-Some-2 w ↦
+          ap (λ o. Some (root, option_map parts_view o)) w.added-is
+          ∙ sym (lists_extended roots s (outside_brackets (kind_view c.args.kind)) s.extensible c.args.members.now w.in-Some-extension.extension root (parts_view w.in-Some-2.added) w.in-Some-extension.is known
+          (sym (ap (option_map parts_view) w.in-Some-2.is) ∙ w.in_ok-added-in-Some-extension.ensures.parts ∙ ap (λ l. known_parts roots s (outside_brackets (kind_view c.args.kind)) (map member_view l)) w.as_slice-additions.ensures.value))
+      | lists_of-in-None+then-is_extensible w ↦
+          ap (λ o. Some (root, option_map parts_view o)) w.added-is ∙ ap (λ l. Some (root, Some (map part_view l))) w.new.ensures.items
+          ∙ sym (lists_implied roots s (outside_brackets (kind_view c.args.kind)) s.extensible c.args.members.now root w.in-None.is known (sym w.is_extensible.ensures ∙ w.if-is_extensible.true))
+      | lists_of-in-None+else-is_extensible w ↦
+          ap (λ o. Some (root, option_map parts_view o)) w.added-is
+          ∙ sym (lists_closed roots s (outside_brackets (kind_view c.args.kind)) s.extensible c.args.members.now root w.in-None.is known (sym w.is_extensible.ensures ∙ w.if-is_extensible.false))
     ]
 
-pub lists_of-returns-in_default : goal.lists_of-returns-in_default
-lists_of-returns-in_default t c =
+pub root_of-returns-in_default-clause-root : goal.root_of-returns-in_default-clause-root
+root_of-returns-in_default-clause-root t c =
     let s = scope_view NAME_LIMIT c.args.scope.now in
-    root_fails s s.extensible c.args.members.now
-    (ap (λ l. parts s false (members_of (map member_view l))) (sym c.as_slice.ensures.value) ∙ sym c.in_ok-root.ensures ∙ ap unmarked_view c.in_default.is)
+    let roots = roots_view c.args.depth.names c.args.scope.now in
+    root_frontless roots s (place_view c.args.place) c.args.members.now
+    (sym (ap (option_map parts_view) c.in_default.is) ∙ c.in_ok-root.ensures.parts ∙ ap (λ l. known_parts roots s (place_view c.args.place) (map member_view l)) c.as_slice.ensures.value)
 
-pub lists_of-returns-in-Some-extension : goal.lists_of-returns-in-Some-extension
-lists_of-returns-in-Some-extension t c =
+pub root_of-returns-in_default-2-clause-root : goal.root_of-returns-in_default-2-clause-root
+root_of-returns-in_default-2-clause-root t c =
     let s = scope_view NAME_LIMIT c.args.scope.now in
-    IfOk-weaker c.lists_behind.result _ _
-    (λ o e. e ∙ extended_made s s.extensible c.args.members.now c.in-Some-extension.extension c.in-Some.root.items c.in-Some-extension.is
-    (ap (λ l. parts s false (members_of (map member_view l))) (sym c.as_slice.ensures.value) ∙ sym c.in_ok-root.ensures ∙ ap unmarked_view c.in-Some.is)) c.lists_behind.ensures
+    let roots = roots_view c.args.depth.names c.args.scope.now in
+    root_tailless roots s (place_view c.args.place) c.args.members.now (parts_view c.in-Some.root)
+    (sym (ap (option_map parts_view) c.in-Some.is) ∙ c.in_ok-root.ensures.parts ∙ ap (λ l. known_parts roots s (place_view c.args.place) (map member_view l)) c.as_slice.ensures.value)
+    (sym (ap (option_map parts_view) c.in_default-2.is) ∙ c.in_ok-behind.ensures.parts ∙ ap (λ l. known_parts roots s (place_view c.args.place) (map member_view l)) c.tail_of-tail.ensures)
 
-pub lists_of-returns-after-is_extensible : goal.lists_of-returns-after-is_extensible
-lists_of-returns-after-is_extensible t c =
+pub root_of-returns-clause-root : goal.root_of-returns-clause-root
+root_of-returns-clause-root t c =
     let s = scope_view NAME_LIMIT c.args.scope.now in
-    let root = map part_view c.in-Some.root.items in
-    let closed = closed_made s s.extensible c.args.members.now c.in-Some.root.items c.in-None.is
-    (ap (λ l. parts s false (members_of (map member_view l))) (sym c.as_slice.ensures.value) ∙ sym c.in_ok-root.ensures ∙ ap unmarked_view c.in-Some.is) in
-    elim c.if-is_extensible.branch [
-      | lists_of-then-is_extensible w ↦
-          ap (λ o. Some (root, parts_added o)) w.added-is ∙ ap (λ l. Some (root, Some (map part_view l))) w.new.ensures.items
-          ∙ sym (closed ∙ ap (λ b. Some (root, if b then Some [] else None)) (sym c.is_extensible.ensures ∙ w.if-is_extensible.true))
-      | lists_of-else-is_extensible w ↦
-          ap (λ o. Some (root, parts_added o)) w.added-is ∙ sym (closed ∙ ap (λ b. Some (root, if b then Some [] else None)) (sym c.is_extensible.ensures ∙ w.if-is_extensible.false))
-    ]
+    let roots = roots_view c.args.depth.names c.args.scope.now in
+    root_made roots s (place_view c.args.place) c.args.members.now c.in-Some.root.items c.in-Some-2.behind.items c.append.new.self.items
+    (sym (ap (option_map parts_view) c.in-Some.is) ∙ c.in_ok-root.ensures.parts ∙ ap (λ l. known_parts roots s (place_view c.args.place) (map member_view l)) c.as_slice.ensures.value)
+    (sym (ap (option_map parts_view) c.in-Some-2.is) ∙ c.in_ok-behind.ensures.parts ∙ ap (λ l. known_parts roots s (place_view c.args.place) (map member_view l)) c.tail_of-tail.ensures)
+    c.in_ok-append.ensures.items
+
+pub parts_of-loop-entry-preserved : goal.parts_of-loop-entry-preserved
+parts_of-loop-entry-preserved t c =
+    let s = scope_view NAME_LIMIT c.args.scope.now in
+    let roots = roots_view c.args.depth.names c.args.scope.now in
+    record {
+      known =
+          parts_more roots s (place_view c.args.place) member_view (member_unmarked roots s (place_view c.args.place)) (known_parts roots s (place_view c.args.place) (map member_view c.args.entries.now)) c.loop-entry.found.items c.in-Some.parts.items _ c.args.entries.now c.loop-entry.entry-index c.entry-item.result
+          c.loop-entry-test.true c.entry-item.is c.loop-entry.invariant.known (sym (ap (option_map parts_view) c.in-Some.is) ∙ c.in_ok-parts.ensures.parts) c.in_ok-append-in-Some.ensures.items;
+      fewer = omega (arith, c.loop-entry.invariant.fewer, c.in_ok-parts.ensures.fewer);
+    }
+
+pub parts_of-returns-in-None-clause-parts : goal.parts_of-returns-in-None-clause-parts
+parts_of-returns-in-None-clause-parts t c =
+    let s = scope_view NAME_LIMIT c.args.scope.now in
+    let roots = roots_view c.args.depth.names c.args.scope.now in
+    parts_missed roots s (place_view c.args.place) member_view (member_unmarked roots s (place_view c.args.place)) (known_parts roots s (place_view c.args.place) (map member_view c.args.entries.now)) c.loop-entry.found.items c.args.entries.now c.loop-entry.entry-index c.entry-item.result
+    c.loop-entry-test.true c.entry-item.is c.loop-entry.invariant.known (sym (ap (option_map parts_view) c.in-None.is) ∙ c.in_ok-parts.ensures.parts)
+
+pub parts_of-returns-clause-parts : goal.parts_of-returns-clause-parts
+parts_of-returns-clause-parts t c =
+    let s = scope_view NAME_LIMIT c.args.scope.now in
+    let roots = roots_view c.args.depth.names c.args.scope.now in
+    parts_end roots s (place_view c.args.place) member_view (member_unmarked roots s (place_view c.args.place)) (known_parts roots s (place_view c.args.place) (map member_view c.args.entries.now)) c.loop-entry.found.items c.args.entries.now c.loop-entry.entry-index
+    (omega (arith, c.loop-entry-test.false)) c.loop-entry.invariant.known
+
+pub parts_of_entry-returns-in-One-clause-parts : goal.parts_of_entry-returns-in-One-clause-parts
+parts_of_entry-returns-in-One-clause-parts t c =
+    let s = scope_view NAME_LIMIT c.args.scope.now in
+    let roots = roots_view c.args.depth.names c.args.scope.now in
+    let seen = ap member_view c.in-One.is ∙ one_viewed c.in-One.component in
+    IfOk-weaker c.part_of.result _ _ (λ o e. e ∙ ap (λ m. known_parts roots s (place_view c.args.place) (m ∷ [])) (sym seen)) c.part_of.ensures.parts
+
+pub parts_of_entry-returns-in-Group-clause-parts : goal.parts_of_entry-returns-in-Group-clause-parts
+parts_of_entry-returns-in-Group-clause-parts t c =
+    let s = scope_view NAME_LIMIT c.args.scope.now in
+    let roots = roots_view c.args.depth.names c.args.scope.now in
+    let seen = ap member_view c.in-Group.is ∙ group_viewed c.in-Group.components in
+    IfOk-weaker c.group_of.result _ _
+    (λ o e. e ∙ ap (λ l. known_parts roots s (between_brackets (place_view c.args.place)) (map component_view l)) c.as_slice.ensures.value ∙ group_known roots s (place_view c.args.place) c.in-Group.components.items
+    ∙ ap (λ m. known_parts roots s (place_view c.args.place) (m ∷ [])) (sym seen)) c.group_of.ensures.parts
+
+pub group_of-loop-component-preserved : goal.group_of-loop-component-preserved
+group_of-loop-component-preserved t c =
+    let s = scope_view NAME_LIMIT c.args.scope.now in
+    let roots = roots_view c.args.depth.names c.args.scope.now in
+    record {
+      known =
+          parts_more roots s (place_view c.args.place) component_view (component_unmarked roots s (place_view c.args.place)) (known_parts roots s (place_view c.args.place) (map component_view c.args.components.now)) c.loop-component.found.items c.in-Some.parts.items _ c.args.components.now c.loop-component.component-index c.component-item.result
+          c.loop-component-test.true c.component-item.is c.loop-component.invariant.known (sym (ap (option_map parts_view) c.in-Some.is) ∙ c.in_ok-parts.ensures.parts) c.in_ok-append-in-Some.ensures.items;
+      fewer = omega (arith, c.loop-component.invariant.fewer, c.in_ok-parts.ensures.fewer);
+    }
+
+pub group_of-returns-in-None-clause-parts : goal.group_of-returns-in-None-clause-parts
+group_of-returns-in-None-clause-parts t c =
+    let s = scope_view NAME_LIMIT c.args.scope.now in
+    let roots = roots_view c.args.depth.names c.args.scope.now in
+    parts_missed roots s (place_view c.args.place) component_view (component_unmarked roots s (place_view c.args.place)) (known_parts roots s (place_view c.args.place) (map component_view c.args.components.now)) c.loop-component.found.items c.args.components.now c.loop-component.component-index c.component-item.result
+    c.loop-component-test.true c.component-item.is c.loop-component.invariant.known (sym (ap (option_map parts_view) c.in-None.is) ∙ c.in_ok-parts.ensures.parts)
+
+pub group_of-returns-clause-parts : goal.group_of-returns-clause-parts
+group_of-returns-clause-parts t c =
+    let s = scope_view NAME_LIMIT c.args.scope.now in
+    let roots = roots_view c.args.depth.names c.args.scope.now in
+    parts_end roots s (place_view c.args.place) component_view (component_unmarked roots s (place_view c.args.place)) (known_parts roots s (place_view c.args.place) (map component_view c.args.components.now)) c.loop-component.found.items c.args.components.now c.loop-component.component-index
+    (omega (arith, c.loop-component-test.false)) c.loop-component.invariant.known
+
+pub part_of-returns-in_default-clause-parts : goal.part_of-returns-in_default-clause-parts
+part_of-returns-in_default-clause-parts t c =
+    let s = scope_view NAME_LIMIT c.args.scope.now in
+    let roots = roots_view c.args.depth.names c.args.scope.now in
+    let n = c.in-Named in
+    part_missed roots s (place_view c.args.place) n.name (notation_view n.notation) n.presence (shape_view c.in_ok-shape-in-Named.shape) c.in_ok-shape-in-Named.ensures.shape
+    (sym (ap (option_map presence_view) c.in_default.is) ∙ c.in_ok-presence-in-Named.ensures)
+    ∙ ap (λ m. known_parts roots s (place_view c.args.place) (m ∷ [])) (sym (ap component_view n.is ∙ named_viewed n.name n.notation n.presence))
+
+pub part_of-returns-in_ok-vec-in-Named-clause-parts : goal.part_of-returns-in_ok-vec-in-Named-clause-parts
+part_of-returns-in_ok-vec-in-Named-clause-parts t c =
+    let s = scope_view NAME_LIMIT c.args.scope.now in
+    let roots = roots_view c.args.depth.names c.args.scope.now in
+    let n = c.in-Named in
+    ap (λ l. Some (map part_view l)) c.in_ok-vec-in-Named.ensures.items
+    ∙ part_made roots s (place_view c.args.place) n.name (notation_view n.notation) n.presence (shape_view c.in_ok-shape-in-Named.shape) c.in_ok-shape-in-Named.ensures.shape (string_bytes c.in_ok-name-in-Named.name) (presence_view c.in-Some.presence)
+    (sym (ap (option_map presence_view) c.in-Some.is) ∙ c.in_ok-presence-in-Named.ensures) c.in_ok-name-in-Named.ensures
+    ∙ ap (λ m. known_parts roots s (place_view c.args.place) (m ∷ [])) (sym (ap component_view n.is ∙ named_viewed n.name n.notation n.presence))
+
+pub part_of-returns-in-ComponentsOf-clause-parts : goal.part_of-returns-in-ComponentsOf-clause-parts
+part_of-returns-in-ComponentsOf-clause-parts t c =
+    let s = scope_view NAME_LIMIT c.args.scope.now in
+    let roots = roots_view c.args.depth.names c.args.scope.now in
+    let n = c.in-ComponentsOf in
+    IfOk-weaker c.roots_of.result _ _
+    (λ o e. e ∙ included_known roots s (place_view c.args.place) (notation_view n.notation)
+    ∙ ap (λ m. known_parts roots s (place_view c.args.place) (m ∷ [])) (sym (ap component_view n.is ∙ components_of_viewed n.notation))) c.roots_of.ensures.roots
+
+pub roots_of-returns-clause-roots : goal.roots_of-returns-clause-roots
+roots_of-returns-clause-roots t c =
+    IfOk-weaker c.base_roots_of.result _ _
+    (λ o e. roots_made (roots_view c.args.depth.names c.args.scope.now) (scope_view NAME_LIMIT c.args.scope.now) (place_view c.args.place) c.args.notation.now (option_map parts_view o) e) c.base_roots_of.ensures.roots
+
+pub type_roots-returns-then-depth-eq0-clause-roots : goal.type_roots-returns-then-depth-eq0-clause-roots
+type_roots-returns-then-depth-eq0-clause-roots t c = sym (roots_none (sources_of c.args.names.now) c.args.depth.names c.args.number (place_view c.args.place) c.if-depth-eq0.true)
+
+pub type_roots-returns-in-Some-clause-roots : goal.type_roots-returns-in-Some-clause-roots
+type_roots-returns-in-Some-clause-roots t c =
+    let ss = sources_of c.args.names.now in
+    let less = c.args.depth.names - 1 in
+    let above : c.args.depth.names ≡ less + 1 = omega (arith, c.if-depth-eq0.false) in
+    let a = assigned_view c.in-Some.assigned in
+    IfOk-weaker c.roots_of.result _ _
+    (λ o e. e ∙ ap (notation_roots (roots_of ss less a.number a.home) (scope_of ss NAME_LIMIT a.number a.home) (place_view c.args.place)) c.notation_of-notation.ensures
+    ∙ follows_roots ss c.args.depth.names less c.args.number above (map assigned_view c.args.names.now.types.now) c.requires.known.types (place_view c.args.place) (Some a) c.in-Some.ensures.there) c.roots_of.ensures.roots
+
+pub type_roots-returns-in-None-clause-roots : goal.type_roots-returns-in-None-clause-roots
+type_roots-returns-in-None-clause-roots t c =
+    let less = c.args.depth.names - 1 in
+    let above : c.args.depth.names ≡ less + 1 = omega (arith, c.if-depth-eq0.false) in
+    follows_roots (sources_of c.args.names.now) c.args.depth.names less c.args.number above (map assigned_view c.args.names.now.types.now) c.requires.known.types (place_view c.args.place) None c.in-None.ensures.there

@@ -16,7 +16,7 @@ returns-in-Some c =
     let a = assigned_view c.in-Some.assigned in
     let named : named_type ss NAME_LIMIT c.args.number ≡ Shape.back c.in-Back.place = sym c.in_ok-shape.ensures ∙ ap shape_view c.in-Back.is ∙ back_viewed c.in-Back.place in
     IfOk-weaker c.shape_of.result _ _
-    (λ s e. e ∙ ap (notation_shape (roots_of ss NAME_LIMIT a.number a.home) (scope_of ss NAME_LIMIT a.number a.home)) c.notation_of.ensures
+    (λ s e. e ∙ ap (notation_shape (roots_of ss NAME_LIMIT a.number a.home) (scope_of ss NAME_LIMIT a.number a.home)) c.notation_of-notation.ensures
     ∙ sym (opened_number ss (named_type ss NAME_LIMIT c.args.number) c.in-Back.place (map assigned_view c.args.names.now.types.now) (Some a) named c.requires.known.types c.in-Some.ensures.there)) c.shape_of.ensures.shape
 
 pub returns-in-None : goal.returns-in-None

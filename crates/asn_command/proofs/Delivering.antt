@@ -1,5 +1,5 @@
 -- What a status says of a whole file, from the reply that is delivered.
-use Rattle.std.proofs.Common.{◌≡◌, ◌⊎◌, ℕ, List, [], ◌++◌, Option, Some, None, Result, Ok, Err, IfOk, IsUtf8, string_bytes, refl, sym, ap, subst, ◌∙◌, append-nil, inl, inr}
+use Rattle.std.proofs.Common.{◌≡◌, ◌⊎◌, ℕ, List, ◌++◌, Option, Some, None, Result, Ok, Err, IfOk, IsUtf8, string_bytes, refl, sym, ap, subst, ◌∙◌, append-nil, inl, inr}
 use Rattle.std.specs.Io.KnownBytes.{Appends, Consumes, IsAtEnd}
 use Rattle.asn_command.specs.Whole.{IsKnown, IsTold, IsWholeRefusal, IsWholeReply, Wrote, WroteFront, fault_line, length_line, no_text_line}
 use Rattle.asn_replies.specs.Delivered.{Delivered, IsSilent, Outcome}
@@ -11,7 +11,7 @@ use Rattle.asn_replies.specs.declared.reply.Reply.TheVariants.{Answer, Refusal}
 use Rattle.asn_replies.specs.declared.status.Status.{Status}
 use Rattle.asn_replies.specs.declared.status.Status.TheVariants.{Done, Refused, BadCommand, ReadFault, WriteFault, WantOfMemory, TooLong, NotText}
 use Rattle.asn_streams.specs.Faults.{Increased}
-use Rattle.asn_streams.specs.Input.{IsWholeInput, ReadPastLimit, ReadWhole}
+use Rattle.asn_streams.specs.Input.{ReadPastLimit, ReadWhole}
 use Rattle.asn_streams.specs.Transfer.{Transfer}
 
 -- What was read to its end is all that was known.

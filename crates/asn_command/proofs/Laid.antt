@@ -1,8 +1,7 @@
 -- Texts on one line, byte by byte.
-use Rattle.std.proofs.Common.{◌≡◌, ◌≢◌, ◌<◌, ◌≤◌, ◌+◌, ◌++◌, ℕ, List, [], ◌∷◌, length, drop, get_or, Bool, true, false, nat_eq, ◌==◌, if◌then◌else◌, Option, Some, None, option_map, refl, sym, ap, subst, ◌∙◌, append_assoc, append-nil, eqb→eq}
+use Rattle.std.proofs.Common.{◌≡◌, ◌≢◌, ◌<◌, ◌≤◌, ◌+◌, ◌++◌, ℕ, List, [], ◌∷◌, length, drop, get_or, Bool, true, false, ◌==◌, if◌then◌else◌, Option, Some, None, option_map, refl, sym, ap, ◌∙◌, append_assoc, append-nil}
 use Rattle.std.proofs.lemmas.List.{drop_all, drop_more}
 use Rattle.asn_command.specs.OneLine.{behind, joined, laid, step_of}
-use Rattle.asn_command.specs.declared.one_line.Step.{Step}
 use Rattle.asn_command.specs.declared.one_line.Step.TheVariants.{Stop, Skip, Put}
 use Rattle.asn_command.specs.declared.one_line.Within.{Within}
 use Rattle.asn_command.specs.declared.one_line.Within.TheVariants.{Line, Indentation, Text}

@@ -38,6 +38,10 @@ module _ (f : names.TypeName → spec.Shape → List ℕ) where
           let short : length ss ≤ i = omega (arith, h, leb-false (length ns) i e) in
           ap (λ l. for_each f (map type_name_view (drop i ns)) (map shape_view l)) (drop_all i ss short) ∙ none_behind (map type_name_view (drop i ns))
 
+  -- There all texts are made.
+  pub texts_all : (all now : List ℕ) (ns : List TypeName) (ss : List Shape) (i : ℕ) → min (length ns) (length ss) ≤ i → all ≡ now ++ texts_from ns ss i → now ≡ all
+  texts_all all now ns ss i h e = sym (e ∙ ap (λ x. now ++ x) (texts_end ns ss i h) ∙ append-nil now)
+
   -- One more text.
   pub texts_more : (all now line after : List ℕ) (ns : List TypeName) (ss : List Shape) (i : ℕ) (n : TypeName) (s : Shape) → i < length ns → i < length ss → n ≡ get_or ns i n → s ≡ get_or ss i s
       → all ≡ now ++ texts_from ns ss i → line ≡ f (type_name_view n) (shape_view s) → after ≡ now ++ line → all ≡ after ++ texts_from ns ss (i + 1)

@@ -1,5 +1,5 @@
 -- Lines on the types of modules.
-use Rattle.std.specs.Prelude.{ℕ, ◌==◌, List, [], ◌∷◌, ◌++◌, codes, decimal, length, map, Bool, true, false, if◌then◌else◌}
+use Rattle.std.specs.Prelude.{ℕ, ◌==◌, List, [], ◌∷◌, ◌++◌, codes, decimal, length, map, if◌then◌else◌}
 use Rattle.std.specs.List.{flat_map}
 use Rattle.asn_model.specs.Shape.{Shape}
 use Rattle.asn_modules.specs.Empty.{is_without_values}

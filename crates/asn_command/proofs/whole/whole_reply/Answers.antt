@@ -1,4 +1,4 @@
-use Rattle.std.proofs.Common.{[], Err, IsUtf8, ap, ◌∙◌}
+use Rattle.std.proofs.Common.{[], Err, ap, ◌∙◌}
 use Rattle.std.proofs.lemmas.Result.{IfOk-weaker}
 use Rattle.asn_command.specs.Conversions.{IsAnswer, IsConversion, IsRefusal, file_origin}
 use Rattle.asn_command.specs.Whole.{IsWholeReply}

@@ -2,7 +2,7 @@
 use Rattle.std.specs.Prelude.{◌≡◌, ℕ, List, Bool, true, false, codes, map, is_some, option_map, [], Some, None, MatchBool, ⊤}
 use Rattle.asn_command_line.specs.Notations.{IsTextNotation, notation_named, notation_of_file}
 use Rattle.asn_command_line.specs.declared.asked.Asked.{Asked}
-use Rattle.asn_command_line.specs.declared.asked.Asked.TheVariants.{Convert, Check, Types, Grows, Keep, Completions}
+use Rattle.asn_command_line.specs.declared.asked.Asked.TheVariants.{Convert, Check, Types, Show, Grows, Keep, Completions}
 use Rattle.asn_core.specs.declared.codec.Codec.{Codec}
 use Rattle.clap.specs.Words.{first_value, matched_of, one_text, raw_values}
 use Rattle.clap.specs.declared.parser.matches.Found.{Found}
@@ -42,6 +42,7 @@ IsTaken command found (Convert modules name from to lines explain progress file)
     × HasNotation found (codes "to") to × HasFlag found (codes "lines") lines × HasFlag found (codes "explain") explain × HasFlag found (codes "progress") progress × HasValue found (codes "file") file.now
 IsTaken command found (Check files) = (command ≡ codes "check") × HasValues found (codes "modules") (map (λ s. s.now) files.items)
 IsTaken command found (Types files) = (command ≡ codes "types") × HasValues found (codes "modules") (map (λ s. s.now) files.items)
+IsTaken command found (Show files name) = (command ≡ codes "show") × HasValues found (codes "modules") (map (λ s. s.now) files.items) × HasValue found (codes "type") name.now
 IsTaken command found (Grows old new name) = (command ≡ codes "grows") × HasValue found (codes "old") old.now × HasValue found (codes "new") new.now × HasValue found (codes "type") name.now
 IsTaken command found (Keep old new name from progress file) =
     (command ≡ codes "keep") × HasValue found (codes "old") old.now × HasValue found (codes "new") new.now × HasValue found (codes "type") name.now × HasNotation found (codes "from") from

@@ -42,6 +42,13 @@ pub enum Asked<'a> {
         /// Lists their files.
         files: Vec<&'a str>,
     },
+    /// To show a type of modules.
+    Show {
+        /// Lists their files.
+        files: Vec<&'a str>,
+        /// Names the type.
+        name: &'a str,
+    },
     /// To say whether a type is a later version of an older one.
     Grows {
         /// Names the file of the older module.
@@ -187,6 +194,21 @@ fn conversion<'a>(alloc: Global, found: &ArgMatches<'a>) -> Result<Asked<'a>, Un
     })
 }
 
+/// Returns which type is to be shown.
+///
+/// # Errors
+///
+/// `Missing` for no words that are read, `OutOfMemory`.
+fn showing<'a>(alloc: Global, found: &ArgMatches<'a>) -> Result<Asked<'a>, Untaken>
+    ensures taken { IfOk result (IsTaken (codes "show") (found_of found.now)) }
+    ensures text { IfOk result HasTextNotations }
+{
+    Ok(Asked::Show {
+        files: values(alloc, found, "modules")?,
+        name: value(found, "type")?,
+    })
+}
+
 /// Returns which types are to be compared.
 ///
 /// # Errors
@@ -239,6 +261,7 @@ pub fn taken<'a>(alloc: Global, name: &str, found: &ArgMatches<'a>) -> Result<As
         "types" => Ok(Asked::Types {
             files: values(alloc, found, "modules")?,
         }),
+        "show" => showing(alloc, found),
         "grows" => comparison(found),
         "keep" => cutting(found),
         "completions" => Ok(Asked::Completions),

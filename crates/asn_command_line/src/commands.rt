@@ -112,6 +112,17 @@ fn over_modules<'a>(
         .arg(modules)
 }
 
+/// Returns the command that shows a type.
+fn showing<'a>(alloc: Global) -> Result<Command<'a>, AllocError> {
+    let command = over_modules(
+        alloc,
+        "show",
+        "Shows a type with those that it names",
+        "Example:\n  asn show examples/ticket.asn -t Ticket",
+    )?;
+    command.arg(type_name(alloc))
+}
+
 /// Returns a command over an older and a newer file of modules.
 fn over_versions<'a>(
     alloc: Global,
@@ -188,6 +199,7 @@ pub fn command_line<'a>(alloc: Global) -> Result<Command<'a>, AllocError> {
         .subcommand(converting(alloc)?)?
         .subcommand(check)?
         .subcommand(types)?
+        .subcommand(showing(alloc)?)?
         .subcommand(grows)?
         .subcommand(keeping(alloc)?)?
         .subcommand(completing(alloc)?)

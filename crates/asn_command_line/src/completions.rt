@@ -6,14 +6,14 @@ pub const BASH_COMPLETIONS: &str =
 _asn() {
     local word=${COMP_WORDS[COMP_CWORD]} before=${COMP_WORDS[COMP_CWORD-1]} words=
     if [ "$COMP_CWORD" -eq 1 ]; then
-        words='convert check types grows keep completions help --help --version'
+        words='convert check types show grows keep completions help --help --version'
     else
         case $before,${COMP_WORDS[1]},$word in
             --from,*|--to,*) words='jer avn' ;;
             -t,*|--type,*) ;;
             *,completions,*) words='bash --help' ;;
             *,convert,-*) words='--module --type --from --to --lines --explain --help' ;;
-            *,grows,-*) words='--type --help' ;;
+            *,show,-*|*,grows,-*) words='--type --help' ;;
             *,keep,-*) words='--type --from --help' ;;
             *,-*) words='--help' ;;
             *)

@@ -4,7 +4,7 @@ use std::alloc::Global;
 use std::test::Fail;
 
 /// Lists command lines and what they ask for.
-const ASKED: [(&str, &str); 15] = [
+const ASKED: [(&str, &str); 16] = [
     (
         "asn convert -m a.asn -m b.asn -t T --from jer --to avn --lines --explain --progress x",
         "Convert { modules: [\"a.asn\", \"b.asn\"], name: \"T\", from: Jer, to: Avn, lines: true, \
@@ -47,6 +47,10 @@ const ASKED: [(&str, &str); 15] = [
     ("asn check a b c", "Check { files: [\"a\", \"b\", \"c\"] }"),
     ("asn types a b", "Types { files: [\"a\", \"b\"] }"),
     (
+        "asn show a.asn b.asn -t T",
+        "Show { files: [\"a.asn\", \"b.asn\"], name: \"T\" }",
+    ),
+    (
         "asn grows old.asn new.asn -t T",
         "Grows { old: \"old.asn\", new: \"new.asn\", name: \"T\" }",
     ),
@@ -66,7 +70,7 @@ const ASKED: [(&str, &str); 15] = [
 ];
 
 /// Lists command lines that ask for help or the version, and a part of the text.
-const HELPED: [(&str, &str); 10] = [
+const HELPED: [(&str, &str); 11] = [
     ("asn --help", "convert"),
     ("asn -h", "completions"),
     ("asn --version", "asn 0.1.0\n"),
@@ -77,6 +81,7 @@ const HELPED: [(&str, &str); 10] = [
     ),
     ("asn check --help", "Usage: asn check <FILE.asn>..."),
     ("asn types --help", "asn types examples/calls.asn"),
+    ("asn show --help", "asn show examples/ticket.asn -t Ticket"),
     (
         "asn grows --help",
         "asn grows examples/sensor-1.asn examples/sensor.asn -t Report",
@@ -89,7 +94,7 @@ const HELPED: [(&str, &str); 10] = [
 ];
 
 /// Lists command lines that are wrong, and a part of the text.
-const REFUSED: [(&str, &str); 17] = [
+const REFUSED: [(&str, &str); 18] = [
     ("asn", "Usage: asn <COMMAND>"),
     ("asn frob", "unrecognized subcommand 'frob'"),
     ("asn --frob", "unexpected argument '--frob' found"),
@@ -121,6 +126,7 @@ const REFUSED: [(&str, &str); 17] = [
         "asn convert -m a -t T --to avn",
         "give --from jer or --from avn",
     ),
+    ("asn show a.asn", "--type <TYPE>"),
     ("asn grows old.asn -t T", "<NEW.asn>"),
     ("asn keep old.asn new.asn -t T", "--from <NOTATION>"),
     ("asn completions", "<SHELL>"),
@@ -173,7 +179,7 @@ fn mistakes_are_told(rt: HostRuntime) -> Result<(), Fail> {
 
 /// Lists what the completions know.
 const COMPLETED: [&str; 4] = [
-    "convert check types grows keep completions",
+    "convert check types show grows keep completions",
     "--module --type --from --to --lines --explain",
     "jer avn",
     "compgen -f",

@@ -1,6 +1,7 @@
 //! Does what is asked for.
 use crate::files::Ended;
 use crate::modules::{checked, compared, listed};
+use crate::showing::shown;
 use crate::streams::{Stream, write};
 use crate::texts::{How, convert_built_in, convert_by, keep};
 use asn_command_line::{Asked, BASH_COMPLETIONS};
@@ -42,6 +43,7 @@ pub fn reply_to(rt: &HostRuntime, asked: &Asked<'_>) -> Status {
         }
         Asked::Check { files } => write(rt, checked(rt, files.as_slice())),
         Asked::Types { files } => write(rt, listed(rt, files.as_slice())),
+        Asked::Show { files, name } => write(rt, shown(rt, files.as_slice(), name)),
         Asked::Grows { old, new, name } => write(rt, compared(rt, old, new, name)),
         Asked::Keep {
             old,

@@ -1,15 +1,10 @@
 -- What printing is handed, as definitions see it.
-use Rattle.std.specs.Prelude.{ℕ, List, [], map, Option, Some, None}
-use Rattle.std.specs.Borrow.{Bor}
+use Rattle.std.specs.Prelude.{ℕ, List, [], Option, Some, None}
 use Rattle.std.specs.Global.{Vec}
 use Rattle.std.specs.List.{slice_index_or}
 use Rattle.asn_model.specs.Shape.{AlternativeAdditions}
 use Rattle.asn_model.specs.ShapeView.{alternative_views}
 use Rattle.asn_model.specs.declared.shape_type.AlternativeShape.{AlternativeShape}
-
--- The names of types.
-abbrev pub names_view : List (Bor (List ℕ)) → List (List ℕ)
-names_view names = map (λ name. name.now) names
 
 -- The name of the type of a number, or an empty one where there is none.
 abbrev pub name_at : List (List ℕ) → ℕ → List ℕ

@@ -1,6 +1,5 @@
 //! Prints assignments.
 ghost use Rattle.asn_model.specs.ShapeView.{shape_view};
-ghost use Rattle.asn_type_printing.specs.Names.{names_view};
 ghost use Rattle.asn_type_printing.specs.Printed.{assignment_text, types_text};
 ghost use Rattle.asn_type_printing.specs.Reached.{reached};
 ghost use Rattle.std.specs.List.{flat_map};
@@ -20,12 +19,12 @@ use std::alloc::Global;
 /// Where memory runs out.
 fn write_assignment(
     number: usize,
-    names: &[&str],
+    names: &[String],
     types: &[Shape],
     out: &mut String,
 ) -> Result<(), OutOfMemory>
     ensures { OnOk result (string_bytes out.new ≡ string_bytes out.old
-        ++ assignment_text (names_view names.now) (map shape_view types.now) number) }
+        ++ assignment_text (map string_bytes names.now) (map shape_view types.now) number) }
 {
     match types.get(number) {
         Some(shape) => {
@@ -45,12 +44,12 @@ fn write_assignment(
 /// Where memory runs out.
 fn write_assignments(
     numbers: &[usize],
-    names: &[&str],
+    names: &[String],
     types: &[Shape],
     out: &mut String,
 ) -> Result<(), OutOfMemory>
     ensures { OnOk result (string_bytes out.new ≡ string_bytes out.old
-        ++ flat_map (assignment_text (names_view names.now) (map shape_view types.now))
+        ++ flat_map (assignment_text (map string_bytes names.now) (map shape_view types.now))
         numbers.now) }
 {
     for number in numbers {
@@ -73,12 +72,12 @@ fn write_assignments(
 /// Where memory runs out.
 pub fn printed_types(
     alloc: Global,
-    names: &[&str],
+    names: &[String],
     types: &[Shape],
     number: usize,
 ) -> Result<String, OutOfMemory>
     ensures { IfOk result (λ s. string_bytes s
-        ≡ types_text (names_view names.now) (map shape_view types.now) number) }
+        ≡ types_text (map string_bytes names.now) (map shape_view types.now) number) }
 {
     let numbers = reached(alloc, types, number)?;
     let mut out = String::new(alloc);

@@ -1,9 +1,7 @@
 //! Writes types.
-ghost use Rattle.asn_model.specs.ShapeView.{added_field_views, alternative_views, field_views};
-ghost use Rattle.asn_model.specs.ShapeView.{shape_view};
+ghost use Rattle.asn_model.specs.ShapeView.{alternative_views, field_views, shape_view};
 ghost use Rattle.asn_type_printing.specs.Levels.{level_of};
-ghost use Rattle.asn_type_printing.specs.Names.{additions_view, name_at, names_view};
-ghost use Rattle.asn_type_printing.specs.Printed.{added_alternative_lines, added_field_lines};
+ghost use Rattle.asn_type_printing.specs.Names.{name_at};
 ghost use Rattle.asn_type_printing.specs.Printed.{alternative_lines, closing, comma_text};
 ghost use Rattle.asn_type_printing.specs.Printed.{enumerated_text, field_lines, item_list};
 ghost use Rattle.asn_type_printing.specs.Printed.{marker_line, name_line, type_text};
@@ -17,11 +15,11 @@ use asn_model::{AlternativeShape, FieldShape, Shape};
 use asn_type_words::kind_word;
 
 /// Returns the name of the type of a number, or an empty one where there is none.
-pub fn name_at<'n>(names: &[&'n str], number: usize) -> &'n str
-    ensures { result.now ≡ name_at (names_view names.now) number }
+pub fn name_at(names: &[String], number: usize) -> &str
+    ensures { result.now ≡ name_at (map string_bytes names.now) number }
 {
     match names.get(number) {
-        Some(name) => *name,
+        Some(name) => name.as_str(),
         None => "",
     }
 }
@@ -165,34 +163,57 @@ fn write_closing(level: &Level<'_>, empty: bool, out: &mut String) -> Result<(),
 #[cycle(write)]
 pub fn write_type(
     shape: &Shape,
-    names: &[&str],
+    names: &[String],
     level: &Level<'_>,
     out: &mut String,
 ) -> Result<(), OutOfMemory>
     ensures { OnOk result (string_bytes out.new ≡ string_bytes out.old
-        ++ type_text (names_view names.now) (level_of level.now) (shape_view shape.now)) }
+        ++ type_text (map string_bytes names.now) (level_of level.now) (shape_view shape.now)) }
 {
     match shape {
         Shape::Bits { fixed: Some(size) } => Ok(write!(out, "BIT STRING (SIZE ({size}))")?),
         Shape::Enum { items, added } => write_enumerated(items, added, out),
         Shape::Seq { fields, added, .. } => {
+            let within = Level::Within(&*level);
             out.push_str(kind_word(shape))?;
             out.push_str(" {")?;
-            write_fields(fields, true, names, &Level::Within(&*level), out)?;
-            write_added_fields(added, fields.is_empty(), names, level, out)
+            write_fields(fields, true, names, &within, out)?;
+            match added {
+                Some(added) => {
+                    write_marker(fields.is_empty(), &within, out)?;
+                    write_fields(added, false, names, &within, out)?;
+                    write_closing(level, false, out)
+                }
+                None => write_closing(level, fields.is_empty(), out),
+            }
         }
-        Shape::ListOf(part) | Shape::SetOf(part) | Shape::Table(part) => {
-            out.push_str(kind_word(shape))?;
-            out.push_str(" ")?;
+        Shape::ListOf(part) => {
+            out.push_str("SEQUENCE OF ")?;
+            write_type(part, names, level, out)
+        }
+        Shape::SetOf(part) => {
+            out.push_str("SET OF ")?;
+            write_type(part, names, level, out)
+        }
+        Shape::Table(part) => {
+            out.push_str("SEQUENCE OF ")?;
             write_type(part, names, level, out)
         }
         Shape::Choice {
             alternatives,
             added,
         } => {
+            let within = Level::Within(&*level);
             out.push_str("CHOICE {")?;
-            write_alternatives(alternatives, true, names, &Level::Within(&*level), out)?;
-            write_added_alternatives(added, alternatives.is_empty(), names, level, out)
+            write_alternatives(alternatives, true, names, &within, out)?;
+            match added {
+                Some(added) => {
+                    write_marker(alternatives.is_empty(), &within, out)?;
+                    write_alternatives(added, false, names, &within, out)?;
+                    write_closing(level, false, out)
+                }
+                None => write_closing(level, alternatives.is_empty(), out),
+            }
         }
         Shape::Loop(_) => write_without_values(out),
         Shape::Back(number) => Ok(out.push_str(name_at(names, *number as usize))?),
@@ -209,12 +230,12 @@ pub fn write_type(
 fn write_fields(
     fields: &[FieldShape],
     first: bool,
-    names: &[&str],
+    names: &[String],
     level: &Level<'_>,
     out: &mut String,
 ) -> Result<(), OutOfMemory>
     ensures { OnOk result (string_bytes out.new ≡ string_bytes out.old
-        ++ field_lines (names_view names.now) (level_of level.now) first
+        ++ field_lines (map string_bytes names.now) (level_of level.now) first
         (field_views fields.now)) }
 {
     let mut is_first = first;
@@ -227,35 +248,6 @@ fn write_fields(
     Ok(())
 }
 
-/// Writes the extension additions of a SEQUENCE or SET at this level, if there is an extension
-/// marker, and the closing brace. No entry stands before them where they come first.
-///
-/// # Errors
-///
-/// Where memory runs out.
-#[cycle(write)]
-fn write_added_fields(
-    added: &Option<Vec<FieldShape>>,
-    first: bool,
-    names: &[&str],
-    level: &Level<'_>,
-    out: &mut String,
-) -> Result<(), OutOfMemory>
-    ensures { OnOk result (string_bytes out.new ≡ string_bytes out.old
-        ++ added_field_lines (names_view names.now) (level_of level.now) first
-        (added_field_views added.now)) }
-{
-    match added {
-        Some(added) => {
-            let within = Level::Within(&*level);
-            write_marker(first, &within, out)?;
-            write_fields(added, false, names, &within, out)?;
-            write_closing(level, false, out)
-        }
-        None => write_closing(level, first, out),
-    }
-}
-
 /// Writes a line for each alternative.
 ///
 /// # Errors
@@ -265,12 +257,12 @@ fn write_added_fields(
 fn write_alternatives(
     alternatives: &[AlternativeShape],
     first: bool,
-    names: &[&str],
+    names: &[String],
     level: &Level<'_>,
     out: &mut String,
 ) -> Result<(), OutOfMemory>
     ensures { OnOk result (string_bytes out.new ≡ string_bytes out.old
-        ++ alternative_lines (names_view names.now) (level_of level.now) first
+        ++ alternative_lines (map string_bytes names.now) (level_of level.now) first
         (alternative_views alternatives.now)) }
 {
     let mut is_first = first;
@@ -280,33 +272,4 @@ fn write_alternatives(
         is_first = false;
     }
     Ok(())
-}
-
-/// Writes the extension additions of a CHOICE at this level, if there is an extension marker, and
-/// the closing brace. No entry stands before them where they come first.
-///
-/// # Errors
-///
-/// Where memory runs out.
-#[cycle(write)]
-fn write_added_alternatives(
-    added: &Option<Vec<AlternativeShape>>,
-    first: bool,
-    names: &[&str],
-    level: &Level<'_>,
-    out: &mut String,
-) -> Result<(), OutOfMemory>
-    ensures { OnOk result (string_bytes out.new ≡ string_bytes out.old
-        ++ added_alternative_lines (names_view names.now) (level_of level.now) first
-        (additions_view added.now)) }
-{
-    match added {
-        Some(added) => {
-            let within = Level::Within(&*level);
-            write_marker(first, &within, out)?;
-            write_alternatives(added, false, names, &within, out)?;
-            write_closing(level, false, out)
-        }
-        None => write_closing(level, first, out),
-    }
 }

@@ -121,10 +121,16 @@ fetch libtasn1 libtasn1-6
 fetch heimdal heimdal
 made=0 bad=0
 
-group PKIX libtasn1-*/examples/*.asn libtasn1-*/tests/pkix.asn
+# The last of these isn't valid as it is published: it assigns id-at-name and X520name twice. A copy
+# without the second assignments is read.
+twice=$(ls libtasn1-*/tests/pkix.asn) once=$room/pkix.asn
+awk '!/^(id-at-name|X520name)[ \t]/ || !seen[$1]++' "$twice" >"$once"
+check "$twice"
+[ $? = 1 ] || bad=$((bad + 1))
+group PKIX libtasn1-*/examples/*.asn "$once"
 pkix=${#read[@]}
 values libtasn1-*/examples/*.asn
-values libtasn1-*/tests/pkix.asn
+values "$once"
 group Heimdal heimdal-*/lib/*/*.asn1 heimdal-*/lib/*/*/*.asn1
 heimdal=${#read[@]}
 # Two of these have modules of one name, and so aren't read together.

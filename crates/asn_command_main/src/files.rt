@@ -61,6 +61,20 @@ pub fn named<'a>(
     Ok(pairs)
 }
 
+/// Returns the types of the modules of these texts, each behind the name of its file, or the reply
+/// on them.
+///
+/// # Errors
+///
+/// Where memory runs out before they are read.
+fn types_in(
+    alloc: Global,
+    names: &[&str],
+    texts: &[String],
+) -> Result<Result<Modules, Ended>, AllocError> {
+    Ok(types_of(alloc, &named(alloc, names, texts)?))
+}
+
 /// Returns the types of the modules that the files have.
 ///
 /// # Errors
@@ -68,8 +82,8 @@ pub fn named<'a>(
 /// The reply on the first file that isn't read, or on the modules.
 pub fn modules_of(rt: &HostRuntime, names: &[&str]) -> Result<Modules, Ended> {
     let texts = texts_of(rt, names)?;
-    match named(rt.alloc(), names, texts.as_slice()) {
-        Ok(pairs) => types_of(rt.alloc(), pairs.as_slice()),
+    match types_in(rt.alloc(), names, texts.as_slice()) {
+        Ok(found) => found,
         Err(_refused) => Err(Err(OutOfMemory)),
     }
 }

@@ -1,7 +1,8 @@
 -- The lines that say why a text isn't converted.
-use Rattle.std.specs.Prelude.{◌≡◌, ℕ, List, [], ◌∷◌, ◌++◌, Bool, true, false, if◌then◌else◌, chars, codes, decimal, encode_utf8_all, is_some, map, not, take, string_bytes, MatchBool, Option, Some, None}
+use Rattle.std.specs.Prelude.{◌≡◌, ℕ, List, [], ◌∷◌, ◌++◌, Bool, true, false, if◌then◌else◌, chars, codes, decimal, drop, encode_utf8_all, is_some, map, not, take, string_bytes, MatchBool, Option, Some, None, ⊤}
 use Rattle.std.specs.Char.{is_control}
 use Rattle.std.specs.List.{flat_map}
+use Rattle.std.specs.Str.{trim_start}
 use Rattle.asn_dynamic.specs.declared.conversion.ConvertError.{ConvertError}
 use Rattle.asn_dynamic.specs.declared.conversion.ConvertError.TheVariants.{Read, Write}
 use Rattle.asn_dynamic_faults.specs.Texts.{dyn_kind_text}
@@ -65,6 +66,28 @@ abbrev pub is_text_at_fault : List ℕ → ConvertError → Bool
 is_text_at_fault text (Read e) = is_syntax_fault text e.kind
 is_text_at_fault text (Write e) = false
 
+-- The bytes stand at this offset of the text.
+pub record StandAt (bytes text : List ℕ) (offset : ℕ) : Type 0 where
+  pub rest : List ℕ
+  pub is : drop offset text ≡ bytes ++ rest
+
+-- The bytes stand there, if they stand anywhere in the text.
+abbrev pub IsPlaceOf : List ℕ → List ℕ → ℕ → Type 0
+IsPlaceOf bytes text offset = (place : ℕ) → StandAt bytes text place → StandAt bytes text offset
+
+-- The offset is that of what the parser of value notation found, past white space.
+abbrev pub IsKindPlace : List ℕ → DecodeErrorKind → ℕ → Type 0
+IsKindPlace text (CodecSpecific (Avn (UnexpectedToken found))) offset = IsPlaceOf (trim_start (string_bytes found)) text offset
+IsKindPlace text _ offset = ⊤
+
+abbrev pub IsSyntaxPlace : List ℕ → DynKind → ℕ → Type 0
+IsSyntaxPlace text (Other kind) offset = IsKindPlace text kind offset
+IsSyntaxPlace text _ offset = ⊤
+
+abbrev pub IsFaultPlace : List ℕ → ConvertError → ℕ → Type 0
+IsFaultPlace text (Read e) offset = IsSyntaxPlace text e.kind offset
+IsFaultPlace text (Write e) offset = ⊤
+
 -- The line of a place behind this front of a text: in a stream of lines, that of the stream.
 abbrev pub line_from : Option ℕ → List ℕ → ℕ
 line_from None front = line_after front
@@ -88,9 +111,10 @@ IsExplanation explain more = MatchBool explain (IsExcerpt more) (more ≡ [])
 abbrev pub refusal_line : List ℕ → ConvertError → List ℕ
 refusal_line front e = on_one_line (front ++ (codes ": " ++ reason_text e)) ++ codes "\n"
 
--- The lines of a refusal of a text that is at fault itself: behind a place in the text, with what stands there if that is asked for.
+-- The lines of a refusal of a text that is at fault itself: behind the place of the fault, with what stands there if that is asked for.
 pub record IsTextRefusal (o : Origin) (e : ConvertError) (text : List ℕ) (explain : Bool) (lines : List ℕ) : Type 0 where
   pub offset : ℕ
+  pub place : IsFaultPlace text e offset
   pub more : List ℕ
   pub shown : IsExplanation explain more
   pub is : lines ≡ refusal_line (place_text o (take offset text)) e ++ more

@@ -1,7 +1,8 @@
 //! Finds the place at which a text is at fault.
-ghost use Rattle.asn_value_refusals.specs.Lines.{is_text_at_fault};
+ghost use Rattle.asn_value_refusals.specs.Lines.{IsFaultPlace, IsPlaceOf, is_text_at_fault};
 ghost use Rattle.serde_json.specs.Read.{read as read_text};
-ghost use Rattle.std.specs.Prelude.{◌≡◌, IfOk, is_some, not};
+ghost use Rattle.std.specs.Prelude.{◌≡◌, IfOk, IfSome, is_some, not};
+ghost use Rattle.std.specs.Str.{trim_start};
 
 use asn_core::OutOfMemory;
 use asn_dynamic::{ConvertError, DynError, DynKind};
@@ -10,18 +11,19 @@ use serde_json::Value;
 use serde_json::error::Category;
 use std::alloc::Global;
 
-/// Returns the offset at which the bytes leave off that are this many before the end.
-fn before_end(text: &str, count: usize) -> usize {
-    text.len().saturating_sub(count)
-}
-
-/// Returns the offset at which a text stands that the parser of AVN shows: what follows a value
-/// whole, or the beginning of what is no value.
-fn excerpt_offset(text: &str, excerpt: &str) -> usize {
-    if text.ends_with(excerpt) {
-        return before_end(text, excerpt.len());
+/// Returns the offset at which a text stands, past white space, that the parser of AVN shows: what
+/// follows a value whole, or the beginning of what is no value.
+fn excerpt_offset(text: &str, excerpt: &str) -> usize
+    ensures { IsPlaceOf (trim_start excerpt.now) text.now result }
+{
+    let found = excerpt.trim_start();
+    match text.strip_suffix(found) {
+        Some(front) => front.len(),
+        None => match text.find(found) {
+            Some(offset) => offset,
+            None => 0,
+        },
     }
-    text.find(excerpt).unwrap_or(0)
 }
 
 /// Returns the offset of a line and a byte in it, both counted from 1.
@@ -65,7 +67,8 @@ pub fn fault_offset(
     text: &str,
     error: &ConvertError,
 ) -> Result<Option<usize>, OutOfMemory>
-    ensures { IfOk result (λ found. is_some found ≡ is_text_at_fault text.now error.now) }
+    ensures found { IfOk result (λ found. is_some found ≡ is_text_at_fault text.now error.now) }
+    ensures place { IfOk result (λ found. IfSome found (IsFaultPlace text.now error.now)) }
 {
     let ConvertError::Read(
         DynError {

@@ -11,7 +11,8 @@ run of more than 120 seconds, no more than 4 GB of memory.
 First a text with every kind of notation is cut at each token and at each byte, and each of its
 tokens is left out, doubled, or put into the next one's place. Each row behind that is a kind of
 text at a size and at twice the size: the status, the size of the larger text, the processor time
-that it takes, user and system, how many times that of the smaller one this is, and the memory.
+that it takes, user and system, how many times that of the smaller one this is, and the memory, or
+that of this script where it is more.
 Where the larger one takes more than 0.2 seconds, it may take at most 2.6 times as long as the
 smaller one: the least times of up to four runs of each count. -k runs the rows whose names have
 PART in them. -u is for a program that isn't proved, which is slow and takes much memory: the text
@@ -123,6 +124,7 @@ ROWS = [
     ("types that all name one", lambda n: module("T ::= SEQUENCE OF T\n" + joined("T{i} ::= T", n, "\n")), 50_000, ""),
     ("a type assigned again and again", lambda n: module("T ::= NULL\n" * n), 100_000, "`T` is assigned twice in its module"),
     ("a type assigned twice, the last one", lambda n: module(joined("T{i} ::= NULL", n, "\n") + f" T{n - 1} ::= NULL"), 50_000, "is assigned twice in its module"),
+    ("a value assigned twice, the last one", lambda n: module(joined("a{i} INTEGER ::= 5", n, "\n") + f" a{n - 1} INTEGER ::= 5"), 50_000, "is assigned twice in its module"),
     ("modules of one name", lambda n: module("") * n, 50_000, "`M` is the name of two modules"),
     ("modules", lambda n: "".join(module("A ::= NULL", name=f"M{i}") for i in range(n)), 50_000, ""),
     ("one name through imports in a circle", lambda n: "".join(module("T ::= A", f"IMPORTS A FROM M{(i + 1) % n};", f"M{i}") for i in range(n)), 5_000, ""),
@@ -141,6 +143,10 @@ ROWS = [
     ("alternatives", lambda n: "A ::= CHOICE { " + joined("a{i} INTEGER", n) + " }", 50_000, ""),
     ("components that all have a DEFAULT", lambda n: "a INTEGER ::= 5 A ::= SEQUENCE { " + joined("a{i} INTEGER DEFAULT a", n) + " }", 25_000, ""),
     ("a component twice, the last one", lambda n: "A ::= SEQUENCE { " + joined("a{i} NULL", n) + f", a{n - 1} NULL }}", 50_000, "stands twice in its list"),
+    ("an alternative twice, the last one", lambda n: "A ::= CHOICE { " + joined("a{i} NULL", n) + f", a{n - 1} NULL }}", 50_000, "stands twice in its list"),
+    ("an item twice, the last one", lambda n: "A ::= ENUMERATED { " + joined("a{i}", n) + f", a{n - 1} }}", 32_768, "stands twice in its list"),
+    ("a named number twice, the last one", lambda n: "A ::= INTEGER { " + joined("a{i}({i})", n) + f", a{n - 1}(0) }}", 50_000, "stands twice in its list"),
+    ("a named bit twice, the last one", lambda n: "A ::= BIT STRING { " + joined("a{i}({i})", n) + f", a{n - 1}({n}) }}", 50_000, "stands twice in its list"),
     ("items with numbers", lambda n: "A ::= ENUMERATED { " + joined("a{i}({i})", n) + " }", 32_768, ""),
     ("items with numbers that fall", lambda n: "A ::= ENUMERATED { " + joined("a{i}({down})", n) + " }", 32_768, ""),
     ("items without numbers", lambda n: "A ::= ENUMERATED { " + joined("a{i}", n) + " }", 32_768, ""),

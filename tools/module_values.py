@@ -50,6 +50,8 @@ CLOSED = {
     "VideotexString", "TIME", "TIME-OF-DAY", "DATE-TIME", "DURATION",
 }
 DEPTH = 12
+# How many types stand in one CHOICE of those in which they are converted.
+GROUP = 50
 
 
 class Unusable(Exception):
@@ -482,8 +484,9 @@ def values_of(maker, home, read, count):
 
 
 def make_trials(maker, count, trials):
-    """Prints values of all types, and writes the module with their CHOICE."""
-    alternatives = []
+    """Prints values of all types, and writes the module with their CHOICE, in which each alternative
+    is a CHOICE of some of the types: so none is searched for long."""
+    groups = []
     for home, module in maker.modules.items():
         for name, read in module["types"].items():
             try:
@@ -491,12 +494,17 @@ def make_trials(maker, count, trials):
             except Unusable as why:
                 print(f"{home}.{name}: nothing is made of it: {why}", file=sys.stderr)
                 continue
-            word = f"t{len(alternatives)}-{name}"
-            alternatives.append(f"  {word} {home}.{name}")
+            if not groups or len(groups[-1]) == GROUP:
+                groups.append([])
+            group, word = f"g{len(groups)}", f"t{len(groups[-1])}-{name}"
+            groups[-1].append(f"    {word} {home}.{name}")
             for line in lines:
-                print(f'{{"{word}":{line}}}')
+                print(f'{{"{group}":{{"{word}":{line}}}}}')
     with open(trials, "w", encoding="utf-8") as file:
-        inside = ",\n".join(alternatives)
+        inside = ",\n".join(
+            f"  g{number} CHOICE {{\n{joined}\n  }}"
+            for number, joined in enumerate((",\n".join(group) for group in groups), 1)
+        )
         file.write(f"Trials DEFINITIONS AUTOMATIC TAGS ::= BEGIN\nTrial ::= CHOICE {{\n{inside}\n}}\nEND\n")
 
 

@@ -85,8 +85,8 @@ U ::= SEQUENCE { b NULL, ..., COMPONENTS OF T }",
     ),
     // Between version brackets each may be absent.
     (
-        "T ::= SEQUENCE { a NULL, ..., [[ COMPONENTS OF U, e NULL, COMPONENTS OF SEQUENCE { d NULL } \
-]] } U ::= SEQUENCE { COMPONENTS OF SEQUENCE { b BOOLEAN }, c INTEGER DEFAULT 5 }",
+        "T ::= SEQUENCE { a NULL, ..., [[ COMPONENTS OF U, e NULL, COMPONENTS OF SEQUENCE { \
+d NULL } ]] } U ::= SEQUENCE { COMPONENTS OF SEQUENCE { b BOOLEAN }, c INTEGER DEFAULT 5 }",
         r#"{"a":null,"c":5,"e":null}"#,
         r#"{"a":null,"e":null}"#,
         "{\n  a NULL,\n  e NULL\n}",

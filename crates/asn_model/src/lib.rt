@@ -19,7 +19,9 @@ pub mod words;
 pub use arcs::{arc_of, joined_arcs};
 pub use fixed::fixed_size;
 pub use leaves::{Leaf, LeafKind, OwnedLeaf, are_arcs, are_octets};
-pub use readable::{is_of_shape, is_readable, is_readable_with, is_readable_within};
+pub use readable::{
+    is_of_shape, is_readable, is_readable_with, is_readable_within, is_readable_within_with,
+};
 pub use shape_type::{
     Alphabet, AlternativeShape, FieldShape, Plain, PresenceShape, SeqKind, Shape,
 };

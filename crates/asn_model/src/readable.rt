@@ -72,6 +72,15 @@ pub fn is_readable_within(shape: &Shape, loops: usize) -> bool
     is_readable_in(None, shape, &Enclosing::Loops(loops))
 }
 
+/// Returns whether a shape can be read that is the innermost body of so many loops, as
+/// `is_readable_within` does. Names, identifiers and tags are compared by sets of them, as
+/// `is_readable_with` compares them.
+pub fn is_readable_within_with(alloc: Global, shape: &Shape, loops: usize) -> bool
+    ensures { result ≡ is_readable_in loops loops (shape_view shape.now) }
+{
+    is_readable_in(Some(alloc), shape, &Enclosing::Loops(loops))
+}
+
 /// Returns whether a part of a shape can be read within what stands around it. Where memory is
 /// given, names and tags are compared by sets of them.
 #[cycle(readable)]

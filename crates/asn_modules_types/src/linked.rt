@@ -17,7 +17,7 @@ use crate::names::{Names, named_type};
 use crate::scope::Scope;
 use crate::shapes::shape_of;
 use asn_linked_types::{TYPE_LIMIT, no_values};
-use asn_model::{Shape, is_readable_within};
+use asn_model::{Shape, is_readable_within_with};
 use asn_modules_lookup::{Index, Sort, homes_of, index_of};
 use asn_modules_text::Source;
 use std::alloc::Global;
@@ -74,7 +74,7 @@ fn linked_type(
         ≡ linked_type (sources_of names.now) (length names.now.types.now) number) }
 {
     let shape = opened_type(names, left, number)?;
-    if is_readable_within(&shape, names.types.len()) {
+    if is_readable_within_with(names.alloc, &shape, names.types.len()) {
         Ok(shape)
     } else {
         Ok(no_values(names.alloc))

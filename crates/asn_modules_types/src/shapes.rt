@@ -255,7 +255,8 @@ fn root_of(
     requires known { KnowsNames scope.now.names.now }
     ensures root { IfOk result (λ o. option_map parts_view o
         ≡ all_known (root_of (parts (roots_view depth.names scope.now)
-        (scope_view NAME_LIMIT scope.now) (place_view place) (members_of (members_view members.now))))) }
+        (scope_view NAME_LIMIT scope.now) (place_view place)
+        (members_of (members_view members.now))))) }
     ensures fewer { OnOk result (left.new.types ≤ left.old.types) }
 {
     let Some(mut root) = parts_of(scope, depth, left, place, members.root.as_slice())? else {

@@ -1,7 +1,7 @@
 //! Does the command that shows a type.
 use crate::files::{Ended, modules_of};
-use asn_command::missing_reply;
 use asn_command_show::show_reply;
+use asn_replies::missing_reply;
 
 /// Returns what showing the type of the name in the files comes to.
 pub fn shown(rt: &HostRuntime, files: &[&str], name: &str) -> Ended {

@@ -48,7 +48,7 @@ pub fn reply_to(rt: &HostRuntime, asked: &Asked<'_>) -> Status {
             name,
             example,
             full,
-        } => write(rt, shown(rt, files.as_slice(), name, example, full)),
+        } => write(rt, shown(rt, files.as_slice(), name, *example, *full)),
         Asked::Grows { old, new, name } => write(rt, compared(rt, old, new, name)),
         Asked::Keep {
             old,

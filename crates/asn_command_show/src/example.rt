@@ -1,5 +1,6 @@
 //! Shows a value of a type.
-ghost use Rattle.asn_command_show.specs.Example.{IsExample, IsExampleText, large_line, valueless_line};
+ghost use Rattle.asn_command_show.specs.Example.{IsExample, IsExampleOf, IsExampleText};
+ghost use Rattle.asn_command_show.specs.Example.{large_line, valueless_line};
 ghost use Rattle.asn_dynamic_values.specs.DynView.{dyn_value};
 ghost use Rattle.asn_example_values.specs.Made.{is_full};
 ghost use Rattle.asn_model.specs.Readable.{is_readable};
@@ -31,7 +32,7 @@ fn large_reply(alloc: Global, name: &str) -> Result<Reply, OutOfMemory>
     Ok(Reply::refused(line))
 }
 
-/// Returns the refusal of a command whose type has no value.
+/// Returns the refusal of a command whose type has no value that is read.
 ///
 /// # Errors
 ///
@@ -39,11 +40,12 @@ fn large_reply(alloc: Global, name: &str) -> Result<Reply, OutOfMemory>
 fn valueless_reply(alloc: Global, name: &str) -> Result<Reply, OutOfMemory>
     ensures { IfOk result (IsRefusal status.Refused (valueless_line name.now)) }
 {
-    let line = format!(in alloc; "asn: the type `{name}` has no values\n")?;
+    let line = format!(in alloc; "asn: no value of the type `{name}` is read\n")?;
     Ok(Reply::refused(line))
 }
 
-/// Returns the canonical text of the value, and a line feed.
+/// Returns the canonical text of the value and a line feed, or the refusal of one that the notation
+/// can't write.
 ///
 /// # Errors
 ///
@@ -61,17 +63,47 @@ fn text_reply(
     match write(alloc, notation, shape, value) {
         Ok(text) => {
             let mut text = text;
-            text.push_str("\n")?;
+            text.push('\n')?;
             Ok(Reply::Answer(text))
         }
-        Err(error) if error.kind.is_out_of_memory() => Err(OutOfMemory),
-        Err(error) => Ok(Reply::refused(format!(in alloc; "asn: {error}\n")?)),
+        Err(error) => {
+            if error.is_out_of_memory() {
+                return Err(OutOfMemory);
+            }
+            Ok(Reply::refused(format!(in alloc; "asn: {error}\n")?))
+        }
+    }
+}
+
+/// Returns what showing an example of the type of this name and shape comes to.
+///
+/// # Errors
+///
+/// `OutOfMemory` alone.
+fn reply_on(
+    alloc: Global,
+    extent: Extent,
+    notation: Codec,
+    name: &str,
+    shape: &Shape,
+) -> Result<Reply, OutOfMemory>
+    requires { is_readable (shape_view shape.now) ≡ true }
+    ensures { IfOk result
+        (IsExample (shape_view shape.now) (is_full extent) notation name.now) }
+{
+    let Some(value) = example(alloc, extent, shape)? else {
+        return valueless_reply(alloc, name);
+    };
+    if fits(shape, &value) {
+        text_reply(alloc, notation, shape, &value)
+    } else {
+        valueless_reply(alloc, name)
     }
 }
 
 /// Returns the canonical text of an example of the type that the text names, in this notation, or
-/// `None` where no type or more than one is named so. Refused is a type that has no values, and one
-/// that is too large: in which each type that it names stands in the place of its name, as
+/// `None` where no type or more than one is named so. Refused is a type of which no value is read,
+/// and one that is too large: in which each type that it names stands in the place of its name, as
 /// `asn_linked_expansion` limits it.
 ///
 /// # Errors
@@ -85,20 +117,14 @@ pub fn example_reply(
     notation: Codec,
 ) -> Result<Option<Reply>, OutOfMemory>
     ensures { IfOk result
-        (IsExample (modules_view modules.now) name.now (is_full extent) notation) }
+        (IsExampleOf (modules_view modules.now) name.now (is_full extent) notation) }
 {
     let Some(number) = modules.number(name) else {
         return Ok(None);
     };
-    let shape = match expand(alloc, modules.types(), number as u32) {
-        Ok(shape) => shape,
-        Err(ExpansionFault::TooLarge) => return Ok(Some(large_reply(alloc, name)?)),
-        Err(ExpansionFault::OutOfMemory) => return Err(OutOfMemory),
-    };
-    match example(alloc, extent, &shape)? {
-        Some(value) if fits(&shape, &value) => {
-            Ok(Some(text_reply(alloc, notation, &shape, &value)?))
-        }
-        _ => Ok(Some(valueless_reply(alloc, name)?)),
+    match expand(alloc, modules.types(), number as u32) {
+        Ok(shape) => Ok(Some(reply_on(alloc, extent, notation, name, &shape)?)),
+        Err(ExpansionFault::TooLarge) => Ok(Some(large_reply(alloc, name)?)),
+        Err(ExpansionFault::OutOfMemory) => Err(OutOfMemory),
     }
 }

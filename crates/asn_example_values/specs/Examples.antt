@@ -3,12 +3,17 @@ use Rattle.std.specs.Prelude.{ℕ, zero, suc, ◌+◌, ◌-◌, ℤ, pos, List, 
 use Rattle.std.specs.List.{slice_get}
 use Rattle.asn_core.specs.Numbers.{is_negative, magnitude}
 use Rattle.asn_dynamic_values.specs.DynView.{members_named}
+use Rattle.asn_model.specs.Range.{at_most}
 use Rattle.asn_model.specs.Shape.{Shape, Fields, FieldAdditions, Alternatives, AlternativeAdditions, Presence}
 use Rattle.asn_model.specs.Value.{Value, is_kept, may_lack, values}
 
 -- 0, or the least number where that is above it.
 abbrev pub nearest : ℤ → ℕ
 nearest least = if is_negative least then 0 else magnitude least
+
+-- The number as a value, unless it is above the greatest one.
+abbrev pub up_to : ℤ → ℕ → Option Value
+up_to greatest n = if at_most (pos n) greatest then Some (Value.int (pos n)) else None
 
 -- So many bits that are 0.
 abbrev pub zeros : ℕ → List Bool
@@ -42,7 +47,7 @@ place_of other = if other then 1 else 0
 abbrev pub leaf_example : Bool → Shape → Option Value
 leaf_example other Shape.null = Some Value.null
 leaf_example other Shape.boolean = Some (Value.boolean other)
-leaf_example other (Shape.int least greatest width) = Some (Value.int (pos (nearest least + place_of other)))
+leaf_example other (Shape.int least greatest width) = up_to greatest (nearest least + place_of other)
 leaf_example other (Shape.bits size) = Some (Value.bits (fixed_zeros size) size)
 leaf_example other Shape.octets = Some (Value.octets [])
 leaf_example other Shape.any = Some (Value.octets [])

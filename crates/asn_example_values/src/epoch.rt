@@ -2,7 +2,7 @@
 ghost use Rattle.jiff.specs.Words.{civil_nanos, civil_seconds, epoch_day};
 ghost use Rattle.std.specs.Prelude.{◌≡◌, pos};
 
-use jiff::civil::DateTime;
+use jiff::civil::{DateTime, datetime};
 
 /// Returns the moment 1970-01-01T00:00:00.
 pub fn epoch() -> DateTime
@@ -11,8 +11,5 @@ pub fn epoch() -> DateTime
     ensures nanoseconds { civil_nanos result ≡ pos 0 }
     ensures whole { result.time.subsec_nanosecond ≡ 0 }
 {
-    match DateTime::new(1970, 1, 1, 0, 0, 0, 0) {
-        Ok(moment) => moment,
-        Err(_) => unreachable!(),
-    }
+    datetime(1970, 1, 1, 0, 0, 0, 0)
 }

@@ -1,9 +1,10 @@
 //! Makes values of types whose values have no parts.
 ghost use Rattle.asn_dynamic_values.specs.DynView.{dyn_value};
 ghost use Rattle.asn_example_values.specs.Examples.{fixed_zeros, item_at, leaf_example, nearest};
-ghost use Rattle.asn_example_values.specs.Examples.{place_of, zeros};
+ghost use Rattle.asn_example_values.specs.Examples.{place_of, up_to, zeros};
 ghost use Rattle.asn_model.specs.ShapeView.{shape_view};
-ghost use Rattle.std.specs.Prelude.{◌≡◌, ◌<◌, ◌^◌, ◌∷◌, [], IfOk, if◌then◌else◌, map, option_map, string_bytes};
+ghost use Rattle.std.specs.Prelude.{◌≡◌, ◌<◌, ◌+◌, ◌^◌, ◌∷◌, [], IfOk, if◌then◌else◌, map};
+ghost use Rattle.std.specs.Prelude.{option_map, pos, string_bytes};
 
 use crate::epoch::epoch;
 use asn_core::{Bits, OutOfMemory, WholeNumber};
@@ -30,6 +31,21 @@ fn place_of(other: bool) -> usize
     ensures { result ≡ place_of other }
 {
     if other { 1 } else { 0 }
+}
+
+/// Returns the number 0 or the least one above it, or the next one, or `None` where that is above
+/// the greatest one.
+fn number(least: i128, greatest: u128, other: bool) -> Option<DynValue>
+    ensures { option_map dyn_value result ≡ up_to (pos greatest) (nearest least + place_of other) }
+{
+    let magnitude = nearest(least) + place_of(other) as u128;
+    if magnitude > greatest {
+        return None;
+    }
+    Some(DynValue::Int(WholeNumber {
+        negative: false,
+        magnitude,
+    }))
 }
 
 /// Returns so many bits that are 0.
@@ -116,10 +132,14 @@ pub fn leaf_value(alloc: Global, other: bool, leaf: &Shape) -> Result<Option<Dyn
     let value = match leaf {
         Shape::Null => DynValue::Null,
         Shape::Bool => DynValue::Bool(other),
-        Shape::Int { least, .. } => DynValue::Int(WholeNumber {
-            negative: false,
-            magnitude: nearest(*least) + place_of(other) as u128,
-        }),
+        Shape::Int {
+            least,
+            greatest,
+            ..
+        } => match number(*least, *greatest, other) {
+            Some(number) => number,
+            None => return Ok(None),
+        },
         Shape::Bits { fixed } => DynValue::Bits {
             bits: bits(alloc, *fixed)?,
             fixed: *fixed,

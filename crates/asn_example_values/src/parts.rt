@@ -8,7 +8,7 @@ ghost use Rattle.asn_example_values.specs.Made.{additions_view, is_full, members
 ghost use Rattle.asn_model.specs.ShapeView.{added_field_views, alternative_views, field_views};
 ghost use Rattle.asn_model.specs.ShapeView.{plain_view, presence_view, shape_view};
 ghost use Rattle.asn_model.specs.Shape.{Presence, Shape as AbstractShape, SeqKind};
-ghost use Rattle.std.specs.Prelude.{◌≡◌, IfOk, Some, false, map, option_map};
+ghost use Rattle.std.specs.Prelude.{◌≡◌, IfOk, Some, false, map, option_map, true};
 
 use crate::leaves::leaf_value;
 use asn_core::OutOfMemory;

@@ -34,9 +34,9 @@ pub record HasExample (s : Shape) (full : Bool) (notation : Codec) (reply : Repl
   pub fits : Fits s value
   pub text : IsExampleText notation value reply
 
--- The reply refuses a type whose shape has no such example.
+-- The reply refuses a type whose shape has no example.
 pub record HasNoExample (s : Shape) (full : Bool) (name : List ℕ) (reply : Reply) : Type 0 where
-  pub none : (v : Value) → example full false s ≡ Some v → Fits s v → ⊥
+  pub none : example full false s ≡ None
   pub told : IsRefusal Refused (valueless_line name) reply
 
 -- The reply shows the example of the shape, or refuses the type of the name for that it has none.

@@ -12,7 +12,7 @@ ghost use Rattle.asn_replies.specs.declared.status.Status.TheVariants as status;
 ghost use Rattle.std.specs.Prelude.{◌≡◌, IfOk, true};
 
 use asn_core::{Codec, OutOfMemory};
-use asn_dynamic::{DynValue, fits, write};
+use asn_dynamic::{DynValue, write};
 use asn_example_values::{Extent, example};
 use asn_linked_expansion::{ExpansionFault, expand};
 use asn_model::Shape;
@@ -91,13 +91,9 @@ fn reply_on(
     ensures { IfOk result
         (IsExample (shape_view shape.now) (is_full extent) notation name.now) }
 {
-    let Some(value) = example(alloc, extent, shape)? else {
-        return valueless_reply(alloc, name);
-    };
-    if fits(shape, &value) {
-        text_reply(alloc, notation, shape, &value)
-    } else {
-        valueless_reply(alloc, name)
+    match example(alloc, extent, shape)? {
+        Some(value) => text_reply(alloc, notation, shape, &value),
+        None => valueless_reply(alloc, name),
     }
 }
 

@@ -8,7 +8,8 @@ ghost use Rattle.asn_example_values.specs.Made.{additions_view, is_full, members
 ghost use Rattle.asn_model.specs.ShapeView.{added_field_views, alternative_views, field_views};
 ghost use Rattle.asn_model.specs.ShapeView.{plain_view, presence_view, shape_view};
 ghost use Rattle.asn_model.specs.Shape.{Presence, Shape as AbstractShape, SeqKind};
-ghost use Rattle.std.specs.Prelude.{◌≡◌, IfOk, Some, false, map, option_map, true};
+ghost use Rattle.asn_model.specs.Value.{Fits};
+ghost use Rattle.std.specs.Prelude.{◌≡◌, IfOk, IfSome, Some, false, map, option_map, true};
 
 use crate::leaves::leaf_value;
 use asn_core::OutOfMemory;
@@ -40,8 +41,11 @@ pub fn example(
     extent: Extent,
     shape: &Shape,
 ) -> Result<Option<DynValue>, OutOfMemory>
-    ensures { IfOk result (λ v. option_map dyn_value v
+    ensures is { IfOk result (λ v. option_map dyn_value v
         ≡ example (is_full extent) false (shape_view shape.now)) }
+    // So each example is a value of its shape.
+    ensures fits { IfOk result (λ v.
+        IfSome v (λ v. Fits (shape_view shape.now) (dyn_value v))) }
 {
     match extent {
         Extent::Smallest => value_of(alloc, false, false, shape),

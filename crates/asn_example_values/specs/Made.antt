@@ -1,22 +1,13 @@
 -- What making examples is handed and returns, as definitions see it.
 use Rattle.std.specs.Prelude.{ℕ, List, Bool, true, false, Option, Some, None}
-use Rattle.std.specs.Global.{Vec}
 use Rattle.asn_example_values.specs.declared.parts.Extent.{Extent}
 use Rattle.asn_example_values.specs.declared.parts.Extent.TheVariants.{Smallest, Full}
-use Rattle.asn_model.specs.Shape.{AlternativeAdditions}
-use Rattle.asn_model.specs.ShapeView.{alternative_views}
 use Rattle.asn_model.specs.Value.{Value}
-use Rattle.asn_model.specs.declared.shape_type.AlternativeShape.{AlternativeShape}
 
 -- Everything is wanted.
 abbrev pub is_full : Extent → Bool
 is_full Smallest = false
 is_full Full = true
-
--- The extension additions of a CHOICE, if there is an extension marker.
-abbrev pub additions_view : Option (Vec AlternativeShape) → AlternativeAdditions
-additions_view None = AlternativeAdditions.closed_alternatives
-additions_view (Some alts) = AlternativeAdditions.extended_alternatives (alternative_views alts.items)
 
 -- The members, if all that have to be present are.
 abbrev pub members_made : Bool → List (List ℕ × Option Value) → Option (List (List ℕ × Option Value))

@@ -53,6 +53,7 @@ fn number(least: i128, greatest: u128, other: bool) -> Option<DynValue>
 /// # Errors
 ///
 /// Where memory runs out.
+#[tactic(auto, using(crate::proofs::Zeros::length_of_zeros))]
 fn zeros(alloc: Global, count: usize) -> Result<Bits, OutOfMemory>
     ensures { IfOk result (λ bits. bits ≡ zeros count) }
 {

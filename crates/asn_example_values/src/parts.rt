@@ -1,15 +1,15 @@
 //! Makes values of a shape, part by part.
 ghost use Rattle.asn_dynamic_values.specs.DynView.{dyn_value, named_value};
-ghost use Rattle.asn_example_values.specs.Examples.{added_alternatives_example};
 ghost use Rattle.asn_example_values.specs.Examples.{alternatives_example, elements_example};
 ghost use Rattle.asn_example_values.specs.Examples.{example, joined, kept, member_example};
 ghost use Rattle.asn_example_values.specs.Examples.{members_example};
-ghost use Rattle.asn_example_values.specs.Made.{additions_view, is_full, members_made};
-ghost use Rattle.asn_model.specs.ShapeView.{added_field_views, alternative_views, field_views};
-ghost use Rattle.asn_model.specs.ShapeView.{plain_view, presence_view, shape_view};
-ghost use Rattle.asn_model.specs.Shape.{Presence, Shape as AbstractShape, SeqKind};
+ghost use Rattle.asn_example_values.specs.Made.{is_full, members_made};
+ghost use Rattle.asn_model.specs.Enclosing.{entries_of};
+ghost use Rattle.asn_model.specs.Shape.{Presence};
+ghost use Rattle.asn_model.specs.ShapeView.{alternative_views, field_views, plain_view};
+ghost use Rattle.asn_model.specs.ShapeView.{presence_view, shape_view};
 ghost use Rattle.asn_model.specs.Value.{Fits};
-ghost use Rattle.std.specs.Prelude.{◌≡◌, IfOk, IfSome, Some, false, map, option_map, true};
+ghost use Rattle.std.specs.Prelude.{◌≡◌, IfOk, IfSome, Some, false, map, option_map};
 
 use crate::leaves::leaf_value;
 use asn_core::OutOfMemory;
@@ -53,6 +53,16 @@ pub fn example(
     }
 }
 
+/// Returns the extension additions, and none where there is no extension marker.
+fn entries<T>(added: &Option<Vec<T>>) -> &[T]
+    ensures { result.now ≡ entries_of added.now }
+{
+    match added {
+        Some(entries) => entries.as_slice(),
+        None => &[],
+    }
+}
+
 /// Returns a value of the shape, or the other one of it.
 ///
 /// # Errors
@@ -69,7 +79,16 @@ fn value_of(
         ≡ example full other (shape_view shape.now)) }
 {
     match shape {
-        Shape::Seq { fields, added, .. } => sequence(alloc, full, fields, added),
+        Shape::Seq { fields, added, .. } => {
+            let mut members = Vec::new(alloc);
+            if !add_members(alloc, full, fields, &mut members)? {
+                return Ok(None);
+            }
+            if !add_members(alloc, full, entries(added), &mut members)? {
+                return Ok(None);
+            }
+            Ok(Some(DynValue::Members(members)))
+        }
         Shape::ListOf(part) | Shape::Table(part) => {
             let elements = elements(alloc, full, part)?;
             Ok(Some(DynValue::List(elements)))
@@ -81,7 +100,10 @@ fn value_of(
         Shape::Choice {
             alternatives,
             added,
-        } => choice(alloc, full, alternatives, added),
+        } => match alternative(alloc, full, alternatives)? {
+            Some(value) => Ok(Some(value)),
+            None => alternative(alloc, full, entries(added)),
+        },
         Shape::Loop(body) => value_of(alloc, full, other, body),
         leaf => leaf_value(alloc, other, leaf),
     }
@@ -106,34 +128,7 @@ fn elements(alloc: Global, full: bool, part: &Shape) -> Result<Vec<DynValue>, Ou
     Ok(made)
 }
 
-/// Returns a SEQUENCE or SET with these components.
-///
-/// # Errors
-///
-/// Where memory runs out.
-#[cycle(make)]
-fn sequence(
-    alloc: Global,
-    full: bool,
-    fields: &[FieldShape],
-    added: &Option<Vec<FieldShape>>,
-) -> Result<Option<DynValue>, OutOfMemory>
-    ensures { (kind : SeqKind) → IfOk result (λ v. option_map dyn_value v ≡ example full false
-        (AbstractShape.seq kind (field_views fields.now) (added_field_views added.now))) }
-{
-    let mut members = Vec::new(alloc);
-    if !add_members(alloc, full, fields, &mut members)? {
-        return Ok(None);
-    }
-    if let Some(added) = added {
-        if !add_members(alloc, full, added, &mut members)? {
-            return Ok(None);
-        }
-    }
-    Ok(Some(DynValue::Members(members)))
-}
-
-/// Returns whether the value is the one that the DEFAULT names.
+/// Returns the value, or `None` where it is the one that the DEFAULT names.
 fn unless_default(default: &Plain, value: Option<DynValue>) -> Option<DynValue>
     ensures { option_map dyn_value result
         ≡ kept (Presence.default (plain_view default.now)) (option_map dyn_value value) }
@@ -202,31 +197,6 @@ fn add_members(
         members.push((name, value))?;
     }
     Ok(true)
-}
-
-/// Returns a CHOICE of these alternatives.
-///
-/// # Errors
-///
-/// Where memory runs out.
-#[cycle(make)]
-fn choice(
-    alloc: Global,
-    full: bool,
-    alternatives: &[AlternativeShape],
-    added: &Option<Vec<AlternativeShape>>,
-) -> Result<Option<DynValue>, OutOfMemory>
-    ensures { IfOk result (λ v. option_map dyn_value v ≡ example full false
-        (AbstractShape.choice (alternative_views alternatives.now)
-        (additions_view added.now))) }
-{
-    if let Some(value) = alternative(alloc, full, alternatives)? {
-        return Ok(Some(value));
-    }
-    match added {
-        Some(added) => alternative(alloc, full, added),
-        None => Ok(None),
-    }
 }
 
 /// Returns a value of the first alternative that has one.

@@ -1,5 +1,5 @@
 -- What a command asks for, by the arguments that were found for it.
-use Rattle.std.specs.Prelude.{◌≡◌, ℕ, List, Bool, true, false, codes, map, is_some, option_map, [], Some, None, MatchBool, ⊤}
+use Rattle.std.specs.Prelude.{◌≡◌, ℕ, List, Bool, true, false, codes, map, is_some, option_map, [], Option, Some, None, MatchBool, MatchOption, IfSome, ⊤}
 use Rattle.asn_command_line.specs.Notations.{IsTextNotation, notation_named, notation_of_file}
 use Rattle.asn_command_line.specs.declared.asked.Asked.{Asked}
 use Rattle.asn_command_line.specs.declared.asked.Asked.TheVariants.{Convert, Check, Types, Show, Grows, Keep, Completions}
@@ -31,6 +31,10 @@ pub record HasNotation (found : Found) (id : List ℕ) (codec : Codec) : Type 0 
   pub given : HasValue found id name
   pub named : notation_named name ≡ Some codec
 
+-- The argument names this notation, or it isn't given and there is none.
+abbrev pub MayHaveNotation : Found → List ℕ → Option Codec → Type 0
+MayHaveNotation found id codec = MatchOption codec (matched_of found id ≡ None) (HasNotation found id)
+
 -- The text of this file has this notation: that which is named, or where none is, that which the file's name tells.
 abbrev pub TextHasNotation : Found → List ℕ → Codec → Type 0
 TextHasNotation found file codec = MatchBool (is_some (matched_of found (codes "from"))) (HasNotation found (codes "from") codec) (notation_of_file file ≡ Some codec)
@@ -42,7 +46,8 @@ IsTaken command found (Convert modules name from to lines explain progress file)
     × HasNotation found (codes "to") to × HasFlag found (codes "lines") lines × HasFlag found (codes "explain") explain × HasFlag found (codes "progress") progress × HasValue found (codes "file") file.now
 IsTaken command found (Check files) = (command ≡ codes "check") × HasValues found (codes "modules") (map (λ s. s.now) files.items)
 IsTaken command found (Types files) = (command ≡ codes "types") × HasValues found (codes "modules") (map (λ s. s.now) files.items)
-IsTaken command found (Show files name) = (command ≡ codes "show") × HasValues found (codes "modules") (map (λ s. s.now) files.items) × HasValue found (codes "type") name.now
+IsTaken command found (Show files name example full) =
+    (command ≡ codes "show") × HasValues found (codes "modules") (map (λ s. s.now) files.items) × HasValue found (codes "type") name.now × MayHaveNotation found (codes "example") example × HasFlag found (codes "full") full
 IsTaken command found (Grows old new name) = (command ≡ codes "grows") × HasValue found (codes "old") old.now × HasValue found (codes "new") new.now × HasValue found (codes "type") name.now
 IsTaken command found (Keep old new name from progress file) =
     (command ≡ codes "keep") × HasValue found (codes "old") old.now × HasValue found (codes "new") new.now × HasValue found (codes "type") name.now × HasNotation found (codes "from") from
@@ -52,5 +57,6 @@ IsTaken command found Completions = command ≡ codes "completions"
 -- Each notation in it is one of texts.
 abbrev pub HasTextNotations : Asked → Type 0
 HasTextNotations (Convert modules name from to lines explain progress file) = IsTextNotation from × IsTextNotation to
+HasTextNotations (Show files name example full) = IfSome example IsTextNotation
 HasTextNotations (Keep old new name from progress file) = IsTextNotation from
 HasTextNotations _ = ⊤

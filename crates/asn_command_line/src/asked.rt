@@ -1,8 +1,9 @@
 //! Defines what a command line asks for, and takes it from what `clap` found.
-ghost use Rattle.std.specs.Prelude.{◌≡◌, IfOk, codes, map};
+ghost use Rattle.std.specs.Prelude.{◌≡◌, IfOk, IfSome, codes, map};
 ghost use Rattle.asn_command_line.specs.Notations.{IsTextNotation};
 ghost use Rattle.asn_command_line.specs.Taken.{HasAnyValues, HasNotation, HasTextNotations};
-ghost use Rattle.asn_command_line.specs.Taken.{HasValue, HasValues, IsTaken, TextHasNotation};
+ghost use Rattle.asn_command_line.specs.Taken.{HasValue, HasValues, IsTaken, MayHaveNotation};
+ghost use Rattle.asn_command_line.specs.Taken.{TextHasNotation};
 ghost use Rattle.clap.specs.Words.{found_of};
 
 use crate::notations::{codec_of, codec_of_file};
@@ -42,12 +43,17 @@ pub enum Asked<'a> {
         /// Lists their files.
         files: Vec<&'a str>,
     },
-    /// To show a type of modules.
+    /// To show a type of modules, or a value of it.
     Show {
         /// Lists their files.
         files: Vec<&'a str>,
         /// Names the type.
         name: &'a str,
+        /// Is the notation of the value that is shown in place of the type, or nothing where the
+        /// type is to be shown.
+        example: Option<Codec>,
+        /// States whether the value is to have every part that may be absent.
+        full: bool,
     },
     /// To say whether a type is a later version of an older one.
     Grows {
@@ -153,6 +159,21 @@ fn notation(found: &ArgMatches<'_>, id: &str) -> Result<Codec, Untaken>
     }
 }
 
+/// Returns the notation that the argument names, or `None` where it isn't given.
+///
+/// # Errors
+///
+/// `Missing` where it is given and names none.
+fn any_notation(found: &ArgMatches<'_>, id: &str) -> Result<Option<Codec>, Untaken>
+    ensures named { IfOk result (MayHaveNotation (found_of found.now) id.now) }
+    ensures text { IfOk result (λ codec. IfSome codec IsTextNotation) }
+{
+    if found.contains_id(id) {
+        return Ok(Some(notation(found, id)?));
+    }
+    Ok(None)
+}
+
 /// Returns the notation of the text in this file: that of `--from`, or where there is none, that
 /// which the file's name tells.
 ///
@@ -194,7 +215,7 @@ fn conversion<'a>(alloc: Global, found: &ArgMatches<'a>) -> Result<Asked<'a>, Un
     })
 }
 
-/// Returns which type is to be shown.
+/// Returns which type is to be shown, and how.
 ///
 /// # Errors
 ///
@@ -206,6 +227,8 @@ fn showing<'a>(alloc: Global, found: &ArgMatches<'a>) -> Result<Asked<'a>, Untak
     Ok(Asked::Show {
         files: values(alloc, found, "modules")?,
         name: value(found, "type")?,
+        example: any_notation(found, "example")?,
+        full: found.get_flag("full"),
     })
 }
 

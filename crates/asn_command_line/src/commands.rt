@@ -117,10 +117,24 @@ fn showing<'a>(alloc: Global) -> Result<Command<'a>, AllocError> {
     let command = over_modules(
         alloc,
         "show",
-        "Shows a type with those that it names",
-        "Example:\n  asn show examples/ticket.asn -t Ticket",
+        "Shows a type with those that it names, or a value of it",
+        "Examples:\n  asn show examples/sensor.asn -t Report\n  \
+         asn show examples/sensor.asn -t Report --example avn --full",
     )?;
-    command.arg(type_name(alloc))
+    let example = notation(
+        alloc,
+        "example",
+        "Shows the smallest value of the type in this notation in place of the type",
+    );
+    let full = flag(
+        alloc,
+        "full",
+        "Shows a value with every part that may be absent, and one element in each list",
+    );
+    command
+        .arg(type_name(alloc))?
+        .arg(example)?
+        .arg(full.requires_arg("example")?)
 }
 
 /// Returns a command over an older and a newer file of modules.

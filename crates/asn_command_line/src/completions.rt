@@ -9,11 +9,12 @@ _asn() {
         words='convert check types show grows keep completions help --help --version'
     else
         case $before,${COMP_WORDS[1]},$word in
-            --from,*|--to,*) words='jer avn' ;;
+            --from,*|--to,*|--example,*) words='jer avn' ;;
             -t,*|--type,*) ;;
             *,completions,*) words='bash --help' ;;
             *,convert,-*) words='--module --type --from --to --lines --explain --help' ;;
-            *,show,-*|*,grows,-*) words='--type --help' ;;
+            *,show,-*) words='--type --example --full --help' ;;
+            *,grows,-*) words='--type --help' ;;
             *,keep,-*) words='--type --from --help' ;;
             *,-*) words='--help' ;;
             *)

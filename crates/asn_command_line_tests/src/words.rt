@@ -4,7 +4,7 @@ use std::alloc::Global;
 use std::test::Fail;
 
 /// Lists command lines and what they ask for.
-const ASKED: [(&str, &str); 16] = [
+const ASKED: [(&str, &str); 18] = [
     (
         "asn convert -m a.asn -m b.asn -t T --from jer --to avn --lines --explain --progress x",
         "Convert { modules: [\"a.asn\", \"b.asn\"], name: \"T\", from: Jer, to: Avn, lines: true, \
@@ -48,7 +48,15 @@ const ASKED: [(&str, &str); 16] = [
     ("asn types a b", "Types { files: [\"a\", \"b\"] }"),
     (
         "asn show a.asn b.asn -t T",
-        "Show { files: [\"a.asn\", \"b.asn\"], name: \"T\" }",
+        "Show { files: [\"a.asn\", \"b.asn\"], name: \"T\", example: None, full: false }",
+    ),
+    (
+        "asn show -t M.T --example avn a.asn",
+        "Show { files: [\"a.asn\"], name: \"M.T\", example: Some(Avn), full: false }",
+    ),
+    (
+        "asn show a.asn --full --type=T --example=jer",
+        "Show { files: [\"a.asn\"], name: \"T\", example: Some(Jer), full: true }",
     ),
     (
         "asn grows old.asn new.asn -t T",
@@ -70,7 +78,7 @@ const ASKED: [(&str, &str); 16] = [
 ];
 
 /// Lists command lines that ask for help or the version, and a part of the text.
-const HELPED: [(&str, &str); 11] = [
+const HELPED: [(&str, &str); 12] = [
     ("asn --help", "convert"),
     ("asn -h", "completions"),
     ("asn --version", "asn 0.1.0\n"),
@@ -81,7 +89,11 @@ const HELPED: [(&str, &str); 11] = [
     ),
     ("asn check --help", "Usage: asn check <FILE.asn>..."),
     ("asn types --help", "asn types examples/calls.asn"),
-    ("asn show --help", "asn show examples/ticket.asn -t Ticket"),
+    ("asn show --help", "asn show examples/sensor.asn -t Report\n"),
+    (
+        "asn show --help",
+        "asn show examples/sensor.asn -t Report --example avn --full",
+    ),
     (
         "asn grows --help",
         "asn grows examples/sensor-1.asn examples/sensor.asn -t Report",
@@ -94,7 +106,7 @@ const HELPED: [(&str, &str); 11] = [
 ];
 
 /// Lists command lines that are wrong, and a part of the text.
-const REFUSED: [(&str, &str); 18] = [
+const REFUSED: [(&str, &str); 21] = [
     ("asn", "Usage: asn <COMMAND>"),
     ("asn frob", "unrecognized subcommand 'frob'"),
     ("asn --frob", "unexpected argument '--frob' found"),
@@ -127,6 +139,9 @@ const REFUSED: [(&str, &str); 18] = [
         "give --from jer or --from avn",
     ),
     ("asn show a.asn", "--type <TYPE>"),
+    ("asn show -t T", "<FILE.asn>..."),
+    ("asn show a.asn -t T --example xml", "invalid value 'xml'"),
+    ("asn show a.asn -t T --full", "--example <NOTATION>"),
     ("asn grows old.asn -t T", "<NEW.asn>"),
     ("asn keep old.asn new.asn -t T", "--from <NOTATION>"),
     ("asn completions", "<SHELL>"),
@@ -178,8 +193,9 @@ fn mistakes_are_told(rt: HostRuntime) -> Result<(), Fail> {
 }
 
 /// Lists what the completions know.
-const COMPLETED: [&str; 4] = [
+const COMPLETED: [&str; 5] = [
     "convert check types show grows keep completions",
+    "--type --example --full",
     "--module --type --from --to --lines --explain",
     "jer avn",
     "compgen -f",

@@ -43,7 +43,12 @@ pub fn reply_to(rt: &HostRuntime, asked: &Asked<'_>) -> Status {
         }
         Asked::Check { files } => write(rt, checked(rt, files.as_slice())),
         Asked::Types { files } => write(rt, listed(rt, files.as_slice())),
-        Asked::Show { files, name } => write(rt, shown(rt, files.as_slice(), name)),
+        Asked::Show {
+            files,
+            name,
+            example,
+            full,
+        } => write(rt, shown(rt, files.as_slice(), name, *example, *full)),
         Asked::Grows { old, new, name } => write(rt, compared(rt, old, new, name)),
         Asked::Keep {
             old,

@@ -1,0 +1,4 @@
+pub mod Epochs
+pub mod Fitting
+pub mod Making
+pub mod Zeros

@@ -1,0 +1,15 @@
+-- What making examples is handed and returns, as definitions see it.
+use Rattle.std.specs.Prelude.{ℕ, List, Bool, true, false, Option, Some, None}
+use Rattle.asn_example_values.specs.declared.parts.Extent.{Extent}
+use Rattle.asn_example_values.specs.declared.parts.Extent.TheVariants.{Smallest, Full}
+use Rattle.asn_model.specs.Value.{Value}
+
+-- Everything is wanted.
+abbrev pub is_full : Extent → Bool
+is_full Smallest = false
+is_full Full = true
+
+-- The members, if all that have to be present are.
+abbrev pub members_made : Bool → List (List ℕ × Option Value) → Option (List (List ℕ × Option Value))
+members_made true ms = Some ms
+members_made false ms = None

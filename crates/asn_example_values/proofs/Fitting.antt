@@ -5,11 +5,11 @@ use Rattle.std.specs.List.{slice_get}
 use Rattle.std.specs.Fmt.{digits}
 use Rattle.std.specs.Str.{bytes_eq, chars, is_utf8}
 use Rattle.std.proofs.lemmas.Slice.Eq.{bytes_eq-Decides}
-use Rattle.asn_example_values.specs.Examples.{added_alternatives_example, added_item, added_members_example, alternatives_example, elements_example, example, fixed_zeros, item_at, joined, kept, leaf_example, member_example, members_example, nearest, number_example, number_within, or_else, place_of, with_member}
+use Rattle.asn_example_values.specs.Examples.{added_alternatives_example, added_item, added_members_example, alternatives_example, elements_example, example, item_at, joined, kept, leaf_example, member_example, members_example, nearest, number_example, or_else, place_of, with_member}
 use Rattle.asn_dynamic_values.specs.DynView.{members_named}
 use Rattle.asn_model.specs.Range.{is_between}
-use Rattle.asn_model.specs.Shape.{Shape, SeqKind, Fields, FieldAdditions, Alternatives, AlternativeAdditions, Alphabet, Plain, Presence, all_alternatives, all_fields, all_items, fill, fill_added_alternatives, fill_added_fields, fill_alternatives, fill_fields, is_item, join_alternatives, join_fields, unfold_loop}
-use Rattle.asn_model.specs.Value.{Fits, FitsAlternative, FitsEach, FitsFields, Slots, Value, Values, is_kept, is_leaf_of, is_same_size, keys_rise, may_lack, sort_values, values}
+use Rattle.asn_model.specs.Shape.{Shape, SeqKind, Fields, FieldAdditions, Alternatives, AlternativeAdditions, Alphabet, Plain, Presence, all_alternatives, all_fields, all_items, fill, fill_added_alternatives, fill_added_fields, fill_alternatives, fill_fields, is_item, join_alternatives, join_fields}
+use Rattle.asn_model.specs.Value.{Fits, FitsAlternative, FitsEach, FitsFields, Slots, Value, is_kept, is_leaf_of, is_same_size, keys_rise, may_lack, sort_values, values}
 use Rattle.asn_core.specs.declared.tag.Tag.{Tag}
 use Rattle.asn_model.specs.CharacterStrings.{is_string_of}
 use Rattle.asn_model.proofs.Nesting.{same_some}

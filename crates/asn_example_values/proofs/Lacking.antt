@@ -1,19 +1,18 @@
 -- A shape of which there is no example has no values.
-use Rattle.std.proofs.Common.{◌≡◌, refl, ap, sym, subst, ◌∙◌, arith, ℕ, zero, suc, ◌+◌, ◌-◌, ◌≤◌, ◌<◌, ℤ, pos, negsuc, ◌+ℤ◌, ◌≤ℤ◌, List, [], ◌∷◌, get_or, length, Bool, true, false, ◌&&◌, if◌then◌else◌, ◌⊎◌, inl, inr, Option, Some, None}
+use Rattle.std.proofs.Common.{◌≡◌, refl, ap, sym, subst, ◌∙◌, arith, ℕ, zero, suc, ◌+◌, ◌≤◌, ◌<◌, ℤ, pos, negsuc, ◌+ℤ◌, ◌≤ℤ◌, List, [], ◌∷◌, get_or, length, Bool, true, false, ◌&&◌, if◌then◌else◌, ◌⊎◌, inl, inr, Option, Some, None}
 use Rattle.std.proofs.Math.Path.{path_j, subst_refl}
 use Rattle.std.proofs.lemmas.Int.{ints}
 use Rattle.std.specs.Prelude.{option_map}
-use Rattle.std.specs.List.{slice_get}
 use Rattle.asn_core.specs.declared.tag.Tag.{Tag}
 use Rattle.asn_dynamic_values.specs.DynView.{members_named}
-use Rattle.asn_example_values.specs.Examples.{added_alternatives_example, added_item, added_members_example, alternatives_example, elements_example, example, item_at, joined, leaf_example, member_example, members_example, nearest, number_example, number_within, or_else, place_of, with_member}
+use Rattle.asn_example_values.specs.Examples.{added_alternatives_example, added_members_example, alternatives_example, example, item_at, joined, leaf_example, member_example, members_example, number_example, or_else, with_member}
 use Rattle.asn_model.specs.Range.{is_between}
-use Rattle.asn_model.specs.Readable.{all_field_names, are_added_alternatives_readable, are_added_fields_readable, are_alternatives_readable, are_distinguishable, are_fields_readable, are_identifiers, has_alternative, is_readable, suits, is_readable_in}
-use Rattle.asn_model.specs.Shape.{Shape, SeqKind, Fields, FieldAdditions, Alternatives, AlternativeAdditions, Presence, all_alternatives, all_fields, all_items, are_distinct, is_item, join_alternatives, join_fields}
+use Rattle.asn_model.specs.Readable.{all_field_names, are_added_alternatives_readable, are_added_fields_readable, are_alternatives_readable, are_distinguishable, are_fields_readable, are_identifiers, has_alternative, is_readable, suits}
+use Rattle.asn_model.specs.Shape.{Shape, SeqKind, Fields, FieldAdditions, Alternatives, AlternativeAdditions, Presence, all_alternatives, all_items, are_distinct, is_item, join_alternatives, join_fields}
 use Rattle.asn_model.specs.Value.{Fits, FitsAlternative, FitsFields, Slots, Value, is_leaf_of, may_lack}
 use Rattle.asn_model.proofs.Ranges.{between, inside}
 use Rattle.asn_model.proofs.Readables.{and-left, and-right}
-use Rattle.asn_within.specs.Closed.{AreReadable, IsPart, closed, closed_added_alternatives, closed_added_fields, closed_alternatives, closed_fields, closed_in}
+use Rattle.asn_within.specs.Closed.{AreReadable, IsPart, closed, closed_alternatives, closed_fields, closed_in}
 use Rattle.asn_within.proofs.Closing.{back-is, back-meant, body-closed, closed-none, part-body}
 
 -- There is something, and there is nothing.

@@ -34,14 +34,14 @@ pub record HasExample (s : Shape) (full : Bool) (notation : Codec) (reply : Repl
   pub fits : Fits s value
   pub text : IsExampleText notation value reply
 
--- The reply refuses a type whose shape has no example.
-pub record HasNoExample (s : Shape) (full : Bool) (name : List ℕ) (reply : Reply) : Type 0 where
-  pub none : example full false s ≡ None
+-- The reply refuses a type that has no values.
+pub record HasNoValues (s : Shape) (name : List ℕ) (reply : Reply) : Type 0 where
+  pub none : (v : Value) → Fits s v → ⊥
   pub told : IsRefusal Refused (valueless_line name) reply
 
--- The reply shows the example of the shape, or refuses the type of the name for that it has none.
+-- The reply shows the example of the shape, or refuses the type of the name since it has no values.
 abbrev pub IsExample : Shape → Bool → Codec → List ℕ → Reply → Type 0
-IsExample s full notation name reply = HasExample s full notation reply ⊎ HasNoExample s full name reply
+IsExample s full notation name reply = HasExample s full notation reply ⊎ HasNoValues s name reply
 
 -- The reply refuses the type since its shape is too large.
 abbrev pub IsLarge : Shape → List ℕ → Reply → Type 0

@@ -1,5 +1,5 @@
 -- The first moment of 1970 is the one from which times are counted.
-use Rattle.std.proofs.Common.{◌≡◌, ℕ, ap, arith, ℤ, pos, ◌-ℤ◌}
+use Rattle.std.proofs.Common.{◌≡◌, ap, arith, ℤ, pos, ◌-ℤ◌}
 use Rattle.std.specs.Prelude.{unsigned_abs}
 use Rattle.jiff.specs.Types.{Date, DateTime, Time}
 use Rattle.jiff.specs.Words.{IsHms, IsYmd, civil_nanos, civil_seconds, epoch_day}

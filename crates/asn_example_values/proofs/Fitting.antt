@@ -1,21 +1,20 @@
 -- Every example is a value of its shape.
-use Rattle.std.proofs.Common.{◌≡◌, refl, ap, sym, subst, ◌∙◌, arith, ℕ, zero, suc, ◌+◌, ◌-◌, ℤ, pos, negsuc, List, [], ◌∷◌, ◌++◌, length, Bool, true, false, not, ◌&&◌, if◌then◌else◌, nat_lt, Option, Some, None}
-use Rattle.std.specs.Prelude.{codes, int_lt, option_map}
+use Rattle.std.proofs.Common.{◌≡◌, refl, ap, sym, subst, ◌∙◌, ℕ, zero, suc, ◌+◌, ◌-◌, ℤ, pos, negsuc, ◌+ℤ◌, List, [], ◌∷◌, ◌++◌, length, Bool, true, false, if◌then◌else◌, Option, Some, None}
+use Rattle.std.specs.Prelude.{option_map}
 use Rattle.std.specs.List.{slice_get}
 use Rattle.std.specs.Fmt.{digits}
 use Rattle.std.specs.Str.{bytes_eq, chars, is_utf8}
 use Rattle.std.proofs.lemmas.Slice.Eq.{bytes_eq-Decides}
-use Rattle.asn_example_values.specs.Examples.{added_alternatives_example, added_item, added_members_example, alternatives_example, elements_example, example, fixed_zeros, item_at, joined, kept, leaf_example, member_example, members_example, nearest, or_else, place_of, up_to, with_member, zeros}
+use Rattle.asn_example_values.specs.Examples.{added_alternatives_example, added_item, added_members_example, alternatives_example, elements_example, example, item_at, joined, kept, leaf_example, member_example, members_example, nearest, number_example, or_else, place_of, with_member}
 use Rattle.asn_dynamic_values.specs.DynView.{members_named}
-use Rattle.asn_model.specs.Range.{at_most}
-use Rattle.asn_model.specs.Shape.{Shape, SeqKind, Fields, FieldAdditions, Alternatives, AlternativeAdditions, Alphabet, Plain, Presence, all_alternatives, all_fields, all_items, fill, fill_added_alternatives, fill_added_fields, fill_alternatives, fill_fields, is_item, join_alternatives, join_fields, unfold_loop}
-use Rattle.asn_model.specs.Value.{Fits, FitsAlternative, FitsEach, FitsFields, Slots, Value, Values, is_kept, is_leaf_of, is_same_size, keys_rise, may_lack, sort_values, values}
+use Rattle.asn_model.specs.Range.{is_between}
+use Rattle.asn_model.specs.Shape.{Shape, SeqKind, Fields, FieldAdditions, Alternatives, AlternativeAdditions, Alphabet, Plain, Presence, all_alternatives, all_fields, all_items, fill, fill_added_alternatives, fill_added_fields, fill_alternatives, fill_fields, is_item, join_alternatives, join_fields}
+use Rattle.asn_model.specs.Value.{Fits, FitsAlternative, FitsEach, FitsFields, Slots, Value, is_kept, is_leaf_of, is_same_size, keys_rise, may_lack, sort_values, values}
 use Rattle.asn_core.specs.declared.tag.Tag.{Tag}
 use Rattle.asn_model.specs.CharacterStrings.{is_string_of}
 use Rattle.asn_model.proofs.Nesting.{same_some}
-use Rattle.std.proofs.lemmas.Bool.{eq-eqb, le-ltb}
+use Rattle.std.proofs.lemmas.Bool.{eq-eqb}
 use Rattle.std.proofs.lemmas.List.{append-nil}
-use Rattle.asn_model.proofs.Readables.{and-both}
 
 -- There is nothing, and there is something.
 none : {A P : Type 0} {a : A} → ◌≡◌ {A = Option A} None (Some a) → P
@@ -105,14 +104,13 @@ fills-extended_alternatives : (alts : Alternatives) (ss : List (ℕ × Shape)) �
 fills-extended_alternatives alts [] = refl
 fills-extended_alternatives alts (p ∷ ss) = fills-extended_alternatives (fill_alternatives alts p.0 p.1) ss
 
--- A number that is at least the nearest one to 0 is at least the least one.
-above-least : (least : ℤ) (k : ℕ) → at_most least (pos (nearest least + k)) ≡ true
-above-least (pos m) k = ap not (le-ltb (m + k) m (omega arith))
-above-least (negsuc m) k = refl
+within-fits : (least greatest n : ℤ) (width : ℕ) (b : Bool) (v : Value) → is_between least greatest n ≡ b → ◌≡◌ {A = Option Value} (if b then Some (Value.int n) else None) (Some v) → is_leaf_of (Shape.int least greatest width) v ≡ true
+within-fits least greatest n width true v h e = subst (λ w. is_leaf_of (Shape.int least greatest width) w ≡ true) (same_some e) h
+within-fits least greatest n width false v h e = none e
 
-int-fits : (least greatest : ℤ) (width n : ℕ) (b : Bool) (v : Value) → at_most (pos n) greatest ≡ b → at_most least (pos n) ≡ true → ◌≡◌ {A = Option Value} (if b then Some (Value.int (pos n)) else None) (Some v) → is_leaf_of (Shape.int least greatest width) v ≡ true
-int-fits least greatest width n true v high low e = subst (λ w. is_leaf_of (Shape.int least greatest width) w ≡ true) (same_some e) (and-both _ _ low high)
-int-fits least greatest width n false v high low e = none e
+number-fits : (other : Bool) (least greatest : ℤ) (width : ℕ) (v : Value) → number_example other least greatest ≡ Some v → is_leaf_of (Shape.int least greatest width) v ≡ true
+number-fits other least (pos g) width v e = let n = pos (nearest least + place_of other) in within-fits least (pos g) n width (is_between least (pos g) n) v refl e
+number-fits other least (negsuc g) width v e = let n = negsuc g +ℤ pos (place_of other) in within-fits least (negsuc g) n width (is_between least (negsuc g) n) v refl e
 
 same_size : (m : Option ℕ) → is_same_size m m ≡ true
 same_size None = refl
@@ -182,9 +180,7 @@ leaf-fits : (s : Shape) (other : Bool) (v : Value) → leaf_example other s ≡ 
 unfolding digits
 leaf-fits Shape.null other v e = subst (λ w. is_leaf_of Shape.null w ≡ true) (same_some e) refl
 leaf-fits Shape.boolean other v e = subst (λ w. is_leaf_of Shape.boolean w ≡ true) (same_some e) refl
-leaf-fits (Shape.int least greatest width) other v e =
-    let n = nearest least + place_of other in
-    int-fits least greatest width n (at_most (pos n) greatest) v refl (above-least least (place_of other)) e
+leaf-fits (Shape.int least greatest width) other v e = number-fits other least greatest width v e
 leaf-fits (Shape.bits size) other v e = subst (λ w. is_leaf_of (Shape.bits size) w ≡ true) (same_some e) (same_size size)
 leaf-fits Shape.octets other v e = subst (λ w. is_leaf_of Shape.octets w ≡ true) (same_some e) refl
 leaf-fits Shape.any other v e = subst (λ w. is_leaf_of Shape.any w ≡ true) (same_some e) refl

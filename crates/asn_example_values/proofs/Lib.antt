@@ -1,4 +1,6 @@
 pub mod Epochs
 pub mod Fitting
+pub mod Lacking
 pub mod Making
+pub mod Values
 pub mod Zeros

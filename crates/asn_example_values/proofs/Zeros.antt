@@ -1,5 +1,5 @@
 -- How many bits there are.
-use Rattle.std.proofs.Common.{◌≡◌, refl, ap, ◌∙◌, arith, ℕ, zero, suc, ◌+◌, [], ◌∷◌, length, false}
+use Rattle.std.proofs.Common.{◌≡◌, refl, arith, ℕ, zero, suc, [], ◌∷◌, length, false}
 use Rattle.std.proofs.lemmas.List.{length-append}
 use Rattle.asn_example_values.specs.Examples.{zeros}
 

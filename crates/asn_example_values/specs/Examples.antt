@@ -1,9 +1,9 @@
 -- Examples of values: a small one of each shape, or one with every part that may be absent.
-use Rattle.std.specs.Prelude.{ℕ, zero, suc, ◌+◌, ◌-◌, ℤ, pos, List, [], ◌∷◌, ◌++◌, codes, length, Bool, true, false, if◌then◌else◌, Option, Some, None, option_map}
+use Rattle.std.specs.Prelude.{ℕ, zero, suc, ◌+◌, ◌-◌, ℤ, pos, negsuc, ◌+ℤ◌, List, [], ◌∷◌, ◌++◌, codes, length, Bool, true, false, if◌then◌else◌, Option, Some, None, option_map}
 use Rattle.std.specs.List.{slice_get}
 use Rattle.asn_core.specs.Numbers.{is_negative, magnitude}
 use Rattle.asn_dynamic_values.specs.DynView.{members_named}
-use Rattle.asn_model.specs.Range.{at_most}
+use Rattle.asn_model.specs.Range.{is_between}
 use Rattle.asn_model.specs.Shape.{Shape, Fields, FieldAdditions, Alternatives, AlternativeAdditions, Presence}
 use Rattle.asn_model.specs.Value.{Value, is_kept, may_lack, values}
 
@@ -11,9 +11,18 @@ use Rattle.asn_model.specs.Value.{Value, is_kept, may_lack, values}
 abbrev pub nearest : ℤ → ℕ
 nearest least = if is_negative least then 0 else magnitude least
 
--- The number as a value, unless it is above the greatest one.
-abbrev pub up_to : ℤ → ℕ → Option Value
-up_to greatest n = if at_most (pos n) greatest then Some (Value.int (pos n)) else None
+-- The place of the first item, or of the other one.
+abbrev pub place_of : Bool → ℕ
+place_of other = if other then 1 else 0
+
+-- The number as a value, if it is from the least to the greatest one.
+abbrev pub number_within : ℤ → ℤ → ℤ → Option Value
+number_within least greatest n = if is_between least greatest n then Some (Value.int n) else None
+
+-- The number from the least to the greatest one that is nearest to 0, or the next one above it.
+abbrev pub number_example : Bool → ℤ → ℤ → Option Value
+number_example other least (pos g) = number_within least (pos g) (pos (nearest least + place_of other))
+number_example other least (negsuc g) = number_within least (negsuc g) (negsuc g +ℤ pos (place_of other))
 
 -- So many bits that are 0.
 abbrev pub zeros : ℕ → List Bool
@@ -39,15 +48,11 @@ added_item (Some added) place = slice_get added place
 abbrev pub item_at : List (List ℕ) → Option (List (List ℕ)) → ℕ → Option (List ℕ)
 item_at items added place = or_else (slice_get items place) (added_item added (place - length items))
 
--- The place of the first item, or of the other one.
-abbrev pub place_of : Bool → ℕ
-place_of other = if other then 1 else 0
-
--- A value of a shape whose values have no parts: 0 or the least number above it, FALSE, bits that are 0, nothing in a string, the first item, 0.0 of OBJECT IDENTIFIER and the beginning of 1970. The other one of INTEGER is the next number; of BOOLEAN it is TRUE, of ENUMERATED the second item, and the digit 0 of strings.
+-- A value of a shape whose values have no parts: the number nearest to 0, FALSE, bits that are 0, nothing in a string, the first item, 0.0 of OBJECT IDENTIFIER and the beginning of 1970. The other one of INTEGER is the next number; of BOOLEAN it is TRUE, of ENUMERATED the second item, and the digit 0 of strings.
 abbrev pub leaf_example : Bool → Shape → Option Value
 leaf_example other Shape.null = Some Value.null
 leaf_example other Shape.boolean = Some (Value.boolean other)
-leaf_example other (Shape.int least greatest width) = up_to greatest (nearest least + place_of other)
+leaf_example other (Shape.int least greatest width) = number_example other least greatest
 leaf_example other (Shape.bits size) = Some (Value.bits (fixed_zeros size) size)
 leaf_example other Shape.octets = Some (Value.octets [])
 leaf_example other Shape.any = Some (Value.octets [])

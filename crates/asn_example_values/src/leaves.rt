@@ -1,9 +1,9 @@
 //! Makes values of types whose values have no parts.
 ghost use Rattle.asn_dynamic_values.specs.DynView.{dyn_value};
 ghost use Rattle.asn_example_values.specs.Examples.{fixed_zeros, item_at, leaf_example, nearest};
-ghost use Rattle.asn_example_values.specs.Examples.{place_of, up_to, zeros};
+ghost use Rattle.asn_example_values.specs.Examples.{number_example, place_of, zeros};
 ghost use Rattle.asn_model.specs.ShapeView.{shape_view};
-ghost use Rattle.std.specs.Prelude.{◌≡◌, ◌<◌, ◌+◌, ◌^◌, ◌∷◌, [], IfOk, if◌then◌else◌, map};
+ghost use Rattle.std.specs.Prelude.{◌≡◌, ◌<◌, ◌^◌, ◌∷◌, [], IfOk, if◌then◌else◌, map};
 ghost use Rattle.std.specs.Prelude.{option_map, pos, string_bytes};
 
 use crate::epoch::epoch;
@@ -36,7 +36,7 @@ fn place_of(other: bool) -> usize
 /// Returns the number 0 or the least one above it, or the next one, or `None` where that is above
 /// the greatest one.
 fn number(least: i128, greatest: u128, other: bool) -> Option<DynValue>
-    ensures { option_map dyn_value result ≡ up_to (pos greatest) (nearest least + place_of other) }
+    ensures { option_map dyn_value result ≡ number_example other least (pos greatest) }
 {
     let magnitude = nearest(least) + place_of(other) as u128;
     if magnitude > greatest {

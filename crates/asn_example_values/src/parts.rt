@@ -3,13 +3,14 @@ ghost use Rattle.asn_dynamic_values.specs.DynView.{dyn_value, named_value};
 ghost use Rattle.asn_example_values.specs.Examples.{alternatives_example, elements_example};
 ghost use Rattle.asn_example_values.specs.Examples.{example, joined, kept, member_example};
 ghost use Rattle.asn_example_values.specs.Examples.{members_example};
-ghost use Rattle.asn_example_values.specs.Made.{is_full, members_made};
+ghost use Rattle.asn_example_values.specs.Made.{is_full, is_lacking, members_made};
 ghost use Rattle.asn_model.specs.Enclosing.{entries_of};
+ghost use Rattle.asn_model.specs.Readable.{is_readable};
 ghost use Rattle.asn_model.specs.Shape.{Presence};
 ghost use Rattle.asn_model.specs.ShapeView.{alternative_views, field_views, plain_view};
 ghost use Rattle.asn_model.specs.ShapeView.{presence_view, shape_view};
-ghost use Rattle.asn_model.specs.Value.{Fits};
-ghost use Rattle.std.specs.Prelude.{◌≡◌, IfOk, IfSome, Some, false, map, option_map};
+ghost use Rattle.asn_model.specs.Value.{Fits, Value};
+ghost use Rattle.std.specs.Prelude.{◌≡◌, IfOk, IfSome, IsNone, Some, false, map, option_map, true};
 
 use crate::leaves::leaf_value;
 use asn_core::OutOfMemory;
@@ -46,11 +47,12 @@ pub fn example(
     // So each example is a value of its shape.
     ensures fits { IfOk result (λ v.
         IfSome v (λ v. Fits (shape_view shape.now) (dyn_value v))) }
+    // A shape without one has no values.
+    ensures none { is_readable (shape_view shape.now) ≡ true
+        → IfOk result (λ v. IsNone v → (w : Value) → Fits (shape_view shape.now) w → ⊥) }
 {
-    match extent {
-        Extent::Smallest => value_of(alloc, false, false, shape),
-        Extent::Full => value_of(alloc, true, false, shape),
-    }
+    let full = matches!(extent, Extent::Full);
+    value_of(alloc, full, false, shape)
 }
 
 /// Returns the extension additions, and none where there is no extension marker.
@@ -171,6 +173,17 @@ fn member(
     }
 }
 
+/// Returns whether the component has to be present and has no value.
+fn is_lacking(presence: &PresenceShape, value: &Option<DynValue>) -> bool
+    ensures { result
+        ≡ is_lacking (presence_view presence.now) (option_map dyn_value value.now) }
+{
+    match presence {
+        PresenceShape::Required => value.is_none(),
+        _ => false,
+    }
+}
+
 /// Adds the names and values of components to members. Returns `false` where one of them has to be
 /// present and has no value.
 ///
@@ -190,7 +203,7 @@ fn add_members(
 {
     for field in fields {
         let value = member(alloc, full, &field.presence, &field.shape)?;
-        if value.is_none() && matches!(&field.presence, PresenceShape::Required) {
+        if is_lacking(&field.presence, &value) {
             return Ok(false);
         }
         let name = field.name.clone()?;

@@ -15,7 +15,7 @@ use Rattle.asn_model.specs.Shape.{Shape}
 use Rattle.asn_replies.specs.declared.reply.Reply.{Reply}
 use Rattle.asn_replies.specs.declared.reply.Reply.TheVariants.{Answer, Refusal}
 use Rattle.asn_replies.specs.declared.status.Status.TheVariants.{Refused}
-use Rattle.asn_value_refusals.specs.Lines.{IsRefusalLines, origin_text}
+use Rattle.asn_value_refusals.specs.Lines.{IsRefusalLines, line_origin, not_text_line, origin_text}
 use Rattle.asn_value_refusals.specs.declared.origin.Origin.{Origin}
 
 -- The bytes are the canonical text of the value that the text decodes to by the shape, and a line feed.
@@ -44,14 +44,6 @@ IsConversion from to s o explain text (Refusal status lines) = (status ≡ Refus
 -- A file, whole.
 abbrev pub file_origin : Bor (List ℕ) → Origin
 file_origin file = record { file = file; line = None }
-
--- A line of the file, of this number.
-abbrev pub line_origin : Bor (List ℕ) → ℕ → Origin
-line_origin file number = record { file = file; line = Some number }
-
--- The line that says that a text of this origin isn't UTF-8.
-abbrev pub not_text_line : Origin → List ℕ
-not_text_line o = origin_text o ++ codes ": isn't UTF-8\n"
 
 -- The line that says that a value of this origin has no text on one line.
 abbrev pub no_line_line : Origin → List ℕ

@@ -3,5 +3,4 @@ pub mod Conversions
 pub mod Whole
 pub mod Readings
 pub mod Listings
-pub mod Namings
 pub mod Streams

@@ -1,12 +1,12 @@
 //! Converts a text by a type.
-ghost use Rattle.asn_command.specs.Conversions.{IsConversion, IsConverted, not_text_line};
+ghost use Rattle.asn_command.specs.Conversions.{IsConversion, IsConverted};
 ghost use Rattle.asn_model.specs.Readable.{is_readable};
-ghost use Rattle.std.specs.Prelude.{◌≡◌, ◌∷◌, ◌++◌, [], IfOk, string_bytes, true};
+ghost use Rattle.std.specs.Prelude.{◌≡◌, [], IfOk, true};
 
 use asn_core::{Codec, OutOfMemory};
 use asn_dynamic::{Part, convert_part};
-use asn_replies::Reply;
-use asn_value_refusals::{Origin, origin_of, refusal_lines};
+use asn_replies::{Reply, with_feed};
+use asn_value_refusals::{Origin, refusal_lines};
 use std::alloc::Global;
 
 /// States how texts are converted: by a type, from one notation to another.
@@ -20,31 +20,6 @@ pub struct Conversion<P: Part> {
     pub to: Codec,
     /// States whether a refusal shows the place at which a text is at fault.
     pub explain: bool,
-}
-
-/// Returns the text with a line feed behind it.
-///
-/// # Errors
-///
-/// `OutOfMemory` alone.
-pub fn with_feed(text: String) -> Result<String, OutOfMemory>
-    ensures { IfOk result (λ s. string_bytes s ≡ string_bytes text ++ 10 ∷ []) }
-{
-    let mut line = text;
-    line.push('\n')?;
-    Ok(line)
-}
-
-/// Returns the line that says that a text of this origin isn't UTF-8.
-///
-/// # Errors
-///
-/// `OutOfMemory` alone.
-pub fn not_text_line(alloc: Global, origin: Origin<'_>) -> Result<String, OutOfMemory>
-    ensures { IfOk result (λ s. string_bytes s ≡ not_text_line origin.entry) }
-{
-    let front = origin_of(alloc, origin)?;
-    Ok(format!(in alloc; "{front}: isn't UTF-8\n")?)
 }
 
 /// Returns the canonical text of the value that the text of this origin stands for, or the lines

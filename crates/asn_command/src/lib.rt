@@ -7,7 +7,6 @@ mod checking;
 mod conversion;
 mod lines;
 mod listing;
-mod naming;
 mod one_line;
 mod reading;
 mod reports;
@@ -15,9 +14,8 @@ mod running;
 mod types;
 mod whole;
 
-pub use conversion::{Conversion, conversion_reply, not_text_line, with_feed};
+pub use conversion::{Conversion, conversion_reply};
 pub use lines::ConvertLines;
-pub use naming::missing_reply;
 pub use reading::types_of;
 pub use reports::{check_reply, types_reply};
 pub use running::answer_lines;

@@ -5,12 +5,13 @@ ghost use Rattle.asn_core.specs.declared.codec.Codec.TheVariants as codec;
 ghost use Rattle.asn_model.specs.Readable.{is_readable};
 ghost use Rattle.std.specs.Prelude.{◌≡◌, [], IfOk, string_bytes, true};
 
-use crate::conversion::{Conversion, converted, not_text_line, with_feed};
+use crate::conversion::{Conversion, converted};
 use crate::one_line::one_line;
 use asn_core::{Codec, OutOfMemory};
 use asn_dynamic::{Part, convert_part};
 use asn_lines::{LineReply, LineWork};
-use asn_value_refusals::{Origin, origin_of};
+use asn_replies::with_feed;
+use asn_value_refusals::{Origin, not_text_line, origin_of};
 use std::alloc::Global;
 
 /// Converts lines of a stream, each a text of a value.

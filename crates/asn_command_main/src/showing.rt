@@ -1,8 +1,8 @@
 //! Does the command that shows a type, or a value of it.
 use crate::files::{Ended, modules_of};
-use asn_command::missing_reply;
 use asn_command_show::{Extent, example_reply, show_reply};
 use asn_core::Codec;
+use asn_replies::missing_reply;
 
 /// Returns what showing the type of the name in the files comes to: the type with those that it
 /// names, or where a notation is given a value of it, with every part that may be absent or none.

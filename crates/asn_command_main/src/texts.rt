@@ -1,10 +1,10 @@
 //! Does the commands that read texts of values: finds the type, and works the file through.
 use crate::files::{Ended, modules_of};
 use crate::streams::{Stream, convert, work_through, write};
-use asn_command::{Conversion, missing_reply};
+use asn_command::Conversion;
 use asn_command_versions::{KeepLines, Versions, versions_of};
 use asn_core::{Codec, OutOfMemory};
-use asn_replies::Status;
+use asn_replies::{Status, missing_reply};
 use asn_samples::shape_of;
 
 /// States how values are converted, aside from their type.

@@ -1,7 +1,7 @@
 //! Reports on modules.
-use asn_command::{check_reply, missing_reply, types_reply};
+use asn_command::{check_reply, types_reply};
 use asn_core::OutOfMemory;
-use asn_replies::{Reply, Status};
+use asn_replies::{Reply, Status, missing_reply};
 use std::alloc::Global;
 use std::test::Fail;
 

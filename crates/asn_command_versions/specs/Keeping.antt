@@ -1,14 +1,13 @@
 -- What lines of a newer version of a type are cut to.
 use Rattle.std.specs.Prelude.{◌≡◌, ◌⊎◌, ℕ, List, [], ◌∷◌, ◌++◌, string_bytes, IsUtf8, false}
 use Rattle.std.specs.Borrow.{Bor}
-use Rattle.asn_command.specs.Conversions.{line_origin, not_text_line}
 use Rattle.asn_core.specs.declared.codec.Codec.{Codec}
 use Rattle.asn_dynamic.specs.declared.conversion.ConvertError.{ConvertError}
 use Rattle.asn_filter.specs.Kept.{IsKept, IsRefused}
 use Rattle.asn_lines.specs.declared.work.LineReply.{LineReply}
 use Rattle.asn_lines.specs.declared.work.LineReply.TheVariants as line
 use Rattle.asn_model.specs.Shape.{Shape}
-use Rattle.asn_value_refusals.specs.Lines.{IsRefusalLines}
+use Rattle.asn_value_refusals.specs.Lines.{IsRefusalLines, line_origin, not_text_line}
 use Rattle.asn_value_refusals.specs.declared.origin.Origin.{Origin}
 
 -- The line is UTF-8, and this is the JSON text of what the older version knows of its value, with a line feed behind it.

@@ -1,6 +1,5 @@
 -- Older and newer versions of a type of modules.
 use Rattle.std.specs.Prelude.{◌≡◌, ◌⊎◌, ℕ, ◌<◌, ◌^◌, List, ◌++◌, codes, string_bytes, true, Some, None, Result, Ok, Err}
-use Rattle.asn_command.specs.Namings.{IsMissingReply}
 use Rattle.asn_command_versions.specs.declared.pair.Versions as code
 use Rattle.asn_growth.specs.Differences.{differences_of}
 use Rattle.asn_growth.specs.Grows.{Grows}
@@ -12,6 +11,7 @@ use Rattle.asn_model.specs.Shape as spec
 use Rattle.asn_model.specs.ShapeView.{shape_view}
 use Rattle.asn_model.specs.declared.shape_type.Shape.{Shape}
 use Rattle.asn_modules.specs.Modules.{Modules, shape_named}
+use Rattle.asn_replies.specs.Namings.{IsMissingReply}
 use Rattle.asn_replies.specs.Reading.{IsRefusal}
 use Rattle.asn_replies.specs.declared.reply.Reply.{Reply}
 use Rattle.asn_replies.specs.declared.reply.Reply.TheVariants.{Answer, Refusal}

@@ -4,11 +4,11 @@ ghost use Rattle.asn_model.specs.ShapeView.{shape_view};
 ghost use Rattle.std.specs.Prelude.{◌≡◌, IfOk};
 
 use crate::pair::Versions;
-use asn_command::{not_text_line, with_feed};
 use asn_core::{Codec, OutOfMemory};
 use asn_filter::cut;
 use asn_lines::{LineReply, LineWork};
-use asn_value_refusals::{Origin, refusal_lines};
+use asn_replies::with_feed;
+use asn_value_refusals::{Origin, not_text_line, refusal_lines};
 use std::alloc::Global;
 
 /// Cuts lines of a stream, each a text of the newer version of a type.

@@ -6,13 +6,12 @@ ghost use Rattle.asn_replies.specs.declared.status.Status.TheVariants as status;
 ghost use Rattle.std.specs.Prelude.{IfOk};
 
 use crate::pair::Versions;
-use asn_command::missing_reply;
 use asn_core::OutOfMemory;
 use asn_growth::{Growth, grows_check};
 use asn_linked_expansion::{ExpansionFault, expand};
 use asn_model::Shape;
 use asn_modules::Modules;
-use asn_replies::{Reply, Status};
+use asn_replies::{Reply, Status, missing_reply};
 use asn_version_reports::differences_report;
 use std::alloc::Global;
 

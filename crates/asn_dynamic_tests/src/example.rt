@@ -1,8 +1,10 @@
 //! Shows a type that a program holds as data, as docs/TYPES-AS-DATA.md does.
+use crate::checks::{MEMORY, UNREADABLE, assert_printed, assert_true, let_go, refusal};
 use asn_core::{Codec, OutOfMemory, Tag, WholeNumber};
-use asn_dynamic::{DynValue, Step, fits, read, write};
+use asn_dynamic::{DynError, DynValue, Step, fits, read, write};
 use asn_model::{FieldShape, PresenceShape, SeqKind, Shape, is_readable};
 use std::alloc::Global;
+use std::process::Abort;
 use std::test::Fail;
 
 /// Returns INTEGER (0..255).
@@ -78,25 +80,27 @@ fn leads_to_the_first_part(path: &[Step]) -> bool {
     }
 }
 
+/// Checks that the error has the path to the first part, and prints this text.
+fn assert_at_the_first_part(rt: &impl Abort, alloc: Global, error: DynError, want: &str) {
+    assert_true(rt, leads_to_the_first_part(error.path.as_slice()));
+    assert_printed(rt, alloc, error, want);
+}
+
 /// A refusal has the path to what is refused.
 #[test]
-fn refuses_with_the_path(rt: HostRuntime) -> Result<(), Fail> {
+fn refuses_with_the_path(rt: HostRuntime) {
     let alloc = rt.alloc();
-    let shape = report(alloc)?;
-    if is_readable(&shape) {
-        match read(alloc, Codec::Jer, &shape, r#"{"id":7,"parts":[300]}"#) {
-            Ok(_value) => assert!(rt; false, "a value"),
-            Err(error) => {
-                let path = error.path.as_slice();
-                assert!(rt; leads_to_the_first_part(path));
-                let text = format!(in alloc; "{error}")?;
-                assert_eq!(rt;
-                    text.as_str(),
-                    "Error when decoding field `parts`: Actual integer larger than expected 8 bits \
-                     (Codec: JER) (Codec: JER)"
-                );
-            }
-        }
+    let shape = report(alloc).expect(&rt, MEMORY);
+    if !is_readable(&shape) {
+        rt.panic(UNREADABLE)
     }
-    Ok(())
+    let answer = read(alloc, Codec::Jer, &shape, r#"{"id":7,"parts":[300]}"#);
+    let_go(shape);
+    assert_at_the_first_part(
+        &rt,
+        alloc,
+        refusal(&rt, answer),
+        "Error when decoding field `parts`: Actual integer larger than expected 8 bits \
+         (Codec: JER) (Codec: JER)",
+    );
 }

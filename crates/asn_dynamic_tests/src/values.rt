@@ -1,12 +1,12 @@
 //! Texts read and written by shapes, and calls that are refused.
+use crate::checks::{UNREADABLE, assert_given, assert_true, let_go, refusal};
 use asn_core::{Codec, WholeNumber};
-use asn_dynamic::{DynKind, DynValue, convert, fits, read};
+use asn_dynamic::{DynError, DynKind, DynValue, convert, fits, read};
 use asn_fault::DecodeErrorKind;
 use asn_model::{Shape, is_readable};
 use asn_samples::shape_of;
 use std::alloc::Global;
 use std::process::Abort;
-use std::test::Fail;
 
 /// Lists conversions: the type, the notations, the text, and what is written.
 const ROWS: [(&str, Codec, Codec, &str, &str); 4] = [
@@ -41,61 +41,63 @@ const ROWS: [(&str, Codec, Codec, &str, &str); 4] = [
 ];
 
 /// Converts a text by the shape of a sample, and compares what is written.
-fn converts(
-    rt: &impl Abort,
-    alloc: Global,
-    row: (&str, Codec, Codec, &str, &str),
-) -> Result<(), Fail> {
-    let (name, from, to, text, expected) = row;
-    match shape_of(alloc, name)? {
-        Some(shape) => {
-            let written = convert(alloc, from, to, &shape, text)?;
-            assert_eq!(rt; written.as_str(), expected);
+fn assert_converted(rt: &impl Abort, alloc: Global, row: &(&str, Codec, Codec, &str, &str)) {
+    match shape_of(alloc, row.0) {
+        Ok(Some(shape)) => {
+            let written = convert(alloc, row.1, row.2, &shape, row.3);
+            let_go(shape);
+            assert_given(rt, written, row.4);
         }
-        None => assert!(rt; false, "{name}"),
+        _ => rt.panic(row.0),
     }
-    Ok(())
 }
 
 /// Texts are written in canonical form, and what an older type lacks is left out.
 #[test]
-fn converts_by_a_shape(rt: HostRuntime) -> Result<(), Fail> {
+fn converts_by_a_shape(rt: HostRuntime) {
     for row in ROWS.iter() {
-        converts(&rt, rt.alloc(), *row)?;
+        assert_converted(&rt, rt.alloc(), row);
     }
-    Ok(())
+}
+
+/// Returns whether the kind of the error is `Custom`.
+fn is_custom(error: DynError) -> bool {
+    let is_found = matches!(error.kind, DynKind::Other(DecodeErrorKind::Custom { .. }));
+    let_go(error);
+    is_found
 }
 
 /// A codec that is no text notation is refused before the text is looked at.
 #[test]
-fn no_text_notation(rt: HostRuntime) -> Result<(), Fail> {
+fn no_text_notation(rt: HostRuntime) {
     let shape = Shape::Bool;
-    if is_readable(&shape) {
-        match read(rt.alloc(), Codec::Ber, &shape, "1") {
-            Ok(_value) => assert!(rt; false, "a value"),
-            Err(error) => {
-                let is_custom = matches!(
-                    error.kind,
-                    DynKind::Other(DecodeErrorKind::Custom { .. })
-                );
-                assert!(rt; is_custom);
-            }
-        }
+    if !is_readable(&shape) {
+        rt.panic(UNREADABLE)
     }
-    Ok(())
+    let answer = read(rt.alloc(), Codec::Ber, &shape, "1");
+    let_go(shape);
+    assert_true(&rt, is_custom(refusal(&rt, answer)));
+}
+
+/// Returns whether the value is one of BOOLEAN.
+fn is_truth(rt: &impl Abort, value: DynValue) -> bool {
+    let shape = Shape::Bool;
+    if !is_readable(&shape) {
+        rt.panic(UNREADABLE)
+    }
+    let is_found = fits(&shape, &value);
+    let_go(shape);
+    let_go(value);
+    is_found
 }
 
 /// A number is no truth value.
 #[test]
-fn a_value_of_another_type(rt: HostRuntime) -> Result<(), Fail> {
-    let shape = Shape::Bool;
+fn a_value_of_another_type(rt: HostRuntime) {
     let one = DynValue::Int(WholeNumber {
         negative: false,
         magnitude: 1,
     });
-    if is_readable(&shape) {
-        assert!(rt; !fits(&shape, &one));
-        assert!(rt; fits(&shape, &DynValue::Bool(true)));
-    }
-    Ok(())
+    assert_true(&rt, !is_truth(&rt, one));
+    assert_true(&rt, is_truth(&rt, DynValue::Bool(true)));
 }

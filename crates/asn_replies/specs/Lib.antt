@@ -1,3 +1,4 @@
 pub mod Status
 pub mod Delivered
 pub mod Reading
+pub mod Namings

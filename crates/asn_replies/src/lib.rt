@@ -4,11 +4,15 @@
 #![tactic(auto)]
 
 mod delivery;
+mod feed;
+mod naming;
 mod read;
 mod reply;
 mod status;
 
 pub use delivery::deliver;
+pub use feed::with_feed;
+pub use naming::missing_reply;
 pub use read::{Unread, read_text, unread_reply};
 pub use reply::Reply;
 pub use status::Status;

@@ -9,6 +9,8 @@ mod additions;
 #[cfg(test)]
 mod bits;
 #[cfg(test)]
+mod checks;
+#[cfg(test)]
 mod cut_texts;
 #[cfg(test)]
 mod document_texts;

@@ -1,5 +1,6 @@
 -- The lines that say why a text isn't converted.
 use Rattle.std.specs.Prelude.{◌≡◌, ℕ, List, [], ◌∷◌, ◌++◌, Bool, true, false, if◌then◌else◌, chars, codes, decimal, encode_utf8_all, is_some, map, not, take, string_bytes, MatchBool, Option, Some, None}
+use Rattle.std.specs.Borrow.{Bor}
 use Rattle.std.specs.Char.{is_control}
 use Rattle.std.specs.List.{flat_map}
 use Rattle.asn_dynamic.specs.declared.conversion.ConvertError.{ConvertError}
@@ -42,6 +43,14 @@ reason_text (Write e) = encode_kind_text e.kind
 -- What a text comes from: the file, and the number of the line behind it in a stream of lines.
 abbrev pub origin_text : Origin → List ℕ
 origin_text o = o.file.now ++ line_text o.line
+
+-- A line of the file, of this number.
+abbrev pub line_origin : Bor (List ℕ) → ℕ → Origin
+line_origin file number = record { file = file; line = Some number }
+
+-- The line that says that a text of this origin isn't UTF-8.
+abbrev pub not_text_line : Origin → List ℕ
+not_text_line o = origin_text o ++ codes ": isn't UTF-8\n"
 
 -- A character as it is shown: a blank in place of one that controls a terminal, a line feed among them.
 abbrev pub visible : ℕ → ℕ

@@ -10,13 +10,14 @@ use serde_json::Value;
 use serde_json::error::Category;
 use std::alloc::Global;
 
-/// Returns the offset of a line and a byte in it, both counted from 1.
+/// Returns the offset of a line and a byte in it, both counted from 1, or that of the character of
+/// which the byte is a part.
 fn offset_of(text: &str, line: usize, column: usize) -> usize {
     let mut begin: usize = 0;
     for (number, each) in text.split('\n').enumerate() {
         if number + 1 == line {
             let within = column.saturating_sub(1).min(each.len());
-            return begin.saturating_add(within);
+            return begin.saturating_add(each.floor_char_boundary(within));
         }
         begin = begin.saturating_add(each.len()).saturating_add(1);
     }

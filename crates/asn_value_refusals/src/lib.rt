@@ -8,4 +8,4 @@ mod origin;
 mod shown;
 
 pub use lines::refusal_lines;
-pub use origin::{Origin, origin_of};
+pub use origin::{Origin, not_text_line, origin_of};

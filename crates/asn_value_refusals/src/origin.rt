@@ -1,5 +1,5 @@
 //! Says what a text comes from.
-ghost use Rattle.asn_value_refusals.specs.Lines.{origin_text};
+ghost use Rattle.asn_value_refusals.specs.Lines.{not_text_line, origin_text};
 ghost use Rattle.std.specs.Prelude.{◌≡◌, IfOk, string_bytes};
 
 use asn_core::OutOfMemory;
@@ -28,4 +28,16 @@ pub fn origin_of(alloc: Global, origin: Origin<'_>) -> Result<String, OutOfMemor
         Some(line) => Ok(format!(in alloc; "{file}:{line}")?),
         None => Ok(String::from_str(alloc, file)?),
     }
+}
+
+/// Returns the line that says that a text of this origin isn't UTF-8.
+///
+/// # Errors
+///
+/// `OutOfMemory` alone.
+pub fn not_text_line(alloc: Global, origin: Origin<'_>) -> Result<String, OutOfMemory>
+    ensures { IfOk result (λ s. string_bytes s ≡ not_text_line origin.entry) }
+{
+    let front = origin_of(alloc, origin)?;
+    Ok(format!(in alloc; "{front}: isn't UTF-8\n")?)
 }

@@ -1,9 +1,9 @@
 //! Says that a type isn't found.
-ghost use Rattle.asn_command.specs.Namings.{IsMissingReply};
+ghost use Rattle.asn_replies.specs.Namings.{IsMissingReply};
 ghost use Rattle.std.specs.Prelude.{IfOk};
 
+use crate::reply::Reply;
 use asn_core::OutOfMemory;
-use asn_replies::Reply;
 use std::alloc::Global;
 
 /// Returns the refusal of a command whose type isn't found: no type has the name, or more than one.

@@ -17,7 +17,7 @@ use asn_example_values::{Extent, example};
 use asn_linked_expansion::{ExpansionFault, expand};
 use asn_model::Shape;
 use asn_modules::Modules;
-use asn_replies::Reply;
+use asn_replies::{Reply, with_feed};
 use std::alloc::Global;
 
 /// Returns the refusal of a command whose type is too large for an example.
@@ -61,11 +61,7 @@ fn text_reply(
     ensures { IfOk result (IsExampleText notation (dyn_value value.now)) }
 {
     match write(alloc, notation, shape, value) {
-        Ok(text) => {
-            let mut text = text;
-            text.push('\n')?;
-            Ok(Reply::Answer(text))
-        }
+        Ok(text) => Ok(Reply::Answer(with_feed(text)?)),
         Err(error) => {
             if error.is_out_of_memory() {
                 return Err(OutOfMemory);

@@ -2,7 +2,7 @@
 //! errors are those of the crate `rasn`, but for `no binary rules`, which is the library's own.
 ghost use Rattle.std.specs.Prelude.{⊤};
 
-use crate::checks::assert_refused;
+use crate::checks::{assert_refused, assert_same, assert_true};
 use asn_base::Codec;
 use asn_codec::{BinaryRules, CodecCalls, NoRules};
 use asn_fault::{DecodeError, EncodeError};
@@ -10,7 +10,6 @@ use asn_traits::{Decode, Encode};
 use jer_rules::jer;
 use std::alloc::Global;
 use std::process::Abort;
-use std::test::Fail;
 
 /// Lists the codecs that have binary rules.
 const BINARY: [Codec; 7] = [
@@ -156,86 +155,86 @@ fn bool_of_front<'i, R: BinaryRules>(
 /// Lists the text notations, each with the bytes of `true`.
 const TEXTS: [(Codec, &'static [u8]); 2] = [(Codec::Jer, b"true"), (Codec::Avn, b"TRUE")];
 
+/// Checks that the bytes of the codec are these, and are decoded again. No rules are asked.
+fn assert_bytes(rt: &impl Abort, alloc: Global, codec: Codec, want: &[u8]) {
+    let bytes = bytes_of_true(alloc, codec, &mut NoRules).expect(rt, "no bytes");
+    assert_same(rt, bytes.as_slice(), want);
+    let read = bool_of_bytes(alloc, codec, bytes.as_slice(), &mut NoRules);
+    assert_true(rt, read.expect(rt, "no value"));
+}
+
 /// The bytes of JER and AVN are their texts, and are decoded again. No rules are asked.
 #[test]
-fn text_notations_have_the_bytes_of_their_texts(rt: HostRuntime) -> Result<(), Fail> {
+fn text_notations_have_the_bytes_of_their_texts(rt: HostRuntime) {
     for row in TEXTS.iter() {
-        let bytes = bytes_of_true(rt.alloc(), row.0, &mut NoRules)?;
-        assert!(rt; bytes.as_slice() == row.1);
-        assert!(rt; bool_of_bytes(rt.alloc(), row.0, bytes.as_slice(), &mut NoRules)?);
+        assert_bytes(&rt, rt.alloc(), row.0, row.1);
     }
-    Ok(())
 }
 
 /// XER encodes nothing, nor does a binary codec without rules.
 #[test]
-fn some_codecs_encode_no_bytes(rt: HostRuntime) -> Result<(), Fail> {
+fn some_codecs_encode_no_bytes(rt: HostRuntime) {
     for row in UNWRITTEN.iter() {
         let written = bytes_of_true(rt.alloc(), row.0, &mut NoRules);
-        assert_refused(&rt, rt.alloc(), written, row.1)?;
+        assert_refused(&rt, rt.alloc(), written, row.1);
     }
-    Ok(())
 }
 
 /// Bytes that are no text are decoded by neither notation, and other codecs state what they lack.
 #[test]
-fn some_bytes_are_not_decoded(rt: HostRuntime) -> Result<(), Fail> {
+fn some_bytes_are_not_decoded(rt: HostRuntime) {
     for row in UNREAD.iter() {
         let read = bool_of_bytes(rt.alloc(), row.0, &[0xff], &mut NoRules);
-        assert_refused(&rt, rt.alloc(), read, row.1)?;
+        assert_refused(&rt, rt.alloc(), read, row.1);
     }
-    Ok(())
 }
 
 /// No codec decodes the front of a text without rules.
 #[test]
-fn a_remainder_needs_rules(rt: HostRuntime) -> Result<(), Fail> {
+fn a_remainder_needs_rules(rt: HostRuntime) {
     for row in UNREAD_FRONT.iter() {
         let read = bool_of_front(rt.alloc(), row.0, b"true".as_slice(), &mut NoRules);
-        assert_refused(&rt, rt.alloc(), read, row.1)?;
+        assert_refused(&rt, rt.alloc(), read, row.1);
     }
-    Ok(())
 }
 
 /// Checks that the codec hands its own name to the rules, and returns what they return.
-fn assert_rules_answer(rt: &impl Abort, alloc: Global, codec: Codec) -> Result<(), Fail> {
+fn assert_rules_answer(rt: &impl Abort, alloc: Global, codec: Codec) {
     // Each call begins with another codec than the one that is to be handed on.
     let mut rules = JsonRules { last: Codec::Xer };
-    let bytes = bytes_of_true(alloc, codec, &mut rules)?;
-    assert!(rt; bytes.as_slice() == b"true".as_slice());
-    assert!(rt; rules.last == codec);
+    let bytes = bytes_of_true(alloc, codec, &mut rules).expect(rt, "no bytes");
+    assert_same(rt, bytes.as_slice(), b"true".as_slice());
+    assert_true(rt, rules.last == codec);
     let mut rules = JsonRules { last: Codec::Xer };
-    assert!(rt; bool_of_bytes(alloc, codec, bytes.as_slice(), &mut rules)?);
-    assert!(rt; rules.last == codec);
-    Ok(())
+    let read = bool_of_bytes(alloc, codec, bytes.as_slice(), &mut rules);
+    assert_true(rt, read.expect(rt, "no value"));
+    assert_true(rt, rules.last == codec);
 }
 
 /// Each binary codec hands its own name to the rules, and returns what they return.
 #[test]
-fn rules_answer_for_each_binary_codec(rt: HostRuntime) -> Result<(), Fail> {
+fn rules_answer_for_each_binary_codec(rt: HostRuntime) {
     for codec in BINARY.iter() {
-        assert_rules_answer(&rt, rt.alloc(), *codec)?;
+        assert_rules_answer(&rt, rt.alloc(), *codec);
     }
-    Ok(())
 }
 
 /// Checks that the codec hands a remainder on.
-fn assert_remainder(rt: &impl Abort, alloc: Global, codec: Codec) -> Result<(), Fail> {
+fn assert_remainder(rt: &impl Abort, alloc: Global, codec: Codec) {
     let mut rules = JsonRules { last: Codec::Xer };
-    let front = bool_of_front(alloc, codec, b"true, and more".as_slice(), &mut rules)?;
-    assert!(rt; front.0);
-    assert!(rt; front.1 == b", and more".as_slice());
-    assert!(rt; rules.last == codec);
-    Ok(())
+    let front = bool_of_front(alloc, codec, b"true, and more".as_slice(), &mut rules);
+    let (value, rest) = front.expect(rt, "no value");
+    assert_true(rt, value);
+    assert_same(rt, rest, b", and more".as_slice());
+    assert_true(rt, rules.last == codec);
 }
 
 /// Each binary codec hands a remainder on.
 #[test]
-fn rules_return_a_remainder(rt: HostRuntime) -> Result<(), Fail> {
+fn rules_return_a_remainder(rt: HostRuntime) {
     for codec in BINARY.iter() {
-        assert_remainder(&rt, rt.alloc(), *codec)?;
+        assert_remainder(&rt, rt.alloc(), *codec);
     }
-    Ok(())
 }
 
 /// Lists codecs with bytes that are refused, and the error: an error of the rules, which is
@@ -255,11 +254,10 @@ const PASSED_ON: [(Codec, &'static [u8], &'static str); 2] = [
 
 /// An error of the rules is returned as it is, and so is one of a text.
 #[test]
-fn errors_are_passed_on(rt: HostRuntime) -> Result<(), Fail> {
+fn errors_are_passed_on(rt: HostRuntime) {
     for row in PASSED_ON.iter() {
         let mut rules = JsonRules { last: Codec::Xer };
         let read = bool_of_bytes(rt.alloc(), row.0, row.1, &mut rules);
-        assert_refused(&rt, rt.alloc(), read, row.2)?;
+        assert_refused(&rt, rt.alloc(), read, row.2);
     }
-    Ok(())
 }

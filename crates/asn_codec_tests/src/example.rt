@@ -29,11 +29,11 @@ fn numbers_are_read_and_written(rt: HostRuntime) -> Result<(), Fail> {
 
 /// A text that isn't one of the type is refused, with the cause.
 #[test]
-fn a_text_is_refused_with_the_cause(rt: HostRuntime) -> Result<(), Fail> {
+fn a_text_is_refused_with_the_cause(rt: HostRuntime) {
     assert_refused(
         &rt,
         rt.alloc(),
         json_of::<Vec<u8>>(rt.alloc(), "{1,}"),
         "AVN decoding error: Unexpected token in AVN: {1,} (Codec: AVN)",
-    )
+    );
 }

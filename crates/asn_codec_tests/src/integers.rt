@@ -1,4 +1,5 @@
 //! Takes numbers through the bound of the integer types.
+use crate::checks::assert_same;
 use asn_traits::IntegerType;
 use std::process::Abort;
 
@@ -14,7 +15,7 @@ fn assert_through<I: IntegerType>(
     magnitude: u128,
     want: Option<(bool, u128)>,
 ) {
-    assert!(rt; through::<I>(negative, magnitude) == want);
+    assert_same(rt, through::<I>(negative, magnitude), want);
 }
 
 /// A number of a type comes back as it was, and one outside its range is none: at both edges of a

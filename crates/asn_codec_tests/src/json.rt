@@ -1,27 +1,25 @@
 //! Calls JER directly: the edges of its numbers, shapes of types, and an encoder without a value.
-use crate::checks::{assert_refused, assert_text, jer_text, kept, let_go};
+use crate::checks::{MEMORY, assert_given, assert_refused, assert_true, let_go};
 use asn_base::{Bits, Identifier, Tag};
 use asn_fields::FieldShapes;
 use asn_traits::{AsnType, Encode, Encoder, Shape, is_readable};
 use jer_rules::jer::{enc, encode};
 use std::alloc::Global;
-use std::test::Fail;
+use std::process::Abort;
 
 /// Is the least number that JER has, as the wider type of its values.
 const LEAST: i128 = -9_223_372_036_854_775_808;
 
 /// The least number that JER has is encoded: it has the numbers of `i64` and of `u64`.
 #[test]
-fn encodes_the_least_number(rt: HostRuntime) -> Result<(), Fail> {
-    let text = jer_text(rt.alloc(), &LEAST)?;
-    assert_text(&rt, text.as_str(), "-9223372036854775808");
-    Ok(())
+fn encodes_the_least_number(rt: HostRuntime) {
+    assert_given(&rt, encode(rt.alloc(), &LEAST), "-9223372036854775808");
 }
 
 /// The number below it, -2^63 - 1, is refused by its own text.
 /// The error's text is that of the crate `rasn`.
 #[test]
-fn refuses_numbers_that_json_lacks(rt: HostRuntime) -> Result<(), Fail> {
+fn refuses_numbers_that_json_lacks(rt: HostRuntime) {
     let below: i128 = -9_223_372_036_854_775_809;
     assert_refused(
         &rt,
@@ -29,7 +27,7 @@ fn refuses_numbers_that_json_lacks(rt: HostRuntime) -> Result<(), Fail> {
         encode(rt.alloc(), &below),
         "JER encoding error: Exceeds supported integer range -2^63..2^64 \
          (-9223372036854775809) (Codec: JER)",
-    )
+    );
 }
 
 /// Returns whether the shape is that of BOOLEAN.
@@ -47,48 +45,34 @@ fn is_list_of_bool(shape: &Shape) -> bool {
 
 /// The call `shape` gives the shape of BOOLEAN as a value.
 #[test]
-fn gives_the_shape_of_a_boolean(rt: HostRuntime) -> Result<(), Fail> {
-    let shape = bool::shape(rt.alloc())?;
-    let is_found = is_bool(&shape);
+fn gives_the_shape_of_a_boolean(rt: HostRuntime) {
+    let shape = bool::shape(rt.alloc()).expect(&rt, MEMORY);
+    assert_true(&rt, is_bool(&shape));
     let_go(shape);
-    assert!(rt; is_found);
-    Ok(())
 }
 
 /// The call `shape` gives the shape of a list of BOOLEAN as a value.
 #[test]
-fn gives_the_shape_of_a_list(rt: HostRuntime) -> Result<(), Fail> {
-    let shape = Vec::<bool>::shape(rt.alloc())?;
-    let is_found = is_list_of_bool(&shape);
+fn gives_the_shape_of_a_list(rt: HostRuntime) {
+    let shape = Vec::<bool>::shape(rt.alloc()).expect(&rt, MEMORY);
+    assert_true(&rt, is_list_of_bool(&shape));
     let_go(shape);
-    assert!(rt; is_found);
-    Ok(())
 }
 
 /// Returns the fields of the root: one that has to be present.
-fn root_fields(alloc: Global) -> Result<FieldShapes, Fail> {
+fn root_fields(rt: &impl Abort, alloc: Global) -> FieldShapes {
     let mut root = FieldShapes::new(alloc);
     let done = root.required::<u8>("id", Tag::CONTEXT_0);
-    kept(root, done)
+    done.expect(rt, MEMORY);
+    root
 }
 
 /// Returns the fields after the marker. An addition's tag goes on from that of the last root field.
-fn added_fields(alloc: Global) -> Result<FieldShapes, Fail> {
+fn added_fields(rt: &impl Abort, alloc: Global) -> FieldShapes {
     let mut added = FieldShapes::new(alloc);
     let done = added.optional::<String>("note", Tag::CONTEXT_1);
-    kept(added, done)
-}
-
-/// Returns the shape of a SEQUENCE that has an extension addition.
-fn extensible(alloc: Global) -> Result<Shape, Fail> {
-    let root = root_fields(alloc)?;
-    match added_fields(alloc) {
-        Ok(added) => Ok(root.extensible_sequence(added)),
-        Err(fail) => {
-            let_go(root);
-            Err(fail)
-        }
-    }
+    done.expect(rt, MEMORY);
+    added
 }
 
 /// Returns whether the shape has one field of the root and one after the marker, of these names.
@@ -111,12 +95,12 @@ fn has_fields(shape: &Shape, root: &str, added: &str) -> bool {
 /// A shape with an extension addition can be put together and read: it has the fields of the root
 /// and those after the marker apart.
 #[test]
-fn a_sequence_with_an_extension_addition(rt: HostRuntime) -> Result<(), Fail> {
-    let shape = extensible(rt.alloc())?;
+fn a_sequence_with_an_extension_addition(rt: HostRuntime) {
+    let root = root_fields(&rt, rt.alloc());
+    let shape = root.extensible_sequence(added_fields(&rt, rt.alloc()));
     let is_found = is_readable(&shape) && has_fields(&shape, "id", "note");
     let_go(shape);
-    assert!(rt; is_found);
-    Ok(())
+    assert_true(&rt, is_found);
 }
 
 /// Is the error of an encoder of JER that was given nothing, as that of the crate `rasn`.
@@ -124,54 +108,54 @@ const NOTHING: &str = "JER encoding error: No encoded JSON root value found (Cod
 
 /// An encoder of JER that was given nothing has no text. The call consumes the encoder.
 #[test]
-fn nothing_stands_at_the_root_at_first(rt: HostRuntime) -> Result<(), Fail> {
+fn nothing_stands_at_the_root_at_first(rt: HostRuntime) {
     let none = enc::Encoder::new(rt.alloc()).to_string();
-    assert_refused(&rt, rt.alloc(), none, NOTHING)
+    assert_refused(&rt, rt.alloc(), none, NOTHING);
 }
 
 /// An encoder of JER that was given nothing has no JSON value. The call consumes the encoder.
 #[test]
-fn no_value_stands_at_the_root_at_first(rt: HostRuntime) -> Result<(), Fail> {
+fn no_value_stands_at_the_root_at_first(rt: HostRuntime) {
     let none = enc::Encoder::new(rt.alloc()).to_json();
-    assert_refused(&rt, rt.alloc(), none, NOTHING)
+    assert_refused(&rt, rt.alloc(), none, NOTHING);
 }
 
 /// Returns an encoder of JER that was given the value `true`.
-fn encoder_of_true(alloc: Global) -> Result<enc::Encoder, Fail> {
+fn encoder_of_true(rt: &impl Abort, alloc: Global) -> enc::Encoder {
     let mut encoder = enc::Encoder::new(alloc);
     let written = encoder.encode_bool(Tag::BOOL, true, Identifier::EMPTY);
-    kept(encoder, written)
+    written.expect(rt, "no value");
+    encoder
 }
 
 /// An encoder of JER that was given a value has its text and its JSON value.
 #[test]
-fn shows_what_stands_at_the_root(rt: HostRuntime) -> Result<(), Fail> {
-    let text = encoder_of_true(rt.alloc())?.to_string()?;
-    assert_text(&rt, text.as_str(), "true");
-    let value = encoder_of_true(rt.alloc())?.to_json()?;
-    let is_true = value.as_bool() == Some(true);
+fn shows_what_stands_at_the_root(rt: HostRuntime) {
+    let encoder = encoder_of_true(&rt, rt.alloc());
+    assert_given(&rt, encoder.to_string(), "true");
+    let encoder = encoder_of_true(&rt, rt.alloc());
+    let value = encoder.to_json().expect(&rt, "no JSON");
+    assert_true(&rt, value.as_bool() == Some(true));
     let_go(value);
-    assert!(rt; is_true);
-    Ok(())
 }
 
 /// Returns an encoder of JER that was given a list of one bit string, of three bits.
-fn encoder_of_bits(alloc: Global) -> Result<enc::Encoder, Fail> {
-    let octets = Vec::from_slice(alloc, [0xA0].as_slice())?;
-    let list = Vec::from_array(alloc, [Bits::from_first_bits(octets, 3)])?;
+fn encoder_of_bits(rt: &impl Abort, alloc: Global) -> enc::Encoder {
+    let octets = Vec::from_slice(alloc, &[0xA0]).expect(rt, MEMORY);
+    let list = Vec::from_array(alloc, [Bits::from_first_bits(octets, 3)]).expect(rt, MEMORY);
     let mut encoder = enc::Encoder::new(alloc);
-    let written = list.encode(&mut encoder);
+    list.encode(&mut encoder).expect(rt, "no value");
     let_go(list);
-    kept(encoder, written)
+    encoder
 }
 
 /// The JSON value of a list of bit strings holds a list, an object, a number and a text.
 #[test]
-fn has_the_value_at_the_root(rt: HostRuntime) -> Result<(), Fail> {
-    let value = encoder_of_bits(rt.alloc())?.to_json()?;
+fn has_the_value_at_the_root(rt: HostRuntime) {
+    let encoder = encoder_of_bits(&rt, rt.alloc());
+    let value = encoder.to_json().expect(&rt, "no JSON");
     let text = value.to_string(rt.alloc());
     let_go(value);
     // Bits are written as X.697 has them: their number, and their octets in hexadecimal digits.
-    assert_text(&rt, text?.as_str(), "[{\"length\":3,\"value\":\"A0\"}]");
-    Ok(())
+    assert_given(&rt, text, "[{\"length\":3,\"value\":\"A0\"}]");
 }

@@ -1,10 +1,12 @@
 //! Converts texts of a SEQUENCE of nine fields, and of a SET with an extension marker.
+use crate::checks::{MEMORY, assert_given, assert_same, assert_text, assert_true, let_go};
 use asn_base::Codec;
 use asn_by_hand::{GrowingSet, Wide};
 use asn_codec::{CodecCalls, transcode};
 use asn_traits::{Decode, Encode};
-use std::alloc::{AllocError, Global};
-use std::test::Fail;
+use std::alloc::Global;
+use std::fmt::Display;
+use std::process::Abort;
 
 /// Has each field, in byte order of names, as JER writes them.
 const ALL_IN_JER: &'static str = "{\"active\":true,\"age\":41,\"code\":-7,\"family\":\"Roe\",\
@@ -95,58 +97,76 @@ const GROWING: [(Codec, Codec, &'static str, &'static str); 6] = [
     ),
 ];
 
-/// Returns what a text of the type is converted to, or the text of the error.
-fn converted<T: Encode + Decode>(
+/// Checks that the call gives this text, or an error that prints it.
+fn assert_answer<E: Display + Drop>(
+    rt: &impl Abort,
     alloc: Global,
-    from: Codec,
-    to: Codec,
-    input: &str,
-) -> Result<String, AllocError> {
-    match transcode::<T>(alloc, from, to, input) {
-        Ok(text) => Ok(text),
-        Err(error) => error.to_string(alloc),
+    answer: Result<String, E>,
+    want: &str,
+) {
+    match answer {
+        Ok(text) => assert_text(rt, text.as_str(), want),
+        Err(error) => {
+            let text = error.to_string(alloc).expect(rt, MEMORY);
+            assert_text(rt, text.as_str(), want);
+        }
     }
+}
+
+/// Checks what a text of the type is converted to, or the text of the error.
+fn assert_converted<T: Encode + Decode>(
+    rt: &impl Abort,
+    alloc: Global,
+    row: &(Codec, Codec, &'static str, &'static str),
+) {
+    let answer = transcode::<T>(alloc, row.0, row.1, row.2);
+    assert_answer(rt, alloc, answer, row.3);
 }
 
 /// Each text of the SEQUENCE is converted, or refused.
 #[test]
-fn texts_are_converted(rt: HostRuntime) -> Result<(), Fail> {
-    for &(from, to, input, want) in &CONVERTED {
-        let text = converted::<Wide>(rt.alloc(), from, to, input)?;
-        assert_eq!(rt; text.as_str(), want);
+fn texts_are_converted(rt: HostRuntime) {
+    for row in CONVERTED.iter() {
+        assert_converted::<Wide>(&rt, rt.alloc(), row);
     }
-    Ok(())
 }
 
 /// Each text of the SET is converted, or refused.
 #[test]
-fn texts_of_a_growing_set_are_converted(rt: HostRuntime) -> Result<(), Fail> {
-    for &(from, to, input, want) in &GROWING {
-        let text = converted::<GrowingSet>(rt.alloc(), from, to, input)?;
-        assert_eq!(rt; text.as_str(), want);
+fn texts_of_a_growing_set_are_converted(rt: HostRuntime) {
+    for row in GROWING.iter() {
+        assert_converted::<GrowingSet>(&rt, rt.alloc(), row);
     }
-    Ok(())
+}
+
+/// Checks the fields of the first group.
+fn assert_names(rt: &impl Abort, wide: &Wide) {
+    assert_text(rt, wide.names.family.as_str(), "Roe");
+    assert_text(rt, wide.names.given.as_str(), "Ann");
+    match &wide.names.nick {
+        Some(nick) => assert_text(rt, nick.as_str(), "A"),
+        None => rt.panic("no nick"),
+    }
+}
+
+/// Checks the fields of the other groups.
+fn assert_rest(rt: &impl Abort, wide: &Wide) {
+    assert_same(rt, wide.rest.numbers.age, 41);
+    assert_same(rt, wide.rest.numbers.code, -7);
+    assert_same(rt, wide.rest.numbers.size, Some(3));
+    assert_true(rt, wide.rest.flags.active);
+    assert_same(rt, wide.rest.flags.hidden, Some(false));
+    assert_same(rt, wide.rest.flags.mark, Some(()));
 }
 
 /// Each field is read into its place in its group, and written from there.
 #[test]
-fn fields_are_in_their_groups(rt: HostRuntime) -> Result<(), Fail> {
-    let wide: Wide = Codec::Jer.decode_from_str(rt.alloc(), ALL_IN_JER)?;
-    assert_eq!(rt; wide.names.family.as_str(), "Roe");
-    assert_eq!(rt; wide.names.given.as_str(), "Ann");
-    assert!(rt;
-        wide.names
-            .nick
-            .as_ref()
-            .is_some_and(|nick| nick.as_str() == "A")
-    );
-    assert_eq!(rt; wide.rest.numbers.age, 41);
-    assert_eq!(rt; wide.rest.numbers.code, -7);
-    assert_eq!(rt; wide.rest.numbers.size, Some(3));
-    assert!(rt; wide.rest.flags.active);
-    assert_eq!(rt; wide.rest.flags.hidden, Some(false));
-    assert_eq!(rt; wide.rest.flags.mark, Some(()));
-    let text = Codec::Jer.encode_to_string(rt.alloc(), &wide)?;
-    assert_eq!(rt; text.as_str(), ALL_IN_JER);
-    Ok(())
+fn fields_are_in_their_groups(rt: HostRuntime) {
+    let read = Codec::Jer.decode_from_str::<Wide>(rt.alloc(), ALL_IN_JER);
+    let wide = read.expect(&rt, "no value");
+    assert_names(&rt, &wide);
+    assert_rest(&rt, &wide);
+    let written = Codec::Jer.encode_to_string(rt.alloc(), &wide);
+    let_go(wide);
+    assert_given(&rt, written, ALL_IN_JER);
 }

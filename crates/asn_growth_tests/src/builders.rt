@@ -71,7 +71,9 @@ pub fn field(rt: &impl Abort, alloc: Global, name: &str, shape: Shape) -> FieldS
 
 /// Returns a list with this entry alone.
 fn one<T: Drop>(rt: &impl Abort, alloc: Global, entry: T) -> Vec<T> {
-    Vec::from_array(alloc, [entry]).expect(rt, MEMORY)
+    let mut list = Vec::new(alloc);
+    list.push(entry).expect(rt, MEMORY);
+    list
 }
 
 /// Returns SEQUENCE, or SET, of this field alone, and no extension marker.

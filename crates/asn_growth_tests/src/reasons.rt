@@ -113,21 +113,24 @@ fn presences_differ(rt: HostRuntime) {
     at_root(&rt, alloc, old, new, Reason::Presence);
 }
 
-/// Returns ENUMERATED { a }, with these items after a marker if there is one.
-fn items(rt: &impl Abort, alloc: Global, added: Option<&[&'static str]>) -> Shape {
-    enumerated(rt, alloc, &["a"], added)
+/// Returns ENUMERATED { a }.
+fn without_marker(rt: &impl Abort, alloc: Global) -> Shape {
+    enumerated(rt, alloc, &["a"], None)
+}
+
+/// Returns ENUMERATED { a, ... }.
+fn with_marker(rt: &impl Abort, alloc: Global) -> Shape {
+    enumerated(rt, alloc, &["a"], Some([].as_slice()))
 }
 
 /// An ENUMERATED without an extension marker and one with it differ, in either order.
 #[test]
 fn markers_differ(rt: HostRuntime) {
     let alloc = rt.alloc();
-    let closed = items(&rt, alloc, None);
-    let open = items(&rt, alloc, Some([].as_slice()));
-    at_root(&rt, alloc, closed, open, Reason::Extensible);
-    let closed = items(&rt, alloc, None);
-    let open = items(&rt, alloc, Some([].as_slice()));
-    at_root(&rt, alloc, open, closed, Reason::Extensible);
+    let (old, new) = (without_marker(&rt, alloc), with_marker(&rt, alloc));
+    at_root(&rt, alloc, old, new, Reason::Extensible);
+    let (old, new) = (with_marker(&rt, alloc), without_marker(&rt, alloc));
+    at_root(&rt, alloc, old, new, Reason::Extensible);
 }
 
 /// Returns SEQUENCE with an extension marker and no field.
@@ -157,11 +160,16 @@ fn additions_differ(rt: HostRuntime) {
     at_root(&rt, alloc, first, second, Reason::Additions);
 }
 
+/// Returns ENUMERATED { a, ..., one, other }.
+fn items(rt: &impl Abort, alloc: Global, one: &'static str, other: &'static str) -> Shape {
+    enumerated(rt, alloc, &["a"], Some([one, other].as_slice()))
+}
+
 /// Added items in another order differ.
 #[test]
 fn added_items_differ(rt: HostRuntime) {
     let alloc = rt.alloc();
-    let low = items(&rt, alloc, Some(["b", "c"].as_slice()));
-    let high = items(&rt, alloc, Some(["c", "b"].as_slice()));
+    let low = items(&rt, alloc, "b", "c");
+    let high = items(&rt, alloc, "c", "b");
     at_root(&rt, alloc, low, high, Reason::Additions);
 }

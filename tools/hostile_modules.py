@@ -178,7 +178,7 @@ LEVELS = [
     ("braces of 65 levels", "a NULL ::= " + nested("{", "", "}")(65), ""),
     ("parentheses of 64 levels", "A ::= INTEGER " + nested("(", "5", ")")(64), ""),
     ("parentheses of 65 levels", "A ::= INTEGER " + nested("(", "5", ")")(65), ""),
-    ("a comment closed too often", "/* /* */ */ */ A ::= NULL", "no token begins with this character"),
+    ("a comment closed too often", "/* /* */ */ */ A ::= NULL", "expected an assignment or the end of the text, met `*`"),
 ]
 
 

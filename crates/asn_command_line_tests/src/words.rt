@@ -89,7 +89,10 @@ const HELPED: [(&str, &str); 12] = [
     ),
     ("asn check --help", "Usage: asn check <FILE.asn>..."),
     ("asn types --help", "asn types examples/calls.asn"),
-    ("asn show --help", "asn show examples/sensor.asn -t Report\n"),
+    (
+        "asn show --help",
+        "asn show examples/sensor.asn -t Report\n",
+    ),
     (
         "asn show --help",
         "asn show examples/sensor.asn -t Report --example avn --full",

@@ -1,7 +1,7 @@
 -- Slots and frames by their trees.
-use Rattle.std.proofs.Common.{◌≡◌, refl, ap, sym, ◌∙◌, List, [], ◌∷◌, map, Option, Some, None, ◌⊎◌, inl, inr}
+use Rattle.std.proofs.Common.{◌≡◌, refl, ap, sym, ◌∙◌, List, [], ◌∷◌, map, drop, Option, Some, None, ◌⊎◌, inl, inr}
 use Rattle.std.proofs.lemmas.List.{map_push}
-use Rattle.std.specs.Prelude.{option_map}
+use Rattle.std.specs.Prelude.{option_map, MatchOption}
 use Rattle.asn_slots.specs.Frames.{push, close, Closes}
 use Rattle.asn_slots.specs.Slots.{or_some, last_present, present_of, first_of}
 use Rattle.asn_slots.specs.Trees.{trees_of, SameTrees}
@@ -13,6 +13,11 @@ Frames A = List (List (Option A))
 pub push-trees : {A T : Type 0} (f : A → T) (s : Option A) (fs : Frames A) → map (trees_of f) (push s fs) ≡ push (option_map f s) (map (trees_of f) fs)
 push-trees f s [] = refl
 push-trees f s (slots ∷ fs) = ap (λ g. g ∷ map (trees_of f) fs) (map_push (option_map f) slots s)
+
+-- Where a slot is taken, the first tree is gone.
+pub dropped : {V T : Type 0} (f : V → T) (o : Option (Option V)) (old new : List (Option V)) → MatchOption o ((old ≡ []) × (new ≡ old)) (λ slot. old ≡ slot ∷ new) → trees_of f new ≡ drop 1 (trees_of f old)
+dropped f (Some slot) old new taken = sym (ap (λ l. drop 1 (trees_of f l)) taken)
+dropped f None old new none = ap (trees_of f) (none.1 ∙ none.0) ∙ sym (ap (λ l. drop 1 (trees_of f l)) none.0)
 
 -- A slot that is added to both is one slot more.
 pub slot_added : {A V T : Type 0} (written : A → T) (kept : V → T) (s : Option A) (t : Option V) (old new : Frames V) → option_map kept t ≡ option_map written s → new ≡ push t old

@@ -1,7 +1,8 @@
 //! Holds the pending slots of a decoder: those that are still to be read, the next one first.
 //! Opening a SEQUENCE puts a slot for each of its fields, and reading a field takes one.
 ghost use Rattle.asn_slots.specs.Pending.{TakesAbsent, slots_of};
-ghost use Rattle.std.specs.Prelude.{◌≡◌, ◌∷◌, [], ◌++◌, Some, map, MatchOption, OnOk, OnErr};
+ghost use Rattle.std.specs.Prelude.{◌≡◌, ◌∷◌, [], ◌++◌, List, Option, Some, map, MatchOption, OnOk, OnErr};
+ghost use Rattle.std.specs.Prelude.{IfSome};
 
 use asn_core::OutOfMemory;
 use std::alloc::Global;
@@ -178,6 +179,19 @@ impl<V: Drop> Pending<V> {
             });
         }
         Some(first)
+    }
+
+    /// Returns the value of the next slot where it is at hand, and leaves it there. `None` says
+    /// nothing: the slot may be absent, or stand in a later run, or there may be none.
+    #[inline(always)]
+    pub fn at_hand(&self) -> Option<&V>
+        ensures { IfSome result (λ value. (rest : List (Option V))
+            × (self.now ≡ Some value.now ∷ rest)) }
+    {
+        match &self.next {
+            Some(run) => run.first.as_ref(),
+            None => None,
+        }
     }
 
     /// Takes the next slot if it is absent, and returns whether it was: a present one stays for the

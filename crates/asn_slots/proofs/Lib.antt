@@ -1,4 +1,5 @@
 pub mod Flat
 pub mod Lasts
 pub mod Names
+pub mod Runs
 pub mod Trees

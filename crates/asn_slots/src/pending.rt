@@ -1,44 +1,71 @@
 //! Holds the pending slots of a decoder: those that are still to be read, the next one first.
 //! Opening a SEQUENCE puts a slot for each of its fields, and reading a field takes one.
-ghost use Rattle.asn_slots.specs.Pending.{TakesAbsent, slots_of};
+ghost use Rattle.asn_slots.specs.Pending.{TakesAbsent, run_before, slots_of};
 ghost use Rattle.std.specs.Prelude.{◌≡◌, ◌∷◌, [], ◌++◌, List, Option, Some, map, MatchOption, OnOk, OnErr};
-ghost use Rattle.std.specs.Prelude.{IfSome};
+ghost use Rattle.std.specs.Prelude.{IfSome, None, ◌<◌, ◌+◌, reverse, vec_len, vec_capacity};
 
 use asn_core::OutOfMemory;
 use std::alloc::Global;
+use std::collections::VecDeque;
 use std::marker::Model;
 use std::mem;
-use std::vec::IntoIter;
 
-/// Holds a slot, and the values after it, each of which is a present slot too.
+/// Holds slots that are set aside: one that stands apart, if there is one, and the values after it,
+/// each of which is a present slot.
 #[derive(Drop)]
 struct Batch<V> {
-    /// Holds the slot that is read first.
-    first: Option<V>,
+    /// Holds the slot that is read first, if it stands apart.
+    first: Option<Option<V>>,
     /// Holds the values after it, in the vector that they came in.
-    later: IntoIter<V, Global>,
+    later: VecDeque<V>,
 }
 
 /// Holds the slots that a decoder has still to read. Contracts see a list, the next one first.
-/// A list of values is kept in the vector that it came in, so that putting it moves none of them.
+/// A list of values is kept in the vector that it came in, so that putting it moves none of them,
+/// and one slot is kept apart, so that putting it takes no memory.
 #[derive(Drop)]
 pub struct Pending<V> {
-    /// Allocates the runs and the vectors that hold no later value.
+    /// Allocates the runs and the vectors that hold no value.
     alloc: Global,
-    /// Holds the run that is read next. It stands apart, so that one slot takes no memory.
-    next: Option<Batch<V>>,
-    /// Holds the runs after it, the first of them at the end.
+    /// Holds the slot that is read next, if it stands apart.
+    first: Option<Option<V>>,
+    /// Holds the values that are read after it, each a present slot.
+    later: VecDeque<V>,
+    /// Holds the runs after them, the first of them at the end.
     runs: Vec<Batch<V>>,
 }
 
 /// Lets contracts see the slots as one list, whatever runs they are kept in.
 impl<V> Model for Pending<V> {
-    ghost use Rattle.asn_slots.specs.Pending.{slots_of, next_before};
+    ghost use Rattle.asn_slots.specs.Pending.{run_before, slots_of};
     ghost use Rattle.std.specs.Prelude.{List, Option, reverse};
 
     ghost Value = { List (Option V) };
 
-    ghost view = { λ p. slots_of (next_before p.next (reverse p.runs.items)) };
+    ghost view = { λ p. run_before p.first p.later.items (slots_of (reverse p.runs.items)) };
+}
+
+/// Sets the slots that are read next aside as a run, for which there is room, so that none stands
+/// before the runs.
+fn set_aside<V>(
+    alloc: Global,
+    first: &mut Option<Option<V>>,
+    later: &mut VecDeque<V>,
+    runs: &mut Vec<Batch<V>>,
+)
+    requires { vec_len runs.old < vec_capacity runs.old }
+    ensures first { first.new ≡ None }
+    ensures later { later.new.items ≡ [] }
+    ensures runs { slots_of (reverse runs.new.items)
+        ≡ run_before first.old later.old.items (slots_of (reverse runs.old.items)) }
+    ensures count { vec_len runs.new ≡ vec_len runs.old + 1 }
+    ensures capacity { vec_capacity runs.new ≡ vec_capacity runs.old }
+{
+    let run = Batch {
+        first: first.take(),
+        later: mem::replace(later, VecDeque::new(alloc)),
+    };
+    runs.push_reserved(run);
 }
 
 /// Puts slots before the others, and takes the next one.
@@ -49,7 +76,8 @@ impl<V: Drop> Pending<V> {
     {
         Pending {
             alloc,
-            next: None,
+            first: None,
+            later: VecDeque::new(alloc),
             runs: Vec::new(alloc),
         }
     }
@@ -60,10 +88,8 @@ impl<V: Drop> Pending<V> {
     {
         Pending {
             alloc,
-            next: Some(Batch {
-                first: slot,
-                later: Vec::new(alloc).into_iter(),
-            }),
+            first: Some(slot),
+            later: VecDeque::new(alloc),
             runs: Vec::new(alloc),
         }
     }
@@ -77,24 +103,11 @@ impl<V: Drop> Pending<V> {
         ensures put { OnOk result (self.new ≡ slot ∷ self.old) }
         ensures kept { OnErr result (self.new ≡ self.old) }
     {
-        let later = Vec::new(self.alloc).into_iter();
-        self.put_run(Batch { first: slot, later })
-    }
-
-    /// Puts a run before the slots.
-    ///
-    /// # Errors
-    ///
-    /// `OutOfMemory` alone, and then nothing is put.
-    fn put_run(&mut self, run: Batch<V>) -> Result<(), OutOfMemory>
-        ensures put { OnOk result (self.new ≡ slots_of (run ∷ []) ++ self.old) }
-        ensures kept { OnErr result (self.new ≡ self.old) }
-    {
-        // Room for the run that was next is made first, since it is moved among the others.
-        self.runs.reserve(1)?;
-        if let Some(before) = mem::replace(&mut self.next, Some(run)) {
-            self.runs.push_reserved(before);
+        if self.first.is_some() {
+            self.runs.reserve(1)?;
+            set_aside(self.alloc, &mut self.first, &mut self.later, &mut self.runs);
         }
+        self.first = Some(slot);
         Ok(())
     }
 
@@ -108,17 +121,15 @@ impl<V: Drop> Pending<V> {
         ensures kept { OnErr result (self.new ≡ self.old) }
     {
         let mut slots = slots;
-        // Room for all of them, and for the run that was next, is made first: either every slot is
-        // put, or none.
+        // Room for all of them, and for the slots that were next, is made first: either every slot
+        // is put, or none.
         self.runs.reserve(slots.len() + 1)?;
-        if let Some(before) = self.next.take() {
-            self.runs.push_reserved(before);
-        }
+        set_aside(self.alloc, &mut self.first, &mut self.later, &mut self.runs);
         // The last slot goes in first, since the end of `runs` is read first.
         while let Some(slot) = slots.pop() {
             self.runs.push_reserved(Batch {
-                first: slot,
-                later: Vec::new(self.alloc).into_iter(),
+                first: Some(slot),
+                later: VecDeque::new(self.alloc),
             });
         }
         Ok(())
@@ -134,15 +145,15 @@ impl<V: Drop> Pending<V> {
         ensures put { OnOk result (self.new ≡ map Some values.items ++ self.old) }
         ensures kept { OnErr result (self.new ≡ self.old) }
     {
-        // An empty vector is no run at all.
-        let mut later = values.into_iter();
-        match later.next() {
-            Some(value) => self.put_run(Batch {
-                first: Some(value),
-                later,
-            }),
-            None => Ok(()),
+        if values.is_empty() {
+            return Ok(());
         }
+        if self.first.is_some() || self.later.len() > 0 {
+            self.runs.reserve(1)?;
+            set_aside(self.alloc, &mut self.first, &mut self.later, &mut self.runs);
+        }
+        self.later = VecDeque::from_vec(values);
+        Ok(())
     }
 
     /// Takes the next slot and returns it: `Some(None)` is an absent one, and `None` comes exactly
@@ -151,13 +162,14 @@ impl<V: Drop> Pending<V> {
         ensures { MatchOption result ((self.old ≡ []) × (self.new ≡ self.old))
             (λ slot. self.old ≡ slot ∷ self.new) }
     {
-        // A value of a list moves alone: what is left of its run stays where it is.
-        if let Some(run) = &mut self.next {
-            if let Some(value) = run.later.next() {
-                return Some(mem::replace(&mut run.first, Some(value)));
-            }
+        if let Some(slot) = self.first.take() {
+            return Some(slot);
         }
-        self.take_between_runs()
+        // A value of a list moves alone: what is left of it stays where it is.
+        match self.later.pop_front() {
+            Some(value) => Some(Some(value)),
+            None => self.take_between_runs(),
+        }
     }
 
     /// Takes the next slot as `take` does, wherever the run stands that it begins.
@@ -166,19 +178,17 @@ impl<V: Drop> Pending<V> {
         ensures { MatchOption result ((self.old ≡ []) × (self.new ≡ self.old))
             (λ slot. self.old ≡ slot ∷ self.new) }
     {
-        let run = match self.next.take() {
-            Some(run) => run,
-            None => self.runs.pop()?,
-        };
-        let Batch { first, mut later } = run;
-        // What is left of the run is read next.
-        if let Some(value) = later.next() {
-            self.next = Some(Batch {
-                first: Some(value),
-                later,
-            });
+        'runs: loop {
+            if let Some(slot) = self.first.take() {
+                return Some(slot);
+            }
+            if let Some(value) = self.later.pop_front() {
+                return Some(Some(value));
+            }
+            let Batch { first, later } = self.runs.pop()?;
+            self.first = first;
+            self.later = later;
         }
-        Some(first)
     }
 
     /// Returns the value of the next slot where it is at hand, and leaves it there. `None` says
@@ -188,9 +198,9 @@ impl<V: Drop> Pending<V> {
         ensures { IfSome result (λ value. (rest : List (Option V))
             × (self.now ≡ Some value.now ∷ rest)) }
     {
-        match &self.next {
-            Some(run) => run.first.as_ref(),
-            None => None,
+        match &self.first {
+            Some(slot) => slot.as_ref(),
+            None => self.later.front(),
         }
     }
 
@@ -199,14 +209,21 @@ impl<V: Drop> Pending<V> {
     pub fn take_absent(&mut self) -> Option<bool>
         ensures { TakesAbsent self.old result self.new }
     {
-        let is_present = match &self.next {
-            Some(run) => run.first.is_some(),
-            None => self.runs.last()?.first.is_some(),
-        };
-        if is_present {
-            return Some(false);
+        'runs: loop {
+            match &self.first {
+                Some(Some(_)) => return Some(false),
+                Some(None) => {
+                    self.first = None;
+                    return Some(true);
+                }
+                None => {}
+            }
+            if self.later.len() > 0 {
+                return Some(false);
+            }
+            let Batch { first, later } = self.runs.pop()?;
+            self.first = first;
+            self.later = later;
         }
-        let _absent = self.take();
-        Some(true)
     }
 }

@@ -1,4 +1,4 @@
-use Rattle.std.proofs.Common.{◌≡◌, ◌++◌, ◌≤◌, ◌+◌, None, reverse, length}
+use Rattle.std.proofs.Common.{◌≡◌, ◌++◌, ◌≤◌, ◌+◌, [], None, reverse, length}
 use Rattle.std.specs.Prelude.{vec_len, vec_capacity}
 use Rattle.asn_slots.specs.Pending.{slots_of}
 use Rattle.asn_slots.proofs.pending.Pending.put_all.Given as goal
@@ -8,7 +8,8 @@ abbrev pub invariant-loop-slot : goal.invariant-loop-slot
 invariant-loop-slot g l = record {
   slots : l.slots.items ++ slots_of (reverse l.self-inside.runs.items) ≡ l.fn.slots.items ++ l.fn.self;
   room : vec_len l.self-inside.runs + vec_len l.slots ≤ vec_capacity l.self-inside.runs;
-  next : l.self-inside.next ≡ None;
+  first : l.self-inside.first ≡ None;
+  later : l.self-inside.later.items ≡ [];
 }
 
 abbrev pub decreases-loop-slot : goal.decreases-loop-slot

@@ -1,2 +1,3 @@
+pub mod AtHand
 pub mod Multisets
 pub mod Ranges

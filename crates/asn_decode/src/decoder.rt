@@ -1,5 +1,5 @@
-//! Defines decoding: `Decoder`, which a codec implements, and `Decode` and `DecodeChoice`, which a
-//! type implements. A value of a type is made of the first slot that a decoder has pending.
+//! Defines `Decoder`, which a codec implements. A value of a type is made of the first slot that a
+//! decoder has pending.
 //!
 //! A codec writes the calls without a body. The others are final, and are proved here once for
 //! every codec.
@@ -8,31 +8,34 @@ ghost use Rattle.asn_model.specs.Components.{Component};
 ghost use Rattle.asn_model.specs.Fixed.{fixed_size};
 ghost use Rattle.asn_model.specs.Leaf.{codec_of};
 ghost use Rattle.asn_model.specs.Notation.{Notation, notation_of};
-ghost use Rattle.asn_model.specs.Shape.{are_distinct, Shape, Alphabet, all_alternatives};
+ghost use Rattle.asn_model.specs.Shape.{are_distinct, Shape, Alphabet};
 ghost use Rattle.asn_model.specs.Shape.{SeqKind as AbstractSeqKind, all_fields, field_names};
 ghost use Rattle.asn_model.specs.ShapeView.{kind_view};
 ghost use Rattle.asn_model.specs.Tree.{Slot, head_nodes, slot_nodes};
 ghost use Rattle.asn_model.specs.Value.{Value, bag_of, values};
+ghost use Rattle.asn_model.specs.declared.leaves.LeafKind.TheVariants.{Boolean, Number};
+ghost use Rattle.asn_model.specs.declared.leaves.OwnedLeaf.{OwnedLeaf};
 ghost use Rattle.asn_coding.specs.Answer.{Answer, AnswerBy, AnswerUnder, AtRoot, Refuses};
 ghost use Rattle.asn_coding.specs.Answer.{TakesAbsent, OptionalAnswer};
 ghost use Rattle.asn_coding.specs.Opening.{TakesLeaf, OpensList, OpensMembers, OpensChoice};
 ghost use Rattle.asn_coding.specs.Opening.{OpensFields};
 ghost use Rattle.asn_coding.specs.Opening.{OpensAlternative, AllBelow, list_shape, list_value};
-ghost use Rattle.asn_coding.specs.Scopes.{ScopeAnswer, TagAnswer};
+ghost use Rattle.asn_coding.specs.Scopes.{ScopeAnswer};
 ghost use Rattle.asn_coding.specs.SetFields.{PlaceAnswer, SetAnswer, component_at};
 ghost use Rattle.asn_coding.specs.SetFields.{listed_components, places_read};
 ghost use Rattle.asn_coding.specs.Tables.{name_rows, names_of};
 ghost use Rattle.asn_names.specs.Rows.{row_names};
 ghost use Rattle.asn_types.specs.TextTypes.{no_teletex};
 ghost use Rattle.std.specs.Prelude.{None, Some, true, ◌≡◌, ℕ, pos, List, ◌∷◌, ◌++◌, ◌<◌, map, length};
-ghost use Rattle.std.specs.Prelude.{string_bytes, IfErr, IsErr};
+ghost use Rattle.std.specs.Prelude.{string_bytes, IfErr, IfSome, IsErr, Ok, drop};
 
 use crate::numbers::number_of;
+use crate::{Decode, DecodeChoice};
 use asn_coding::{
     Field, Identifiers, NameList, Opened, TableNames, fields_as_read, listed, listed_fields,
     place_and_tag, tag_at,
 };
-use asn_core::{Any, Bits, Codec, Constraints, ObjectIdentifier, Tag};
+use asn_core::{Any, Bits, Codec, Constraints, ObjectIdentifier, Tag, WholeNumber};
 use asn_fault::{DecodeError, DecodeErrorKind, Refusal};
 use asn_integers::IntegerType;
 use asn_model::words::NO_TELETEX;
@@ -72,6 +75,22 @@ pub trait Decoder {
     /// values without parts go through it.
     fn take_leaf(&mut self, kind: LeafKind) -> Result<OwnedLeaf, DecodeError>
         ensures { TakesLeaf notation kind (pending self.old) result (pending self.new) };
+
+    /// Returns the number that the first pending slot is, where it is at hand, and leaves the slot.
+    /// `None` says nothing of the slot.
+    fn number_at_hand(&self) -> Option<WholeNumber>
+        ensures { IfSome result (λ number. (rest : List Slot) × TakesLeaf notation Number
+            (pending self.now) (Ok (OwnedLeaf.Number (Some number))) rest) };
+
+    /// Returns the flag that the first pending slot is, where it is at hand, and leaves the slot.
+    /// `None` says nothing of the slot.
+    fn flag_at_hand(&self) -> Option<bool>
+        ensures { IfSome result (λ flag. (rest : List Slot) × TakesLeaf notation Boolean
+            (pending self.now) (Ok (OwnedLeaf.Boolean flag)) rest) };
+
+    /// Drops the first pending slot, if there is one.
+    fn pass(&mut self)
+        ensures { pending self.new ≡ drop 1 (pending self.old) };
 
     /// Returns the error that a text names no item of a type.
     fn no_item(&self, text: String) -> DecodeError
@@ -459,11 +478,12 @@ pub trait Decoder {
             return Err(DecodeError::out_of_memory(self.codec()));
         };
         for i in 0..count {
-            // The elements are the first slots, in order, and each call takes one.
-            let item = T::decode(self)?;
-            let Ok(()) = items.push(item) else {
-                return Err(DecodeError::out_of_memory(self.codec()));
-            };
+            // The elements are the first slots, in order, and each call takes one. What is at hand
+            // is taken by a call that makes no room for an error.
+            match T::decode_at_hand(self) {
+                Some(item) => items.push_reserved(item),
+                None => items.push_reserved(T::decode(self)?),
+            }
         }
         Ok(items)
     }
@@ -733,62 +753,4 @@ pub trait Decoder {
     {
         T::decode(self)
     }
-}
-
-/// Is a type whose values are decoded. The last call is each type's own, and the others hand it the
-/// type's own tag or constraints.
-///
-/// Tags change nothing in text, and constraints decide only whether a BIT STRING has a fixed size.
-/// The errors of each call are those that `Decoder` lists.
-pub trait Decode: AsnType + Sized + Drop {
-    /// Decodes the first pending slot.
-    fn decode<D: Decoder>(decoder: &mut D) -> Result<Self, DecodeError>
-        ensures { Answer D.notation Self.shape_of Self.value_of (D.pending decoder.old) result
-            (D.pending decoder.new) }
-    {
-        Self::decode_with_tag(decoder, Self::TAG)
-    }
-
-    /// Decodes the first pending slot under another tag.
-    fn decode_with_tag<D: Decoder>(decoder: &mut D, tag: Tag) -> Result<Self, DecodeError>
-        ensures { Answer D.notation Self.shape_of Self.value_of (D.pending decoder.old) result
-            (D.pending decoder.new) }
-    {
-        let constraints = Self::constraint_table();
-        Self::decode_with_tag_and_constraints(decoder, tag, &constraints)
-    }
-
-    /// Decodes the first pending slot under other constraints.
-    fn decode_with_constraints<D: Decoder>(
-        decoder: &mut D,
-        constraints: &Constraints,
-    ) -> Result<Self, DecodeError>
-        ensures { AnswerUnder D.notation (fixed_size constraints.now) Self.shape_of Self.value_of
-            (D.pending decoder.old) result (D.pending decoder.new) }
-    {
-        Self::decode_with_tag_and_constraints(decoder, Self::TAG, constraints)
-    }
-
-    /// Decodes the first pending slot under another tag and other constraints. Each type writes
-    /// this call.
-    fn decode_with_tag_and_constraints<D: Decoder>(
-        decoder: &mut D,
-        tag: Tag,
-        constraints: &Constraints,
-    ) -> Result<Self, DecodeError>
-        ensures { AnswerUnder D.notation (fixed_size constraints.now) Self.shape_of Self.value_of
-            (D.pending decoder.old) result (D.pending decoder.new) };
-}
-
-/// Is a CHOICE whose values are decoded.
-pub trait DecodeChoice: Choice + Sized + Drop {
-    /// Decodes the payload of the alternative of this tag from the first pending slot.
-    ///
-    /// # Errors
-    ///
-    /// Those of the payload's type; `NoValidChoice` for any other tag, and then no slot is taken.
-    fn from_tag<D: Decoder>(decoder: &mut D, tag: Tag) -> Result<Self, DecodeError>
-        ensures { TagAnswer D.notation
-            (all_alternatives Self.alternatives Self.added) Self.value_of tag
-            (D.pending decoder.old) result (D.pending decoder.new) };
 }

@@ -1,9 +1,10 @@
 //! Decodes the types of a kind alike (`DecodeKind`, `DecodeChoiceKind`), and gives the kinds of
 //! numbers, enumerations and texts their decoding.
-ghost use Rattle.asn_coding.specs.Answer.{AnswerUnder};
+ghost use Rattle.asn_coding.specs.Answer.{Answer, AnswerUnder};
 ghost use Rattle.asn_coding.specs.Scopes.{TagAnswer};
 ghost use Rattle.asn_model.specs.Fixed.{fixed_size};
 ghost use Rattle.asn_model.specs.Shape.{all_alternatives};
+ghost use Rattle.std.specs.Prelude.{◌≡◌, MatchOption, Ok};
 
 use crate::{Decode, DecodeChoice, Decoder};
 use asn_core::{Constraints, Tag};
@@ -27,6 +28,16 @@ pub trait DecodeKind<T: AsnType> {
     ) -> Result<T, DecodeError>
         ensures { AnswerUnder D.notation (fixed_size constraints.now) T.shape_of T.value_of
             (D.pending decoder.old) result (D.pending decoder.new) };
+
+    /// Decodes a value of the type from the first pending slot where it is at hand, and else leaves
+    /// the slot: `None` says nothing of it.
+    fn at_hand_as<D: Decoder>(decoder: &mut D) -> Option<T>
+        ensures { MatchOption result (D.pending decoder.new ≡ D.pending decoder.old)
+            (λ value. Answer D.notation T.shape_of T.value_of (D.pending decoder.old) (Ok value)
+            (D.pending decoder.new)) }
+    {
+        None
+    }
 }
 
 /// Decodes a type as its kind does.
@@ -40,6 +51,11 @@ where
         constraints: &Constraints,
     ) -> Result<T, DecodeError> {
         <T::Kind as DecodeKind<T>>::decode_as(decoder, tag, constraints)
+    }
+
+    #[inline(always)]
+    fn decode_at_hand<D: Decoder>(decoder: &mut D) -> Option<T> {
+        <T::Kind as DecodeKind<T>>::at_hand_as(decoder)
     }
 }
 
@@ -73,6 +89,21 @@ impl<I: IntegerType + OfKind<Kind = IntegerKind>> DecodeKind<I> for IntegerKind 
         constraints: &Constraints,
     ) -> Result<I, DecodeError> {
         decoder.decode_integer::<I>(tag, constraints)
+    }
+
+    // A number that the type lacks stays, so that `decode_as` refuses it.
+    #[inline(always)]
+    fn at_hand_as<D: Decoder>(decoder: &mut D) -> Option<I> {
+        match decoder.number_at_hand() {
+            Some(number) => match I::of_parts(number.negative, number.magnitude) {
+                Some(value) => {
+                    decoder.pass();
+                    Some(value)
+                }
+                None => None,
+            },
+            None => None,
+        }
     }
 }
 

@@ -4,10 +4,12 @@
 //! of the crates below are decoded here.
 #![tactic(auto)]
 
+mod decode;
 mod decoder;
 mod kinds;
 mod numbers;
 mod plain;
 
-pub use decoder::{Decode, DecodeChoice, Decoder};
+pub use decode::{Decode, DecodeChoice};
+pub use decoder::Decoder;
 pub use kinds::{DecodeChoiceKind, DecodeKind};

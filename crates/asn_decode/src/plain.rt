@@ -15,6 +15,17 @@ impl DecodeKind<bool> for PlainKind {
     ) -> Result<bool, DecodeError> {
         decoder.decode_bool(tag)
     }
+
+    #[inline(always)]
+    fn at_hand_as<D: Decoder>(decoder: &mut D) -> Option<bool> {
+        match decoder.flag_at_hand() {
+            Some(flag) => {
+                decoder.pass();
+                Some(flag)
+            }
+            None => None,
+        }
+    }
 }
 
 /// Decodes NULL by the call of the decoder.

@@ -1,5 +1,5 @@
 -- Slots that are taken and put.
-use Rattle.std.proofs.Common.{◌≡◌, ℕ, List, [], ◌∷◌, ◌++◌, map, length, Option, Some, None, Bool, true, false, is_some, Result, Ok, Err, refl, sym, ap, subst, ◌∙◌}
+use Rattle.std.proofs.Common.{◌≡◌, ℕ, List, [], ◌∷◌, ◌++◌, map, drop, length, Option, Some, None, Bool, true, false, is_some, Result, Ok, Err, refl, sym, ap, subst, ◌∙◌}
 use Rattle.std.specs.Prelude.{option_map, MatchOption, MatchResult, OnErr, OnOk}
 use Rattle.std.specs.List.{All, slice_get}
 use Rattle.std.proofs.lemmas.List.{map-append, length-map}
@@ -10,12 +10,13 @@ use Rattle.asn_fault.specs.declared.decode.DecodeError.{DecodeError}
 use Rattle.asn_model.specs.declared.leaves.LeafKind.{LeafKind}
 use Rattle.asn_model.specs.declared.leaves.OwnedLeaf.{OwnedLeaf}
 use Rattle.asn_slots.specs.Pending.{TakesAbsent as TakesAbsentSlot}
+use Rattle.asn_slots.proofs.Trees.{dropped}
 use Rattle.asn_slots.specs.Trees.{trees_of}
 use Rattle.asn_coding.specs.Answer.{AtRoot, Refuses, RefusesLeaf}
 use Rattle.asn_traits.specs.FailsWith.{FailsWith}
 use Rattle.asn_traits.specs.Leaf.{IsFailureOf, LeafFailure, members_mismatch}
 use Rattle.asn_traits.specs.Notation.{Notation}
-use Rattle.asn_coding.specs.Opening.{HasMembers, IsChoice, IsList, IsFirstRepeated, OpensChoice, OpensList, OpensMembers, RepeatsName, TakesLeaf, list_shape}
+use Rattle.asn_coding.specs.Opening.{HasMembers, IsChoice, IsList, IsFirstRepeated, IsTaken, OpensChoice, OpensList, OpensMembers, RepeatsName, TakesLeaf, list_shape}
 use Rattle.asn_traits.specs.Shape.{Shape, SeqKind, Fields, FieldAdditions, Alternatives, AlternativeAdditions, place_named}
 use Rattle.asn_traits.specs.Tree.{Slot, Tree, head_slot, as_choice, as_list, as_members, field_slot, is_repeated, same_identifier}
 use Rattle.asn_coding.proofs.LeafValues.{taken as is_taken}
@@ -70,6 +71,21 @@ module _ (before : DecoderView) (table : AvnTree) (slots : List (Option ℕ)) (v
       let P : Option ℕ → Type 0 = IsSlot table in
       let held : IsPresent table i = All-head P (Some i) later (subst (All P) e h) in
       subst (λ d. TakesNode d (record { root = table; nodes = later }) i) view (refl, held, ap (trees_of (value_at table)) e)
+
+  -- The node that is the first slot is one of the table's.
+  pub first_held : (i : ℕ) (later : List (Option ℕ)) → slots ≡ Some i ∷ later → All (IsSlot table) slots → IsPresent table i
+  first_held i later e h = let P : Option ℕ → Type 0 = IsSlot table in All-head P (Some i) later (subst (All P) e h)
+
+  -- A value without parts that stands at the first slot.
+  pub leaf_there : (k : LeafKind) (i : ℕ) (later : List (Option ℕ)) (x : OwnedLeaf) → slots ≡ Some i ∷ later → IsTaken Notation.avn k (value_at table i) x
+      → (rest : List Slot) × TakesLeaf Notation.avn k (pending_of before) (Ok x) rest
+  leaf_there k i later x e is =
+      subst (λ d. (rest : List Slot) × TakesLeaf Notation.avn k (pending_of d) (Ok x) rest) view (trees_of (value_at table) later, is_taken (value_at table i) x _ _ (ap (trees_of (value_at table)) e) is)
+
+  -- Where a slot is taken, the first tree is gone.
+  pub passes : (o : Option (Option ℕ)) (later : List (Option ℕ)) → MatchOption o ((slots ≡ []) × (later ≡ slots)) (λ slot. slots ≡ slot ∷ later)
+      → pending_of (record { root = table; nodes = later }) ≡ drop 1 (pending_of before)
+  passes o later h = subst (λ d. pending_of (record { root = table; nodes = later }) ≡ drop 1 (pending_of d)) view (dropped (value_at table) o slots later h)
 
   pub head_absent : (later : List (Option ℕ)) → slots ≡ None ∷ later → head_slot (pending_of before) ≡ None
   head_absent later e = subst (λ d. head_slot (pending_of d) ≡ None) view (ap (λ l. head_slot (trees_of (value_at table) l)) e)

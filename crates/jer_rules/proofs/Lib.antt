@@ -7,4 +7,5 @@ pub mod Floats
 pub mod Roots
 pub mod Sets
 pub mod ArcsTaken
+pub mod AtHand
 pub mod NoLeaves

@@ -13,9 +13,9 @@ ghost use Rattle.std.specs.List.{All};
 ghost use Rattle.std.specs.Prelude.{◌≡◌, ◌≤◌, ◌∷◌, ◌++◌, [], Some, IfOk, IfErr, MatchResult, map};
 
 use super::faults::{end_of_input, mismatch, needed_list, needed_members, no_item};
-use super::leaf_nodes::leaf_of_node;
+use super::leaf_nodes::{flag_at, leaf_of_node, number_at};
 use super::take_apart::{FieldSlots, has_members, is_list, items_of, slots_of};
-use asn_core::{Codec, Scan};
+use asn_core::{Codec, Scan, WholeNumber};
 use asn_fault::DecodeError;
 use asn_model::words;
 use asn_slots::Pending;
@@ -201,6 +201,27 @@ impl asn_traits::Decoder for Decoder {
     fn take_leaf(&mut self, kind: LeafKind) -> Result<OwnedLeaf, DecodeError> {
         let node = self.take()?;
         leaf_of_node(self.alloc, &self.table, node, kind)
+    }
+
+    #[inline(always)]
+    fn number_at_hand(&self) -> Option<WholeNumber> {
+        match self.pending.at_hand() {
+            Some(node) => number_at(&self.table, *node),
+            None => None,
+        }
+    }
+
+    #[inline(always)]
+    fn flag_at_hand(&self) -> Option<bool> {
+        match self.pending.at_hand() {
+            Some(node) => flag_at(&self.table, *node),
+            None => None,
+        }
+    }
+
+    #[inline(always)]
+    fn pass(&mut self) {
+        let _slot = self.pending.take();
     }
 
     fn no_item(&self, text: String) -> DecodeError {

@@ -1,21 +1,23 @@
 //! Reads values without parts from nodes.
 ghost use Rattle.asn_core.specs.declared.codec.Codec.TheVariants.{Avn};
 ghost use Rattle.asn_fault.specs.Failure.{Cause, at_root, failure_of};
-ghost use Rattle.asn_model.specs.declared.leaves.LeafKind.TheVariants.{Any, Item, Number, Octets};
-ghost use Rattle.asn_model.specs.declared.leaves.LeafKind.TheVariants.{Text};
+ghost use Rattle.asn_model.specs.declared.leaves.LeafKind.TheVariants.{Any, Boolean, Item, Number};
+ghost use Rattle.asn_model.specs.declared.leaves.LeafKind.TheVariants.{Octets, Text};
+ghost use Rattle.asn_model.specs.declared.leaves.OwnedLeaf.{OwnedLeaf};
+ghost use Rattle.asn_coding.specs.Opening.{IsTaken};
 ghost use Rattle.asn_traits.specs.Leaf.{LeafFailure, answer_kind, as_leaf, needed};
 ghost use Rattle.asn_traits.specs.Notation.{Notation};
 ghost use Rattle.avn_rules.specs.LeafAnswer.{LeafAnswer, RefusesKind};
 ghost use Rattle.avn_rules.specs.Pending.{IsPresent, value_at};
 ghost use Rattle.avn_nodes.specs.NodeViews.{octets_of};
 ghost use Rattle.avn_nodes.specs.Preorder.{node_count, tree_at};
-ghost use Rattle.std.specs.Prelude.{◌≡◌, ◌<◌, Err, IfErr, IfOk, string_bytes};
+ghost use Rattle.std.specs.Prelude.{◌≡◌, ◌<◌, Err, IfErr, IfOk, IfSome, Some, string_bytes};
 
 use super::bits::bits_of_node;
 use super::faults::{mismatch, no_number, no_utf8};
 use super::identifiers::identifier_of_node;
 use super::numbers::whole_number;
-use asn_core::Codec;
+use asn_core::{Codec, WholeNumber};
 use asn_fault::DecodeError;
 use asn_traits::{LeafKind, OwnedLeaf};
 use avn_value::{NodeKind, NodeTable};
@@ -82,6 +84,35 @@ fn number_of_node(alloc: Global, table: &NodeTable, node: usize) -> Result<Owned
     match whole_number(text) {
         Some(number) => Ok(OwnedLeaf::Number(number)),
         None => Err(no_number(alloc, text)),
+    }
+}
+
+/// Returns the whole number that stands at a node, if one of at most 128 bits does.
+#[inline(always)]
+pub fn number_at(table: &NodeTable, node: usize) -> Option<WholeNumber>
+    requires { IsPresent table.now node }
+    ensures { IfSome result (λ number. IsTaken Notation.avn Number (value_at table.now node)
+        (OwnedLeaf.Number (Some number))) }
+{
+    match table.kind(node) {
+        NodeKind::Integer => match whole_number(table.text(node)) {
+            Some(number) => number,
+            None => None,
+        },
+        _ => None,
+    }
+}
+
+/// Returns the flag that stands at a node, if one does.
+#[inline(always)]
+pub fn flag_at(table: &NodeTable, node: usize) -> Option<bool>
+    requires { IsPresent table.now node }
+    ensures { IfSome result (λ flag. IsTaken Notation.avn Boolean (value_at table.now node)
+        (OwnedLeaf.Boolean flag)) }
+{
+    match table.kind(node) {
+        NodeKind::Boolean(flag) => Some(flag),
+        _ => None,
     }
 }
 

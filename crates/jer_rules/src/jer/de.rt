@@ -15,8 +15,8 @@ ghost use Rattle.std.specs.Prelude.{option_map};
 
 use super::faults::{end_of_input, mismatch, no_item, no_json, no_object};
 use super::leaves::{leaf_of_json, refusal_of_leaf};
-use super::take_apart::{has_several, into_items, into_members, into_payload};
-use asn_core::Codec;
+use super::take_apart::{has_several, into_items, into_members, into_payload, whole_number};
+use asn_core::{Codec, WholeNumber};
 use asn_fault::DecodeError;
 use asn_model::words;
 use asn_slots::Pending;
@@ -181,6 +181,27 @@ impl asn_traits::Decoder for Decoder {
             Err(why) => why,
         };
         Err(refusal_of_leaf(self.alloc, kind, why))
+    }
+
+    #[inline(always)]
+    fn number_at_hand(&self) -> Option<WholeNumber> {
+        match self.pending.at_hand() {
+            Some(Value::Number(number)) => whole_number(number),
+            _ => None,
+        }
+    }
+
+    #[inline(always)]
+    fn flag_at_hand(&self) -> Option<bool> {
+        match self.pending.at_hand() {
+            Some(Value::Bool(flag)) => Some(*flag),
+            _ => None,
+        }
+    }
+
+    #[inline(always)]
+    fn pass(&mut self) {
+        let _slot = self.pending.take();
     }
 
     // An item is a JSON string, so its text is named as it is.

@@ -57,7 +57,12 @@ fn send_items<S: Serializer>(items: &Vec<JerValue>, out: &mut S) -> Result<(), S
 {
     out.begin_seq(Some(items.len()))?;
     for item in items {
-        send(item, out)?;
+        // A number or a flag saves the call of `send`, which makes room for all that it may send.
+        match item {
+            JerValue::Integer(number) => number.serialize(out)?,
+            JerValue::Boolean(flag) => out.bool(*flag)?,
+            _ => send(item, out)?,
+        }
     }
     out.end_seq()
 }

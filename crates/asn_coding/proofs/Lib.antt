@@ -9,6 +9,7 @@ pub mod ReadingOrder
 pub mod Taking
 pub mod Reading
 pub mod Choices
+pub mod ByPlace
 pub mod Filling
 pub mod Collecting
 pub mod Scopes

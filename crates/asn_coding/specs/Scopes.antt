@@ -5,7 +5,7 @@ use Rattle.asn_core.specs.declared.tag.Tag.{Tag}
 use Rattle.asn_fault.specs.declared.decode.DecodeError.{DecodeError}
 use Rattle.asn_model.specs.Notation.{Notation}
 use Rattle.asn_model.specs.Components.{reading_order}
-use Rattle.asn_model.specs.Shape.{Shape, SeqKind, Fields, FieldAdditions, Alternatives, all_fields, alternative_tagged}
+use Rattle.asn_model.specs.Shape.{Shape, SeqKind, Fields, FieldAdditions, Alternatives, all_fields, alternative_at, alternative_tagged}
 use Rattle.asn_model.specs.Tree.{Slot, head_slot}
 use Rattle.asn_model.specs.Value.{Value, Slots}
 use Rattle.asn_model.specs.DecodesTo.{DecodesTo, FieldsDecodeTo}
@@ -35,3 +35,7 @@ AlternativeAnswer n None value before (Err e) after = (after ≡ before) × Refu
 -- The same, of the alternative of a tag.
 abbrev pub TagAnswer : {A : Type 0} → Notation → Alternatives → (A → Value) → Tag → List Slot → Result A DecodeError → List Slot → Type 0
 TagAnswer n alts value tag before r after = AlternativeAnswer n (alternative_tagged alts tag) value before r after
+
+-- The same, of the alternative at a place.
+abbrev pub PlaceAnswer : {A : Type 0} → Notation → Alternatives → (A → Value) → ℕ → List Slot → Result A DecodeError → List Slot → Type 0
+PlaceAnswer n alts value place before r after = AlternativeAnswer n (alternative_at alts place) value before r after

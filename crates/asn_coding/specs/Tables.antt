@@ -1,10 +1,10 @@
 -- What tables of constants say.
-use Rattle.std.specs.Prelude.{◌≡◌, ℕ, suc, ◌<◌, List, [], ◌∷◌, map, length, Option, Some, None}
+use Rattle.std.specs.Prelude.{◌≡◌, ℕ, suc, ◌<◌, List, [], ◌∷◌, map, length, Option, Some, None, if◌then◌else◌}
 use Rattle.std.specs.List.{All, Contains, slice_get}
 use Rattle.asn_core.specs.Tags.{smallest}
 use Rattle.asn_core.specs.declared.tag.Tag.{Tag}
 use Rattle.asn_core.specs.declared.tag_tree.TagTree.{TagTree}
-use Rattle.asn_model.specs.Shape.{Fields, FieldAdditions, Alternatives, AlternativeAdditions, Presence, all_fields, field_names, tags, end_tag}
+use Rattle.asn_model.specs.Shape.{Fields, FieldAdditions, Alternatives, AlternativeAdditions, Presence, all_fields, field_names, tags, end_tag, is_tag}
 use Rattle.asn_names.specs.Rows.{NameRow}
 use Rattle.asn_coding.specs.declared.field.Field.{Field}
 use Rattle.asn_coding.specs.declared.field.Presence.{Presence as PresenceKind}
@@ -80,3 +80,8 @@ root_tags alts = map Some (tags alts)
 abbrev pub added_tags : AlternativeAdditions → Option (List (Option Tag))
 added_tags AlternativeAdditions.closed_alternatives = None
 added_tags (AlternativeAdditions.extended_alternatives alts) = Some (root_tags alts)
+
+-- The place of the first of the tags that is this one, or how many there are.
+abbrev pub place_tagged : List (Option Tag) → Tag → ℕ
+place_tagged [] tag = 0
+place_tagged (t ∷ ts) tag = if is_tag t tag then 0 else suc (place_tagged ts tag)

@@ -20,5 +20,6 @@ pub use name_tables::{Identifiers, TableNames};
 pub use opening::Opened;
 pub use shapes::enumerated_shape;
 pub use tables::{
-    fields_as_read, fields_by_tag, identifier_of, listed, listed_fields, place_and_tag, tag_at,
+    fields_as_read, fields_by_tag, identifier_of, listed, listed_fields, place_and_tag,
+    place_of_tag, tag_at,
 };

@@ -6,8 +6,8 @@ ghost use Rattle.asn_model.specs.Shape.{tag_eq, is_tag, name_tagged, class_numbe
 ghost use Rattle.asn_model.specs.Shape.{end_tag};
 ghost use Rattle.asn_model.specs.Components.{tag_cmp};
 ghost use Rattle.asn_model.specs.Sorting.{insert_in_order, sort};
-ghost use Rattle.asn_coding.specs.Tables.{field_tag, smallest_tags, or_end};
-ghost use Rattle.std.specs.Prelude.{◌≡◌, ◌++◌, [], map, length, option_map, get_or};
+ghost use Rattle.asn_coding.specs.Tables.{field_tag, smallest_tags, or_end, place_tagged};
+ghost use Rattle.std.specs.Prelude.{◌≡◌, ◌+◌, ◌++◌, [], map, length, option_map, get_or};
 ghost use Rattle.std.specs.List.{insert};
 ghost use Rattle.std.specs.Ordering.{is_gt, on};
 ghost use Rattle.std.specs.Prelude.{◌≤◌, IfOk, Option, Some, None, unwrap_or};
@@ -141,6 +141,28 @@ pub fn identifier_of(
         Some(*name)
     } else {
         identifier_of(other_variants, added, other_names, tag)
+    }
+}
+
+/// Returns the place of the first alternative of this smallest tag, where extension additions come
+/// last, or how many there are where no alternative has the tag.
+pub fn place_of_tag(variants: &[TagTree], added: &[TagTree], tag: Tag) -> usize
+    ensures below { result ≤ length variants.now + length added.now }
+    ensures is { result ≡ place_tagged
+        (smallest_tags variants.now ++ smallest_tags added.now) tag }
+{
+    let Some((first, others)) = variants.split_first() else {
+        return if added.is_empty() {
+            0
+        } else {
+            place_of_tag(added, &[], tag)
+        };
+    };
+    if has_tag(first, tag) {
+        0
+    } else {
+        // No overflow: both tables are in memory.
+        place_of_tag(others, added, tag) + 1
     }
 }
 

@@ -24,6 +24,6 @@ ext_choice_shape = Shape.choice ext_choice_alternatives (AlternativeAdditions.ex
 
 -- The alternative of an ExtChoice, and its payload.
 abbrev pub ext_choice_chosen : ExtChoice → Chosen
-ext_choice_chosen (Test1 number) = chosen (codes "Test1") (context 0) (unsigned 8) (Value.int (pos number))
-ext_choice_chosen (Test2 text) = chosen (codes "Test2") (context 1) utf8_string (Value.text (string_bytes text))
-ext_choice_chosen (Test3 flag) = chosen (codes "Test3") (context 2) Shape.boolean (Value.boolean flag)
+ext_choice_chosen (Test1 number) = chosen 0 (codes "Test1") (unsigned 8) (Value.int (pos number))
+ext_choice_chosen (Test2 text) = chosen 1 (codes "Test2") utf8_string (Value.text (string_bytes text))
+ext_choice_chosen (Test3 flag) = chosen 2 (codes "Test3") Shape.boolean (Value.boolean flag)

@@ -17,7 +17,7 @@ inner_shape = closed_choice inner_alternatives
 
 -- The alternative of an Inner, and its payload.
 abbrev pub inner_chosen : Inner → Chosen
-inner_chosen (Wine wine) = chosen (codes "Wine") (context 0) (unsigned 8) (Value.int (pos wine))
+inner_chosen (Wine wine) = chosen 0 (codes "Wine") (unsigned 8) (Value.int (pos wine))
 
 -- The value that it stands for.
 abbrev pub inner_value : Inner → Value

@@ -24,9 +24,9 @@ new_part_shape = Shape.choice new_part_alternatives (AlternativeAdditions.extend
 
 -- The alternative of a NewPart, and its payload.
 abbrev pub new_part_chosen : NewPart → Chosen
-new_part_chosen (Code number) = chosen (codes "code") (context 0) (unsigned 8) (Value.int (pos number))
-new_part_chosen (Text text) = chosen (codes "text") (context 1) utf8_string (Value.text (string_bytes text))
-new_part_chosen (Flag flag) = chosen (codes "flag") (context 2) Shape.boolean (Value.boolean flag)
+new_part_chosen (Code number) = chosen 0 (codes "code") (unsigned 8) (Value.int (pos number))
+new_part_chosen (Text text) = chosen 1 (codes "text") utf8_string (Value.text (string_bytes text))
+new_part_chosen (Flag flag) = chosen 2 (codes "flag") Shape.boolean (Value.boolean flag)
 
 -- The value that it stands for.
 abbrev pub new_part_value : NewPart → Value

@@ -20,8 +20,8 @@ old_part_shape = Shape.choice old_part_alternatives (AlternativeAdditions.extend
 
 -- The alternative of an OldPart, and its payload.
 abbrev pub old_part_chosen : OldPart → Chosen
-old_part_chosen (Code number) = chosen (codes "code") (context 0) (unsigned 8) (Value.int (pos number))
-old_part_chosen (Text text) = chosen (codes "text") (context 1) utf8_string (Value.text (string_bytes text))
+old_part_chosen (Code number) = chosen 0 (codes "code") (unsigned 8) (Value.int (pos number))
+old_part_chosen (Text text) = chosen 1 (codes "text") utf8_string (Value.text (string_bytes text))
 
 -- The value that it stands for.
 abbrev pub old_part_value : OldPart → Value

@@ -20,5 +20,5 @@ simple_choice_shape = closed_choice simple_choice_alternatives
 
 -- The alternative of a SimpleChoice, and its payload.
 abbrev pub simple_choice_chosen : SimpleChoice → Chosen
-simple_choice_chosen (Test1 number) = chosen (codes "Test1") (context 0) (unsigned 8) (Value.int (pos number))
-simple_choice_chosen (Test2 text) = chosen (codes "Test2") (context 1) utf8_string (Value.text (string_bytes text))
+simple_choice_chosen (Test1 number) = chosen 0 (codes "Test1") (unsigned 8) (Value.int (pos number))
+simple_choice_chosen (Test2 text) = chosen 1 (codes "Test2") utf8_string (Value.text (string_bytes text))

@@ -82,11 +82,11 @@ impl ChoicePayload for ExtChoice {
         Ok(alternatives.extensible_choice(added))
     }
 
-    fn alternative_tag(&self) -> Tag {
+    fn alternative_place(&self) -> usize {
         match self {
-            ExtChoice::Test1(_) => TEST1,
-            ExtChoice::Test2(_) => TEST2,
-            ExtChoice::Test3(_) => TEST3,
+            ExtChoice::Test1(_) => 0,
+            ExtChoice::Test2(_) => 1,
+            ExtChoice::Test3(_) => 2,
         }
     }
 
@@ -98,15 +98,15 @@ impl ChoicePayload for ExtChoice {
         }
     }
 
-    fn read_alternative<D: Decoder>(decoder: &mut D, tag: Tag) -> Result<ExtChoice, DecodeError> {
-        if tag == TEST1 {
-            Ok(ExtChoice::Test1(u8::decode(decoder)?))
-        } else if tag == TEST2 {
-            Ok(ExtChoice::Test2(String::decode(decoder)?))
-        } else if tag == TEST3 {
-            Ok(ExtChoice::Test3(bool::decode(decoder)?))
-        } else {
-            Err(DecodeError::no_valid_choice("ExtChoice", decoder.codec()))
+    fn read_alternative<D: Decoder>(
+        decoder: &mut D,
+        place: usize,
+    ) -> Result<ExtChoice, DecodeError> {
+        match place {
+            0 => Ok(ExtChoice::Test1(u8::decode(decoder)?)),
+            1 => Ok(ExtChoice::Test2(String::decode(decoder)?)),
+            2 => Ok(ExtChoice::Test3(bool::decode(decoder)?)),
+            _ => Err(DecodeError::no_valid_choice("ExtChoice", decoder.codec())),
         }
     }
 

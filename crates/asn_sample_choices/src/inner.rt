@@ -61,9 +61,9 @@ impl ChoicePayload for Inner {
         Ok(alternatives.choice())
     }
 
-    fn alternative_tag(&self) -> Tag {
+    fn alternative_place(&self) -> usize {
         match self {
-            Inner::Wine(_) => WINE,
+            Inner::Wine(_) => 0,
         }
     }
 
@@ -73,11 +73,10 @@ impl ChoicePayload for Inner {
         }
     }
 
-    fn read_alternative<D: Decoder>(decoder: &mut D, tag: Tag) -> Result<Inner, DecodeError> {
-        if tag == WINE {
-            Ok(Inner::Wine(u8::decode(decoder)?))
-        } else {
-            Err(DecodeError::no_valid_choice("Inner", decoder.codec()))
+    fn read_alternative<D: Decoder>(decoder: &mut D, place: usize) -> Result<Inner, DecodeError> {
+        match place {
+            0 => Ok(Inner::Wine(u8::decode(decoder)?)),
+            _ => Err(DecodeError::no_valid_choice("Inner", decoder.codec())),
         }
     }
 

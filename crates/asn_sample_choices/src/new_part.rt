@@ -80,11 +80,11 @@ impl ChoicePayload for NewPart {
         Ok(alternatives.extensible_choice(added))
     }
 
-    fn alternative_tag(&self) -> Tag {
+    fn alternative_place(&self) -> usize {
         match self {
-            NewPart::Code(_) => CODE,
-            NewPart::Text(_) => TEXT,
-            NewPart::Flag(_) => FLAG,
+            NewPart::Code(_) => 0,
+            NewPart::Text(_) => 1,
+            NewPart::Flag(_) => 2,
         }
     }
 
@@ -96,15 +96,12 @@ impl ChoicePayload for NewPart {
         }
     }
 
-    fn read_alternative<D: Decoder>(decoder: &mut D, tag: Tag) -> Result<NewPart, DecodeError> {
-        if tag == CODE {
-            Ok(NewPart::Code(u8::decode(decoder)?))
-        } else if tag == TEXT {
-            Ok(NewPart::Text(String::decode(decoder)?))
-        } else if tag == FLAG {
-            Ok(NewPart::Flag(bool::decode(decoder)?))
-        } else {
-            Err(DecodeError::no_valid_choice("NewPart", decoder.codec()))
+    fn read_alternative<D: Decoder>(decoder: &mut D, place: usize) -> Result<NewPart, DecodeError> {
+        match place {
+            0 => Ok(NewPart::Code(u8::decode(decoder)?)),
+            1 => Ok(NewPart::Text(String::decode(decoder)?)),
+            2 => Ok(NewPart::Flag(bool::decode(decoder)?)),
+            _ => Err(DecodeError::no_valid_choice("NewPart", decoder.codec())),
         }
     }
 

@@ -72,10 +72,10 @@ impl ChoicePayload for OldPart {
         Ok(alternatives.extensible_choice(AlternativeShapes::new(alloc)))
     }
 
-    fn alternative_tag(&self) -> Tag {
+    fn alternative_place(&self) -> usize {
         match self {
-            OldPart::Code(_) => CODE,
-            OldPart::Text(_) => TEXT,
+            OldPart::Code(_) => 0,
+            OldPart::Text(_) => 1,
         }
     }
 
@@ -86,13 +86,11 @@ impl ChoicePayload for OldPart {
         }
     }
 
-    fn read_alternative<D: Decoder>(decoder: &mut D, tag: Tag) -> Result<OldPart, DecodeError> {
-        if tag == CODE {
-            Ok(OldPart::Code(u8::decode(decoder)?))
-        } else if tag == TEXT {
-            Ok(OldPart::Text(String::decode(decoder)?))
-        } else {
-            Err(DecodeError::no_valid_choice("OldPart", decoder.codec()))
+    fn read_alternative<D: Decoder>(decoder: &mut D, place: usize) -> Result<OldPart, DecodeError> {
+        match place {
+            0 => Ok(OldPart::Code(u8::decode(decoder)?)),
+            1 => Ok(OldPart::Text(String::decode(decoder)?)),
+            _ => Err(DecodeError::no_valid_choice("OldPart", decoder.codec())),
         }
     }
 

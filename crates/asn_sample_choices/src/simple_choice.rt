@@ -72,11 +72,11 @@ impl ChoicePayload for SimpleChoice {
         Ok(alternatives.choice())
     }
 
-    // The tag decides which alternative is encoded.
-    fn alternative_tag(&self) -> Tag {
+    // Alternatives are counted from 0, extension additions last.
+    fn alternative_place(&self) -> usize {
         match self {
-            SimpleChoice::Test1(_) => TEST1,
-            SimpleChoice::Test2(_) => TEST2,
+            SimpleChoice::Test1(_) => 0,
+            SimpleChoice::Test2(_) => 1,
         }
     }
 
@@ -88,17 +88,15 @@ impl ChoicePayload for SimpleChoice {
         }
     }
 
-    // The tag is that of the identifier in the text, and the payload is the next slot.
+    // The place is that of the identifier in the text, and the payload is the next slot.
     fn read_alternative<D: Decoder>(
         decoder: &mut D,
-        tag: Tag,
+        place: usize,
     ) -> Result<SimpleChoice, DecodeError> {
-        if tag == TEST1 {
-            Ok(SimpleChoice::Test1(u8::decode(decoder)?))
-        } else if tag == TEST2 {
-            Ok(SimpleChoice::Test2(String::decode(decoder)?))
-        } else {
-            Err(DecodeError::no_valid_choice("SimpleChoice", decoder.codec()))
+        match place {
+            0 => Ok(SimpleChoice::Test1(u8::decode(decoder)?)),
+            1 => Ok(SimpleChoice::Test2(String::decode(decoder)?)),
+            _ => Err(DecodeError::no_valid_choice("SimpleChoice", decoder.codec())),
         }
     }
 

@@ -23,6 +23,7 @@ pub use Rattle.asn_coding.proofs.ReadingOrder
 pub use Rattle.asn_coding.proofs.Taking
 pub use Rattle.asn_coding.proofs.Reading
 pub use Rattle.asn_coding.proofs.Choices
+pub use Rattle.asn_coding.proofs.ByPlace
 pub use Rattle.asn_coding.proofs.Filling
 pub use Rattle.asn_coding.proofs.Collecting
 pub use Rattle.asn_coding.proofs.Scopes

@@ -3,7 +3,8 @@
 //! CHOICE has is given by `kinds` once.
 ghost use Rattle.asn_coding.specs.Chosen.{Chosen, IsChosen, chosen_value};
 ghost use Rattle.asn_model.specs.Readable.{is_readable};
-ghost use Rattle.asn_coding.specs.Scopes.{TagAnswer};
+ghost use Rattle.asn_coding.specs.Answer.{Answer};
+ghost use Rattle.asn_coding.specs.Scopes.{PlaceAnswer};
 ghost use Rattle.asn_model.specs.Shape.{Shape as AbstractShape, Alternatives, AlternativeAdditions};
 ghost use Rattle.asn_model.specs.Shape.{all_alternatives, identifiers};
 ghost use Rattle.asn_model.specs.ShapeView.{shape_view};
@@ -12,7 +13,8 @@ ghost use Rattle.asn_coding.specs.Writing.{FailsToEncode, Written};
 ghost use Rattle.std.specs.Prelude.{◌≡◌, ◌↔◌, IfErr, IfOk, OnOk, map, option_map, true};
 
 use crate::ChoiceKind;
-use asn_core::{Constraints, Identifier, OutOfMemory, Tag, TagTree};
+use asn_coding::{Identifiers, Name};
+use asn_core::{OutOfMemory, TagTree};
 use asn_decode::Decoder;
 use asn_encode::Encoder;
 use asn_fault::{DecodeError, EncodeError};
@@ -63,9 +65,9 @@ pub trait ChoicePayload: OfKind<Kind = ChoiceKind> + Drop {
     fn choice_shape(alloc: Global) -> Result<Shape, OutOfMemory>
         ensures { IfOk result (λ s. shape_view s ≡ AbstractShape.choice alternatives additions) };
 
-    /// Returns the tag of the value's alternative.
-    fn alternative_tag(&self) -> Tag
-        ensures { result ≡ (chosen self.now).tag };
+    /// Returns the place of the value's alternative among all, extension additions last.
+    fn alternative_place(&self) -> usize
+        ensures { result ≡ (chosen self.now).place };
 
     /// Encodes the payload by its own type, as one slot.
     ///
@@ -77,14 +79,15 @@ pub trait ChoicePayload: OfKind<Kind = ChoiceKind> + Drop {
             (chosen self.now).payload encoder.old encoder.new) }
         ensures refused { IfErr result (FailsToEncode E.notation (chosen self.now).payload) };
 
-    /// Decodes the payload of the alternative of this tag from the first pending slot.
+    /// Decodes the payload of the alternative at this place from the first pending slot.
     ///
     /// # Errors
     ///
-    /// Those of the payload's type; `NoValidChoice` for any other tag, and then no slot is taken.
-    fn read_alternative<D: Decoder>(decoder: &mut D, tag: Tag) -> Result<Self, DecodeError>
-        ensures { TagAnswer D.notation (all_alternatives alternatives additions)
-            (λ x. chosen_value (chosen x)) tag (D.pending decoder.old) result
+    /// Those of the payload's type; `NoValidChoice` for a place past the last, and then no slot is
+    /// taken.
+    fn read_alternative<D: Decoder>(decoder: &mut D, place: usize) -> Result<Self, DecodeError>
+        ensures { PlaceAnswer D.notation (all_alternatives alternatives additions)
+            (λ x. chosen_value (chosen x)) place (D.pending decoder.old) result
             (D.pending decoder.new) };
 
     // The alternative of each value is one of the type's.
@@ -94,40 +97,42 @@ pub trait ChoicePayload: OfKind<Kind = ChoiceKind> + Drop {
     ghost readable: { is_readable (AbstractShape.choice alternatives additions) ≡ true };
 }
 
-/// Encodes a CHOICE: its payload, under the identifier that stands beside the payload's tag.
+/// Encodes a CHOICE: its payload, under the identifier of its alternative.
 ///
 /// # Errors
 ///
-/// Those of the payload. That the tag is of no alternative can't come: `is_chosen` excludes it.
+/// Those of the payload, and `OutOfMemory`.
+#[tactic(auto, using(asn_coding::proofs::ByPlace::fails_choice))]
 pub fn write_choice<T: ChoicePayload, E: Encoder>(
     value: &T,
     encoder: &mut E,
-    constraints: &Constraints,
-    identifier: Identifier,
 ) -> Result<(), EncodeError>
     ensures written { OnOk result
         (Written E.holds E.notation (AbstractShape.choice T.alternatives T.additions)
         (chosen_value (T.chosen value.now)) encoder.old encoder.new) }
     ensures refused { IfErr result (FailsToEncode E.notation (chosen_value (T.chosen value.now))) }
 {
-    // The tag is known before the payload is encoded, and the closure returns it again.
-    let tag = value.alternative_tag();
-    encoder.encode_choice::<T, _>(
-        constraints,
-        tag,
-        move |encoder: &mut E| -> Result<Tag, EncodeError>
-            ensures written { OnOk result
-                (Written E.holds E.notation (T.chosen value.entry.now).shape
-                (T.chosen value.entry.now).payload encoder.entry.now encoder.exit.now) }
-            ensures tag { IfOk result (λ answer. answer ≡ tag) }
-            ensures refused { IfErr result
-                (FailsToEncode E.notation (T.chosen value.entry.now).payload) }
-        {
-            value.write_alternative(encoder)?;
-            Ok(tag)
-        },
-        identifier,
-    )
+    encoder.open_frame()?;
+    value.write_alternative(encoder)?;
+    let names = T::listed_names();
+    encoder.close_choice(Name::Constant(names[value.alternative_place()]))
+}
+
+/// Decodes a CHOICE by the identifier in the text.
+///
+/// # Errors
+///
+/// Those of `Decoder` and of the payload; `NoValidChoice` where no alternative is named.
+pub fn read_choice<T: ChoicePayload, D: Decoder>(decoder: &mut D) -> Result<T, DecodeError>
+    ensures { Answer D.notation (AbstractShape.choice T.alternatives T.additions)
+        (λ x. chosen_value (T.chosen x)) (D.pending decoder.old) result (D.pending decoder.new) }
+{
+    let names = T::listed_names();
+    match decoder.open_choice(&Identifiers(names)) {
+        // No alternative stands past the last, so the type refuses that place by its own word.
+        Ok(place) => T::read_alternative(decoder, place.unwrap_or(names.len())),
+        Err(error) => Err(error),
+    }
 }
 
 /// Is a CHOICE whose values may be the elements of a SET OF.

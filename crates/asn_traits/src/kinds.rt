@@ -8,8 +8,10 @@ ghost use Rattle.asn_model.specs.Shape.{all_fields};
 ghost use Rattle.asn_model.specs.ShapeView.{kind_view};
 ghost use Rattle.std.specs.Prelude.{◌≡◌, refl};
 
-use crate::{ChoicePayload, SequenceFields, read_sequence, write_choice, write_sequence};
-use asn_coding::Fields;
+use crate::{
+    ChoicePayload, SequenceFields, read_choice, read_sequence, write_choice, write_sequence,
+};
+use asn_coding::{Fields, listed, place_of_tag};
 use asn_core::{Constraints, Identifier, OutOfMemory, Tag, TagTree};
 use asn_decode::{DecodeChoiceKind, DecodeKind, Decoder};
 use asn_encode::{EncodeKind, Encoder};
@@ -268,10 +270,10 @@ impl<T: ChoicePayload> EncodeKind<T> for ChoiceKind {
         value: &T,
         encoder: &mut E,
         _tag: Tag,
-        constraints: &Constraints,
-        identifier: Identifier,
+        _constraints: &Constraints,
+        _identifier: Identifier,
     ) -> Result<(), EncodeError> {
-        write_choice(value, encoder, constraints, identifier)
+        write_choice(value, encoder)
     }
 }
 
@@ -280,15 +282,16 @@ impl<T: ChoicePayload> DecodeKind<T> for ChoiceKind {
     fn decode_as<D: Decoder>(
         decoder: &mut D,
         _tag: Tag,
-        constraints: &Constraints,
+        _constraints: &Constraints,
     ) -> Result<T, DecodeError> {
-        decoder.decode_choice::<T>(constraints)
+        read_choice(decoder)
     }
 }
 
-/// Decodes a payload by the tag of its alternative.
+/// Decodes a payload by the place of the alternative that has the tag.
 impl<T: ChoicePayload> DecodeChoiceKind<T> for ChoiceKind {
     fn from_tag_as<D: Decoder>(decoder: &mut D, tag: Tag) -> Result<T, DecodeError> {
-        T::read_alternative(decoder, tag)
+        let place = place_of_tag(T::listed_root(), listed(T::listed_added()), tag);
+        T::read_alternative(decoder, place)
     }
 }

@@ -9,7 +9,7 @@ mod kinds;
 mod rows;
 mod sequence;
 
-pub use alternative::{ChoiceElement, ChoicePayload, write_choice};
+pub use alternative::{ChoiceElement, ChoicePayload, read_choice, write_choice};
 pub use asn_coding::{
     Field, FieldNames, Fields, Identifiers, Name, NameList, Opened, Presence, TableNames, place_of,
     place_of_field,

@@ -21,9 +21,9 @@ origin_shape = closed_choice origin_alternatives
 
 -- The alternative of an Origin, and its payload.
 abbrev pub origin_chosen : Origin → Chosen
-origin_chosen (Sensor number) = chosen (codes "sensor") (context 0) (unsigned 16) (Value.int (pos number))
-origin_chosen (Operator name) = chosen (codes "operator") (context 1) utf8_string (Value.text (string_bytes name))
-origin_chosen Unknown = chosen (codes "unknown") (context 2) Shape.null Value.null
+origin_chosen (Sensor number) = chosen 0 (codes "sensor") (unsigned 16) (Value.int (pos number))
+origin_chosen (Operator name) = chosen 1 (codes "operator") utf8_string (Value.text (string_bytes name))
+origin_chosen Unknown = chosen 2 (codes "unknown") Shape.null Value.null
 
 -- The value of an Origin.
 abbrev pub origin_value : Origin → Value

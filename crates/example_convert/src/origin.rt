@@ -75,11 +75,11 @@ impl ChoicePayload for Origin {
         Ok(alternatives.choice())
     }
 
-    fn alternative_tag(&self) -> Tag {
+    fn alternative_place(&self) -> usize {
         match self {
-            Origin::Sensor(_) => SENSOR,
-            Origin::Operator(_) => OPERATOR,
-            Origin::Unknown => UNKNOWN,
+            Origin::Sensor(_) => 0,
+            Origin::Operator(_) => 1,
+            Origin::Unknown => 2,
         }
     }
 
@@ -91,16 +91,15 @@ impl ChoicePayload for Origin {
         }
     }
 
-    fn read_alternative<D: Decoder>(decoder: &mut D, tag: Tag) -> Result<Origin, DecodeError> {
-        if tag == SENSOR {
-            Ok(Origin::Sensor(u16::decode(decoder)?))
-        } else if tag == OPERATOR {
-            Ok(Origin::Operator(String::decode(decoder)?))
-        } else if tag == UNKNOWN {
-            <()>::decode(decoder)?;
-            Ok(Origin::Unknown)
-        } else {
-            Err(DecodeError::no_valid_choice("Origin", decoder.codec()))
+    fn read_alternative<D: Decoder>(decoder: &mut D, place: usize) -> Result<Origin, DecodeError> {
+        match place {
+            0 => Ok(Origin::Sensor(u16::decode(decoder)?)),
+            1 => Ok(Origin::Operator(String::decode(decoder)?)),
+            2 => {
+                <()>::decode(decoder)?;
+                Ok(Origin::Unknown)
+            }
+            _ => Err(DecodeError::no_valid_choice("Origin", decoder.codec())),
         }
     }
 

@@ -1,5 +1,5 @@
 -- A CHOICE by the place of its alternative.
-use Rattle.std.proofs.Common.{◌≡◌, refl, ap, sym, ◌∙◌, subst, ℕ, zero, suc, List, [], ◌∷◌, Option, Some, None, Result, Ok, Err, Bool, true, false, if◌then◌else◌, length, unwrap_or}
+use Rattle.std.proofs.Common.{◌≡◌, refl, ap, sym, ◌∙◌, subst, arith, ℕ, zero, suc, ◌<◌, List, [], ◌∷◌, Option, Some, None, Result, Ok, Err, Bool, true, false, if◌then◌else◌, length, unwrap_or}
 use Rattle.std.specs.List.{slice_get}
 use Rattle.asn_core.specs.declared.tag.Tag.{Tag}
 use Rattle.asn_fault.specs.declared.decode.DecodeError.{DecodeError}
@@ -33,15 +33,14 @@ none_past Alternatives.no_alternatives = refl
 none_past (Alternatives.alternative i t s alts) = none_past alts
 
 -- What is answered of the alternative at the place that was found, or past the last where none was, is what the choice answers.
-pub choice_by_place : {A : Type 0} (n : Notation) (alts : Alternatives) (added : AlternativeAdditions) (value : A → Value) (before mid after : List Slot) (names : List (List ℕ)) (place : Option ℕ) (r : Result A DecodeError)
-    → names ≡ identifiers (all_alternatives alts added) → OpensChoice n names before (Ok place) mid → PlaceAnswer n (all_alternatives alts added) value (unwrap_or place (length names)) mid r after
+pub choice_by_place : {A : Type 0} (n : Notation) (alts : Alternatives) (added : AlternativeAdditions) (value : A → Value) (before mid after : List Slot) (names : List (List ℕ)) (place : Option ℕ) (past : ℕ) (r : Result A DecodeError)
+    → names ≡ identifiers (all_alternatives alts added) → past ≡ length (identifiers (all_alternatives alts added)) → OpensChoice n names before (Ok place) mid → PlaceAnswer n (all_alternatives alts added) value (unwrap_or place past) mid r after
     → Answer n (Shape.choice alts added) value before r after
-choice_by_place n alts added value before mid after names (Some k) r e (slot, put, rest, was, at, fewer, is) h =
+choice_by_place n alts added value before mid after names (Some k) past r e count (slot, put, rest, was, at, fewer, is) h =
     choice_answer n alts added value before mid rest after (chosen_at (all_alternatives alts added) e is) was at r h
-choice_by_place n alts added value before mid after names None r e (slot, put, rest, was, at, fewer, is) h =
+choice_by_place n alts added value before mid after names None past r e count (slot, put, rest, was, at, fewer, is) h =
     let all = all_alternatives alts added in
-    let past : alternative_at all (length names) ≡ None = ap (λ l. alternative_at all (length l)) e ∙ none_past all in
-    choice_answer n alts added value before mid rest after (chosen_none all e is) was at r (subst (λ o. AlternativeAnswer n o value mid r after) past h)
+    choice_answer n alts added value before mid rest after (chosen_none all e is) was at r (subst (λ o. AlternativeAnswer n o value mid r after) (ap (alternative_at all) count ∙ none_past all) h)
 
 tagged_step : (b : Bool) (i : List ℕ) (t : Tag) (s : Shape) (alts : Alternatives) (k : ℕ) (o : Option (List ℕ × Shape)) → alternative_at alts k ≡ o
     → alternative_at (Alternatives.alternative i t s alts) (if b then 0 else suc k) ≡ (if b then Some (i, s) else o)
@@ -68,6 +67,17 @@ named_at (Alternatives.alternative i t s alts) zero a e =
     let p : ◌≡◌ {A = List ℕ × Shape} (i, s) a = cc d in
     ap (λ (r : List ℕ × Shape). Some r.0) p
 named_at (Alternatives.alternative i t s alts) (suc k) a e = named_at alts k a e
+
+-- The place of an alternative is one of the identifiers'.
+pub place_listed : (alts : Alternatives) (k : ℕ) (a : List ℕ × Shape) → alternative_at alts k ≡ Some a → k < length (identifiers alts)
+place_listed Alternatives.no_alternatives k a e = let d : ◌≡◌ {A = Option (List ℕ × Shape)} None (Some a) = e in cc d
+place_listed (Alternatives.alternative i t s alts) zero a e = omega arith
+place_listed (Alternatives.alternative i t s alts) (suc k) a e = omega (arith, place_listed alts k a e)
+
+-- The identifier that stands at an alternative's place is the alternative's.
+pub name_there : (alts : Alternatives) (k : ℕ) (a : List ℕ × Shape) (names : List (List ℕ)) (name : List ℕ) → names ≡ identifiers alts → alternative_at alts k ≡ Some a → slice_get names k ≡ Some name → name ≡ a.0
+name_there alts k a names name e at is =
+    let d : ◌≡◌ {A = Option (List ℕ)} (Some name) (Some a.0) = sym is ∙ ap (λ l. slice_get l k) e ∙ named_at alts k a at in cc d
 
 -- A value of the shape of the alternative at a place fits.
 fits_at : (alts : Alternatives) (k : ℕ) (name : List ℕ) (shape : Shape) (v : Value) → alternative_at alts k ≡ Some (name, shape) → Fits shape v → FitsAlternative alts name v

@@ -63,7 +63,7 @@ pub struct Identifiers<'a>(pub &'a [&'static str]);
 /// Finds identifiers.
 impl<'a> Identifiers<'a> {
     /// Returns the identifier at a place.
-    fn identifier(&self, place: usize) -> &'static str
+    pub fn identifier(&self, place: usize) -> &'static str
         requires { place < length self.now.0.now }
         ensures { slice_get (map (λ s. s.now) self.now.0.now) place ≡ Some result.now }
     {

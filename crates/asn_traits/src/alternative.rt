@@ -114,8 +114,8 @@ pub fn write_choice<T: ChoicePayload, E: Encoder>(
 {
     encoder.open_frame()?;
     value.write_alternative(encoder)?;
-    let names = T::listed_names();
-    encoder.close_choice(Name::Constant(names[value.alternative_place()]))
+    let names = Identifiers(T::listed_names());
+    encoder.close_choice(Name::Constant(names.identifier(value.alternative_place())))
 }
 
 /// Decodes a CHOICE by the identifier in the text.

@@ -1,5 +1,6 @@
 //! Compares constants with the numbers that X.680 gives, with their names, and with what each type
 //! and call states.
+use crate::checks::{assert_of, assert_same, assert_true};
 use asn_core::{Any, Bits, Class, Identifier, ObjectIdentifier, OctetString, Tag, TagTree};
 use asn_strings::{
     BmpString, GeneralString, GraphicString, Ia5String, NumericString, PrintableString,
@@ -41,13 +42,7 @@ const UNIVERSAL: [(Tag, u32); 24] = [
 fn universal_tags(rt: HostRuntime) {
     for &(tag, value) in &UNIVERSAL {
         // No other class is among them.
-        assert_eq!(rt;
-            tag,
-            Tag {
-                class: Class::Universal,
-                value
-            }
-        );
+        assert_same(&rt, tag, Tag::new(Class::Universal, value));
     }
 }
 
@@ -76,7 +71,7 @@ const CONTEXT: [(Tag, u32); 16] = [
 fn context_tags(rt: HostRuntime) {
     for &(tag, value) in &CONTEXT {
         // No other class is among them.
-        assert_eq!(rt; tag, Tag::new(Class::Context, value));
+        assert_same(&rt, tag, Tag::new(Class::Context, value));
     }
 }
 
@@ -157,7 +152,7 @@ fn constants_are_what_calls_state(rt: HostRuntime) {
     ];
     for &same in strings.iter().chain(others.iter()) {
         // A row stands for a type.
-        assert!(rt; same);
+        assert_true(&rt, same);
     }
 }
 
@@ -196,8 +191,8 @@ fn fields_are_made_by_macros_and_calls(rt: HostRuntime) {
         Field::new_default(2, third, TagTree::Leaf(third), "c"),
     ];
     let table = Fields::from_static(ROWS);
-    assert_eq!(rt; table.items.len(), made.len());
+    assert_same(&rt, table.items.len(), made.len());
     for (one, other) in made.iter().zip(table.items) {
-        assert!(rt; is_same_field(one, other), "{}", one.name);
+        assert_of(&rt, is_same_field(one, other), one.name);
     }
 }

@@ -3,13 +3,14 @@ ghost use Rattle.asn_model.specs.Shape.{Shape as AbstractShape};
 ghost use Rattle.asn_model.specs.Value.{Value};
 ghost use Rattle.std.specs.Prelude.{refl};
 
+use crate::checks::{DECODER, assert_same, let_go};
 use asn_core::{Class, Constraint, Constraints, Identifier, OutOfMemory, Tag, TagTree};
 use asn_fault::{DecodeError, EncodeError};
 use asn_traits::{AsnType, Decode, Decoder, Encode, Encoder, Shape};
 use jer_rules::jer;
 use std::alloc::Global;
 use std::cell::Cell;
-use std::test::Fail;
+use std::process::Abort;
 
 /// What a call of a type was handed.
 #[derive(Clone, Copy, Debug, PartialEq, Eq)]
@@ -114,67 +115,62 @@ impl Decode for Flag {
     }
 }
 
-/// Each call for encoding hands on the type's own tag, constraints and identifier, but for what it
-/// is given.
-#[test]
-fn calls_for_encoding_hand_on_what_is_the_types_own(rt: HostRuntime) -> Result<(), Fail> {
+/// Encodes a `Flag` by the call at this place, and returns what its own call was handed.
+fn encoded(rt: &impl Abort, alloc: Global, call: usize) -> Handed {
     let flag = Flag {
         value: true,
         handed: Cell::new(NOTHING),
     };
-    let own = Handed {
-        tag: FLAG_TAG,
-        constraints: 1,
-        identifier: FLAG_NAME,
+    let mut encoder = jer::enc::Encoder::new(alloc);
+    let written = match call {
+        0 => flag.encode(&mut encoder),
+        1 => flag.encode_with_tag(&mut encoder, Tag::NULL),
+        _ => flag.encode_with_constraints(&mut encoder, &Constraints::NONE),
     };
-    let mut encoder = jer::enc::Encoder::new(rt.alloc());
-    flag.encode(&mut encoder)?;
-    assert_eq!(rt; flag.handed.get(), own);
-    flag.encode_with_tag(&mut encoder, Tag::NULL)?;
-    assert_eq!(rt;
-        flag.handed.get(),
-        Handed {
-            tag: Tag::NULL,
-            ..own
-        }
-    );
-    flag.encode_with_constraints(&mut encoder, &Constraints::NONE)?;
-    assert_eq!(rt;
-        flag.handed.get(),
-        Handed {
-            constraints: 0,
-            ..own
-        }
-    );
-    Ok(())
+    let_go(encoder);
+    written.expect(rt, "not written");
+    flag.handed.get()
+}
+
+/// Lists the tag and the number of constraints that each call hands on: the type's own, but for
+/// what the call is given.
+const HANDED_ON: [(Tag, usize); 3] = [(FLAG_TAG, 1), (Tag::NULL, 1), (FLAG_TAG, 0)];
+
+/// Each call for encoding hands on the type's own tag, constraints and identifier, but for what it
+/// is given.
+#[test]
+fn calls_for_encoding_hand_on_what_is_the_types_own(rt: HostRuntime) {
+    for (call, &(tag, constraints)) in HANDED_ON.iter().enumerate() {
+        let wanted = Handed {
+            tag,
+            constraints,
+            identifier: FLAG_NAME,
+        };
+        assert_same(&rt, encoded(&rt, rt.alloc(), call), wanted);
+    }
 }
 
 /// Decodes a `Flag` by the call at this place, from the text of a BOOLEAN.
-fn decoded(alloc: Global, call: usize) -> Result<Handed, DecodeError> {
-    let mut decoder = jer::de::Decoder::new(alloc, "true")?;
-    let flag: Flag = match call {
+fn decoded(rt: &impl Abort, alloc: Global, call: usize) -> Handed {
+    let mut decoder = jer::de::Decoder::new(alloc, "true").expect(rt, DECODER);
+    let read: Result<Flag, DecodeError> = match call {
         0 => Decode::decode(&mut decoder),
         1 => Decode::decode_with_tag(&mut decoder, Tag::NULL),
         _ => Decode::decode_with_constraints(&mut decoder, &Constraints::NONE),
-    }?;
-    Ok(flag.handed.get())
+    };
+    let_go(decoder);
+    read.expect(rt, "not read").handed.get()
 }
 
 /// So does each call for decoding, which has no identifier.
 #[test]
-fn calls_for_decoding_hand_on_what_is_the_types_own(rt: HostRuntime) -> Result<(), Fail> {
-    let wanted = [(FLAG_TAG, 1), (Tag::NULL, 1), (FLAG_TAG, 0)];
-    for (call, &(tag, constraints)) in wanted.iter().enumerate() {
-        let handed = decoded(rt.alloc(), call)?;
-        let identifier = Identifier::EMPTY;
-        assert_eq!(rt;
-            handed,
-            Handed {
-                tag,
-                constraints,
-                identifier
-            }
-        );
+fn calls_for_decoding_hand_on_what_is_the_types_own(rt: HostRuntime) {
+    for (call, &(tag, constraints)) in HANDED_ON.iter().enumerate() {
+        let wanted = Handed {
+            tag,
+            constraints,
+            identifier: Identifier::EMPTY,
+        };
+        assert_same(&rt, decoded(&rt, rt.alloc(), call), wanted);
     }
-    Ok(())
 }

@@ -1,12 +1,11 @@
 //! Runs visitors at the sample types, and shows the shape of one.
-use crate::checks::let_go;
+use crate::checks::{MEMORY, assert_of, assert_true, let_go};
 use crate::constants::has_its_tags;
 use asn_base::{Identifier, Tag};
 use asn_samples::{Sample, SampleVisitor, is_sample_name};
 use asn_traits::{Decode, Encode, Shape, is_readable};
 use std::alloc::Global;
 use std::process::Abort;
-use std::test::Fail;
 
 /// Gives the tag of the type that it is run at, and returns whether that is a CHOICE, and whether
 /// its constants are those that its calls state, with neither an identifier of its own nor a rank
@@ -98,44 +97,36 @@ fn constants_of(sample: Sample) -> (Tag, (bool, bool)) {
 }
 
 /// Returns whether the shape of the sample's type can be read.
-fn has_readable_shape(alloc: Global, sample: Sample) -> Result<bool, Fail> {
-    let shape = sample.shape(alloc)?;
+fn has_readable_shape(rt: &impl Abort, alloc: Global, sample: Sample) -> bool {
+    let shape = sample.shape(alloc).expect(rt, MEMORY);
     let is_found = is_readable(&shape);
     let_go(shape);
-    Ok(is_found)
+    is_found
 }
 
 /// Checks that the name leads to a type of this tag, whose shape can be read.
-fn assert_sample(rt: &impl Abort, alloc: Global, name: &str, tag: Tag) -> Result<(), Fail> {
-    assert!(rt; is_sample_name(name), "{name}");
-    match Sample::named(name) {
-        Some(sample) => {
-            assert!(rt;
-                constants_of(sample) == (tag, (tag == Tag::EOC, true)),
-                "{name}"
-            );
-            assert!(rt; has_readable_shape(alloc, sample)?, "{name}");
-            Ok(())
-        }
-        None => Err(Fail::from("no sample")),
-    }
+fn assert_sample(rt: &impl Abort, alloc: Global, name: &str, tag: Tag) {
+    assert_of(rt, is_sample_name(name), name);
+    let sample = Sample::named(name).expect(rt, name);
+    let wanted = (tag, (tag == Tag::EOC, true));
+    assert_of(rt, constants_of(sample) == wanted, name);
+    assert_of(rt, has_readable_shape(rt, alloc, sample), name);
 }
 
 /// A name leads to a type of its tag, whose shape can be read; that it is the type of the sample's
 /// shape is the contract of `accept`. The tags are the universal ones of X.680, section 8.
 #[test]
-fn a_visitor_is_run_at_the_type_of_the_name(rt: HostRuntime) -> Result<(), Fail> {
+fn a_visitor_is_run_at_the_type_of_the_name(rt: HostRuntime) {
     for row in TAGS.iter() {
-        assert_sample(&rt, rt.alloc(), row.0, row.1)?;
+        assert_sample(&rt, rt.alloc(), row.0, row.1);
     }
-    Ok(())
 }
 
 /// Names of other case, with a blank, or of other types are none.
 #[test]
 fn other_names_are_no_samples(rt: HostRuntime) {
     for &name in &["", "Bool", "bool ", "SequenceOf<Nest>"] {
-        assert!(rt; !is_sample_name(name));
+        assert_of(&rt, !is_sample_name(name), name);
     }
 }
 
@@ -161,10 +152,8 @@ fn has_addition(shape: &Shape, identifier: &str, tag: u32) -> bool {
 /// The shape of a CHOICE has the alternatives of the root and the extension additions apart, and
 /// the tags of these go on from those of the root.
 #[test]
-fn a_choice_shows_its_additions(rt: HostRuntime) -> Result<(), Fail> {
-    let shape = Sample::ExtChoice.shape(rt.alloc())?;
-    let is_found = has_addition(&shape, "Test3", 2);
+fn a_choice_shows_its_additions(rt: HostRuntime) {
+    let shape = Sample::ExtChoice.shape(rt.alloc()).expect(&rt, MEMORY);
+    assert_true(&rt, has_addition(&shape, "Test3", 2));
     let_go(shape);
-    assert!(rt; is_found);
-    Ok(())
 }

@@ -1,9 +1,9 @@
 //! Tests shapes that can't be read.
-use crate::checks::let_go;
+use crate::checks::{MEMORY, let_go};
 use asn_base::{Class, Tag};
 use asn_traits::{AlternativeShape, FieldShape, Plain, PresenceShape, SeqKind, Shape, is_readable};
 use std::alloc::Global;
-use std::test::Fail;
+use std::process::Abort;
 
 /// Returns a BOOLEAN field of this name.
 fn field(name: String, presence: PresenceShape) -> FieldShape {
@@ -41,105 +41,95 @@ fn choice(alternatives: Vec<AlternativeShape>) -> Shape {
     }
 }
 
+/// Returns an owned text.
+fn owned(rt: &impl Abort, alloc: Global, text: &str) -> String {
+    String::from_str(alloc, text).expect(rt, MEMORY)
+}
+
 /// Returns the ENUMERATED type of one item.
-fn items_of(alloc: Global, item: &str) -> Result<Shape, Fail> {
-    let items = Vec::from_array(alloc, [String::from_str(alloc, item)?])?;
-    Ok(Shape::Enum { items, added: None })
+fn items_of(rt: &impl Abort, alloc: Global, item: &str) -> Shape {
+    let items = Vec::from_array(alloc, [owned(rt, alloc, item)]).expect(rt, MEMORY);
+    Shape::Enum { items, added: None }
 }
 
 /// Returns the CHOICE of one alternative.
-fn choice_of(alloc: Global, class: Class, value: u32) -> Result<Shape, Fail> {
-    let only = alternative(String::from_str(alloc, "a")?, class, value);
-    Ok(choice(Vec::from_array(alloc, [only])?))
+fn choice_of(rt: &impl Abort, alloc: Global, class: Class, value: u32) -> Shape {
+    let only = alternative(owned(rt, alloc, "a"), class, value);
+    choice(Vec::from_array(alloc, [only]).expect(rt, MEMORY))
 }
 
-/// Returns the CHOICE of two alternatives whose identifiers differ in case alone.
-fn identifiers_alike(alloc: Global) -> Result<Shape, Fail> {
-    let small = String::from_str(alloc, "a")?;
-    let capital = String::from_str(alloc, "A")?;
+/// Returns the CHOICE of two alternatives, of these identifiers and numbers of tags.
+fn choice_of_two(rt: &impl Abort, alloc: Global, first: (&str, u32), second: (&str, u32)) -> Shape {
     let both = [
-        alternative(small, Class::Context, 0),
-        alternative(capital, Class::Context, 1),
+        alternative(owned(rt, alloc, first.0), Class::Context, first.1),
+        alternative(owned(rt, alloc, second.0), Class::Context, second.1),
     ];
-    Ok(choice(Vec::from_array(alloc, both)?))
-}
-
-/// Returns the CHOICE of two alternatives of one tag.
-fn tag_twice(alloc: Global) -> Result<Shape, Fail> {
-    let first = String::from_str(alloc, "a")?;
-    let second = String::from_str(alloc, "b")?;
-    let both = [
-        alternative(first, Class::Context, 0),
-        alternative(second, Class::Context, 0),
-    ];
-    Ok(choice(Vec::from_array(alloc, both)?))
+    choice(Vec::from_array(alloc, both).expect(rt, MEMORY))
 }
 
 /// Returns the ENUMERATED type in which an item comes twice.
-fn item_twice(alloc: Global) -> Result<Shape, Fail> {
-    let first = String::from_str(alloc, "a")?;
-    let second = String::from_str(alloc, "a")?;
-    let items = Vec::from_array(alloc, [first, second])?;
-    Ok(Shape::Enum { items, added: None })
+fn item_twice(rt: &impl Abort, alloc: Global) -> Shape {
+    let both = [owned(rt, alloc, "a"), owned(rt, alloc, "a")];
+    let items = Vec::from_array(alloc, both).expect(rt, MEMORY);
+    Shape::Enum { items, added: None }
 }
 
 /// Returns the SEQUENCE of two fields of one name.
-fn name_twice(alloc: Global) -> Result<Shape, Fail> {
-    let first = String::from_str(alloc, "a")?;
-    let second = String::from_str(alloc, "a")?;
+fn name_twice(rt: &impl Abort, alloc: Global) -> Shape {
     let twice = [
-        field(first, PresenceShape::Required),
-        field(second, PresenceShape::Required),
+        field(owned(rt, alloc, "a"), PresenceShape::Required),
+        field(owned(rt, alloc, "a"), PresenceShape::Required),
     ];
-    Ok(sequence(Vec::from_array(alloc, twice)?))
+    sequence(Vec::from_array(alloc, twice).expect(rt, MEMORY))
 }
 
 /// Returns the SEQUENCE of one field.
-fn sequence_of(alloc: Global, name: &str, presence: PresenceShape) -> Result<Shape, Fail> {
-    match String::from_str(alloc, name) {
-        Ok(name) => Ok(sequence(Vec::from_array(alloc, [field(name, presence)])?)),
-        Err(error) => {
-            let_go(presence);
-            Err(Fail::from(error))
-        }
-    }
+fn sequence_of(rt: &impl Abort, alloc: Global, name: &str, presence: PresenceShape) -> Shape {
+    let only = field(owned(rt, alloc, name), presence);
+    sequence(Vec::from_array(alloc, [only]).expect(rt, MEMORY))
 }
 
 /// Counts the shapes of `unreadable`.
 const UNREADABLE: usize = 11;
 
 /// Returns a shape that can't be read. Each breaks one of the conditions that `is_readable` lists.
-fn unreadable(alloc: Global, case: usize) -> Result<Shape, Fail> {
+fn unreadable(rt: &impl Abort, alloc: Global, case: usize) -> Shape {
     match case {
         // A loop with nothing between it and what names it.
-        0 => Ok(Shape::Loop(Box::new(alloc, Shape::Back(0))?)),
+        0 => Shape::Loop(Box::new(alloc, Shape::Back(0)).expect(rt, MEMORY)),
         // A number of no loop.
-        1 => Ok(Shape::Back(0)),
-        2 => identifiers_alike(alloc),
+        1 => Shape::Back(0),
+        // Identifiers that differ in case alone.
+        2 => choice_of_two(rt, alloc, ("a", 0), ("A", 1)),
         // The tag of the end of contents.
-        3 => choice_of(alloc, Class::Universal, 0),
+        3 => choice_of(rt, alloc, Class::Universal, 0),
         // No alternative.
-        4 => Ok(choice(Vec::new(alloc))),
+        4 => choice(Vec::new(alloc)),
         // A keyword as an item.
-        5 => items_of(alloc, "TRUE"),
-        6 => name_twice(alloc),
+        5 => items_of(rt, alloc, "TRUE"),
+        6 => name_twice(rt, alloc),
         // A BOOLEAN whose default is a number.
-        7 => sequence_of(alloc, "a", PresenceShape::Default(Plain::Int(1))),
-        8 => tag_twice(alloc),
-        9 => item_twice(alloc),
+        7 => sequence_of(rt, alloc, "a", PresenceShape::Default(Plain::Int(1))),
+        // One tag twice.
+        8 => choice_of_two(rt, alloc, ("a", 0), ("b", 0)),
+        9 => item_twice(rt, alloc),
         // A name that AVN cannot spell.
-        _ => sequence_of(alloc, "1a", PresenceShape::Required),
+        _ => sequence_of(rt, alloc, "1a", PresenceShape::Required),
     }
+}
+
+/// Checks that the condition holds of the shape of this number.
+fn assert_case(rt: &impl Abort, holds: bool, case: usize) {
+    assert!(rt; holds, "shape {case}");
 }
 
 /// A shape that breaks one of these conditions is found.
 #[test]
-fn shapes_that_cannot_be_read(rt: HostRuntime) -> Result<(), Fail> {
+fn shapes_that_cannot_be_read(rt: HostRuntime) {
     for case in 0..UNREADABLE {
-        let shape = unreadable(rt.alloc(), case)?;
+        let shape = unreadable(&rt, rt.alloc(), case);
         let is_found = !is_readable(&shape);
         let_go(shape);
-        assert!(rt; is_found, "shape {case}");
+        assert_case(&rt, is_found, case);
     }
-    Ok(())
 }

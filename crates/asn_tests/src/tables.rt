@@ -1,5 +1,6 @@
 //! Compares the tables of described types, which stand in constants that no contract can name, with
 //! what the calls return that are tied to the types' shapes.
+use crate::checks::assert_true;
 use crate::constants::{has_its_tags, is_same_field, is_same_tree};
 use asn_by_hand::{GrowingSet, Wide};
 use asn_document::Document;
@@ -54,7 +55,7 @@ fn fields_are_what_calls_return(rt: HostRuntime) {
     ];
     for &same in fields.iter() {
         // A row stands for a type.
-        assert!(rt; same);
+        assert_true(&rt, same);
     }
 }
 
@@ -95,7 +96,7 @@ fn alternatives_are_what_calls_return(rt: HostRuntime) {
         has_its_alternatives::<SimpleChoice>(),
     ];
     for &same in alternatives.iter() {
-        assert!(rt; same);
+        assert_true(&rt, same);
     }
 }
 
@@ -119,7 +120,7 @@ fn items_are_what_calls_return(rt: HostRuntime) {
         has_its_items::<SimpleEnum>(),
     ];
     for &same in items.iter() {
-        assert!(rt; same);
+        assert_true(&rt, same);
     }
 }
 
@@ -132,6 +133,6 @@ fn is_ranked<T: AsnType>(rank: u32) -> bool {
 /// A type that hands its tree on to another one ranks above it.
 #[test]
 fn types_that_hand_on_rank_above(rt: HostRuntime) {
-    assert!(rt; is_ranked::<Wrap1>(1));
-    assert!(rt; is_ranked::<Wrap2>(2));
+    assert_true(&rt, is_ranked::<Wrap1>(1));
+    assert_true(&rt, is_ranked::<Wrap2>(2));
 }

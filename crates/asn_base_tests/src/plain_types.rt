@@ -1,12 +1,11 @@
 //! Tests bit strings, octet strings, object identifiers and constraints by examples.
-use crate::checks::assert_octets;
+use crate::checks::{MEMORY, assert_octets, assert_of, assert_same, assert_true, is_equal, octets};
 use asn_base::{
     Any, Bits, Bounded, Constraint, Constraints, Extensible, ObjectIdentifier, OctetString, Oid,
     Size,
 };
-use std::alloc::{AllocError, Global};
+use std::alloc::Global;
 use std::process::Abort;
-use std::test::Fail;
 
 /// Arcs, and whether they are those of an object identifier.
 const ARCS: [(&[u32], bool); 8] = [
@@ -21,97 +20,98 @@ const ARCS: [(&[u32], bool); 8] = [
 ];
 
 /// Returns the first bits of the octet, a number of them.
-fn first_bits(alloc: Global, octet: u8, length: usize) -> Result<Bits, AllocError> {
-    Ok(Bits::from_first_bits(vec![in alloc; octet]?, length))
+fn first_bits(rt: &impl Abort, alloc: Global, octet: u8, length: usize) -> Bits {
+    Bits::from_first_bits(octets(rt, alloc, &[octet]), length)
 }
 
 /// Bits are not made of another number of octets than they need.
 #[test]
-fn bits_fill_their_octets(rt: HostRuntime) -> Result<(), Fail> {
-    let short = Bits::from_octets(vec![in rt.alloc(); 0xA8]?, 9);
-    assert!(rt; short.is_none());
-    let long = Bits::from_octets(vec![in rt.alloc(); 0xA8, 0]?, 8);
-    assert!(rt; long.is_none());
-    Ok(())
+fn bits_fill_their_octets(rt: HostRuntime) {
+    let short = Bits::from_octets(octets(&rt, rt.alloc(), &[0xA8]), 9);
+    assert_true(&rt, short.is_none());
+    let long = Bits::from_octets(octets(&rt, rt.alloc(), &[0xA8, 0]), 8);
+    assert_true(&rt, long.is_none());
 }
 
 /// Checks that five bits of the octet are those of 0xA8, by either call.
-fn assert_padded(rt: &impl Abort, alloc: Global, octet: u8) -> Result<(), Fail> {
-    let bits = first_bits(alloc, octet, 5)?;
-    let read = Bits::from_octets(vec![in alloc; octet]?, 5);
-    assert!(rt; read.as_ref() == Some(&bits));
-    assert_octets(rt, bits.octets(), [0xA8].as_slice());
-    Ok(())
+fn assert_padded(rt: &impl Abort, alloc: Global, octet: u8) {
+    let bits = first_bits(rt, alloc, octet, 5);
+    let read = Bits::from_octets(octets(rt, alloc, &[octet]), 5);
+    assert_true(rt, is_equal(&bits, read.expect(rt, "no bits")));
+    assert_octets(rt, bits.octets(), &[0xA8]);
 }
 
 /// Checks that a bit that is added after five of the octet is set, and two that are taken are
 /// reset.
-fn assert_reset(rt: &impl Abort, alloc: Global, octet: u8) -> Result<(), Fail> {
-    let mut bits = first_bits(alloc, octet, 5)?;
+fn assert_reset(rt: &impl Abort, alloc: Global, octet: u8) {
+    let mut bits = first_bits(rt, alloc, octet, 5);
     assert!(rt; bits.len() == 5);
-    bits.push(true)?;
-    assert_octets(rt, bits.octets(), [0xAC].as_slice());
-    assert!(rt; bits.pop() == Some(true));
-    assert!(rt; bits.pop() == Some(true));
-    assert_octets(rt, bits.octets(), [0xA0].as_slice());
-    assert!(rt; bits.get(2) == Some(true));
-    assert!(rt; bits.get(4).is_none());
-    assert_octets(rt, bits.into_octets().as_slice(), [0xA0].as_slice());
-    Ok(())
+    bits.push(true).expect(rt, MEMORY);
+    assert_octets(rt, bits.octets(), &[0xAC]);
+    assert_same(rt, bits.pop(), Some(true));
+    assert_same(rt, bits.pop(), Some(true));
+    assert_octets(rt, bits.octets(), &[0xA0]);
+    assert_same(rt, bits.get(2), Some(true));
+    assert_same(rt, bits.get(4), None);
+    assert_octets(rt, bits.into_octets().as_slice(), &[0xA0]);
 }
 
 /// The bits of the last octet past the length are zero, whatever the octet had there.
 #[test]
-fn bits_are_padded_with_zeros(rt: HostRuntime) -> Result<(), Fail> {
+fn bits_are_padded_with_zeros(rt: HostRuntime) {
     for &octet in &[0xA8, 0xAF] {
-        assert_padded(&rt, rt.alloc(), octet)?;
-        assert_reset(&rt, rt.alloc(), octet)?;
+        assert_padded(&rt, rt.alloc(), octet);
+        assert_reset(&rt, rt.alloc(), octet);
     }
-    Ok(())
 }
 
 /// A ninth bit begins a second octet.
 #[test]
-fn bits_grow_by_octets(rt: HostRuntime) -> Result<(), Fail> {
+fn bits_grow_by_octets(rt: HostRuntime) {
     let mut bits = Bits::new(rt.alloc());
-    assert!(rt; bits.is_empty());
+    assert_true(&rt, bits.is_empty());
     for bit in [true, false, false, false, false, false, true, true, true] {
         assert!(rt; bits.len() < 9);
-        bits.push(bit)?;
+        bits.push(bit).expect(&rt, MEMORY);
     }
-    assert_eq!(rt; bits.octets(), [0x83, 0x80].as_slice());
-    assert_eq!(rt; bits.len(), 9);
-    assert!(rt; !bits.is_empty());
-    assert!(rt; bits != Bits::from_first_bits(vec![in rt.alloc(); 0x83, 0x80]?, 10));
-    Ok(())
+    assert_octets(&rt, bits.octets(), &[0x83, 0x80]);
+    assert_same(&rt, bits.len(), 9);
+    assert_true(&rt, !bits.is_empty());
+    let ten = Bits::from_first_bits(octets(&rt, rt.alloc(), &[0x83, 0x80]), 10);
+    assert_true(&rt, !is_equal(&bits, ten));
+}
+
+/// Returns the octet string of these octets.
+fn string_of(rt: &impl Abort, alloc: Global, bytes: &[u8]) -> OctetString {
+    OctetString::from_vec(octets(rt, alloc, bytes))
 }
 
 /// An octet string has the octets that it was made of.
 #[test]
-fn octets_of_a_string_are_kept(rt: HostRuntime) -> Result<(), Fail> {
-    let string = OctetString::from_vec(vec![in rt.alloc(); 1, 2]?);
-    assert_octets(&rt, string.as_bytes(), [1, 2].as_slice());
-    assert!(rt; string == OctetString::from_vec(vec![in rt.alloc(); 1, 2]?));
-    assert!(rt; string != OctetString::from_vec(vec![in rt.alloc(); 1]?));
-    assert_octets(&rt, string.into_vec().as_slice(), [1, 2].as_slice());
-    Ok(())
+fn octets_of_a_string_are_kept(rt: HostRuntime) {
+    let alloc = rt.alloc();
+    let string = string_of(&rt, alloc, &[1, 2]);
+    assert_octets(&rt, string.as_bytes(), &[1, 2]);
+    assert_true(&rt, is_equal(&string, string_of(&rt, alloc, &[1, 2])));
+    assert_true(&rt, !is_equal(&string, string_of(&rt, alloc, &[1])));
+    assert_octets(&rt, string.into_vec().as_slice(), &[1, 2]);
 }
 
 /// The encoding in an open type is the octets that it was made of.
 #[test]
-fn octets_of_any_are_kept(rt: HostRuntime) -> Result<(), Fail> {
-    let any = Any::new(vec![in rt.alloc(); 1, 2]?);
-    assert_octets(&rt, any.as_bytes(), [1, 2].as_slice());
-    assert!(rt; any != Any::new(vec![in rt.alloc(); 2, 1]?));
-    assert_octets(&rt, any.into_vec().as_slice(), [1, 2].as_slice());
-    Ok(())
+fn octets_of_any_are_kept(rt: HostRuntime) {
+    let alloc = rt.alloc();
+    let any = Any::new(octets(&rt, alloc, &[1, 2]));
+    assert_octets(&rt, any.as_bytes(), &[1, 2]);
+    assert_true(&rt, !is_equal(&any, Any::new(octets(&rt, alloc, &[2, 1]))));
+    assert_octets(&rt, any.into_vec().as_slice(), &[1, 2]);
 }
 
 /// Returns whether the arcs are those of an object identifier, which then has them.
-fn makes_identifier(alloc: Global, arcs: &[u32]) -> Result<bool, Fail> {
-    match ObjectIdentifier::new(alloc, arcs)? {
-        Some(identifier) => Ok(identifier.arcs() == arcs),
-        None => Ok(false),
+fn makes_identifier(rt: &impl Abort, alloc: Global, arcs: &[u32]) -> bool {
+    match ObjectIdentifier::new(alloc, arcs).expect(rt, MEMORY) {
+        Some(identifier) => identifier.arcs() == arcs,
+        None => false,
     }
 }
 
@@ -125,24 +125,20 @@ fn borrows_identifier(arcs: &[u32]) -> bool {
 }
 
 /// Checks whether the arcs are those of an object identifier, by each call that makes one.
-fn assert_arcs(rt: &impl Abort, alloc: Global, arcs: &[u32], accepted: bool) -> Result<(), Fail> {
-    assert!(rt; borrows_identifier(arcs) == accepted, "{arcs:?}");
-    let copy = Vec::from_slice(alloc, arcs)?;
-    assert!(rt;
-        ObjectIdentifier::from_vec(copy).is_some() == accepted,
-        "{arcs:?}"
-    );
-    assert!(rt; makes_identifier(alloc, arcs)? == accepted, "{arcs:?}");
-    Ok(())
+fn assert_arcs(rt: &impl Abort, alloc: Global, arcs: &[u32], accepted: bool) {
+    assert_of(rt, borrows_identifier(arcs) == accepted, arcs);
+    let copy = Vec::from_slice(alloc, arcs).expect(rt, MEMORY);
+    let made = ObjectIdentifier::from_vec(copy);
+    assert_of(rt, made.is_some() == accepted, arcs);
+    assert_of(rt, makes_identifier(rt, alloc, arcs) == accepted, arcs);
 }
 
 /// Each call takes the arcs of object identifiers alone, and keeps them.
 #[test]
-fn object_identifiers(rt: HostRuntime) -> Result<(), Fail> {
+fn object_identifiers(rt: HostRuntime) {
     for row in ARCS.iter() {
-        assert_arcs(&rt, rt.alloc(), row.0, row.1)?;
+        assert_arcs(&rt, rt.alloc(), row.0, row.1);
     }
-    Ok(())
 }
 
 /// The bounds of two bounds are those that hold in both, in either order.
@@ -174,8 +170,8 @@ fn intersections(rt: HostRuntime) {
         (Bounded::Single(5), Bounded::Single(6), None),
     ];
     for (one, other, both) in rows {
-        assert!(rt; one.intersect(&other) == both);
-        assert!(rt; other.intersect(&one) == both);
+        assert_true(&rt, one.intersect(&other) == both);
+        assert_true(&rt, other.intersect(&one) == both);
     }
 }
 
@@ -191,11 +187,11 @@ fn ranges(rt: HostRuntime) {
         (Bounded::None, None),
     ];
     for (bounds, range) in rows {
-        assert_eq!(rt; bounds.range(), range);
+        assert_same(&rt, bounds.range(), range);
     }
-    assert_eq!(rt; Bounded::new(0, usize::MAX).range(), None);
-    assert!(rt; Bounded::new(0, usize::MAX).contains(&usize::MAX));
-    assert!(rt; Bounded::new(5, 7).as_start() == Some(&5usize));
+    assert_same(&rt, Bounded::new(0, usize::MAX).range(), None);
+    assert_true(&rt, Bounded::new(0, usize::MAX).contains(&usize::MAX));
+    assert_true(&rt, Bounded::new(5, 7).as_start() == Some(&5usize));
 }
 
 /// A size is found among constraints, and a length outside of it is refused.
@@ -209,15 +205,12 @@ fn sizes(rt: HostRuntime) {
             extensible: false,
         })],
     };
-    assert!(rt; Constraints::NONE.size().is_none());
-    assert!(rt; !CONSTRAINTS.extensible());
-    match CONSTRAINTS.size() {
-        Some(size) => {
-            assert!(rt; size.constraint.is_fixed());
-            assert!(rt; size.constraint.as_start() == Some(&3));
-            assert!(rt; size.constraint.contains_or_else(&3, || 8).is_ok());
-            assert_eq!(rt; size.constraint.contains_or_else(&4, || 8), Err(8));
-        }
-        None => panic!(rt; "no size"),
-    }
+    assert_true(&rt, Constraints::NONE.size().is_none());
+    assert_true(&rt, !CONSTRAINTS.extensible());
+    let found = CONSTRAINTS.size().expect(&rt, "no size");
+    let size = &found.constraint;
+    assert_true(&rt, size.is_fixed());
+    assert_true(&rt, size.as_start() == Some(&3));
+    assert_true(&rt, size.contains_or_else(&3, || 8).is_ok());
+    assert_same(&rt, size.contains_or_else(&4, || 8), Err(8));
 }

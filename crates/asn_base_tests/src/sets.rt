@@ -1,8 +1,8 @@
 //! Tests sets of octets by examples.
+use crate::checks::{MEMORY, assert_of, assert_true, is_equal, octets};
 use asn_sets::SetOf;
 use std::alloc::Global;
 use std::process::Abort;
-use std::test::Fail;
 
 /// Two lists, and whether they are the same multiset.
 const ROWS: [(&[u8], &[u8], bool); 5] = [
@@ -14,46 +14,46 @@ const ROWS: [(&[u8], &[u8], bool); 5] = [
 ];
 
 /// Returns the set of the octets.
-fn set_of(alloc: Global, octets: &[u8]) -> Result<SetOf<u8>, Fail> {
-    Ok(SetOf::from_vec(alloc, Vec::from_slice(alloc, octets)?)?)
+fn set_of(rt: &impl Abort, alloc: Global, elements: &[u8]) -> SetOf<u8> {
+    SetOf::from_vec(alloc, octets(rt, alloc, elements)).expect(rt, MEMORY)
 }
 
 /// Checks that the set of the octets has as many elements.
-fn assert_length(rt: &impl Abort, alloc: Global, octets: &[u8]) -> Result<(), Fail> {
-    let set = set_of(alloc, octets)?;
-    assert!(rt; set.len() == octets.len());
-    assert!(rt; set.to_vec(alloc)?.len() == octets.len());
-    assert!(rt; set.is_empty() == octets.is_empty());
-    Ok(())
+fn assert_length(rt: &impl Abort, alloc: Global, octets: &[u8]) {
+    let set = set_of(rt, alloc, octets);
+    let listed = set.to_vec(alloc).expect(rt, MEMORY);
+    assert_true(rt, set.len() == octets.len());
+    assert_true(rt, listed.len() == octets.len());
+    assert_true(rt, set.is_empty() == octets.is_empty());
 }
 
 /// Two sets are equal where they have the same elements, each as often.
 #[test]
-fn equality_counts_repeats(rt: HostRuntime) -> Result<(), Fail> {
+fn equality_counts_repeats(rt: HostRuntime) {
+    let alloc = rt.alloc();
     for row in ROWS.iter() {
-        let is_same = set_of(rt.alloc(), row.0)? == set_of(rt.alloc(), row.1)?;
-        assert!(rt; is_same == row.2, "{:?} {:?}", row.0, row.1);
-        assert_length(&rt, rt.alloc(), row.0)?;
+        let one = set_of(&rt, alloc, row.0);
+        let is_same = is_equal(&one, set_of(&rt, alloc, row.1));
+        assert_of(&rt, is_same == row.2, row.0);
+        assert_length(&rt, alloc, row.0);
     }
-    Ok(())
 }
 
 /// An element that is inserted twice is there twice.
 #[test]
-fn insert_keeps_repeats(rt: HostRuntime) -> Result<(), Fail> {
+fn insert_keeps_repeats(rt: HostRuntime) {
     let alloc = rt.alloc();
     let mut set = SetOf::new(alloc);
     for element in [7u8, 7, 8] {
         assert!(rt; set.len() < 3);
-        set.insert(element)?;
+        set.insert(element).expect(&rt, MEMORY);
     }
-    assert!(rt; set == set_of(alloc, &[8, 7, 7])?);
+    assert_true(&rt, is_equal(&set, set_of(&rt, alloc, &[8, 7, 7])));
     // The elements have no order, so the list of them is compared as a set too.
     let mut listed = SetOf::new(alloc);
-    for element in set.to_vec(alloc)? {
+    for element in set.to_vec(alloc).expect(&rt, MEMORY) {
         assert!(rt; listed.len() < 3);
-        listed.insert(*element)?;
+        listed.insert(*element).expect(&rt, MEMORY);
     }
-    assert!(rt; listed == set);
-    Ok(())
+    assert_true(&rt, is_equal(&set, listed));
 }

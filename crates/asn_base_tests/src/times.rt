@@ -1,13 +1,13 @@
 //! Tests texts as they are read and written again, days and moments by direct calls, and the texts
 //! of faults. The expected values follow from the forms of X.680 and the calendar.
-use crate::checks::{assert_printed, assert_text};
+use crate::checks::{assert_of, assert_printed, assert_same, assert_text, assert_true};
 use asn_times::{
     Date, GeneralizedTime, TimeFault, UtcTime, read_date, read_generalized, read_utc, write_date,
     write_generalized, write_utc,
 };
 use jiff::civil;
 use std::alloc::Global;
-use std::test::Fail;
+use std::process::Abort;
 
 /// Names the grammar of a text.
 #[derive(Clone, Copy)]
@@ -89,77 +89,85 @@ fn fault_of_reader(form: Form, text: &str) -> Option<TimeFault> {
     }
 }
 
+/// Checks that a text is written again as this one, or is refused where it is empty.
+fn assert_rewritten(rt: &impl Abort, alloc: Global, row: &(Form, &str, &str)) {
+    match fault_of_reader(row.0, row.1) {
+        Some(fault) => {
+            assert_of(rt, matches!(fault, TimeFault::InvalidDate), row.1);
+            assert_text(rt, "", row.2);
+        }
+        None => {
+            let written = rewritten(alloc, row.0, row.1).expect(rt, row.1);
+            assert_text(rt, written.as_str(), row.2);
+        }
+    }
+}
+
 /// Each text is read and written again, or is refused by the reader: days that the calendar lacks,
 /// times of day that the clock lacks, zones of a day and more, and moments that leave the years in
 /// UTC.
 #[test]
-fn texts_are_written_again(rt: HostRuntime) -> Result<(), Fail> {
+fn texts_are_written_again(rt: HostRuntime) {
     for row in ROWS.iter() {
-        match fault_of_reader(row.0, row.1) {
-            Some(fault) => {
-                assert!(rt; matches!(fault, TimeFault::InvalidDate), "{}", row.1);
-                assert_text(&rt, "", row.2);
-            }
-            None => {
-                let written = rewritten(rt.alloc(), row.0, row.1)?;
-                assert_text(&rt, written.as_str(), row.2);
-            }
-        }
+        assert_rewritten(&rt, rt.alloc(), row);
     }
-    Ok(())
 }
 
 /// The texts of the three faults are exact.
 #[test]
-fn faults_are_printed(rt: HostRuntime) -> Result<(), Fail> {
+fn faults_are_printed(rt: HostRuntime) {
     let years = "time outside the years of its text";
-    assert_printed(&rt, rt.alloc(), TimeFault::OutOfYears, years)?;
-    assert_printed(&rt, rt.alloc(), TimeFault::InvalidDate, "invalid date")?;
-    assert_printed(&rt, rt.alloc(), TimeFault::OutOfMemory, "Out of memory")
+    assert_printed(&rt, rt.alloc(), TimeFault::OutOfYears, years);
+    assert_printed(&rt, rt.alloc(), TimeFault::InvalidDate, "invalid date");
+    assert_printed(&rt, rt.alloc(), TimeFault::OutOfMemory, "Out of memory");
+}
+
+/// Returns whether the years of a text have no room for what was to be written.
+fn is_outside(answer: Result<String, TimeFault>) -> bool {
+    matches!(answer, Err(TimeFault::OutOfYears))
 }
 
 /// A year before 0000 has no text.
 #[test]
-fn a_year_before_0000_is_not_written(rt: HostRuntime) -> Result<(), Fail> {
-    let before = Date::new(civil::Date::new(-1, 1, 1)?);
-    match write_date(rt.alloc(), &before) {
-        Ok(_) => Err(Fail::from("a day of the year -1 is written")),
-        Err(fault) => {
-            assert!(rt; matches!(fault, TimeFault::OutOfYears));
-            Ok(())
-        }
-    }
+fn a_year_before_0000_is_not_written(rt: HostRuntime) {
+    let day = civil::Date::new(-1, 1, 1).expect(&rt, "no day");
+    assert_true(&rt, is_outside(write_date(rt.alloc(), &Date::new(day))));
 }
 
 /// A moment of a year before 0000 has no text as GeneralizedTime.
 #[test]
-fn a_moment_before_0000_is_not_written(rt: HostRuntime) -> Result<(), Fail> {
-    let before = GeneralizedTime::new(civil::DateTime::new(-1, 12, 31, 23, 59, 59, 0)?);
-    match write_generalized(rt.alloc(), &before) {
-        Ok(_) => Err(Fail::from("a moment of the year -1 is written")),
-        Err(fault) => {
-            assert!(rt; matches!(fault, TimeFault::OutOfYears));
-            Ok(())
-        }
-    }
+fn a_moment_before_0000_is_not_written(rt: HostRuntime) {
+    let moment = civil::DateTime::new(-1, 12, 31, 23, 59, 59, 0).expect(&rt, "no moment");
+    let before = GeneralizedTime::new(moment);
+    assert_true(&rt, is_outside(write_generalized(rt.alloc(), &before)));
 }
 
 /// A moment with a fraction of a second is no UTCTime.
 #[test]
-fn a_fraction_is_no_utc_time(rt: HostRuntime) -> Result<(), Fail> {
-    let moment = civil::DateTime::new(2024, 2, 29, 12, 0, 0, 1)?;
-    assert!(rt; UtcTime::new(moment).is_none());
-    Ok(())
+fn a_fraction_is_no_utc_time(rt: HostRuntime) {
+    let moment = civil::DateTime::new(2024, 2, 29, 12, 0, 0, 1).expect(&rt, "no moment");
+    assert_true(&rt, UtcTime::new(moment).is_none());
 }
 
-/// What was read gives back its day, and its moment in UTC.
+/// What was read gives back its day.
 #[test]
-fn what_was_read_is_given_back(rt: HostRuntime) -> Result<(), Fail> {
-    let day = read_date("2024-02-29")?.day();
-    assert!(rt; day == civil::Date::new(2024, 2, 29)?);
-    let utc = read_utc("2301221300+0100")?.moment();
-    assert!(rt; utc == civil::DateTime::new(2023, 1, 22, 12, 0, 0, 0)?);
-    let generalized = read_generalized("20240229120000.5+0130")?.moment();
-    assert!(rt; generalized == civil::DateTime::new(2024, 2, 29, 10, 30, 0, 500_000_000)?);
-    Ok(())
+fn a_day_that_was_read_is_given_back(rt: HostRuntime) {
+    let day = read_date("2024-02-29").expect(&rt, "not read").day();
+    assert_same(
+        &rt,
+        day,
+        civil::Date::new(2024, 2, 29).expect(&rt, "no day"),
+    );
+}
+
+/// What was read gives back its moment in UTC.
+#[test]
+fn a_moment_that_was_read_is_given_back(rt: HostRuntime) {
+    let utc = read_utc("2301221300+0100").expect(&rt, "not read").moment();
+    let want = civil::DateTime::new(2023, 1, 22, 12, 0, 0, 0);
+    assert_same(&rt, utc, want.expect(&rt, "no moment"));
+    let read = read_generalized("20240229120000.5+0130");
+    let generalized = read.expect(&rt, "not read").moment();
+    let want = civil::DateTime::new(2024, 2, 29, 10, 30, 0, 500_000_000);
+    assert_same(&rt, generalized, want.expect(&rt, "no moment"));
 }

@@ -1,10 +1,9 @@
 //! Prints chains of errors, and finds what is at their ends. The texts follow those of the crate
 //! `rasn` 0.30.0.
-use crate::checks::assert_printed;
+use crate::checks::{assert_printed, assert_true, let_go};
 use asn_core::Codec;
 use asn_fault::{DecodeError, DecodeErrorKind};
 use std::alloc::Global;
-use std::test::Fail;
 
 /// Returns an error of a number within two fields. The codec may differ from level to level: AVN
 /// without, JER within.
@@ -17,7 +16,7 @@ fn within_fields(alloc: Global) -> DecodeError {
 /// Nested field errors print each level with its codec: the names come from the outside in, and the
 /// codecs from the inside out.
 #[test]
-fn fields_print_each_level(rt: HostRuntime) -> Result<(), Fail> {
+fn fields_print_each_level(rt: HostRuntime) {
     let error = within_fields(rt.alloc());
     assert_printed(
         &rt,
@@ -25,8 +24,7 @@ fn fields_print_each_level(rt: HostRuntime) -> Result<(), Fail> {
         error,
         "Error when decoding field `a`: Error when decoding field `x`: Actual integer larger \
          than expected 8 bits (Codec: JER) (Codec: JER) (Codec: AVN)",
-    )?;
-    Ok(())
+    );
 }
 
 /// Returns whether the kind is the cause of `within_fields`.
@@ -43,16 +41,16 @@ fn is_field(kind: &DecodeErrorKind) -> bool {
 #[test]
 fn fields_lead_to_the_root_cause(rt: HostRuntime) {
     let error = within_fields(rt.alloc());
-    assert!(rt; error.matches_root_cause(is_overflow));
-    assert!(rt; !error.matches_root_cause(is_field));
+    assert_true(&rt, error.matches_root_cause(is_overflow));
+    assert_true(&rt, !error.matches_root_cause(is_field));
+    let_go(error);
 }
 
 /// Out of memory stays outside of any field. The codec is that of the level at which the field was
 /// decoded.
 #[test]
-fn memory_stays_outside_of_fields(rt: HostRuntime) -> Result<(), Fail> {
+fn memory_stays_outside_of_fields(rt: HostRuntime) {
     let memory = DecodeError::out_of_memory(Codec::Jer);
     let memory = DecodeError::field_error(rt.alloc(), "x", memory, Codec::Avn);
-    assert_printed(&rt, rt.alloc(), memory, "Out of memory (Codec: AVN)")?;
-    Ok(())
+    assert_printed(&rt, rt.alloc(), memory, "Out of memory (Codec: AVN)");
 }

@@ -1,26 +1,35 @@
 //! Compares what the tests find. No function here states what it does, so that a test's proof is of
-//! the test alone.
+//! the test alone. Errors are let go here, where their types are open: where a type is known, a
+//! proof goes through each part that is let go.
 use std::alloc::Global;
 use std::fmt::Display;
 use std::process::Abort;
-use std::test::Fail;
+
+/// Says what is missing where memory runs out, which ends the test.
+pub const MEMORY: &str = "memory";
+
+/// Lets the value go.
+pub fn let_go<T: Drop>(_value: T) {}
+
+/// Checks that the condition holds.
+pub fn assert_true(rt: &impl Abort, holds: bool) {
+    assert!(rt; holds);
+}
 
 /// Checks that the text is the one that is wanted.
 fn assert_text(rt: &impl Abort, text: &str, want: &str) {
     assert_eq!(rt; text, want);
 }
 
-/// Checks that the value prints the text that is wanted. It is let go here, as errors are below,
-/// where its type is open: where it is known, a proof goes through each part that is let go.
-pub fn assert_printed<T: Display + Drop>(
-    rt: &impl Abort,
-    alloc: Global,
-    value: T,
-    want: &str,
-) -> Result<(), Fail> {
-    let text = value.to_string(alloc)?;
+/// Returns the text `m`, which stands for any text that an error may hold.
+pub fn message(rt: &impl Abort, alloc: Global) -> String {
+    String::from_str(alloc, "m").expect(rt, MEMORY)
+}
+
+/// Checks that the value prints the text that is wanted.
+pub fn assert_printed<T: Display + Drop>(rt: &impl Abort, alloc: Global, value: T, want: &str) {
+    let text = value.to_string(alloc).expect(rt, MEMORY);
     assert_text(rt, text.as_str(), want);
-    Ok(())
 }
 
 /// Checks that there is no error.
@@ -34,9 +43,9 @@ pub fn assert_refused<E: Display + Drop>(
     alloc: Global,
     answer: Result<(), E>,
     want: &str,
-) -> Result<(), Fail> {
+) {
     match answer {
-        Ok(()) => Err(Fail::from("no error")),
+        Ok(()) => rt.panic("no error"),
         Err(error) => assert_printed(rt, alloc, error, want),
     }
 }

@@ -1,5 +1,5 @@
 //! Prints the kinds that a single set of encoding rules has, each as an error of its codec.
-use crate::checks::{assert_accepted, assert_printed, assert_refused};
+use crate::checks::{MEMORY, assert_accepted, assert_printed, assert_refused, message};
 use asn_core::{Tag, WholeNumber};
 use asn_fault::{
     AvnDecodeErrorKind, AvnEncodeErrorKind, BerDecodeErrorKind, BerEncodeErrorKind,
@@ -7,8 +7,8 @@ use asn_fault::{
     EncodeError, JerDecodeErrorKind, JerEncodeErrorKind, OerDecodeErrorKind, Utf8Fault,
     XerDecodeErrorKind, XerEncodeErrorKind,
 };
-use std::alloc::{AllocError, Global};
-use std::test::Fail;
+use std::alloc::Global;
+use std::process::Abort;
 
 /// Lists the texts of the kinds of BER, DER, OER and COER for decoding, by their places.
 const OCTET_TEXTS: [&str; 18] = [
@@ -74,25 +74,23 @@ fn octet_error(text: String, place: usize) -> DecodeError {
 
 /// Each kind has its text, after the name of its codec.
 #[test]
-fn kinds_of_rules_on_octets_have_their_texts(rt: HostRuntime) -> Result<(), Fail> {
+fn kinds_of_rules_on_octets_have_their_texts(rt: HostRuntime) {
     for (place, &want) in OCTET_TEXTS.iter().enumerate() {
-        // `m` stands for any text that an error may hold.
-        let error = octet_error(String::from_str(rt.alloc(), "m")?, place);
-        assert_printed(&rt, rt.alloc(), error, want)?;
+        let error = octet_error(message(&rt, rt.alloc()), place);
+        assert_printed(&rt, rt.alloc(), error, want);
     }
-    Ok(())
 }
 
 /// A tag is refused exactly where it is another one than the expected one.
 #[test]
-fn tags_are_checked(rt: HostRuntime) -> Result<(), Fail> {
+fn tags_are_checked(rt: HostRuntime) {
     assert_accepted(&rt, BerDecodeErrorKind::assert_tag(Tag::BOOL, Tag::BOOL));
     assert_refused(
         &rt,
         rt.alloc(),
         BerDecodeErrorKind::assert_tag(Tag::INTEGER, Tag::BOOL),
         "BER decoding error: Expected UNIVERSAL 2 tag, actual tag: UNIVERSAL 1 (Codec: BER)",
-    )
+    );
 }
 
 /// Lists the texts of the kinds of JER, AVN and XER for decoding, by their places.
@@ -182,24 +180,23 @@ fn xer_kind(alloc: Global, text: String, place: usize) -> XerDecodeErrorKind {
 }
 
 /// Returns the error at this place of `TEXT_TEXTS`, with `m` where it has a text.
-fn text_error(alloc: Global, place: usize) -> Result<DecodeError, AllocError> {
-    let text = String::from_str(alloc, "m")?;
-    Ok(match place {
+fn text_error(rt: &impl Abort, alloc: Global, place: usize) -> DecodeError {
+    let text = message(rt, alloc);
+    match place {
         0..=5 => jer_kind(text, place).into(),
         6..=14 => avn_kind(text, place).into(),
         _ => xer_kind(alloc, text, place).into(),
-    })
+    }
 }
 
 /// Each kind has its text, after the name of its codec.
 #[test]
-fn kinds_of_rules_on_texts_have_their_texts(rt: HostRuntime) -> Result<(), Fail> {
+fn kinds_of_rules_on_texts_have_their_texts(rt: HostRuntime) {
     for (place, &want) in TEXT_TEXTS.iter().enumerate() {
         // The place of a text in the list is that of its error.
-        let error = text_error(rt.alloc(), place)?;
-        assert_printed(&rt, rt.alloc(), error, want)?;
+        let error = text_error(&rt, rt.alloc(), place);
+        assert_printed(&rt, rt.alloc(), error, want);
     }
-    Ok(())
 }
 
 /// Lists the texts of the kinds for encoding, by their places.
@@ -246,9 +243,9 @@ fn jer_encode_kind(text: String, place: usize) -> JerEncodeErrorKind {
 }
 
 /// Returns the error at this place of `ENCODE_TEXTS`, with `m` where it has a text.
-fn encode_error(alloc: Global, place: usize) -> Result<EncodeError, AllocError> {
-    let text = String::from_str(alloc, "m")?;
-    Ok(match place {
+fn encode_error(rt: &impl Abort, alloc: Global, place: usize) -> EncodeError {
+    let text = message(rt, alloc);
+    match place {
         0..=5 => jer_encode_kind(text, place).into(),
         6 => AvnEncodeErrorKind::AvnNoRootValueFound.into(),
         7 => AvnEncodeErrorKind::AvnEncoder { msg: text }.into(),
@@ -261,29 +258,27 @@ fn encode_error(alloc: Global, place: usize) -> Result<EncodeError, AllocError> 
         14 => BerEncodeErrorKind::AnyInSet.into(),
         _ => {
             // The first arc is none of an object identifier.
-            let arcs = Vec::from_array(alloc, [3, 5])?;
+            let arcs = Vec::from_array(alloc, [3, 5]).expect(rt, MEMORY);
             BerEncodeErrorKind::invalid_object_identifier(arcs).into()
         }
-    })
+    }
 }
 
 /// Each kind of encoding has its text, after the name of its codec.
 #[test]
-fn kinds_of_encoding_have_their_texts(rt: HostRuntime) -> Result<(), Fail> {
+fn kinds_of_encoding_have_their_texts(rt: HostRuntime) {
     for (place, &want) in ENCODE_TEXTS.iter().enumerate() {
         // The place of a text in the list is that of its error.
-        let error = encode_error(rt.alloc(), place)?;
-        assert_printed(&rt, rt.alloc(), error, want)?;
+        let error = encode_error(&rt, rt.alloc(), place);
+        assert_printed(&rt, rt.alloc(), error, want);
     }
-    Ok(())
 }
 
 /// What is wrong with digits is printed in lower case.
 #[test]
-fn faults_of_digits(rt: HostRuntime) -> Result<(), Fail> {
+fn faults_of_digits(rt: HostRuntime) {
     let too_large = DigitFault::TooLarge;
-    assert_printed(&rt, rt.alloc(), too_large, "too large")?;
+    assert_printed(&rt, rt.alloc(), too_large, "too large");
     let empty = DigitFault::Empty;
-    assert_printed(&rt, rt.alloc(), empty, "empty")?;
-    Ok(())
+    assert_printed(&rt, rt.alloc(), empty, "empty");
 }

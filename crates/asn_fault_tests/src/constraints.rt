@@ -1,8 +1,7 @@
 //! Prints the ways in which the components of a value break a constraint of its type.
-use crate::checks::assert_printed;
+use crate::checks::{MEMORY, assert_printed, message};
 use asn_core::Codec;
 use asn_fault::{DecodeError, DecodeErrorKind, InnerSubtypeConstraintError};
-use std::test::Fail;
 
 /// Names the components that a constraint is on.
 const NAMES: &[&str] = &["a", "b"];
@@ -59,24 +58,22 @@ fn error(text: String, place: usize) -> InnerSubtypeConstraintError {
 
 /// Each way has its text.
 #[test]
-fn each_way_has_its_text(rt: HostRuntime) -> Result<(), Fail> {
+fn each_way_has_its_text(rt: HostRuntime) {
     for (place, &want) in TEXTS.iter().enumerate() {
-        // `m` stands for any text that an error may hold.
-        let error = error(String::from_str(rt.alloc(), "m")?, place);
-        assert_printed(&rt, rt.alloc(), error, want)?;
+        let error = error(message(&rt, rt.alloc()), place);
+        assert_printed(&rt, rt.alloc(), error, want);
     }
-    Ok(())
 }
 
 /// An error of decoding prints the way in which a constraint is broken, and a way prints the error
 /// of the contents of a string.
 #[test]
-fn contents_that_are_not_decoded(rt: HostRuntime) -> Result<(), Fail> {
+fn contents_that_are_not_decoded(rt: HostRuntime) {
     let alloc = rt.alloc();
     let eof = DecodeError::from_kind(DecodeErrorKind::Eof, Codec::Ber);
     let reason = InnerSubtypeConstraintError::InvalidInnerContaining {
         expected: "T",
-        err: Box::new(alloc, eof)?,
+        err: Box::new(alloc, eof).expect(&rt, MEMORY),
     };
     let error = DecodeError::inner_subtype_constraint_not_satisfied(reason, Codec::Oer);
     assert_printed(
@@ -85,6 +82,5 @@ fn contents_that_are_not_decoded(rt: HostRuntime) -> Result<(), Fail> {
         error,
         "Inner subtype constraint not satisfied: CONTAINING does not contain the expected \
          component T: Unexpected EOF when decoding (Codec: BER) (Codec: OER)",
-    )?;
-    Ok(())
+    );
 }

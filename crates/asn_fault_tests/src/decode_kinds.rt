@@ -1,9 +1,8 @@
 //! Prints the error of decoding of each kind that every codec has, made by its constructor where it
 //! has one.
-use crate::checks::{assert_accepted, assert_printed};
+use crate::checks::{MEMORY, assert_accepted, assert_printed, message};
 use asn_core::{Bounded, Class, Codec, Tag, TagTree, Variants, WholeNumber};
 use asn_fault::{DecodeError, DecodeErrorKind, Needed, PermittedAlphabetError};
-use std::test::Fail;
 
 /// Lists the texts of the errors that `error` returns, by their places.
 const TEXTS: [&str; 36] = [
@@ -131,13 +130,11 @@ fn error(text: String, place: usize) -> DecodeError {
 
 /// Each kind has its text, before the codec of the error.
 #[test]
-fn each_kind_of_decoding_has_its_text(rt: HostRuntime) -> Result<(), Fail> {
+fn each_kind_of_decoding_has_its_text(rt: HostRuntime) {
     for (place, &want) in TEXTS.iter().enumerate() {
-        // `m` stands for any text that an error may hold.
-        let error = error(String::from_str(rt.alloc(), "m")?, place);
-        assert_printed(&rt, rt.alloc(), error, want)?;
+        let error = error(message(&rt, rt.alloc()), place);
+        assert_printed(&rt, rt.alloc(), error, want);
     }
-    Ok(())
 }
 
 /// As many octets as are stated are accepted.
@@ -151,21 +148,21 @@ const ALTERNATIVES: &[TagTree] = &[TagTree::Leaf(Tag::BOOL)];
 
 /// An index that is that of no alternative is printed without the tags of the alternatives.
 #[test]
-fn an_index_of_no_alternative(rt: HostRuntime) -> Result<(), Fail> {
-    let variants = Variants::from_parts(rt.alloc(), ALTERNATIVES, None)?;
+fn an_index_of_no_alternative(rt: HostRuntime) {
+    let variants = Variants::from_parts(rt.alloc(), ALTERNATIVES, None);
+    let variants = variants.expect(&rt, MEMORY);
     let error = DecodeError::choice_index_not_found(7, variants, Codec::Uper);
     assert_printed(
         &rt,
         rt.alloc(),
         error,
         "Choice index 7 did not match any variant (Codec: UPER)",
-    )?;
-    Ok(())
+    );
 }
 
 /// An error within another is printed in full, with its own codec.
 #[test]
-fn an_error_within_another_is_printed_in_full(rt: HostRuntime) -> Result<(), Fail> {
+fn an_error_within_another_is_printed_in_full(rt: HostRuntime) {
     let alloc = rt.alloc();
     let eof = DecodeError::from_kind(DecodeErrorKind::Eof, Codec::Ber);
     let error = DecodeError::choice_index_exceeds_platform_width(alloc, 9, eof, Codec::Aper);
@@ -175,6 +172,5 @@ fn an_error_within_another_is_printed_in_full(rt: HostRuntime) -> Result<(), Fai
         error,
         "Choice index exceeds platform index width. Needed 9 bytes, present: Unexpected EOF \
          when decoding (Codec: BER) (Codec: APER)",
-    )?;
-    Ok(())
+    );
 }

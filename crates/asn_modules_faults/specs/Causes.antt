@@ -20,6 +20,7 @@ rule_text rule.NotExported = codes "isn't exported by its module"
 rule_text rule.OwnImport = codes "is imported by a module from itself"
 rule_text rule.NotAssigned = codes "is neither assigned nor imported"
 rule_text rule.NoValue = codes "leads to no value"
+rule_text rule.TooLarge = codes "is too large for COMPONENTS OF"
 
 abbrev pub cause_text : Cause → List ℕ
 cause_text (cause.NoToken fault) = no_token_text fault

@@ -33,6 +33,8 @@ pub enum NameRule {
     NotAssigned,
     /// The name of a value leads to a value, past other names.
     NoValue,
+    /// COMPONENTS OF includes neither too many types nor too many levels of them.
+    TooLarge,
 }
 
 /// Prints what is wrong with a name.
@@ -52,6 +54,7 @@ impl fmt::Display for NameRule {
             NameRule::OwnImport => "is imported by a module from itself",
             NameRule::NotAssigned => "is neither assigned nor imported",
             NameRule::NoValue => "leads to no value",
+            NameRule::TooLarge => "is too large for COMPONENTS OF",
         })
     }
 }

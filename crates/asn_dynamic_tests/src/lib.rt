@@ -1,11 +1,16 @@
-//! Tests values of types that a program holds as data, by direct calls, and shows what no contract
-//! states: that calls succeed where there is memory.
+//! Tests values of types that a program holds as data, and texts that are cut for older types, by
+//! direct calls, and shows what no contract states: that calls succeed and that lines are kept
+//! where there is memory.
 #![tactic(auto)]
 
 #[cfg(test)]
 mod checks;
 #[cfg(test)]
 mod example;
+#[cfg(test)]
+mod kept_reports;
+#[cfg(test)]
+mod kept_texts;
 #[cfg(test)]
 mod nested;
 #[cfg(test)]

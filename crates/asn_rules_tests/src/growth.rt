@@ -11,7 +11,7 @@ use asn_versions::decode_report;
 use std::alloc::Global;
 use std::process::Abort;
 
-/// Asserts what `grows_check` answers for the two shapes, and that `differences` gives these places.
+/// Asserts what `grows_check` answers for the two shapes, and the places that `differences` gives.
 fn assert_compared(
     rt: &impl Abort,
     alloc: Global,

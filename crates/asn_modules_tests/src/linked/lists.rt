@@ -1,5 +1,5 @@
 //! Lists of types that can be read, and lists that can't.
-use crate::samples::{chain, pair, tree};
+use crate::linked::samples::{chain, pair, tree};
 use asn_linked_types::are_linked;
 use asn_model::Shape;
 use std::test::Fail;

@@ -1,12 +1,7 @@
 //! Tests types that name each other by number, by direct calls, and shows what no contract states:
 //! that types which are meant to be read are told so, and that texts are converted by them.
-#![tactic(auto)]
 
-#[cfg(test)]
 mod kinds;
-#[cfg(test)]
-mod linked;
-#[cfg(test)]
+mod lists;
 mod samples;
-#[cfg(test)]
 mod texts;

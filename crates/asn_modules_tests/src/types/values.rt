@@ -1,5 +1,5 @@
 //! Values by the types of modules.
-use crate::texts::by_modules;
+use crate::types::texts::by_modules;
 use asn_core::Codec;
 use std::test::Fail;
 

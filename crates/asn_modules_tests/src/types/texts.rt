@@ -12,7 +12,7 @@ use std::test::Fail;
 
 /// Returns the canonical text under the second codec of the value that a text is under the first
 /// one by the type of the number, or `refused`.
-fn converted(
+pub fn converted(
     alloc: Global,
     types: &[Shape],
     number: u32,

@@ -1,5 +1,5 @@
 //! What is shown at a place.
-use crate::samples::{chain, pair};
+use crate::linked::samples::{chain, pair};
 use asn_linked::Place;
 use asn_linked_types::are_linked;
 use asn_model::Shape;

@@ -1,5 +1,5 @@
 //! Types that include many others, or nest deep by them.
-use crate::texts::by_modules;
+use crate::types::texts::by_modules;
 use asn_core::Codec;
 use std::alloc::Global;
 use std::fmt::Write;

@@ -1,3 +1,4 @@
 mod Naming
 mod Opening
 mod Reading
+pub mod Named

@@ -2,7 +2,7 @@ use Rattle.std.proofs.Common.{Err, [], ap, refl, sym, length, map, inr}
 use Rattle.asn_linked_types.specs.Expansion.{expansion}
 use Rattle.asn_model.specs.ShapeView.{shape_view}
 use Rattle.asn_modules.specs.Modules.{modules_view}
-use Rattle.asn_command_show.proofs.Named.{expanded-named, expanded-readable}
+use Rattle.asn_modules.proofs.Named.{expanded-named, expanded-readable}
 use Rattle.asn_command_show.proofs.example.example_reply.Goals as goal
 
 pub reply_on-requires : goal.reply_on-requires

@@ -2,7 +2,8 @@ use Rattle.std.proofs.Common.{Err, [], ap, refl, sym, length, map, inr}
 use Rattle.asn_linked_types.specs.Expansion.{expansion}
 use Rattle.asn_model.specs.ShapeView.{shape_view}
 use Rattle.asn_modules.specs.Modules.{modules_view}
-use Rattle.asn_command_versions.proofs.Named.{expanded-named, expanded-type}
+use Rattle.asn_command_versions.proofs.Named.{expanded-type}
+use Rattle.asn_modules.proofs.Named.{expanded-named}
 use Rattle.asn_command_versions.proofs.versions.whole_type.Goals as goal
 
 pub returns-in-Ok : goal.returns-in-Ok

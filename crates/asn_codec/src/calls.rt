@@ -23,6 +23,7 @@ use asn_traits::{Decode, Encode};
 use avn_grammar::limits::{GREATEST_LEVEL_LIMIT, LEVEL_LIMIT};
 use avn_rules::avn;
 use jer_rules::jer;
+use simdutf8::basic::from_utf8;
 use std::alloc::Global;
 
 /// Provides the calls of a codec.
@@ -224,7 +225,7 @@ impl CodecCalls for Codec {
         rules: &mut R,
     ) -> Result<T, DecodeError> {
         match self {
-            Codec::Jer | Codec::Avn => match str::from_utf8(input) {
+            Codec::Jer | Codec::Avn => match from_utf8(input) {
                 Ok(text) => self.decode_from_str(alloc, text),
                 Err(_) => Err(decode_refusal(alloc, *self, CodecRefusal::NoUtf8)),
             },

@@ -12,6 +12,7 @@ use asn_dynamic::{Part, convert_part};
 use asn_lines::{LineReply, LineWork};
 use asn_replies::with_feed;
 use asn_value_refusals::{Origin, not_text_line, origin_of};
+use simdutf8::basic::from_utf8;
 use std::alloc::Global;
 
 /// Converts lines of a stream, each a text of a value.
@@ -141,7 +142,7 @@ impl<P: Part> LineWork for ConvertLines<'_, P> {
             file: self.file,
             line: Some(number),
         };
-        let Ok(text) = str::from_utf8(line) else {
+        let Ok(text) = from_utf8(line) else {
             return Ok(LineReply::Refusal(not_text_line(alloc, origin)?));
         };
         match converted(alloc, self.conversion, origin, text)? {

@@ -9,6 +9,7 @@ use asn_filter::cut;
 use asn_lines::{LineReply, LineWork};
 use asn_replies::with_feed;
 use asn_value_refusals::{Origin, not_text_line, refusal_lines};
+use simdutf8::basic::from_utf8;
 use std::alloc::Global;
 
 /// Cuts lines of a stream, each a text of the newer version of a type.
@@ -49,7 +50,7 @@ impl LineWork for KeepLines<'_> {
             file: self.file,
             line: Some(number),
         };
-        let Ok(text) = str::from_utf8(line) else {
+        let Ok(text) = from_utf8(line) else {
             return Ok(LineReply::Refusal(not_text_line(alloc, origin)?));
         };
         let versions = self.versions;

@@ -35,6 +35,7 @@ use asn_samples::{Sample, SampleVisitor};
 use asn_streams::{Sink, Source, Stopped, read_to_end, write_all};
 use asn_traits::{Decode, Encode};
 use avn_grammar::limits::LEVEL_LIMIT;
+use simdutf8::basic::from_utf8;
 use std::alloc::Global;
 
 /// Reads the whole input, and writes the canonical text of the value that its text decodes to; or
@@ -114,7 +115,7 @@ pub fn run<S: Source, K: Sink>(alloc: Global, source: &mut S, sink: &mut K) -> S
         Err(Stopped::OutOfMemory) => return Status::WantOfMemory,
     };
     // The text borrows from the input, and so do the line and the text after it.
-    let Ok(text) = str::from_utf8(&input) else {
+    let Ok(text) = from_utf8(&input) else {
         return Status::NotText;
     };
     let (line, text) = split_request(text);

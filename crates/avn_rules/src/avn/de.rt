@@ -116,6 +116,7 @@ impl Decoder {
     /// # Errors
     ///
     /// The end of input where the slot is absent, or none is pending.
+    #[inline(always)]
     fn take(&mut self) -> Result<usize, DecodeError>
         ensures { MatchResult result (TakesNode self.old self.new) (λ e. (s : Shape)
             → Refuses Notation.avn (FailsWith Notation.avn s (head_slot (pending_of self.old)))

@@ -148,6 +148,7 @@ impl asn_traits::Encoder for Encoder {
         in_avn(self.frames.add_absent())
     }
 
+    #[inline(always)]
     fn open_frame(&mut self) -> Result<(), EncodeError> {
         in_avn(self.frames.open())
     }

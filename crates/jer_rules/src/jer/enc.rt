@@ -159,6 +159,7 @@ impl asn_traits::Encoder for Encoder {
         self.put(None)
     }
 
+    #[inline(always)]
     fn open_frame(&mut self) -> Result<(), EncodeError> {
         in_jer(self.frames.open())
     }

@@ -1,5 +1,6 @@
 -- Values without parts, by what stands at a node.
 use Rattle.std.proofs.Common.{◌≡◌, ◌≢◌, refl, ap, sym, ◌∙◌, subst, ℕ, List, [], ◌∷◌, Bool, true, false, if◌then◌else◌, Option, Some, None, Result, Ok, Err, inl, inr, String, Global, string_bytes}
+use Rattle.std.specs.Prelude.{IfSome}
 use Rattle.std.specs.Str.{is_utf8, IsUtf8}
 use Rattle.std.proofs.lemmas.Str.{is_utf8-from_IsUtf8}
 use Rattle.asn_core.specs.declared.codec.Codec.TheVariants.{Avn}
@@ -41,6 +42,11 @@ integer_node o e = let n : ⊥ = cc in absurd n
 
 pub number_node_taken : (o : Option AvnTree) (text : List ℕ) (n : Option WholeNumber) → kind_of o ≡ kind.Integer → text ≡ text_of o → ReadsNumber text (Some n) → IsTaken Notation.avn Number (seen o) (got.Number n)
 number_node_taken o text n e is r = number_taken text (avn_or_null o) n (integer_node o e ∙ ap integer (sym is)) r
+
+-- The number of at most 128 bits that the text is, if it is one.
+pub number_node_seen : (o : Option AvnTree) (text : List ℕ) (n : Option WholeNumber) → kind_of o ≡ kind.Integer → text ≡ text_of o → ReadsNumber text (Some n) → IfSome n (λ x. IsTaken Notation.avn Number (seen o) (got.Number (Some x)))
+number_node_seen o text (Some x) e is r = number_node_taken o text (Some x) e is r
+number_node_seen o text None e is r = tt
 
 pub no_number_text : (o : Option AvnTree) (text : List ℕ) → kind_of o ≡ kind.Integer → text ≡ text_of o → ReadsNumber text None → as_leaf Notation.avn Number (seen o) ≡ Err (LeafFailure.because (Cause.integer_parse_error text))
 no_number_text o text e is r =

@@ -1,6 +1,6 @@
 -- Slots that are taken and put.
 use Rattle.std.proofs.Common.{◌≡◌, ℕ, List, [], ◌∷◌, ◌++◌, map, drop, length, Option, Some, None, Bool, true, false, is_some, Result, Ok, Err, refl, sym, ap, subst, ◌∙◌}
-use Rattle.std.specs.Prelude.{option_map, MatchOption, MatchResult, OnErr, OnOk}
+use Rattle.std.specs.Prelude.{option_map, IfSome, MatchOption, MatchResult, OnErr, OnOk}
 use Rattle.std.specs.List.{All, slice_get}
 use Rattle.std.proofs.lemmas.List.{map-append, length-map}
 use Rattle.std.proofs.lemmas.List.Elements.{All-append, All-cons, All-head, All-nil, All-tail, All-rest}
@@ -76,11 +76,12 @@ module _ (before : DecoderView) (table : AvnTree) (slots : List (Option ℕ)) (v
   pub first_held : (i : ℕ) (later : List (Option ℕ)) → slots ≡ Some i ∷ later → All (IsSlot table) slots → IsPresent table i
   first_held i later e h = let P : Option ℕ → Type 0 = IsSlot table in All-head P (Some i) later (subst (All P) e h)
 
-  -- A value without parts that stands at the first slot.
-  pub leaf_there : (k : LeafKind) (i : ℕ) (later : List (Option ℕ)) (x : OwnedLeaf) → slots ≡ Some i ∷ later → IsTaken Notation.avn k (value_at table i) x
-      → (rest : List Slot) × TakesLeaf Notation.avn k (pending_of before) (Ok x) rest
-  leaf_there k i later x e is =
-      subst (λ d. (rest : List Slot) × TakesLeaf Notation.avn k (pending_of d) (Ok x) rest) view (trees_of (value_at table) later, is_taken (value_at table i) x _ _ (ap (trees_of (value_at table)) e) is)
+  -- What is seen at the node of the first slot, if anything, is a value without parts that is taken.
+  pub leaf_there : {A : Type 0} (k : LeafKind) (leaf : A → OwnedLeaf) (i : ℕ) (later : List (Option ℕ)) (o : Option A) → slots ≡ Some i ∷ later → IfSome o (λ x. IsTaken Notation.avn k (value_at table i) (leaf x))
+      → IfSome o (λ x. (rest : List Slot) × TakesLeaf Notation.avn k (pending_of before) (Ok (leaf x)) rest)
+  leaf_there k leaf i later (Some x) e is =
+      subst (λ d. (rest : List Slot) × TakesLeaf Notation.avn k (pending_of d) (Ok (leaf x)) rest) view (trees_of (value_at table) later, is_taken (value_at table i) (leaf x) _ _ (ap (trees_of (value_at table)) e) is)
+  leaf_there k leaf i later None e is = tt
 
   -- Where a slot is taken, the first tree is gone.
   pub passes : (o : Option (Option ℕ)) (later : List (Option ℕ)) → MatchOption o ((slots ≡ []) × (later ≡ slots)) (λ slot. slots ≡ slot ∷ later)

@@ -100,6 +100,7 @@ impl Decoder {
     /// # Errors
     ///
     /// The end of input where the slot is absent, or none is pending.
+    #[inline(always)]
     fn take(&mut self) -> Result<Value, DecodeError>
         ensures { MatchResult result (λ v. pending_of self.old ≡ Some
             (tree_of v) ∷ pending_of self.new) (λ e. (s : Shape) → Refuses Notation.jer

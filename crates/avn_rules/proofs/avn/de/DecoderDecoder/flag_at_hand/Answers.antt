@@ -1,0 +1,9 @@
+use Rattle.asn_model.specs.declared.leaves.LeafKind.TheVariants.{Boolean}
+use Rattle.asn_model.specs.declared.leaves.OwnedLeaf.{OwnedLeaf}
+use Rattle.avn_rules.proofs.Opened.{leaf_there}
+use Rattle.avn_rules.proofs.avn.de.DecoderDecoder.flag_at_hand.Goals as goal
+
+pub returns-in-Some : goal.returns-in-Some
+returns-in-Some c =
+    let w = c.in-Some in
+    leaf_there _ _ _ c.self.view_is Boolean (λ b. OwnedLeaf.Boolean b) w.node.now w.ensures.0 c.flag_at.result w.ensures.1 c.flag_at.ensures

@@ -9,6 +9,7 @@ ghost use Rattle.std.specs.Prelude.{◌≡◌, map};
 
 use asn_modules_faults::ModuleError;
 use asn_modules_imports::check_imports;
+use asn_modules_included::check_included;
 use asn_modules_lists::check_lists;
 use asn_modules_lookup::{Home, Sort, homes_of, index_of};
 use asn_modules_names::check_names;
@@ -50,12 +51,14 @@ fn check_value_names<'t>(
     check_values(alloc, &index, homes)
 }
 
-/// Checks what is imported, and the names of types and values that are referred to.
+/// Checks what is imported, the names of types and values that are referred to, and what COMPONENTS
+/// OF includes.
 ///
 /// # Errors
 ///
 /// The first name that is imported against a rule, else the first name of a type that its module
-/// neither assigns nor imports, else what is told of the names of values, and `OutOfMemory`.
+/// neither assigns nor imports, else what is told of the names of values, else the first name that
+/// is too large for COMPONENTS OF, and `OutOfMemory`.
 fn check_missing(alloc: Global, sources: &[Source<'_>]) -> Result<(), ModuleError>
     ensures { Checks (first_missing (map source_view sources.now)) result }
 {
@@ -63,7 +66,8 @@ fn check_missing(alloc: Global, sources: &[Source<'_>]) -> Result<(), ModuleErro
     check_imports(alloc, homes.as_slice())?;
     let index = index_of(alloc, Sort::Types, sources)?;
     check_references(alloc, Sort::Types, &index, homes.as_slice())?;
-    check_value_names(alloc, sources, homes.as_slice())
+    check_value_names(alloc, sources, homes.as_slice())?;
+    check_included(alloc, &index, homes.as_slice())
 }
 
 /// Checks the names and numbers of modules by all rules, over all texts that were read together.
@@ -73,8 +77,9 @@ fn check_missing(alloc: Global, sources: &[Source<'_>]) -> Result<(), ModuleErro
 /// The first name or number that breaks a rule, with its place, where the rules are in this order:
 /// modules have names of their own, and each assigns a name once; no name stands twice in a list;
 /// the numbers of items and bits; what is imported is exported by another module; the types that
-/// are named are assigned or imported; so are the values; and their names lead to values.
-/// `OutOfMemory` where memory runs out.
+/// are named are assigned or imported; so are the values; their names lead to values; and
+/// COMPONENTS OF includes no more types and levels than its limits. `OutOfMemory` where memory runs
+/// out.
 pub fn check_all(alloc: Global, sources: &[Source<'_>]) -> Result<(), ModuleError>
     ensures { Checks (first_broken (map source_view sources.now)) result }
 {

@@ -31,9 +31,9 @@ Exceeds e left levels = (left < e.types) ⊎ (levels < e.levels)
 
 fits_or : (e : Extent) (left levels : ℕ) → Fits e left levels ⊎ Exceeds e left levels
 fits_or e left levels = elim (leb_tells e.types left) [
-    | inl p ↦ elim (leb_tells e.levels levels) [ inl q ↦ inl (p.1, q.1) | inr q ↦ inr (inr q.1) ]
-    | inr p ↦ inr (inl p.1)
-  ]
+  | inl p ↦ elim (leb_tells e.levels levels) [ inl q ↦ inl (p.1, q.1) | inr q ↦ inr (inr q.1) ]
+  | inr p ↦ inr (inl p.1)
+]
 
 exceeded : (e : Extent) (left levels : ℕ) → Exceeds e left levels → left_behind e left levels ≡ None
 exceeded e left levels (inl h) = many e left levels h

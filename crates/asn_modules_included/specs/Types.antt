@@ -1,5 +1,5 @@
 -- The types that modules assign.
-use Rattle.std.specs.Prelude.{ℕ, zero, suc, List, [], ◌++◌, filter_map, unwrap_or, Option, Some, None}
+use Rattle.std.specs.Prelude.{ℕ, zero, suc, List, [], ◌∷◌, ◌++◌, filter_map, unwrap_or, Option, Some, None}
 use Rattle.std.specs.List.{slice_get}
 use Rattle.std.specs.Option.{option_and_then, option_map}
 use Rattle.asn_modules_included.specs.Behind.{behind, name_of}

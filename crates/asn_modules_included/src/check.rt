@@ -1,13 +1,12 @@
 //! Checks that no name is too large for COMPONENTS OF.
-ghost use Rattle.asn_modules_included.specs.TooLarge.{counted_in, counted_of, first_too_large_in};
-ghost use Rattle.asn_modules_included.specs.TooLarge.{Counted, too_large_from};
+ghost use Rattle.asn_modules_included.specs.TooLarge.{IsChecked, counted_in, first_too_large_in};
 ghost use Rattle.asn_modules_included.specs.Types.{type_view, types_of};
 ghost use Rattle.asn_modules_lookup.specs.Homes.{home_view};
 ghost use Rattle.asn_modules_lookup.specs.Indexes.{IsIndexOf};
 ghost use Rattle.asn_modules_lookup.specs.declared.sort.Sort.TheVariants.{Types};
-ghost use Rattle.asn_modules_names.specs.Faults.{Checks, Tells};
+ghost use Rattle.asn_modules_names.specs.Faults.{Checks};
 ghost use Rattle.asn_modules_names.specs.Mentions.{Source};
-ghost use Rattle.std.specs.Prelude.{◌≡◌, ◌++◌, List, MatchResult, map};
+ghost use Rattle.std.specs.Prelude.{List, map};
 
 use crate::count::past_name;
 use crate::limits::{INCLUDED_LEVEL_LIMIT, INCLUDED_LIMIT, NAME_LIMIT};
@@ -30,7 +29,10 @@ fn check_type(
     types: &[AssignedType<'_, '_>],
     left: usize,
     within: &AssignedType<'_, '_>,
-) -> Result<usize, ModuleError> {
+) -> Result<usize, ModuleError>
+    ensures { (ss : List Source) → IsIndexOf Types ss index.now → IsChecked ss
+        (map type_view types.now) left (counted_in (type_view within.now)) result }
+{
     let scope = Scope {
         index,
         types,
@@ -41,8 +43,9 @@ fn check_type(
         names: NAME_LIMIT,
         levels: INCLUDED_LEVEL_LIMIT,
     };
+    let names = within.behind.as_slice();
     let mut rest = left;
-    for name in within.behind.as_slice() {
+    for name in names {
         let Some(fewer) = past_name(&scope, depth, rest, *name) else {
             let mention = mention_of(within.home.source, name.name);
             return Err(broken(alloc, NameRule::TooLarge, mention));

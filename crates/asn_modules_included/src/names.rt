@@ -1,11 +1,11 @@
 //! Collects the names that stand behind COMPONENTS OF.
 ghost use Rattle.asn_modules_included.specs.Behind.{behind, entries_behind, member_behind};
-ghost use Rattle.asn_modules_included.specs.Behind.{members_behind, name_of, name_view};
+ghost use Rattle.asn_modules_included.specs.Behind.{members_behind, name_of};
 ghost use Rattle.asn_modules_lists.specs.Extensions.{in_extension};
 ghost use Rattle.asn_modules_notation.specs.Notation.{members_of};
 ghost use Rattle.asn_modules_notation.specs.View.{component_view, members_view, notation_view};
 ghost use Rattle.asn_modules_reader.specs.Views.{member_view};
-ghost use Rattle.std.specs.Prelude.{◌≡◌, ◌++◌, OnOk, Some, map};
+ghost use Rattle.std.specs.Prelude.{◌≡◌, ◌++◌, [], OnOk, Some, map};
 ghost use Rattle.std.specs.List.{cons_option};
 
 use asn_lexer::Token;
@@ -39,6 +39,23 @@ pub fn name_of(notation: &Notation) -> Option<TypeName>
         Base::SequenceOf(_) => None,
         Base::SetOf(_) => None,
         Base::Choice(_) => None,
+    }
+}
+
+/// Appends the name, if there is one.
+///
+/// # Errors
+///
+/// Where memory runs out.
+fn add_name(names: &mut Vec<TypeName>, name: Option<TypeName>) -> Result<(), AllocError>
+    ensures { OnOk result (names.new.items ≡ names.old.items ++ cons_option name []) }
+{
+    match name {
+        Some(name) => {
+            names.push(name)?;
+            Ok(())
+        }
+        None => Ok(()),
     }
 }
 
@@ -173,8 +190,6 @@ fn add_included(names: &mut Vec<TypeName>, notation: &Notation) -> Result<(), Al
     ensures { OnOk result (names.new.items ≡ names.old.items
         ++ cons_option (name_of (notation_view notation.now)) (behind (notation_view notation.now))) }
 {
-    if let Some(name) = name_of(notation) {
-        names.push(name)?;
-    }
+    add_name(names, name_of(notation))?;
     add_behind(names, notation)
 }

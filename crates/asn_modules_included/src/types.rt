@@ -1,4 +1,5 @@
 //! Lists the types that modules assign.
+ghost use Rattle.asn_modules_included.specs.Behind.{name_of};
 ghost use Rattle.asn_modules_included.specs.Types.{next_type, stands_for, type_as, type_named};
 ghost use Rattle.asn_modules_included.specs.Types.{type_view, types_in, types_of};
 ghost use Rattle.asn_modules_lookup.specs.Homes.{home_view};
@@ -6,9 +7,9 @@ ghost use Rattle.asn_modules_lookup.specs.Indexes.{IsIndexOf};
 ghost use Rattle.asn_modules_lookup.specs.declared.sort.Sort.TheVariants.{Types};
 ghost use Rattle.asn_modules_names.specs.Mentions.{Source};
 ghost use Rattle.asn_modules_notation.specs.View.{assignment_view, notation_view};
-ghost use Rattle.std.specs.List.{slice_get};
+ghost use Rattle.std.specs.List.{cons_option, slice_get};
 ghost use Rattle.std.specs.Option.{option_and_then};
-ghost use Rattle.std.specs.Prelude.{◌≡◌, ◌++◌, IfOk, List, OnOk, map, option_map};
+ghost use Rattle.std.specs.Prelude.{◌≡◌, ◌++◌, [], IfOk, List, OnOk, map, option_map};
 
 use crate::names::{TypeName, add_behind, name_of};
 use asn_modules_faults::text_of;
@@ -68,6 +69,58 @@ fn next_of<'t>(
     }
 }
 
+/// Returns what is assigned in the module of the number, or `None` where it is no type.
+///
+/// # Errors
+///
+/// Where memory runs out.
+fn type_of<'s, 't>(
+    alloc: Global,
+    index: &Index<'t>,
+    number: usize,
+    home: Home<'s, 't>,
+    assignment: &'s Assignment,
+) -> Result<Option<AssignedType<'s, 't>>, AllocError>
+    ensures { IfOk result (λ found. (ss : List Source) → IsIndexOf Types ss index.now
+        → option_map type_view found
+        ≡ type_as ss number (home_view home.entry) (assignment_view assignment.now)) }
+{
+    match assignment {
+        Assignment::Type { notation, .. } => {
+            let mut behind = Vec::new(alloc);
+            add_behind(&mut behind, notation)?;
+            Ok(Some(AssignedType {
+                number,
+                home,
+                notation,
+                behind,
+                next: next_of(index, number, home, notation),
+            }))
+        }
+        Assignment::Value { .. } => Ok(None),
+    }
+}
+
+/// Appends the type, if there is one.
+///
+/// # Errors
+///
+/// Where memory runs out.
+fn add_type<'s, 't>(
+    types: &mut Vec<AssignedType<'s, 't>>,
+    assigned: Option<AssignedType<'s, 't>>,
+) -> Result<(), AllocError>
+    ensures { OnOk result (types.new.items ≡ types.old.items ++ cons_option assigned.entry []) }
+{
+    match assigned {
+        Some(assigned) => {
+            types.push(assigned)?;
+            Ok(())
+        }
+        None => Ok(()),
+    }
+}
+
 /// Appends the types among these assignments of the module of the number.
 ///
 /// # Errors
@@ -86,17 +139,7 @@ fn add_types<'s, 't>(
         ++ types_in ss number (home_view home.entry) (map assignment_view assignments.now)) }
 {
     for assignment in assignments {
-        if let Assignment::Type { notation, .. } = assignment {
-            let mut behind = Vec::new(alloc);
-            add_behind(&mut behind, notation)?;
-            types.push(AssignedType {
-                number,
-                home,
-                notation,
-                behind,
-                next: next_of(index, number, home, notation),
-            })?;
-        }
+        add_type(types, type_of(alloc, index, number, home, assignment)?)?;
     }
     Ok(())
 }

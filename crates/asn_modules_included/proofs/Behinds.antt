@@ -1,5 +1,5 @@
 -- The names that stand behind COMPONENTS OF in what is held.
-use Rattle.std.proofs.Common.{◌≡◌, refl, ap, sym, ◌∙◌, List, [], ◌∷◌, ◌++◌, map, Option, Some, None, append_assoc}
+use Rattle.std.proofs.Common.{◌≡◌, refl, ap, ◌∙◌, List, [], ◌++◌, map, Option, Some, None, append_assoc}
 use Rattle.std.specs.List.{cons_option}
 use Rattle.asn_modules_included.specs.Behind.{behind, members_behind, name_of}
 use Rattle.asn_modules_included.specs.declared.names.TypeName.{TypeName}

@@ -1,5 +1,5 @@
 -- What types stand for, and what they include, past so many names.
-use Rattle.std.proofs.Common.{◌≡◌, ◌+◌, ℕ, suc, List, map, Option, Some, None, sym, ap, ◌∙◌, unwrap_or, add-one}
+use Rattle.std.proofs.Common.{◌≡◌, ◌+◌, ℕ, List, Option, Some, None, sym, ap, ◌∙◌, unwrap_or, add-one}
 use Rattle.std.specs.List.{slice_get}
 use Rattle.std.specs.Option.{option_map}
 use Rattle.asn_modules_included.specs.Extents.{Extent, included_extent, left_behind}

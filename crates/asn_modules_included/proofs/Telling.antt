@@ -1,5 +1,5 @@
 -- The first name that is too large, from a name or a type on.
-use Rattle.std.proofs.Common.{◌≡◌, ◌≤◌, ◌<◌, ◌+◌, ℕ, List, [], ◌∷◌, ◌++◌, map, drop, get_or, length, Option, Some, None, refl, sym, ap, subst, ◌∙◌}
+use Rattle.std.proofs.Common.{◌≡◌, ◌≤◌, ◌<◌, ◌+◌, ℕ, List, ◌++◌, map, drop, get_or, length, Option, Some, None, sym, ap, subst, ◌∙◌}
 use Rattle.std.proofs.lemmas.List.{drop_all, drop_more}
 use Rattle.asn_modules_faults.specs.declared.cause.NameRule.TheVariants.{TooLarge}
 use Rattle.asn_modules_faults.specs.declared.error.ModuleError.{ModuleError}

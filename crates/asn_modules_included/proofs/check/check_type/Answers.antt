@@ -1,5 +1,5 @@
 use Rattle.std.proofs.Common.{◌++◌, ap, map, refl, subst, sym, ◌∙◌, arith}
-use Rattle.asn_modules_included.specs.TooLarge.{counted_in, too_large_from}
+use Rattle.asn_modules_included.specs.TooLarge.{too_large_from}
 use Rattle.asn_modules_included.specs.Types.{type_view}
 use Rattle.asn_modules_included.proofs.Telling.{counted, name_passed, name_told, names_end, told_from}
 use Rattle.asn_modules_names.specs.Faults.{Tells}

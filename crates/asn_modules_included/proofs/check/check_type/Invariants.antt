@@ -1,4 +1,4 @@
-use Rattle.std.proofs.Common.{◌≡◌, ◌++◌, List, drop, map}
+use Rattle.std.proofs.Common.{◌≡◌, List, drop, map}
 use Rattle.asn_modules_included.specs.TooLarge.{Counted}
 use Rattle.asn_modules_included.specs.Types.{type_view}
 use Rattle.asn_modules_included.proofs.Telling.{told_from}

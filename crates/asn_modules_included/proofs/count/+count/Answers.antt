@@ -1,13 +1,13 @@
-use Rattle.std.proofs.Common.{◌≡◌, ◌+◌, ◌-◌, ◌∙◌, Option, Some, None, refl, ap, sym, map, arith}
-use Rattle.asn_modules_included.specs.Extents.{base_extent, included_extent, left_behind, member_extent, members_extent, root_extent, type_extent}
-use Rattle.asn_modules_included.specs.Scopes.{entries_extent, inclusions_in}
+use Rattle.std.proofs.Common.{◌≡◌, ◌+◌, ◌-◌, ◌∙◌, Some, None, refl, ap, sym, map, arith}
+use Rattle.asn_modules_included.specs.Extents.{left_behind, member_extent, members_extent}
+use Rattle.asn_modules_included.specs.Scopes.{inclusions_in}
 use Rattle.asn_modules_included.specs.Types.{type_view}
 use Rattle.asn_modules_included.proofs.Following.{past_last, past_missing, past_named}
 use Rattle.asn_modules_included.proofs.Past.{included_on, members_none, members_on, past_entries, past_tail, root_none, root_on, type_on}
 use Rattle.asn_model.specs.Shape.{SeqKind}
 use Rattle.asn_modules_lookup.specs.Homes.{home_view}
 use Rattle.asn_modules_notation.specs.Notation.{choice, members, members_of}
-use Rattle.asn_modules_notation.specs.View.{component_view, members_view, notation_view}
+use Rattle.asn_modules_notation.specs.View.{component_view, members_view}
 use Rattle.asn_modules_reader.proofs.Viewing.{choice_viewed, components_of_viewed, group_viewed, named_viewed, one_viewed, sequence_viewed, set_viewed}
 use Rattle.asn_modules_reader.specs.Views.{base_view, member_view}
 use Rattle.asn_modules_included.proofs.count.+count.Goals as goal

@@ -1,4 +1,4 @@
-use Rattle.std.proofs.Common.{◌≡◌, refl, ap, sym, ◌∙◌, ◌++◌, Some}
+use Rattle.std.proofs.Common.{refl, ap, ◌∙◌, ◌++◌}
 use Rattle.std.proofs.lemmas.Result.{on_ok_weaker}
 use Rattle.asn_modules_included.specs.Behind.{entries_behind, member_behind, members_behind}
 use Rattle.asn_modules_included.proofs.Behinds.{included_added}

@@ -15,7 +15,7 @@ abbrev pub name_of : Notation → Option TypeName
 name_of (notation tags base sizes) = base_name base
 
 abbrev mutual
-  -- Those within the type, in order.
+  -- Those names within the type, in order.
   pub behind : Notation → List TypeName
   behind (notation tags base sizes) = base_behind base
 
@@ -35,6 +35,6 @@ abbrev mutual
   members_behind no_members = []
   members_behind (member m ms) = member_behind m ++ members_behind ms
 
--- Those within these entries.
+-- Those names within these entries.
 abbrev pub entries_behind : List code.Member → List TypeName
 entries_behind ms = members_behind (members_of (map member_view ms))

@@ -63,7 +63,7 @@ abbrev mutual
   front_extent f (member marker ms) = tail_extent f ms
   front_extent f (member m ms) = beside (member_extent f m) (front_extent f ms)
 
-  -- Behind the first marker.
+  -- Behind the first marker: extension additions are passed over up to the second one.
   pub tail_extent : Inclusions → Members → Extent
   tail_extent f no_members = nothing
   tail_extent f (member marker ms) = members_extent f ms

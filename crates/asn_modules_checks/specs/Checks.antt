@@ -29,6 +29,6 @@ first_missing ss = option_or (first_import_fault (homes ss)) (option_or (first_u
 abbrev pub first_in_lists : List Source → Option Fault
 first_in_lists ss = option_or (first_listed_twice ss) (first_number_fault ss)
 
--- The first name or number that breaks a rule: in the names of modules and those that they assign, else in a list, else in what is imported and referred to.
+-- The first name or number that breaks a rule: in the names of modules and those that they assign, else in a list, else in what is imported, referred to or included.
 abbrev pub first_broken : List Source → Option Fault
 first_broken ss = option_or (first_fault ss) (option_or (first_in_lists ss) (first_missing ss))

@@ -164,9 +164,9 @@ ROWS = [
     ("values of one that isn't there", lambda n: joined("a{i} INTEGER ::= b", n, "\n"), 25_000, "`b` is neither assigned nor imported"),
     ("sizes by values of the next", lambda n: values(n) + joined("A{i} ::= BIT STRING (SIZE (a{i}))", n, "\n"), 10_000, ""),
     ("values through imports in a circle", lambda n: "".join(module(f"a{i} INTEGER ::= a{(i + 1) % n}", f"IMPORTS a{(i + 1) % n} FROM M{(i + 1) % n};", f"M{i}") for i in range(n)), 5_000, "`a0` leads to no value"),
-    ("components of the type before", lambda n: "A0 ::= SEQUENCE { a0 NULL }\n" + "\n".join(f"A{i} ::= SEQUENCE {{ a{i} NULL, COMPONENTS OF A{i - 1} }}" for i in range(1, n)), 500, None),
-    ("components of the type before, twice", lambda n: "A0 ::= SEQUENCE { a0 NULL }\n" + "\n".join(f"A{i} ::= SEQUENCE {{ COMPONENTS OF A{i - 1}, COMPONENTS OF A{i - 1} }}" for i in range(1, n)), 20, None),
-    ("components of one type", lambda n: "A ::= SEQUENCE { " + joined("a{i} NULL", n) + " }\n" + joined("B{i} ::= SEQUENCE {{ COMPONENTS OF A }}", 10, "\n"), 5_000, None),
+    ("components of the type before", lambda n: "A0 ::= SEQUENCE { a0 NULL }\n" + "\n".join(f"A{i} ::= SEQUENCE {{ a{i} NULL, COMPONENTS OF A{i - 1} }}" for i in range(1, n)), 5_000, "is too large for COMPONENTS OF"),
+    ("components of the type before, twice", lambda n: "A0 ::= SEQUENCE { a0 NULL }\n" + "\n".join(f"A{i} ::= SEQUENCE {{ COMPONENTS OF A{i - 1}, COMPONENTS OF A{i - 1} }}" for i in range(1, n)), 200, "is too large for COMPONENTS OF"),
+    ("components of one type", lambda n: "A ::= SEQUENCE { " + joined("a{i} NULL", n) + " }\n" + joined("B{i} ::= SEQUENCE {{ COMPONENTS OF A }}", 100, "\n"), 5_000, "`A` is too large for COMPONENTS OF"),
 ]
 # Texts that are right or wrong by one level.
 LEVELS = [

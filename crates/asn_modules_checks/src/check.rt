@@ -1,16 +1,19 @@
 //! Checks names and numbers, rule by rule.
-ghost use Rattle.asn_modules_checks.specs.Checks.{first_broken, first_in_lists, first_in_values};
-ghost use Rattle.asn_modules_checks.specs.Checks.{first_missing};
+ghost use Rattle.asn_modules_checks.specs.Checks.{first_broken, first_in_assigned, first_in_lists};
+ghost use Rattle.asn_modules_checks.specs.Checks.{first_in_values, first_missing};
 ghost use Rattle.asn_modules_lookup.specs.Homes as spec;
 ghost use Rattle.asn_modules_lookup.specs.Homes.{home_view};
+ghost use Rattle.asn_modules_lookup.specs.Indexes.{IsIndexOf};
+ghost use Rattle.asn_modules_lookup.specs.declared.sort.Sort.TheVariants.{Types};
 ghost use Rattle.asn_modules_names.specs.Faults.{Checks};
 ghost use Rattle.asn_modules_names.specs.Mentions.{source_view};
 ghost use Rattle.std.specs.Prelude.{◌≡◌, map};
 
 use asn_modules_faults::ModuleError;
 use asn_modules_imports::check_imports;
+use asn_modules_included::check_included;
 use asn_modules_lists::check_lists;
-use asn_modules_lookup::{Home, Sort, homes_of, index_of};
+use asn_modules_lookup::{Home, Index, Sort, homes_of, index_of};
 use asn_modules_names::check_names;
 use asn_modules_numbers::check_numbers;
 use asn_modules_references::check_references;
@@ -50,12 +53,35 @@ fn check_value_names<'t>(
     check_values(alloc, &index, homes)
 }
 
-/// Checks what is imported, and the names of types and values that are referred to.
+/// Checks the names of values that values are, and what COMPONENTS OF includes, by the index of
+/// types.
+///
+/// # Errors
+///
+/// What is told of the names of values, else the first name that is too large for COMPONENTS OF,
+/// and `OutOfMemory`.
+fn check_in_assigned<'t>(
+    alloc: Global,
+    sources: &[Source<'t>],
+    index: &Index<'t>,
+    homes: &[Home<'_, 't>],
+) -> Result<(), ModuleError>
+    requires index { IsIndexOf Types (map source_view sources.now) index.now }
+    requires homes { map home_view homes.now ≡ spec.homes (map source_view sources.now) }
+    ensures { Checks (first_in_assigned (map source_view sources.now)) result }
+{
+    check_value_names(alloc, sources, homes)?;
+    check_included(alloc, index, homes)
+}
+
+/// Checks what is imported, the names of types and values that are referred to, and what COMPONENTS
+/// OF includes.
 ///
 /// # Errors
 ///
 /// The first name that is imported against a rule, else the first name of a type that its module
-/// neither assigns nor imports, else what is told of the names of values, and `OutOfMemory`.
+/// neither assigns nor imports, else what is told of the names of values, else the first name that
+/// is too large for COMPONENTS OF, and `OutOfMemory`.
 fn check_missing(alloc: Global, sources: &[Source<'_>]) -> Result<(), ModuleError>
     ensures { Checks (first_missing (map source_view sources.now)) result }
 {
@@ -63,7 +89,7 @@ fn check_missing(alloc: Global, sources: &[Source<'_>]) -> Result<(), ModuleErro
     check_imports(alloc, homes.as_slice())?;
     let index = index_of(alloc, Sort::Types, sources)?;
     check_references(alloc, Sort::Types, &index, homes.as_slice())?;
-    check_value_names(alloc, sources, homes.as_slice())
+    check_in_assigned(alloc, sources, &index, homes.as_slice())
 }
 
 /// Checks the names and numbers of modules by all rules, over all texts that were read together.
@@ -73,8 +99,9 @@ fn check_missing(alloc: Global, sources: &[Source<'_>]) -> Result<(), ModuleErro
 /// The first name or number that breaks a rule, with its place, where the rules are in this order:
 /// modules have names of their own, and each assigns a name once; no name stands twice in a list;
 /// the numbers of items and bits; what is imported is exported by another module; the types that
-/// are named are assigned or imported; so are the values; and their names lead to values.
-/// `OutOfMemory` where memory runs out.
+/// are named are assigned or imported; so are the values; their names lead to values; and
+/// COMPONENTS OF includes no more types and levels than its limits. `OutOfMemory` where memory runs
+/// out.
 pub fn check_all(alloc: Global, sources: &[Source<'_>]) -> Result<(), ModuleError>
     ensures { Checks (first_broken (map source_view sources.now)) result }
 {

@@ -7,6 +7,8 @@ mod checks;
 #[cfg(test)]
 mod imports;
 #[cfg(test)]
+mod included;
+#[cfg(test)]
 mod lists;
 #[cfg(test)]
 mod lookup;

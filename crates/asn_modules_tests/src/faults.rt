@@ -4,7 +4,7 @@ use std::alloc::Global;
 use std::test::Fail;
 
 /// Lists texts with what is told of them where each is the file `m.asn1`.
-const ROWS: [(&str, &str); 40] = [
+const ROWS: [(&str, &str); 41] = [
     // What begins no token.
     (
         "A ::= NULL ?",
@@ -146,6 +146,11 @@ N DEFINITIONS ::= BEGIN B ::= NULL END",
     (
         "a INTEGER ::= b\nb INTEGER ::= a",
         "m.asn1:1:1: `a` leads to no value",
+    ),
+    (
+        "A ::= SEQUENCE { COMPONENTS OF B, COMPONENTS OF B }\n\
+B ::= SEQUENCE { COMPONENTS OF A, COMPONENTS OF A }",
+        "m.asn1:1:32: `B` is too large for COMPONENTS OF",
     ),
     // What is right.
     ("", ""),

@@ -1,14 +1,14 @@
 //! Sets the limits that links of types keep.
+use asn_modules_reader::limits::NESTING_LIMIT;
 
 /// Limits the names of types or of values that stand for one another in a row, as `A ::= B`, and
 /// those behind COMPONENTS OF. A name of a type that leads past more of them has no values, and so
 /// has one that leads to itself.
-pub const NAME_LIMIT: usize = 64;
+pub const NAME_LIMIT: usize = asn_modules_included::NAME_LIMIT;
 
-/// Limits the types that COMPONENTS OF includes in those of all texts, with what stands within. 64
-/// types, of which each includes the next one twice, would include 2^64.
-pub const INCLUDED_LIMIT: usize = 65_536;
+/// Limits the types that COMPONENTS OF includes in those of all texts, with what stands within.
+pub const INCLUDED_LIMIT: usize = asn_modules_included::INCLUDED_LIMIT;
 
-/// Limits the levels to which types, and names behind COMPONENTS OF, nest. A text alone has at most
-/// 64, but types that include others have those of each, and every level takes room on the stack.
-pub const LEVEL_LIMIT: usize = 256;
+/// Limits the levels to which types, and names behind COMPONENTS OF, nest: those of a text, and
+/// below them those of what COMPONENTS OF includes.
+pub const LEVEL_LIMIT: usize = NESTING_LIMIT + asn_modules_included::INCLUDED_LEVEL_LIMIT;

@@ -1,0 +1,124 @@
+use Rattle.std.proofs.Common.{◌≡◌, ◌+◌, ◌-◌, ◌∙◌, Some, None, refl, ap, sym, map, arith}
+use Rattle.asn_modules_included.specs.Extents.{left_behind, member_extent, members_extent}
+use Rattle.asn_modules_included.specs.Scopes.{inclusions_in}
+use Rattle.asn_modules_included.specs.Types.{type_view}
+use Rattle.asn_modules_included.proofs.Following.{past_last, past_missing, past_named}
+use Rattle.asn_modules_included.proofs.Past.{included_on, members_none, members_on, past_entries, past_tail, root_none, root_on, type_on}
+use Rattle.asn_model.specs.Shape.{SeqKind}
+use Rattle.asn_modules_lookup.specs.Homes.{home_view}
+use Rattle.asn_modules_notation.specs.Notation.{choice, members, members_of}
+use Rattle.asn_modules_notation.specs.View.{component_view, members_view}
+use Rattle.asn_modules_reader.proofs.Viewing.{choice_viewed, components_of_viewed, group_viewed, named_viewed, one_viewed, sequence_viewed, set_viewed}
+use Rattle.asn_modules_reader.specs.Views.{base_view, member_view}
+use Rattle.asn_modules_included.proofs.count.+count.Goals as goal
+
+pub past_type-returns-in-Sequence : goal.past_type-returns-in-Sequence
+past_type-returns-in-Sequence t c = λ ss is.
+    let w = c.in_ok-within in
+    type_on (inclusions_in ss c.args.scope.now) c.args.depth.names w.within.names c.args.notation.now (members SeqKind.sequence (members_of (members_view c.in-Sequence.members))) c.args.left c.in_ok-rest.rest c.args.depth.levels w.within.levels c.past_members.result
+    w.ensures.0 c.in_ok-rest.ensures.0 c.in_ok-rest.ensures.1 w.ensures.1 (ap base_view c.in-Sequence.is ∙ sequence_viewed c.in-Sequence.members) (c.past_members.ensures ss is)
+
+pub past_type-returns-in-Set : goal.past_type-returns-in-Set
+past_type-returns-in-Set t c = λ ss is.
+    let w = c.in_ok-within in
+    type_on (inclusions_in ss c.args.scope.now) c.args.depth.names w.within.names c.args.notation.now (members SeqKind.set (members_of (members_view c.in-Set.members))) c.args.left c.in_ok-rest.rest c.args.depth.levels w.within.levels c.past_members-in-Set.result
+    w.ensures.0 c.in_ok-rest.ensures.0 c.in_ok-rest.ensures.1 w.ensures.1 (ap base_view c.in-Set.is ∙ set_viewed c.in-Set.members) (c.past_members-in-Set.ensures ss is)
+
+pub past_type-returns-in-Choice : goal.past_type-returns-in-Choice
+past_type-returns-in-Choice t c = λ ss is.
+    let w = c.in_ok-within in
+    type_on (inclusions_in ss c.args.scope.now) c.args.depth.names w.within.names c.args.notation.now (choice (members_of (members_view c.in-Choice.alternatives))) c.args.left c.in_ok-rest.rest c.args.depth.levels w.within.levels c.past_members-in-Choice.result
+    w.ensures.0 c.in_ok-rest.ensures.0 c.in_ok-rest.ensures.1 w.ensures.1 (ap base_view c.in-Choice.is ∙ choice_viewed c.in-Choice.alternatives) (c.past_members-in-Choice.ensures ss is)
+
+pub past_members-returns-in_err-rest : goal.past_members-returns-in_err-rest
+past_members-returns-in_err-rest t c = λ ss is.
+    c.from_residual.ensures ∙ members_none (inclusions_in ss c.args.scope.now c.args.depth.names) c.args.depth.levels c.args.members.now c.args.left (c.in_err-rest.ensures ss is)
+
+pub past_members-returns-in-Some : goal.past_members-returns-in-Some
+past_members-returns-in-Some t c = λ ss is.
+    let f = inclusions_in ss c.args.scope.now c.args.depth.names in
+    members_on f c.args.depth.levels c.args.members.now (Some c.in-Some.extension) c.args.left c.in_ok-rest.rest c.past_entries.result (c.in_ok-rest.ensures ss is) c.in-Some.is
+    (c.past_entries.ensures ss is ∙ ap (λ l. past_entries f c.args.depth.levels l c.in_ok-rest.rest) c.deref.ensures.value)
+
+pub past_members-returns-in-None : goal.past_members-returns-in-None
+past_members-returns-in-None t c = λ ss is.
+    members_on (inclusions_in ss c.args.scope.now c.args.depth.names) c.args.depth.levels c.args.members.now None c.args.left c.in_ok-rest.rest (Some c.in_ok-rest.rest) (c.in_ok-rest.ensures ss is) c.in-None.is refl
+
+pub past_component-returns-in-Named : goal.past_component-returns-in-Named
+past_component-returns-in-Named t c = λ ss is.
+    let f = inclusions_in ss c.args.scope.now c.args.depth.names in
+    let seen = ap component_view c.in-Named.is ∙ named_viewed c.in-Named.name c.in-Named.notation c.in-Named.presence in
+    c.past_type.ensures ss is ∙ ap (λ m. left_behind (member_extent f m) c.args.left c.args.depth.levels) (sym seen)
+
+pub past_component-returns-in-ComponentsOf : goal.past_component-returns-in-ComponentsOf
+past_component-returns-in-ComponentsOf t c = λ ss is.
+    let f = inclusions_in ss c.args.scope.now c.args.depth.names in
+    let seen = ap component_view c.in-ComponentsOf.is ∙ components_of_viewed c.in-ComponentsOf.notation in
+    c.past_included.ensures ss is ∙ ap (λ m. left_behind (member_extent f m) c.args.left c.args.depth.levels) (sym seen)
+
+pub past_entry-returns-in-One : goal.past_entry-returns-in-One
+past_entry-returns-in-One t c = λ ss is.
+    let f = inclusions_in ss c.args.scope.now c.args.depth.names in
+    let seen = ap member_view c.in-One.is ∙ one_viewed c.in-One.component in
+    c.past_component.ensures ss is ∙ ap (λ m. left_behind (member_extent f m) c.args.left c.args.depth.levels) (sym seen)
+
+pub past_entry-returns-in-Group : goal.past_entry-returns-in-Group
+past_entry-returns-in-Group t c = λ ss is.
+    let f = inclusions_in ss c.args.scope.now c.args.depth.names in
+    let seen = ap member_view c.in-Group.is ∙ group_viewed c.in-Group.components in
+    c.past_components.ensures ss is ∙ ap (λ l. left_behind (members_extent f (members_of (map component_view l))) c.args.left c.args.depth.levels) c.deref.ensures.value
+    ∙ ap (λ m. left_behind (member_extent f m) c.args.left c.args.depth.levels) (sym seen)
+
+pub past_inclusion-returns-then-depth-eq0 : goal.past_inclusion-returns-then-depth-eq0
+past_inclusion-returns-then-depth-eq0 t c = λ ss is.
+    let s = c.args.scope.now in
+    past_last ss (map type_view s.types.now) s.number (home_view s.home) c.args.name c.args.left c.args.depth.levels c.args.depth.names c.in-Some.number c.if-depth-eq0.true (c.in-Some.ensures ss is)
+
+pub past_inclusion-returns-in_default-type_at : goal.past_inclusion-returns-in_default-type_at
+past_inclusion-returns-in_default-type_at t c = λ ss is.
+    let s = c.args.scope.now in
+    let less = c.args.depth.names - 1 in
+    let above : c.args.depth.names ≡ less + 1 = omega (arith, c.if-depth-eq0.false) in
+    past_missing ss (map type_view s.types.now) s.number (home_view s.home) c.args.name c.args.left c.args.depth.levels c.args.depth.names less c.in-Some.number above (c.in-Some.ensures ss is) c.in_default-type_at.ensures
+
+pub past_inclusion-returns : goal.past_inclusion-returns
+past_inclusion-returns t c = λ ss is.
+    let s = c.args.scope.now in
+    let less = c.args.depth.names - 1 in
+    let above : c.args.depth.names ≡ less + 1 = omega (arith, c.if-depth-eq0.false) in
+    c.past_included.ensures ss is
+    ∙ past_named ss (map type_view s.types.now) s.number (home_view s.home) c.args.name c.args.left c.args.depth.levels c.args.depth.names less c.in-Some.number (type_view c.in-Some-type_at.named.now) above (c.in-Some.ensures ss is) c.in-Some-type_at.ensures
+
+pub past_root-returns-in_err-rest : goal.past_root-returns-in_err-rest
+past_root-returns-in_err-rest t c = λ ss is.
+    let f = inclusions_in ss c.args.scope.now c.args.depth.names in
+    c.from_residual.ensures ∙ root_none f c.args.depth.levels c.args.members.now c.args.left (c.in_err-rest.ensures ss is ∙ ap (λ l. past_entries f c.args.depth.levels l c.args.left) c.deref.ensures.value)
+
+pub past_root-returns-in_default : goal.past_root-returns-in_default
+past_root-returns-in_default t c = λ ss is.
+    let f = inclusions_in ss c.args.scope.now c.args.depth.names in
+    root_on f c.args.depth.levels c.args.members.now None c.args.left c.in_ok-rest.rest (Some c.in_ok-rest.rest) (c.in_ok-rest.ensures ss is ∙ ap (λ l. past_entries f c.args.depth.levels l c.args.left) c.deref.ensures.value) c.in_default.is refl
+
+pub past_root-returns-in-Some-tail : goal.past_root-returns-in-Some-tail
+past_root-returns-in-Some-tail t c = λ ss is.
+    let f = inclusions_in ss c.args.scope.now c.args.depth.names in
+    root_on f c.args.depth.levels c.args.members.now (Some c.in-Some.extension) c.args.left c.in_ok-rest.rest c.past_entries-in-Some-tail.result (c.in_ok-rest.ensures ss is ∙ ap (λ l. past_entries f c.args.depth.levels l c.args.left) c.deref.ensures.value) c.in-Some.is
+    (c.past_entries-in-Some-tail.ensures ss is ∙ ap (λ l. past_entries f c.args.depth.levels l c.in_ok-rest.rest) c.deref-in-Some-tail.ensures.value ∙ ap (λ x. past_tail f c.args.depth.levels x c.in_ok-rest.rest) (sym c.in-Some-tail.is))
+
+pub past_root-returns-in-None : goal.past_root-returns-in-None
+past_root-returns-in-None t c = λ ss is.
+    let f = inclusions_in ss c.args.scope.now c.args.depth.names in
+    root_on f c.args.depth.levels c.args.members.now (Some c.in-Some.extension) c.args.left c.in_ok-rest.rest (Some c.in_ok-rest.rest) (c.in_ok-rest.ensures ss is ∙ ap (λ l. past_entries f c.args.depth.levels l c.args.left) c.deref.ensures.value) c.in-Some.is
+    (ap (λ x. past_tail f c.args.depth.levels x c.in_ok-rest.rest) (sym c.in-None.is))
+
+pub past_included-returns-in-Sequence : goal.past_included-returns-in-Sequence
+past_included-returns-in-Sequence t c = λ ss is.
+    let w = c.in_ok-within in
+    included_on (inclusions_in ss c.args.scope.now) c.args.depth.names w.within.names c.args.notation.now (members SeqKind.sequence (members_of (members_view c.in-Sequence.members))) c.args.left c.in_ok-rest.rest c.args.depth.levels w.within.levels c.past_root.result
+    w.ensures.0 c.in_ok-rest.ensures.0 c.in_ok-rest.ensures.1 w.ensures.1 (ap base_view c.in-Sequence.is ∙ sequence_viewed c.in-Sequence.members) (c.past_root.ensures ss is)
+
+pub past_included-returns-in-Set : goal.past_included-returns-in-Set
+past_included-returns-in-Set t c = λ ss is.
+    let w = c.in_ok-within in
+    included_on (inclusions_in ss c.args.scope.now) c.args.depth.names w.within.names c.args.notation.now (members SeqKind.set (members_of (members_view c.in-Set.members))) c.args.left c.in_ok-rest.rest c.args.depth.levels w.within.levels c.past_root-in-Set.result
+    w.ensures.0 c.in_ok-rest.ensures.0 c.in_ok-rest.ensures.1 w.ensures.1 (ap base_view c.in-Set.is ∙ set_viewed c.in-Set.members) (c.past_root-in-Set.ensures ss is)

@@ -1,0 +1,5 @@
+pub mod Behind
+pub mod Extents
+pub mod Types
+pub mod TooLarge
+pub mod Scopes

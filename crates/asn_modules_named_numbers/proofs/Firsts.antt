@@ -63,7 +63,7 @@ named_here false c x o = refl
 first_in : (n : ℕ) (text : List ℕ) (ns : List NamedNumber) (k : ℕ) (word : List ℕ) → first_of same_key (entries_in n text ns) (k, word) ≡ (if nat_eq n k then first_named text ns word else None)
 first_in n text [] k word = none_chosen (nat_eq n k)
   where
-    none_chosen : (b : Bool) → None ≡ (if b then None else None)
+    none_chosen : (b : Bool) → ◌≡◌ {A = Option Constant} None (if b then None else None)
     none_chosen true = refl
     none_chosen false = refl
 first_in n text (e ∷ es) k word =

@@ -1,5 +1,5 @@
-//! Finds the numbers that words name in INTEGERs with named numbers, in a table of all types that
-//! modules assign: it is made once, and a look at it takes no longer where a type has many numbers.
+//! Finds the numbers that words name in types that modules assign, by a table of all of them. It is
+//! made once, and a look at it takes no longer where a type has many named numbers.
 #![tactic(auto)]
 
 mod entries;

@@ -7,6 +7,7 @@ mod Naming
 mod Leading
 mod Sizing
 mod Following
+mod Numbering
 mod Seen
 mod Separated
 mod Linking

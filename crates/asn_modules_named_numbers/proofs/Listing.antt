@@ -1,5 +1,5 @@
 -- Entries that were listed so far.
-use Rattle.std.proofs.Common.{◌≡◌, ◌≤◌, ℕ, suc, ◌+◌, ◌<◌, List, [], ◌∷◌, ◌++◌, map, refl, sym, ap, ◌∙◌, get_or, drop, length, add-one}
+use Rattle.std.proofs.Common.{◌≡◌, ◌≤◌, ℕ, ◌+◌, ◌<◌, List, [], ◌∷◌, ◌++◌, map, sym, ap, ◌∙◌, get_or, drop, length, add-one}
 use Rattle.std.proofs.lemmas.List.{drop_all, drop_more}
 use Rattle.std.specs.Borrow.{Bor}
 use Rattle.asn_modules_faults.specs.Slices.{text_of}
@@ -13,12 +13,13 @@ use Rattle.asn_modules_notation.specs.declared.number.Constant.{Constant}
 use Rattle.asn_modules_notation.specs.declared.number.NamedNumber.{NamedNumber}
 
 -- Those of a type.
-pub number_added : (all : List ((ℕ × List ℕ) × Constant)) (old new : List ((ℕ × Bor (List ℕ)) × Bor NamedNumber)) (k : ℕ) (text : List ℕ) (name : Bor (List ℕ)) (entry : Bor NamedNumber) (ns : List NamedNumber) (i : ℕ) → i < length ns
-    → all ≡ map entry_view old ++ entries_in k text (drop i ns) → entry.now ≡ get_or ns i entry.now → name.now ≡ text_of text entry.now.name → new ≡ old ++ ((k, name), entry) ∷ [] → all ≡ map entry_view new ++ entries_in k text (drop (i + 1) ns)
-number_added all old new k text name entry ns i l was e b p =
-    listed_more all (map entry_view old) (map entry_view new) (((k, text_of text entry.now.name), entry.now.number) ∷ []) (entries_in k text (drop i ns)) (entries_in k text (drop (i + 1) ns)) was
-    (ap (entries_in k text) (drop_at ns i entry.now l e))
-    (pushed entry_view old new ((k, name), entry) ((k, text_of text entry.now.name), entry.now.number) p (ap (λ x. ((k, x), entry.now.number)) b))
+pub number_added : (all : List ((ℕ × List ℕ) × Constant)) (old new : List ((ℕ × Bor (List ℕ)) × Bor NamedNumber)) (k : ℕ) (text : List ℕ) (name : Bor (List ℕ)) (entry : Bor NamedNumber) (ns : List NamedNumber) (i : ℕ) (d : NamedNumber) → i < length ns
+    → all ≡ map entry_view old ++ entries_in k text (drop i ns) → entry.now ≡ get_or ns i d → name.now ≡ text_of text (get_or ns i d).name → new ≡ old ++ ((k, name), entry) ∷ [] → all ≡ map entry_view new ++ entries_in k text (drop (i + 1) ns)
+number_added all old new k text name entry ns i d l was e b p =
+    let n = get_or ns i d in
+    listed_more all (map entry_view old) (map entry_view new) (((k, text_of text n.name), n.number) ∷ []) (entries_in k text (drop i ns)) (entries_in k text (drop (i + 1) ns)) was
+    (ap (entries_in k text) (drop_more ns i d l))
+    (pushed entry_view old new ((k, name), entry) ((k, text_of text n.name), n.number) p (ap (λ x. ((k, x), entry.now.number)) b ∙ ap (λ x. ((k, text_of text n.name), x.number)) e))
 
 pub numbers_end : (k : ℕ) (text : List ℕ) (ns : List NamedNumber) (i : ℕ) → length ns ≤ i → entries_in k text (drop i ns) ≡ []
 numbers_end k text ns i l = ap (entries_in k text) (drop_all i ns l)

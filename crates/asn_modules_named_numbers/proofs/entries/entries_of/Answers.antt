@@ -13,7 +13,7 @@ loop-number-preserved c =
     let t = c.index-types-number.result in
     types_added (entries_from c.args.types.now 0) (map entry_view c.loop-number.entries.items) (map entry_view c.add_numbers.new.entries.items) c.args.types.now c.loop-number.number t
     c.loop-number-test.true c.index-types-number.is c.loop-number.invariant
-    (c.in_ok-add_numbers.ensures ∙ ap (λ ns. map entry_view c.loop-number.entries.items ++ entries_in c.loop-number.number t.text.now ns) c.numbers_in.ensures)
+    (c.in_ok-add_numbers.ensures ∙ ap (λ ns. map entry_view c.loop-number.entries.items ++ entries_in c.loop-number.number t.text.now ns) c.numbers_in-named.ensures)
 
 pub returns : goal.returns
 returns c =

@@ -7,7 +7,7 @@ mod Naming
 mod Leading
 mod Sizing
 mod Following
-mod Numbering
 mod Seen
+mod Numbering
 mod Separated
 mod Linking

@@ -16,8 +16,18 @@ use Rattle.asn_modules_named_numbers.specs.declared.numbers.NamedNumbers.{NamedN
 use Rattle.asn_modules_names.proofs.Founds.{drop_at, listed_more, pushed}
 use Rattle.asn_modules_names.specs.Mentions.{Source}
 use Rattle.asn_modules_notation.specs.Notation.{Base, Notation, bit_string, choice, enumerated, integer, leaf, list_of, members, notation, reference}
+use Rattle.asn_modules_notation.specs.Notation as spec
+use Rattle.asn_modules_notation.specs.View.{base_step, component_step, extension_step, member_step, members_step, notation_step, notation_view}
+use Rattle.asn_modules_notation.specs.declared.notation.Base as code_base
+use Rattle.asn_modules_notation.specs.declared.notation.Base.{out-Base, roll-Base, roll-out-Base}
+use Rattle.asn_modules_notation.specs.declared.notation.Base.TheFolds.{fold-roll-Base}
+use Rattle.asn_modules_notation.specs.declared.notation.Base.TheOpen as layer
+use Rattle.asn_modules_notation.specs.declared.notation.Base.TheVariants.{Reference, rolls-Reference}
+use Rattle.asn_modules_notation.specs.declared.notation.Notation as code_notation
+use Rattle.asn_modules_notation.specs.declared.notation.Notation.{out-Notation}
 use Rattle.asn_modules_notation.specs.declared.number.Constant.{Constant}
 use Rattle.asn_modules_notation.specs.declared.number.NamedNumber.{NamedNumber}
+use Rattle.asn_modules_reader.specs.Views.{base_view}
 use Rattle.asn_modules_types.specs.Assigned.{Assigned, assigned, notation_of, stated_type}
 use Rattle.asn_modules_types.specs.Known.{assigned_view}
 use Rattle.asn_modules_types.specs.Linked.{base_of, number_word, scope_of}
@@ -27,6 +37,7 @@ use Rattle.asn_modules_types.specs.Types.{number_in_type}
 use Rattle.asn_modules_types.specs.Values.{found_in}
 use Rattle.asn_modules_types.specs.declared.assigned.Assigned as code_assigned
 use Rattle.asn_modules_types.proofs.Following.{word_assigned}
+use Rattle.asn_modules_types.proofs.Seen.{notation_out}
 
 -- The first named number of a name leads to what it names.
 led_by : (b : Bool) (f : Constant → Option ℤ) (c : Constant) (o : Option ℤ) (p : Option Constant) → o ≡ option_and_then f p → (if b then f c else o) ≡ option_and_then f (if b then Some c else p)
@@ -41,6 +52,35 @@ numbers_led s (n ∷ ns) word = led_by (bytes_eq (text_of s.text n.name) word) (
 abbrev pub is_name : Base → Bool
 is_name (reference home name) = true
 is_name b = false
+
+-- A name, as it is held.
+name_viewed : (home : Option Token) (name : Token) → base_view (Reference home name) ≡ reference home name
+name_viewed home name = ap base_view (sym (rolls-Reference home name)) ∙ fold-roll-Base spec.Base spec.Member spec.Member (List spec.Member) (List spec.Member) spec.Notation base_step component_step member_step extension_step members_step notation_step (layer.Reference home name)
+
+-- Another type, as it is held.
+no_name : (b : code_base.Base) → ((home : Option Token) (name : Token) → b ≡ Reference home name → ⊥) → is_name (base_view b) ≡ false
+no_name b other = by (out-Base b) (roll-out-Base b)
+  where
+    plain : (l : _) → roll-Base l ≡ b → is_name (base_view (roll-Base l)) ≡ false → is_name (base_view b) ≡ false
+    plain l e f = ap (λ x. is_name (base_view x)) (sym e) ∙ f
+
+    by : (l : _) → roll-Base l ≡ b → is_name (base_view b) ≡ false
+    by (layer.Reference home name) e = absurd (other home name (sym e ∙ rolls-Reference home name))
+    by (layer.Leaf l) e = plain (layer.Leaf l) e (ap is_name (fold-roll-Base spec.Base spec.Member spec.Member (List spec.Member) (List spec.Member) spec.Notation base_step component_step member_step extension_step members_step notation_step (layer.Leaf l)))
+    by (layer.Integer ns) e = plain (layer.Integer ns) e (ap is_name (fold-roll-Base spec.Base spec.Member spec.Member (List spec.Member) (List spec.Member) spec.Notation base_step component_step member_step extension_step members_step notation_step (layer.Integer ns)))
+    by (layer.BitString ns) e = plain (layer.BitString ns) e (ap is_name (fold-roll-Base spec.Base spec.Member spec.Member (List spec.Member) (List spec.Member) spec.Notation base_step component_step member_step extension_step members_step notation_step (layer.BitString ns)))
+    by (layer.Enumerated items added) e = plain (layer.Enumerated items added) e (ap is_name (fold-roll-Base spec.Base spec.Member spec.Member (List spec.Member) (List spec.Member) spec.Notation base_step component_step member_step extension_step members_step notation_step (layer.Enumerated items added)))
+    by (layer.Sequence ms) e = plain (layer.Sequence ms) e (ap is_name (fold-roll-Base spec.Base spec.Member spec.Member (List spec.Member) (List spec.Member) spec.Notation base_step component_step member_step extension_step members_step notation_step (layer.Sequence ms)))
+    by (layer.Set ms) e = plain (layer.Set ms) e (ap is_name (fold-roll-Base spec.Base spec.Member spec.Member (List spec.Member) (List spec.Member) spec.Notation base_step component_step member_step extension_step members_step notation_step (layer.Set ms)))
+    by (layer.SequenceOf n) e = plain (layer.SequenceOf n) e (ap is_name (fold-roll-Base spec.Base spec.Member spec.Member (List spec.Member) (List spec.Member) spec.Notation base_step component_step member_step extension_step members_step notation_step (layer.SequenceOf n)))
+    by (layer.SetOf n) e = plain (layer.SetOf n) e (ap is_name (fold-roll-Base spec.Base spec.Member spec.Member (List spec.Member) (List spec.Member) spec.Notation base_step component_step member_step extension_step members_step notation_step (layer.SetOf n)))
+    by (layer.Choice ms) e = plain (layer.Choice ms) e (ap is_name (fold-roll-Base spec.Base spec.Member spec.Member (List spec.Member) (List spec.Member) spec.Notation base_step component_step member_step extension_step members_step notation_step (layer.Choice ms)))
+
+pub name_held : (n : code_notation.Notation) (home : Option Token) (name : Token) → (out-Notation n).base ≡ Reference home name → base_of (notation_view n) ≡ reference home name
+name_held n home name e = ap base_of (notation_out n) ∙ ap base_view e ∙ name_viewed home name
+
+pub other_held : (n : code_notation.Notation) → ((home : Option Token) (name : Token) → (out-Notation n).base ≡ Reference home name → ⊥) → is_name (base_of (notation_view n)) ≡ false
+other_held n other = ap (λ b. is_name (base_of b)) (notation_out n) ∙ no_name (out-Notation n).base other
 
 type_led : (s : Scope) (n : Notation) (word : List ℕ) → is_name (base_of n) ≡ false → number_in_type s n word ≡ option_and_then (constant_in s) (first_named s.text (numbers_in n) word)
 type_led s (notation tags (integer ns) sizes) word e = numbers_led s ns word

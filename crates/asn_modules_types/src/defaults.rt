@@ -72,7 +72,8 @@ fn number_word<'t>(
         number: assigned.number,
         home: assigned.home,
     };
-    match &notation_of(assigned.assignment).base {
+    let notation = notation_of(assigned.assignment);
+    match &notation.base {
         Base::Reference { module, name } => {
             let next = find(&scope, *module, *name)?;
             number_word(names, more - 1, next, word)

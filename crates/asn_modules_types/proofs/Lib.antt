@@ -8,5 +8,6 @@ mod Leading
 mod Sizing
 mod Following
 mod Seen
+mod Numbering
 mod Separated
 mod Linking

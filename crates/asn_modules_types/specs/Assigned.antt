@@ -3,6 +3,7 @@ use Rattle.std.specs.Prelude.{ℕ, suc, List, [], ◌∷◌, ◌++◌, filter_ma
 use Rattle.asn_modules_lookup.specs.Entries.{name_as}
 use Rattle.asn_modules_lookup.specs.Homes.{Home, homes}
 use Rattle.asn_modules_lookup.specs.declared.sort.Sort.{Sort}
+use Rattle.asn_modules_named_numbers.specs.Named.{StatedType}
 use Rattle.asn_modules_names.specs.Mentions.{Source}
 use Rattle.asn_modules_notation.specs.Modules.{Assignment, type_assignment, value_assignment}
 use Rattle.asn_modules_notation.specs.Notation.{Notation}
@@ -35,6 +36,10 @@ assigned sort ss = assigned_of sort 0 (homes ss)
 abbrev pub notation_of : Assignment → Notation
 notation_of (type_assignment name n) = n
 notation_of (value_assignment name n v) = n
+
+-- The type with the text that it stands in.
+abbrev pub stated_type : Assigned → StatedType
+stated_type a = record { text = a.home.source.text; notation = notation_of a.assignment }
 
 -- The value that is assigned, if it is one.
 abbrev pub value_of : Assignment → Option Value

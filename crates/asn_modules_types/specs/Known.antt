@@ -7,6 +7,7 @@ use Rattle.asn_model.specs.ShapeView.{kind_view, presence_view, shape_view}
 use Rattle.asn_modules_lookup.specs.Homes.{home_view}
 use Rattle.asn_modules_lookup.specs.Indexes.{IsIndexOf}
 use Rattle.asn_modules_lookup.specs.declared.sort.Sort.TheVariants.{Types, Values}
+use Rattle.asn_modules_named_numbers.specs.Numbers.{AreNumbersOf}
 use Rattle.asn_modules_names.specs.Mentions.{Source, source_view}
 use Rattle.asn_modules_notation.specs.Notation as notation
 use Rattle.asn_modules_notation.specs.Notation.{members_of}
@@ -37,12 +38,13 @@ stated_view v = record { number = v.number; home = home_view v.home; value = v.v
 abbrev pub sources_of : Names → List Source
 sources_of names = map source_view names.sources.now
 
--- The tables are those of the texts, and so are the types and values; there are fewer types than the limit.
+-- The tables are those of the texts, and so are the types and values, and the named numbers are those of the types; there are fewer types than the limit.
 pub record KnowsNames (names : Names) : Type 0 where
   pub type_index : IsIndexOf Types (sources_of names) names.type_index.now
   pub value_index : IsIndexOf Values (sources_of names) names.value_index.now
   pub types : map assigned_view names.types.now ≡ spec.assigned Types (sources_of names)
   pub values : map assigned_view names.values.now ≡ spec.assigned Values (sources_of names)
+  pub numbers : AreNumbersOf (map spec.stated_type (spec.assigned Types (sources_of names))) names.numbers.now
   pub few : length names.types.now < TYPE_LIMIT
 
 -- Where a type stands, with names of types followed past at most so many others.

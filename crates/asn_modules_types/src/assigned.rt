@@ -1,15 +1,17 @@
 //! Lists the types and values that modules assign.
 ghost use Rattle.asn_modules_lookup.specs.Entries.{name_as};
 ghost use Rattle.asn_modules_lookup.specs.Homes.{home_view};
+ghost use Rattle.asn_modules_named_numbers.specs.Views.{type_view};
 ghost use Rattle.asn_modules_notation.specs.View.{assignment_view, notation_view};
 ghost use Rattle.asn_modules_types.specs.Assigned.{assigned_in, assigned_of, notation_of};
-ghost use Rattle.asn_modules_types.specs.Assigned.{value_of};
+ghost use Rattle.asn_modules_types.specs.Assigned.{stated_type, value_of};
 ghost use Rattle.asn_modules_types.specs.Known.{assigned_view};
 ghost use Rattle.std.specs.List.{slice_get};
 ghost use Rattle.std.specs.Prelude.{◌≡◌, ◌<◌, ◌++◌, IfOk, IfSome, OnOk, is_some, length, map};
 ghost use Rattle.std.specs.Prelude.{option_map};
 
 use asn_modules_lookup::{Home, Sort};
+use asn_modules_named_numbers::StatedType;
 use asn_modules_notation::{Assignment, Notation, Value};
 use std::alloc::{AllocError, Global};
 
@@ -113,6 +115,28 @@ pub fn notation_of(assignment: &Assignment) -> &Notation
         Assignment::Type { notation, .. } => notation,
         Assignment::Value { notation, .. } => notation,
     }
+}
+
+/// Returns the types that are assigned, each with the text that it stands in.
+///
+/// # Errors
+///
+/// Where memory runs out.
+pub fn stated_types<'s, 't>(
+    alloc: Global,
+    types: &[Assigned<'s, 't>],
+) -> Result<Vec<StatedType<'s, 't>>, AllocError>
+    ensures { IfOk result (λ stated.
+        map type_view stated.items ≡ map stated_type (map assigned_view types.now)) }
+{
+    let mut stated = Vec::new(alloc);
+    for assigned in types {
+        stated.push(StatedType {
+            text: assigned.home.source.text,
+            notation: notation_of(assigned.assignment),
+        })?;
+    }
+    Ok(stated)
 }
 
 /// Returns the value that is assigned, or `None` where it is a type.

@@ -54,39 +54,50 @@ fn named_number(scope: &Scope<'_, '_, '_>, named: &[NamedNumber], word: &[u8]) -
 
 /// Returns the number that the word names in the type of the number, past at most so many names.
 #[cycle(words)]
-fn number_word(names: &Names<'_, '_>, more: usize, number: usize, word: &[u8]) -> Option<i128>
+fn number_word<'t>(
+    names: &Names<'_, 't>,
+    more: usize,
+    number: usize,
+    word: &'t [u8],
+) -> Option<i128>
     requires known { KnowsNames names.now }
     ensures { result ≡ number_word (sources_of names.now) more number word.now }
 {
     if more == 0 {
         return None;
     }
-    match assigned_at(names.types, number) {
-        Some(assigned) => {
-            let scope = Scope {
-                names: &*names,
-                number: assigned.number,
-                home: assigned.home,
-            };
-            number_in_type(&scope, more - 1, notation_of(assigned.assignment), word)
+    let assigned = assigned_at(names.types, number)?;
+    let scope = Scope {
+        names: &*names,
+        number: assigned.number,
+        home: assigned.home,
+    };
+    let notation = notation_of(assigned.assignment);
+    match &notation.base {
+        Base::Reference { module, name } => {
+            let next = find(&scope, *module, *name)?;
+            number_word(names, more - 1, next, word)
         }
-        None => None,
+        _ => {
+            let constant = names.numbers.constant(number, word)?;
+            constant_in(&scope, constant)
+        }
     }
 }
 
 /// Returns the number that the word names in the type, past at most so many names.
-#[cycle(words)]
-fn number_in_type(
-    scope: &Scope<'_, '_, '_>,
+fn number_in_type<'t>(
+    scope: &Scope<'_, '_, 't>,
     more: usize,
     notation: &Notation,
-    word: &[u8],
+    word: &'t [u8],
 ) -> Option<i128>
     requires known { KnowsNames scope.now.names.now }
     ensures { result ≡ number_in_type (scope_view more scope.now) (notation_view notation.now)
         word.now }
 {
     match &notation.base {
+        // A list that stands in a component is looked through for that component alone.
         Base::Integer(named) => named_number(scope, named.as_slice(), word),
         Base::Reference { module, name } => {
             let number = find(scope, *module, *name)?;
@@ -121,11 +132,11 @@ fn boolean_named(word: &[u8]) -> Option<Plain>
 /// # Errors
 ///
 /// `OutOfMemory` alone.
-fn word_plain(
-    scope: &Scope<'_, '_, '_>,
+fn word_plain<'t>(
+    scope: &Scope<'_, '_, 't>,
     notation: &Notation,
     shape: &Shape,
-    word: &[u8],
+    word: &'t [u8],
 ) -> Result<Option<Plain>, LinkFault>
     requires known { KnowsNames scope.now.names.now }
     ensures { IfOk result (λ o. option_map plain_view o
@@ -172,11 +183,11 @@ fn string_plain(
 /// # Errors
 ///
 /// `OutOfMemory` alone.
-fn plain_in(
-    scope: &Scope<'_, '_, '_>,
+fn plain_in<'t>(
+    scope: &Scope<'_, '_, 't>,
     notation: &Notation,
     shape: &Shape,
-    text: &str,
+    text: &'t str,
     value: Value,
 ) -> Result<Option<Plain>, LinkFault>
     requires known { KnowsNames scope.now.names.now }
@@ -200,11 +211,11 @@ fn plain_in(
 /// # Errors
 ///
 /// `OutOfMemory` alone.
-fn suited_in(
-    scope: &Scope<'_, '_, '_>,
+fn suited_in<'t>(
+    scope: &Scope<'_, '_, 't>,
     notation: &Notation,
     shape: &Shape,
-    text: &str,
+    text: &'t str,
     value: Value,
 ) -> Result<Option<Plain>, LinkFault>
     requires known { KnowsNames scope.now.names.now }

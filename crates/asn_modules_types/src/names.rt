@@ -14,6 +14,7 @@ use crate::sizes::sized;
 use asn_linked_types::no_values;
 use asn_model::Shape;
 use asn_modules_lookup::Index;
+use asn_modules_named_numbers::NamedNumbers;
 use asn_modules_notation::Base;
 use asn_modules_text::Source;
 use std::alloc::Global;
@@ -33,6 +34,8 @@ pub struct Names<'s, 't> {
     pub types: &'s [Assigned<'s, 't>],
     /// Lists the values that are assigned.
     pub values: &'s [Assigned<'s, 't>],
+    /// Holds the named numbers of the types that are assigned.
+    pub numbers: &'s NamedNumbers<'s, 't>,
 }
 
 /// Returns what the name of the type of the number stands for, past at most so many names: its

@@ -4,7 +4,7 @@ use asn_core::Codec;
 use std::test::Fail;
 
 /// Lists texts of modules with a JSON text and the canonical text of its value by the type `T`.
-const ROWS: [(&str, &str, &str); 51] = [
+const ROWS: [(&str, &str, &str); 55] = [
     // Tags mean nothing for a text.
     (
         "T ::= [APPLICATION 5] IMPLICIT SEQUENCE { a [7] BOOLEAN }",
@@ -63,6 +63,35 @@ F ::= ENUMERATED { x, y } w F ::= y",
         "T ::= SEQUENCE { a INTEGER DEFAULT 5 }",
         r#"{"a":6}"#,
         r#"{"a":6}"#,
+    ),
+    // DEFAULT by named numbers of one type, and of others with other numbers of the same names: in
+    // a component, behind another name, and in another module, where names of values are its own.
+    (
+        "T ::= SEQUENCE { a B DEFAULT x, b B DEFAULT y, c C DEFAULT x, d D DEFAULT y, \
+e INTEGER { x(5), y(6) } DEFAULT x } B ::= INTEGER { x(1), y(2) } C ::= INTEGER { y(4), x(3) } \
+D ::= [1] C (0..9)",
+        r#"{"a":1,"b":2,"c":3,"d":4,"e":5}"#,
+        "{}",
+    ),
+    (
+        "T ::= SEQUENCE { a B DEFAULT x, b B DEFAULT y, c C DEFAULT x } \
+B ::= INTEGER { x(1), y(2) } C ::= INTEGER { y(4), x(3) }",
+        r#"{"a":3,"b":4,"c":1}"#,
+        r#"{"a":3,"b":4,"c":1}"#,
+    ),
+    (
+        "M DEFINITIONS ::= BEGIN IMPORTS B FROM N; T ::= SEQUENCE { a B DEFAULT x, b C DEFAULT x } \
+C ::= INTEGER { x(v) } v INTEGER ::= 1 END \
+N DEFINITIONS ::= BEGIN A ::= NULL B ::= INTEGER { y(3), x(v) } v INTEGER ::= 2 END",
+        r#"{"a":2,"b":1}"#,
+        "{}",
+    ),
+    // A word that the type doesn't name a number by is the name of a value.
+    (
+        "T ::= SEQUENCE { a B DEFAULT v } B ::= INTEGER { x(1) } C ::= INTEGER { v(2) } \
+v INTEGER ::= 3",
+        r#"{"a":3}"#,
+        "{}",
     ),
     // DEFAULT by a string that isn't one of the type, has a quote in it or goes over two lines, and
     // by one for a BMPString.

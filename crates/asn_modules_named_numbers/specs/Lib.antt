@@ -1,0 +1,4 @@
+pub mod Named
+pub mod Entries
+pub mod Views
+pub mod Numbers

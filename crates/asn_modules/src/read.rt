@@ -22,8 +22,8 @@ use std::alloc::Global;
 ///
 /// `Refused` of the first text that is none of modules, else of the first name or number that
 /// breaks a rule of ASN.1, or with which COMPONENTS OF includes more types or levels of them than
-/// the limits, with the file, line and column. `OutOfMemory`, also where 2^32 types are assigned, or
-/// one type has so many parts.
+/// the limits, with the file, line and column. `OutOfMemory`, also where 2^32 types are assigned,
+/// or one type has so many parts.
 pub fn read_modules(alloc: Global, texts: &[(&str, &str)]) -> Result<Modules, ModuleError>
     ensures ok { IfOk result (λ m. AreModules (map named_view texts.now) (modules_view m)) }
     ensures refused { IfErr result (IsModulesRefusal (map named_view texts.now)) }

@@ -188,7 +188,8 @@ fn add_component(names: &mut Vec<TypeName>, component: &Component) -> Result<(),
 #[cycle(behind)]
 fn add_included(names: &mut Vec<TypeName>, notation: &Notation) -> Result<(), AllocError>
     ensures { OnOk result (names.new.items ≡ names.old.items
-        ++ cons_option (name_of (notation_view notation.now)) (behind (notation_view notation.now))) }
+        ++ cons_option (name_of (notation_view notation.now))
+        (behind (notation_view notation.now))) }
 {
     add_name(names, name_of(notation))?;
     add_behind(names, notation)

@@ -4,13 +4,13 @@ use Rattle.std.proofs.lemmas.Bool.{eq-eqb, ne_eqb}
 use Rattle.std.proofs.lemmas.List.{map-append, reverse-append}
 use Rattle.std.specs.Borrow.{Bor}
 use Rattle.std.specs.List.{slice_get}
-use Rattle.std.specs.Option.{option_and_then, option_map, option_or}
+use Rattle.std.specs.Option.{option_and_then, option_or}
 use Rattle.std.specs.Str.{bytes_eq}
 use Rattle.asn_modules_faults.specs.Slices.{text_of}
 use Rattle.asn_modules_lookup.specs.Indexes.{same_pair}
 use Rattle.asn_modules_lookup.specs.Lookup.{last_of, same_key}
 use Rattle.asn_modules_lookup.specs.Views.{key_view}
-use Rattle.asn_modules_lookup.proofs.Lasts.{last_seen}
+use Rattle.asn_modules_lookup.proofs.Lasts.{last_seen, map_same}
 use Rattle.asn_modules_named_numbers.specs.Entries.{entries_in, entries_of}
 use Rattle.asn_modules_named_numbers.specs.Named.{StatedType, constant_named, first_named, numbers_in}
 use Rattle.asn_modules_named_numbers.specs.Views.{entry_view}
@@ -93,10 +93,10 @@ first_at n k word (t ∷ ts) (suc i) e =
     ∙ first_at (suc n) k word ts i (omega (arith, e))
 
 -- What the table holds, where it holds the last of these entries turned round.
-pub first_holds : (types : List StatedType) (es : List ((ℕ × Bor (List ℕ)) × Bor NamedNumber)) → map entry_view es ≡ entries_of 0 types → (q : ℕ × Bor (List ℕ))
-    → option_map (λ e. e.now.number) (last_of same_pair (reverse es) q) ≡ constant_named types q.0 q.1.now
+pub first_holds : (types : List StatedType) (es : List ((ℕ × Bor (List ℕ)) × Constant)) → map entry_view es ≡ entries_of 0 types → (q : ℕ × Bor (List ℕ)) → last_of same_pair (reverse es) q ≡ constant_named types q.0 q.1.now
 first_holds types es made q =
-    last_seen same_pair same_key key_view (λ e. e.now.number) (λ k l. refl) (reverse es) q
+    sym (map_same (last_of same_pair (reverse es) q))
+    ∙ last_seen same_pair same_key key_view (λ x. x) (λ k l. refl) (reverse es) q
     ∙ ap (λ l. last_of same_key l (key_view q)) (map_reverse entry_view es)
     ∙ first_is same_key (map entry_view es) (key_view q)
     ∙ ap (λ l. first_of same_key l (key_view q)) made

@@ -13,13 +13,12 @@ use Rattle.asn_modules_notation.specs.declared.number.Constant.{Constant}
 use Rattle.asn_modules_notation.specs.declared.number.NamedNumber.{NamedNumber}
 
 -- Those of a type.
-pub number_added : (all : List ((ℕ × List ℕ) × Constant)) (old new : List ((ℕ × Bor (List ℕ)) × Bor NamedNumber)) (k : ℕ) (text : List ℕ) (name : Bor (List ℕ)) (entry : Bor NamedNumber) (ns : List NamedNumber) (i : ℕ) (d : NamedNumber) → i < length ns
-    → all ≡ map entry_view old ++ entries_in k text (drop i ns) → entry.now ≡ get_or ns i d → name.now ≡ text_of text (get_or ns i d).name → new ≡ old ++ ((k, name), entry) ∷ [] → all ≡ map entry_view new ++ entries_in k text (drop (i + 1) ns)
-number_added all old new k text name entry ns i d l was e b p =
+pub number_added : (all : List ((ℕ × List ℕ) × Constant)) (old new : List ((ℕ × Bor (List ℕ)) × Constant)) (k : ℕ) (text : List ℕ) (name : Bor (List ℕ)) (ns : List NamedNumber) (i : ℕ) (d : NamedNumber) → i < length ns → all ≡ map entry_view old ++ entries_in k text (drop i ns)
+    → name.now ≡ text_of text (get_or ns i d).name → new ≡ old ++ ((k, name), (get_or ns i d).number) ∷ [] → all ≡ map entry_view new ++ entries_in k text (drop (i + 1) ns)
+number_added all old new k text name ns i d l was b p =
     let n = get_or ns i d in
     listed_more all (map entry_view old) (map entry_view new) (((k, text_of text n.name), n.number) ∷ []) (entries_in k text (drop i ns)) (entries_in k text (drop (i + 1) ns)) was
-    (ap (entries_in k text) (drop_more ns i d l))
-    (pushed entry_view old new ((k, name), entry) ((k, text_of text n.name), n.number) p (ap (λ x. ((k, x), entry.now.number)) b ∙ ap (λ x. ((k, text_of text n.name), x.number)) e))
+    (ap (entries_in k text) (drop_more ns i d l)) (pushed entry_view old new ((k, name), n.number) ((k, text_of text n.name), n.number) p (ap (λ x. ((k, x), n.number)) b))
 
 pub numbers_end : (k : ℕ) (text : List ℕ) (ns : List NamedNumber) (i : ℕ) → length ns ≤ i → entries_in k text (drop i ns) ≡ []
 numbers_end k text ns i l = ap (entries_in k text) (drop_all i ns l)

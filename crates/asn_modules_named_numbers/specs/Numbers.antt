@@ -2,11 +2,10 @@
 use Rattle.std.specs.Prelude.{◌≡◌, ℕ, List}
 use Rattle.std.specs.Borrow.{Bor}
 use Rattle.std.specs.HashMap.{get}
-use Rattle.std.specs.Option.{option_map}
 use Rattle.asn_modules_lookup.specs.Indexes.{same_pair}
 use Rattle.asn_modules_named_numbers.specs.Named.{StatedType, constant_named}
 use Rattle.asn_modules_named_numbers.specs.declared.numbers.NamedNumbers.{NamedNumbers}
 
 -- The table is that of the named numbers of these types.
 pub record AreNumbersOf (types : List StatedType) (numbers : NamedNumbers) : Type 0 where
-  pub first : (q : ℕ × Bor (List ℕ)) → option_map (λ e. e.now.number) (get same_pair numbers.first q) ≡ constant_named types q.0 q.1.now
+  pub first : (q : ℕ × Bor (List ℕ)) → get same_pair numbers.first q ≡ constant_named types q.0 q.1.now

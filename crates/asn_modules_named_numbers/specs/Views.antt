@@ -6,11 +6,10 @@ use Rattle.asn_modules_named_numbers.specs.Named as named
 use Rattle.asn_modules_named_numbers.specs.declared.entries.StatedType.{StatedType}
 use Rattle.asn_modules_notation.specs.View.{notation_view}
 use Rattle.asn_modules_notation.specs.declared.number.Constant.{Constant}
-use Rattle.asn_modules_notation.specs.declared.number.NamedNumber.{NamedNumber}
 
 abbrev pub type_view : StatedType → named.StatedType
 type_view t = record { text = t.text.now; notation = notation_view t.notation.now }
 
 -- The number of a type and a name, with what stands for the number of that name.
-abbrev pub entry_view : (ℕ × Bor (List ℕ)) × Bor NamedNumber → (ℕ × List ℕ) × Constant
-entry_view e = (key_view e.0, e.1.now.number)
+abbrev pub entry_view : (ℕ × Bor (List ℕ)) × Constant → (ℕ × List ℕ) × Constant
+entry_view e = (key_view e.0, e.1)

@@ -6,7 +6,7 @@ ghost use Rattle.asn_modules_notation.specs.View.{notation_view};
 ghost use Rattle.std.specs.Prelude.{◌≡◌, ◌++◌, IfOk, OnOk, map};
 
 use asn_modules_faults::text_of;
-use asn_modules_notation::{Base, NamedNumber, Notation};
+use asn_modules_notation::{Base, Constant, NamedNumber, Notation};
 use std::alloc::{AllocError, Global};
 
 /// Is a type and the text that it stands in.
@@ -44,17 +44,17 @@ fn numbers_in(notation: &Notation) -> &[NamedNumber]
 /// # Errors
 ///
 /// Where memory runs out.
-fn add_numbers<'s, 't>(
-    entries: &mut Vec<(Key<'t>, &'s NamedNumber)>,
+fn add_numbers<'t>(
+    entries: &mut Vec<(Key<'t>, Constant)>,
     number: usize,
     text: &'t str,
-    named: &'s [NamedNumber],
+    named: &[NamedNumber],
 ) -> Result<(), AllocError>
     ensures { OnOk result (map entry_view entries.new.items
         ≡ map entry_view entries.old.items ++ entries_in number text.now named.now) }
 {
     for entry in named {
-        entries.push(((number, text_of(text, entry.name)), entry))?;
+        entries.push(((number, text_of(text, entry.name)), entry.number))?;
     }
     Ok(())
 }
@@ -64,10 +64,10 @@ fn add_numbers<'s, 't>(
 /// # Errors
 ///
 /// Where memory runs out.
-pub fn entries_of<'s, 't>(
+pub fn entries_of<'t>(
     alloc: Global,
-    types: &[StatedType<'s, 't>],
-) -> Result<Vec<(Key<'t>, &'s NamedNumber)>, AllocError>
+    types: &[StatedType<'_, 't>],
+) -> Result<Vec<(Key<'t>, Constant)>, AllocError>
     ensures { IfOk result (λ entries.
         map entry_view entries.items ≡ entries_of 0 (map type_view types.now)) }
 {

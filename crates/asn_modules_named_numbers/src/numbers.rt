@@ -7,16 +7,17 @@ ghost use Rattle.std.specs.HashMap.{get};
 ghost use Rattle.std.specs.Prelude.{◌≡◌, IfOk, List, map};
 
 use crate::entries::{Key, StatedType, entries_of};
-use asn_modules_notation::{Constant, NamedNumber};
+use asn_modules_notation::Constant;
 use std::alloc::{AllocError, Global};
 use std::collections::HashMap;
 use std::hash::Hash;
 
 /// Holds the named numbers of types.
 #[derive(Drop)]
-pub struct NamedNumbers<'s, 't> {
-    /// Holds the first named number of each name in a type, beside that and the number of the type.
-    pub first: HashMap<Key<'t>, &'s NamedNumber>,
+pub struct NamedNumbers<'t> {
+    /// Holds what stands for the first number of each name in a type, beside that and the number of
+    /// the type.
+    pub first: HashMap<Key<'t>, Constant>,
 }
 
 /// Returns the table of the entries, in which the last one of a key counts.
@@ -39,10 +40,10 @@ fn table_of<K: Eq + Hash + Copy + Drop, V: Copy + Drop>(
 /// # Errors
 ///
 /// Where memory runs out.
-pub fn named_numbers<'s, 't>(
+pub fn named_numbers<'t>(
     alloc: Global,
-    types: &[StatedType<'s, 't>],
-) -> Result<NamedNumbers<'s, 't>, AllocError>
+    types: &[StatedType<'_, 't>],
+) -> Result<NamedNumbers<'t>, AllocError>
     ensures { IfOk result (λ numbers. AreNumbersOf (map type_view types.now) numbers) }
 {
     let mut entries = entries_of(alloc, types)?;
@@ -52,16 +53,13 @@ pub fn named_numbers<'s, 't>(
 }
 
 /// Finds named numbers.
-impl<'s, 't> NamedNumbers<'s, 't> {
+impl<'t> NamedNumbers<'t> {
     /// Returns what stands for the number that the word names first in the type of the number, or
     /// `None` where it names none.
     pub fn constant(&self, number: usize, word: &'t [u8]) -> Option<Constant>
         ensures { (types : List spec.StatedType) → AreNumbersOf types self.now
             → result ≡ spec.constant_named types number word.now }
     {
-        match self.first.get(&(number, word)).copied() {
-            Some(entry) => Some(entry.number),
-            None => None,
-        }
+        self.first.get(&(number, word)).copied()
     }
 }

@@ -1,6 +1,7 @@
 //! Lists the types and values that modules assign.
 ghost use Rattle.asn_modules_lookup.specs.Entries.{name_as};
 ghost use Rattle.asn_modules_lookup.specs.Homes.{home_view};
+ghost use Rattle.asn_modules_named_numbers.specs.Numbers.{AreNumbersOf};
 ghost use Rattle.asn_modules_named_numbers.specs.Views.{type_view};
 ghost use Rattle.asn_modules_notation.specs.View.{assignment_view, notation_view};
 ghost use Rattle.asn_modules_types.specs.Assigned.{assigned_in, assigned_of, notation_of};
@@ -11,7 +12,7 @@ ghost use Rattle.std.specs.Prelude.{◌≡◌, ◌<◌, ◌++◌, IfOk, IfSome, 
 ghost use Rattle.std.specs.Prelude.{option_map};
 
 use asn_modules_lookup::{Home, Sort};
-use asn_modules_named_numbers::StatedType;
+use asn_modules_named_numbers::{NamedNumbers, StatedType, named_numbers};
 use asn_modules_notation::{Assignment, Notation, Value};
 use std::alloc::{AllocError, Global};
 
@@ -122,7 +123,7 @@ pub fn notation_of(assignment: &Assignment) -> &Notation
 /// # Errors
 ///
 /// Where memory runs out.
-pub fn stated_types<'s, 't>(
+fn stated_types<'s, 't>(
     alloc: Global,
     types: &[Assigned<'s, 't>],
 ) -> Result<Vec<StatedType<'s, 't>>, AllocError>
@@ -137,6 +138,22 @@ pub fn stated_types<'s, 't>(
         })?;
     }
     Ok(stated)
+}
+
+/// Returns the named numbers of the types that are assigned.
+///
+/// # Errors
+///
+/// Where memory runs out.
+pub fn numbers_of<'t>(
+    alloc: Global,
+    types: &[Assigned<'_, 't>],
+) -> Result<NamedNumbers<'t>, AllocError>
+    ensures { IfOk result (λ numbers.
+        AreNumbersOf (map stated_type (map assigned_view types.now)) numbers) }
+{
+    let stated = stated_types(alloc, types)?;
+    named_numbers(alloc, stated.as_slice())
 }
 
 /// Returns the value that is assigned, or `None` where it is a type.

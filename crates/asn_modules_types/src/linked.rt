@@ -10,7 +10,7 @@ ghost use Rattle.asn_modules_types.specs.Linked.{opened_type};
 ghost use Rattle.std.specs.Prelude.{◌≡◌, IfOk, length, map, true};
 
 use crate::allowance::{Allowance, Depth};
-use crate::assigned::{assigned_at, assigned_of, notation_of, stated_types};
+use crate::assigned::{assigned_at, assigned_of, notation_of, numbers_of};
 use crate::fault::LinkFault;
 use crate::limits::{INCLUDED_LIMIT, LEVEL_LIMIT, NAME_LIMIT};
 use crate::names::{Names, named_type};
@@ -19,7 +19,6 @@ use crate::shapes::shape_of;
 use asn_linked_types::{TYPE_LIMIT, no_values};
 use asn_model::{Shape, is_readable_within_with};
 use asn_modules_lookup::{Index, Sort, homes_of, index_of};
-use asn_modules_named_numbers::named_numbers;
 use asn_modules_text::Source;
 use std::alloc::Global;
 
@@ -130,8 +129,7 @@ pub fn linked_types<'t>(
     }
     let values = assigned_of(alloc, Sort::Values, homes.as_slice())?;
     let value_index = index_of(alloc, Sort::Values, sources)?;
-    let stated = stated_types(alloc, types.as_slice())?;
-    let numbers = named_numbers(alloc, stated.as_slice())?;
+    let numbers = numbers_of(alloc, types.as_slice())?;
     let names = Names {
         alloc,
         sources,

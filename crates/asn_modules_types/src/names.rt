@@ -35,7 +35,7 @@ pub struct Names<'s, 't> {
     /// Lists the values that are assigned.
     pub values: &'s [Assigned<'s, 't>],
     /// Holds the named numbers of the types that are assigned.
-    pub numbers: &'s NamedNumbers<'s, 't>,
+    pub numbers: &'s NamedNumbers<'t>,
 }
 
 /// Returns what the name of the type of the number stands for, past at most so many names: its

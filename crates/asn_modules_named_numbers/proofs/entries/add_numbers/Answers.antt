@@ -10,8 +10,8 @@ loop-entry-init c = refl
 
 pub loop-entry-preserved : goal.loop-entry-preserved
 loop-entry-preserved c =
-    number_added (map entry_view c.args.entries.now.items ++ entries_in c.args.number c.args.text.now c.args.named.now) c.loop-entry.entries.items c.push.new.self.items c.args.number c.args.text.now c.text_of.result _ c.args.named.now c.loop-entry.entry-index _
-    c.loop-entry-test.true c.loop-entry.invariant refl c.text_of.ensures c.in_ok-push.ensures.items
+    number_added (map entry_view c.args.entries.now.items ++ entries_in c.args.number c.args.text.now c.args.named.now) c.loop-entry.entries.items c.push.new.self.items c.args.number c.args.text.now c.text_of.result c.args.named.now c.loop-entry.entry-index _
+    c.loop-entry-test.true c.loop-entry.invariant c.text_of.ensures c.in_ok-push.ensures.items
 
 pub returns : goal.returns
 returns c =

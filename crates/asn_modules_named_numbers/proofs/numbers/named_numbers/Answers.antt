@@ -1,5 +1,4 @@
 use Rattle.std.proofs.Common.{map, ap, ◌∙◌}
-use Rattle.std.specs.Option.{option_map}
 use Rattle.asn_modules_lookup.specs.Indexes.{same_pair}
 use Rattle.asn_modules_lookup.specs.Lookup.{last_of}
 use Rattle.asn_modules_named_numbers.specs.Views.{type_view}
@@ -9,7 +8,6 @@ use Rattle.asn_modules_named_numbers.proofs.numbers.named_numbers.Goals as goal
 pub returns : goal.returns
 returns c = record {
   first = λ q.
-      ap (option_map (λ e. e.now.number)) (c.in_ok-first.ensures q)
-      ∙ ap (λ l. option_map (λ e. e.now.number) (last_of same_pair l q)) (c.as_slice.ensures.value ∙ c.reverse.ensures.items)
+      c.in_ok-first.ensures q ∙ ap (λ l. last_of same_pair l q) (c.as_slice.ensures.value ∙ c.reverse.ensures.items)
       ∙ first_holds (map type_view c.args.types.now) c.in_ok-entries.entries.items c.in_ok-entries.ensures q;
 }

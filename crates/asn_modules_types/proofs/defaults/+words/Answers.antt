@@ -17,14 +17,14 @@ returns-in_err-assigned t c =
     let above : c.args.more ≡ less + 1 = omega (arith, c.if-more-eq0.false) in
     c.from_residual.ensures ∙ follows_word (sources_of c.args.names.now) c.args.more less c.args.number above (map assigned_view c.args.names.now.types.now) c.requires.known.types c.args.word.now None c.in_err-assigned.ensures.there
 
-pub returns-in_err-next : goal.returns-in_err-next
-returns-in_err-next t c =
+pub returns-in_err-next-in-Reference : goal.returns-in_err-next-in-Reference
+returns-in_err-next-in-Reference t c =
     let less = c.args.more - 1 in
     let above : c.args.more ≡ less + 1 = omega (arith, c.if-more-eq0.false) in
     let n = c.notation_of-notation.result.now in
-    c.from_residual.ensures
+    c.from_residual-in_err-next-in-Reference.ensures
     ∙ word_behind (sources_of c.args.names.now) c.args.more less c.args.number (map assigned_view c.args.names.now.types.now) (assigned_view c.in_ok-assigned.assigned) (notation_view n) c.args.word.now above c.requires.known.types c.in_ok-assigned.ensures.there
-    (sym c.notation_of-notation.ensures) c.in-Reference.module c.in-Reference.name None (name_held n c.in-Reference.module c.in-Reference.name c.in-Reference.is) c.in_err-next.ensures
+    (sym c.notation_of-notation.ensures) c.in-Reference.module c.in-Reference.name None (name_held n c.in-Reference.module c.in-Reference.name c.in-Reference.is) c.in_err-next-in-Reference.ensures
 
 pub returns-in_ok-next-in-Reference : goal.returns-in_ok-next-in-Reference
 returns-in_ok-next-in-Reference t c =
@@ -35,15 +35,15 @@ returns-in_ok-next-in-Reference t c =
     ∙ word_behind (sources_of c.args.names.now) c.args.more less c.args.number (map assigned_view c.args.names.now.types.now) (assigned_view c.in_ok-assigned.assigned) (notation_view n) c.args.word.now above c.requires.known.types c.in_ok-assigned.ensures.there
     (sym c.notation_of-notation.ensures) c.in-Reference.module c.in-Reference.name (Some c.in_ok-next-in-Reference.next) (name_held n c.in-Reference.module c.in-Reference.name c.in-Reference.is) c.in_ok-next-in-Reference.ensures
 
-pub returns-in_err-constant : goal.returns-in_err-constant
-returns-in_err-constant t c =
+pub returns-in_err-constant-in_default : goal.returns-in_err-constant-in_default
+returns-in_err-constant-in_default t c =
     let ss = sources_of c.args.names.now in
     let less = c.args.more - 1 in
     let above : c.args.more ≡ less + 1 = omega (arith, c.if-more-eq0.false) in
     let n = c.notation_of-notation.result.now in
-    c.from_residual.ensures
+    c.from_residual-in_err-constant-in_default.ensures
     ∙ word_led ss c.args.more less c.args.number (map assigned_view c.args.names.now.types.now) (assigned_view c.in_ok-assigned.assigned) (notation_view n) c.args.word.now above c.requires.known.types c.in_ok-assigned.ensures.there
-    (sym c.notation_of-notation.ensures) None (other_held n c.in_default.not-Reference) (c.in_err-constant.ensures (map stated_type (assigned Types ss)) c.requires.known.numbers)
+    (sym c.notation_of-notation.ensures) None (other_held n c.in_default.not-Reference) (c.in_err-constant-in_default.ensures (map stated_type (assigned Types ss)) c.requires.known.numbers)
 
 pub returns-in_ok-constant-in_default : goal.returns-in_ok-constant-in_default
 returns-in_ok-constant-in_default t c =

@@ -97,7 +97,7 @@ fn number_in_type<'t>(
         word.now }
 {
     match &notation.base {
-        // A list that stands in a component is looked through for that component alone.
+        // The table has none of the lists that stand in components.
         Base::Integer(named) => named_number(scope, named.as_slice(), word),
         Base::Reference { module, name } => {
             let number = find(scope, *module, *name)?;

@@ -1,11 +1,10 @@
-use Rattle.std.proofs.Common.{◌≡◌, ◌+◌, ◌-◌, ◌∙◌, None, Some, ap, arith, map, sym}
+use Rattle.std.proofs.Common.{◌≡◌, ◌+◌, ◌-◌, ◌∙◌, None, Some, arith, map, sym}
 use Rattle.asn_modules_lookup.specs.declared.sort.Sort.TheVariants.{Types}
 use Rattle.asn_modules_notation.specs.View.{notation_view}
 use Rattle.asn_modules_types.specs.Assigned.{assigned, stated_type}
 use Rattle.asn_modules_types.specs.Known.{assigned_view, sources_of}
-use Rattle.asn_modules_types.specs.Linked.{base_of}
 use Rattle.asn_modules_types.proofs.Following.{follows_word, follows_word_none}
-use Rattle.asn_modules_types.proofs.Numbering.{is_name, name_held, other_held, word_behind, word_led}
+use Rattle.asn_modules_types.proofs.Numbering.{name_held, other_held, word_behind, word_led}
 use Rattle.asn_modules_types.proofs.defaults.+words.Goals as goal
 
 pub returns-then-more-eq0 : goal.returns-then-more-eq0

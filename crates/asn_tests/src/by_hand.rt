@@ -73,7 +73,7 @@ fn sequence_of_avn(rt: &impl Abort, alloc: Global, text: &str) -> Result<WithNul
     answer
 }
 
-/// Returns whether a sequence is read that has the name `n`, and the flag exactly where it is wanted.
+/// Returns whether a sequence of the name `n` is read, with the flag exactly where it is wanted.
 fn is_n(rt: &impl Abort, answer: Result<WithNullOpt, DecodeError>, flag: bool) -> bool {
     let sequence = answer.expect(rt, "no sequence");
     let is_found = sequence.name.as_str() == "n" && sequence.flag.is_some() == flag;

@@ -1,11 +1,10 @@
 -- Slots that are taken and put.
 use Rattle.std.proofs.Common.{◌≡◌, ℕ, List, [], ◌∷◌, ◌++◌, map, drop, length, Option, Some, None, Bool, true, false, is_some, Result, Ok, Err, refl, sym, ap, subst, ◌∙◌}
-use Rattle.std.specs.Prelude.{option_map, IfSome, MatchOption, MatchResult, OnErr, OnOk}
+use Rattle.std.specs.Prelude.{option_map, IfSome, MatchOption, OnErr, OnOk}
 use Rattle.std.specs.List.{All, slice_get}
 use Rattle.std.proofs.lemmas.List.{map-append, length-map}
 use Rattle.std.proofs.lemmas.List.Elements.{All-append, All-cons, All-head, All-nil, All-tail, All-rest}
-use Rattle.asn_core.specs.declared.codec.Codec.TheVariants.{Avn}
-use Rattle.asn_fault.specs.Failure.{Cause, Failure, at_root, failure_of}
+use Rattle.asn_fault.specs.Failure.{Failure, failure_of}
 use Rattle.asn_fault.specs.declared.decode.DecodeError.{DecodeError}
 use Rattle.asn_model.specs.declared.leaves.LeafKind.{LeafKind}
 use Rattle.asn_model.specs.declared.leaves.OwnedLeaf.{OwnedLeaf}
@@ -18,7 +17,7 @@ use Rattle.asn_traits.specs.Leaf.{IsFailureOf, LeafFailure, members_mismatch}
 use Rattle.asn_traits.specs.Notation.{Notation}
 use Rattle.asn_coding.specs.Opening.{HasMembers, IsChoice, IsList, IsFirstRepeated, IsTaken, OpensChoice, OpensList, OpensMembers, RepeatsName, TakesLeaf, list_shape}
 use Rattle.asn_traits.specs.Shape.{Shape, SeqKind, Fields, FieldAdditions, Alternatives, AlternativeAdditions, place_named}
-use Rattle.asn_traits.specs.Tree.{Slot, Tree, head_slot, as_choice, as_list, as_members, field_slot, is_repeated, same_identifier}
+use Rattle.asn_traits.specs.Tree.{Slot, Tree, head_slot, as_choice, as_list, as_members, field_slot, same_identifier}
 use Rattle.asn_coding.proofs.LeafValues.{taken as is_taken}
 use Rattle.asn_coding.specs.Tables.{ListsFields}
 use Rattle.asn_coding.specs.declared.opening.Opened.TheVariants.{Members}
@@ -71,10 +70,6 @@ module _ (before : DecoderView) (table : AvnTree) (slots : List (Option ℕ)) (v
       let P : Option ℕ → Type 0 = IsSlot table in
       let held : IsPresent table i = All-head P (Some i) later (subst (All P) e h) in
       subst (λ d. TakesNode d (record { root = table; nodes = later }) i) view (refl, held, ap (trees_of (value_at table)) e)
-
-  -- The node that is the first slot is one of the table's.
-  pub first_held : (i : ℕ) (later : List (Option ℕ)) → slots ≡ Some i ∷ later → All (IsSlot table) slots → IsPresent table i
-  first_held i later e h = let P : Option ℕ → Type 0 = IsSlot table in All-head P (Some i) later (subst (All P) e h)
 
   -- What is seen at the node of the first slot, if anything, is a value without parts that is taken.
   pub leaf_there : {A : Type 0} (k : LeafKind) (leaf : A → OwnedLeaf) (i : ℕ) (later : List (Option ℕ)) (o : Option A) → slots ≡ Some i ∷ later → IfSome o (λ x. IsTaken Notation.avn k (value_at table i) (leaf x))

@@ -3,7 +3,6 @@ use Rattle.std.proofs.lemmas.Option.{slice_get_read}
 use Rattle.std.specs.List.{slice_get}
 use Rattle.std.specs.Prelude.{IfSome, option_map}
 use Rattle.asn_names.proofs.Rows.{row_at, row-there}
-use Rattle.asn_names.specs.Rows.{NameRow}
 use Rattle.avn_rules.proofs.Repeats.{KeepsPlace, place_passed, place_once, place_twice}
 use Rattle.avn_rules.proofs.Walks.{FieldsLeft, fields_begun, fields_first, fields_more, fields_found, fields_repeated, with_slot}
 use Rattle.avn_rules.proofs.avn.take_apart.slots_of.Goals.{in-Some, then-is_some, else-is_some, in_default}

@@ -1,7 +1,5 @@
-use Rattle.std.proofs.Common.{ap, ◌∙◌}
 use Rattle.asn_coding.specs.Writing.{as_choice}
 use Rattle.asn_names.specs.Text.{name_text}
-use Rattle.asn_slots.specs.Frames.{close}
 use Rattle.avn_frames.specs.Closing.{as_choice as choice_of_tree}
 use Rattle.avn_rules.proofs.Building.{frame_closed, choice-trees}
 use Rattle.avn_rules.proofs.Told.{told}

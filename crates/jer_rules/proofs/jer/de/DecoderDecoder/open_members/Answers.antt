@@ -1,4 +1,4 @@
-use Rattle.std.proofs.Common.{◌∙◌, Some, arith, map, refl}
+use Rattle.std.proofs.Common.{◌∙◌, arith, map, refl}
 use Rattle.std.proofs.lemmas.List.{length-map}
 use Rattle.serde_json.specs.Data.{Data}
 use Rattle.serde_json.specs.View.{members_view}

@@ -79,9 +79,14 @@ def joined(pattern, size, between=", "):
     return between.join(pattern.format(i=i, next=(i + 1) % size, down=size - i) for i in range(size))
 
 
-def values(size):
-    """Values, each of which but the last is the name of the next one."""
-    return "".join(f"a{i} INTEGER ::= a{i + 1}\n" for i in range(size)) + f"a{size} INTEGER ::= 5\n"
+def values(size, name="a"):
+    """Values whose names begin so, each of which but the last is the name of the next one."""
+    return "".join(f"{name}{i} INTEGER ::= {name}{i + 1}\n" for i in range(size)) + f"{name}{size} INTEGER ::= 5\n"
+
+
+def included(size):
+    """Types that each have the components of A."""
+    return joined("B{i} ::= SEQUENCE {{ COMPONENTS OF A }}", size, "\n")
 
 
 def nested(opening, inside, closing):
@@ -167,6 +172,16 @@ ROWS = [
     ("components of the type before", lambda n: "A0 ::= SEQUENCE { a0 NULL }\n" + "\n".join(f"A{i} ::= SEQUENCE {{ a{i} NULL, COMPONENTS OF A{i - 1} }}" for i in range(1, n)), 5_000, "is too large for COMPONENTS OF"),
     ("components of the type before, twice", lambda n: "A0 ::= SEQUENCE { a0 NULL }\n" + "\n".join(f"A{i} ::= SEQUENCE {{ COMPONENTS OF A{i - 1}, COMPONENTS OF A{i - 1} }}" for i in range(1, n)), 200, "is too large for COMPONENTS OF"),
     ("components of one type", lambda n: "A ::= SEQUENCE { " + joined("a{i} NULL", n) + " }\n" + joined("B{i} ::= SEQUENCE {{ COMPONENTS OF A }}", 100, "\n"), 5_000, "`A` is too large for COMPONENTS OF"),
+    ("items of a component, included again and again", lambda n: "A ::= SEQUENCE { a ENUMERATED { " + joined("b{i}", n) + " } }\n" + included(n), 10_000, "`A` is too large for COMPONENTS OF"),
+    ("named numbers by default, included again and again", lambda n: "A ::= SEQUENCE { a INTEGER { " + joined("b{i}({i})", n) + f" }} DEFAULT b{n - 1} }}\n" + included(n), 10_000, "`A` is too large for COMPONENTS OF"),
+    ("a long name of a component, included again and again", lambda n: "A ::= SEQUENCE { " + "a" * n + " NULL }\n" + included(n), 10_000, "`A` is too large for COMPONENTS OF"),
+    ("components of an ENUMERATED of as many items", lambda n: "A ::= SEQUENCE { " + joined("a{i} E", n) + " } E ::= ENUMERATED { " + joined("b{i}", n) + " }", 25_000, ""),
+    ("items by default of an ENUMERATED of as many", lambda n: "A ::= SEQUENCE { " + joined("a{i} E DEFAULT b{i}", n) + " } E ::= ENUMERATED { " + joined("b{i}", n) + " }", 25_000, ""),
+    ("items by default of an ENUMERATED of 200", lambda n: "A ::= SEQUENCE { " + joined("a{i} E DEFAULT b199", n) + " } E ::= ENUMERATED { " + joined("b{i}", 200) + " }", 5_000, ""),
+    ("a string of as many characters by default", lambda n: "A ::= SEQUENCE { " + joined("a{i} UTF8String DEFAULT b", n) + ' } b UTF8String ::= "' + "c" * n + '"', 50_000, ""),
+    ("a string of 1,000 characters by default", lambda n: "A ::= SEQUENCE { " + joined("a{i} UTF8String DEFAULT b", n) + ' } b UTF8String ::= "' + "c" * 1_000 + '"', 25_000, ""),
+    ("names of the next, of 1,000 characters", lambda n: joined(f"{'A' * 1_000}{{i}} ::= {'A' * 1_000}{{next}}", n, "\n"), 2_000, ""),
+    ("sizes by values of the next, of 1,000 characters", lambda n: values(n, "a" * 1_000) + joined(f"A{{i}} ::= BIT STRING (SIZE ({'a' * 1_000}{{i}}))", n, "\n"), 1_000, ""),
 ]
 # Texts that are right or wrong by one level.
 LEVELS = [

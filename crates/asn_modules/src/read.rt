@@ -21,7 +21,7 @@ use std::alloc::Global;
 /// # Errors
 ///
 /// `Refused` of the first text that is none of modules, else of the first name or number that
-/// breaks a rule of ASN.1, or with which COMPONENTS OF includes more types or levels of them than
+/// breaks a rule of ASN.1, or with which COMPONENTS OF includes more bytes or levels of types than
 /// the limits, with the file, line and column. `OutOfMemory`, also where 2^32 types are assigned,
 /// or one type has so many parts.
 pub fn read_modules(alloc: Global, texts: &[(&str, &str)]) -> Result<Modules, ModuleError>

@@ -100,7 +100,7 @@ fn check_missing(alloc: Global, sources: &[Source<'_>]) -> Result<(), ModuleErro
 /// modules have names of their own, and each assigns a name once; no name stands twice in a list;
 /// the numbers of items and bits; what is imported is exported by another module; the types that
 /// are named are assigned or imported; so are the values; their names lead to values; and
-/// COMPONENTS OF includes no more types and levels than its limits. `OutOfMemory` where memory runs
+/// COMPONENTS OF includes no more bytes and levels than its limits. `OutOfMemory` where memory runs
 /// out.
 pub fn check_all(alloc: Global, sources: &[Source<'_>]) -> Result<(), ModuleError>
     ensures { Checks (first_broken (map source_view sources.now)) result }

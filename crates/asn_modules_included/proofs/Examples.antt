@@ -1,11 +1,11 @@
 -- What COMPONENTS OF includes by example, each computed from its notation.
-use Rattle.std.proofs.Common.{◌≡◌, ℕ, suc, List, [], ◌∷◌, map, codes, Some, None, refl}
+use Rattle.std.proofs.Common.{◌≡◌, ℕ, suc, ◌+◌, ◌*◌, List, [], ◌∷◌, map, codes, true, Option, Some, None, refl}
 use Rattle.asn_lexer.specs.declared.kind.Kind.TheVariants as kind
 use Rattle.asn_lexer.specs.declared.token.Token.{Token}
 use Rattle.asn_model.specs.Shape.{SeqKind}
 use Rattle.asn_modules_faults.specs.declared.cause.NameRule.TheVariants.{TooLarge}
 use Rattle.asn_modules_included.specs.Behind.{behind}
-use Rattle.asn_modules_included.specs.Extents.{Extent, Inclusions, included_extent, left_behind, nothing, type_extent}
+use Rattle.asn_modules_included.specs.Extents.{Extent, Inclusions, included_extent, left_behind, member_extent, nothing, type_extent}
 use Rattle.asn_modules_included.specs.TooLarge.{counted_of, first_too_large, included, too_large_from}
 use Rattle.asn_modules_included.specs.Types.{AssignedType, stands_for, types_of}
 use Rattle.asn_modules_included.specs.declared.names.TypeName.{TypeName}
@@ -13,9 +13,12 @@ use Rattle.asn_modules_lookup.specs.Homes.{homes}
 use Rattle.asn_modules_names.specs.Faults.{fault_of}
 use Rattle.asn_modules_names.specs.Mentions.{Source}
 use Rattle.asn_modules_notation.specs.Modules.{Assignment, type_assignment}
-use Rattle.asn_modules_notation.specs.Notation.{Base, Member, Notation, choice, component, components_of, group, leaf, list_of, marker, members, members_of, notation, reference}
+use Rattle.asn_modules_notation.specs.Notation.{Base, Member, Notation, bit_string, choice, component, components_of, enumerated, group, integer, leaf, list_of, marker, members, members_of, notation, reference}
 use Rattle.asn_modules_notation.specs.declared.leaf.Leaf.TheVariants.{Boolean, Null}
 use Rattle.asn_modules_notation.specs.declared.notation.Presence.TheVariants.{Required}
+use Rattle.asn_modules_notation.specs.declared.number.Constant.TheVariants as constant
+use Rattle.asn_modules_notation.specs.declared.number.Item.{Item}
+use Rattle.asn_modules_notation.specs.declared.number.NamedNumber.{NamedNumber}
 
 -- The text of these examples, in which each token is one character.
 abbrev letters : List ℕ
@@ -41,38 +44,57 @@ abbrev null : Notation
 null = plain (leaf Null)
 
 abbrev extent : ℕ → ℕ → Extent
-extent types levels = record { types = types; levels = levels }
+extent size levels = record { size = size; levels = levels }
 
--- Names include ten types on seven levels.
-abbrev ten : Inclusions
-ten home name = extent 10 7
+-- Names include a thousand bytes on seven levels.
+abbrev thousand : Inclusions
+thousand home name = extent 1000 7
 
--- SEQUENCE { a BOOLEAN, ..., [[ b NULL ]], ..., c SEQUENCE OF NULL } is five types, and its root with it is four.
+-- SEQUENCE { a BOOLEAN, ..., [[ b NULL ]], ..., c SEQUENCE OF NULL } is five types with three names of a byte, and its root with it is four with two.
 abbrev both_markers : Notation
 both_markers = sequence (part 4 (plain (leaf Boolean)) ∷ marker ∷ group (members_of (part 5 null ∷ [])) ∷ marker ∷ part 6 (plain (list_of SeqKind.sequence null)) ∷ [])
 
-five : type_extent ten both_markers ≡ extent 5 3
+five : type_extent thousand both_markers ≡ extent (5 * 64 + 3) 3
 five = refl
 
-four : included_extent ten both_markers ≡ extent 4 3
+four : included_extent thousand both_markers ≡ extent (4 * 64 + 2) 3
 four = refl
 
 -- SEQUENCE { a NULL, ..., c SEQUENCE OF NULL } has no root behind its only marker.
-one_marker : included_extent ten (sequence (part 4 null ∷ marker ∷ part 6 (plain (list_of SeqKind.sequence null)) ∷ [])) ≡ extent 2 2
+one_marker : included_extent thousand (sequence (part 4 null ∷ marker ∷ part 6 (plain (list_of SeqKind.sequence null)) ∷ [])) ≡ extent (2 * 64 + 1) 2
 one_marker = refl
 
 -- A name is one type where it stands for a component, and with what it includes behind COMPONENTS OF.
-component_named : type_extent ten (sequence (part 4 (named 1) ∷ [])) ≡ extent 2 2
+component_named : type_extent thousand (sequence (part 4 (named 1) ∷ [])) ≡ extent (2 * 64 + 1) 2
 component_named = refl
 
-components_named : type_extent ten (sequence (components_of (named 1) ∷ part 4 null ∷ [])) ≡ extent 13 9
+components_named : type_extent thousand (sequence (components_of (named 1) ∷ part 4 null ∷ [])) ≡ extent (3 * 64 + 1 + 1000) 9
 components_named = refl
 
 -- COMPONENTS OF a CHOICE includes nothing.
-chosen : included_extent ten (plain (choice (members_of (part 4 null ∷ [])))) ≡ extent 1 1
+chosen : included_extent thousand (plain (choice (members_of (part 4 null ∷ [])))) ≡ extent 64 1
 chosen = refl
 
--- Four types on three levels leave none of four, and are too many for three, or too deep for two levels.
+-- Items and named numbers are 64 bytes each, with their names: ENUMERATED { a, b, ..., c } has three items, INTEGER { a(-5) } a number, and a component's name may be long.
+abbrev item : ℕ → Option Item
+item n = Some (record { name = word n; number = None })
+
+enumerated_sized : type_extent thousand (plain (enumerated (item 4 ∷ item 5 ∷ None ∷ item 6 ∷ []))) ≡ extent (64 + 3 * 65) 1
+enumerated_sized = refl
+
+abbrev five_less : NamedNumber
+five_less = record { name = word 4; number = constant.Number (record { negative = true; digits = word 5 }) }
+
+integer_sized : type_extent thousand (plain (integer (five_less ∷ []))) ≡ extent (64 + 65) 1
+integer_sized = refl
+
+bits_unsized : type_extent thousand (plain (bit_string (five_less ∷ []))) ≡ extent 64 1
+bits_unsized = refl
+
+long_named : member_extent thousand (component (record { kind = kind.Name; start = 100; end = 900 }) null Required) ≡ extent (800 + 64) 1
+long_named = refl
+
+-- Four bytes on three levels leave none of four, and are too many for three, or too deep for two levels.
 exact : left_behind (extent 4 3) 4 3 ≡ Some 0
 exact = refl
 
@@ -114,15 +136,15 @@ past_none : included texts types 0 1 ≡ nothing
 unfolding included
 past_none = refl
 
-past_one : included texts types 1 1 ≡ extent 1 1
+past_one : included texts types 1 1 ≡ extent 64 1
 unfolding included
 past_one = refl
 
-past_two : included texts types 2 1 ≡ extent 4 3
+past_two : included texts types 2 1 ≡ extent (4 * 64 + 1) 3
 unfolding included
 past_two = refl
 
--- A ::= SEQUENCE { COMPONENTS OF B } and B ::= SEQUENCE { a NULL }: the name comes to three types on three levels.
+-- A ::= SEQUENCE { COMPONENTS OF B } and B ::= SEQUENCE { a NULL }: the name comes to three types and a name of a byte, on three levels.
 abbrev two_types : List Assignment
 two_types = type_assignment (word 0) (sequence (components_of (named 1) ∷ [])) ∷ type_assignment (word 1) (sequence (part 4 null ∷ [])) ∷ []
 
@@ -132,12 +154,12 @@ short = record { file = codes "f"; text = letters; modules = record { header = N
 abbrev both : List AssignedType
 both = types_of short 0 (homes short)
 
-fits : too_large_from short both 3 (counted_of both both) ≡ None
+fits : too_large_from short both 193 (counted_of both both) ≡ None
 unfolding included stands_for
 fits = refl
 
--- It is too large where two are left, and is told where it stands behind COMPONENTS OF.
-told : too_large_from short both 2 (counted_of both both) ≡ Some (fault_of TooLarge (record { file = codes "f"; text = letters; token = word 1 }))
+-- It is too large where a byte less is left, and is told where it stands behind COMPONENTS OF.
+told : too_large_from short both 192 (counted_of both both) ≡ Some (fault_of TooLarge (record { file = codes "f"; text = letters; token = word 1 }))
 unfolding included stands_for
 told = refl
 

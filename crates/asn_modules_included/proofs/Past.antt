@@ -1,9 +1,10 @@
--- What entries leave of so many types.
+-- What entries leave of so many bytes.
 use Rattle.std.proofs.Common.{◌≡◌, ◌≤◌, ◌<◌, ◌+◌, ◌-◌, ℕ, List, [], ◌∷◌, ◌++◌, map, drop, get_or, length, Option, Some, None, refl, sym, ap, ◌∙◌, arith}
 use Rattle.std.proofs.lemmas.List.{drop_all}
 use Rattle.std.specs.Global.{Vec}
 use Rattle.std.specs.Option.{option_and_then}
 use Rattle.asn_modules_included.specs.Extents.{Extent, Inclusions, around, base_extent, front_extent, included_extent, left_behind, member_extent, members_extent, root_extent, tail_extent, type_extent}
+use Rattle.asn_modules_included.specs.declared.limits.TheConstants.{TYPE_SIZE}
 use Rattle.asn_modules_included.proofs.Leaving.{left_around, left_beside, left_nothing, left_swapped}
 use Rattle.asn_modules_included.proofs.Unmarked.{front_more, tail_more}
 use Rattle.asn_modules_names.proofs.Founds.{drop_at}
@@ -169,7 +170,7 @@ module _ (f : Inclusions) (levels : ℕ) where
       e ∙ ap (λ y. past_first y rest) (sym is) ∙ ap (option_and_then (past_first (out-Members m).extension)) some ∙ sym (members_past m left)
 
 -- A type, by what is left behind what it holds.
-module _ (g : ℕ → Inclusions) (names fewer : ℕ) (n : code_notation.Notation) (b : Base) (left rest levels deeper : ℕ) (r : Option ℕ) (same : fewer ≡ names) (there : 1 ≤ left) (one : rest ≡ left - 1) (level : levels ≡ deeper + 1)
+module _ (g : ℕ → Inclusions) (names fewer : ℕ) (n : code_notation.Notation) (b : Base) (left rest levels deeper : ℕ) (r : Option ℕ) (same : fewer ≡ names) (there : TYPE_SIZE ≤ left) (one : rest ≡ left - TYPE_SIZE) (level : levels ≡ deeper + 1)
     (is : base_view (code_notation.out-Notation n).base ≡ b) where
   notation_out : notation_view n ≡ spec.notation (code_notation.out-Notation n).tags.items (base_view (code_notation.out-Notation n).base) (code_notation.out-Notation n).sizes.items
   notation_out = fold_out-Notation spec.Base spec.Member spec.Member (List spec.Member) (List spec.Member) spec.Notation base_step component_step member_step extension_step members_step notation_step n

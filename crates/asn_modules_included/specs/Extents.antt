@@ -1,45 +1,53 @@
--- How many types COMPONENTS OF includes, and how deep they nest.
+-- How many bytes COMPONENTS OF includes, and how deep its types nest.
 use Rattle.std.specs.Prelude.{ℕ, suc, ◌+◌, ◌-◌, max, nat_le, ◌&&◌, if◌then◌else◌, Option, Some, None}
 use Rattle.asn_lexer.specs.declared.token.Token.{Token}
-use Rattle.asn_modules_notation.specs.Notation.{Notation, Base, Member, Members, notation, members, list_of, choice, reference, component, components_of, group, marker, no_members, member}
+use Rattle.asn_modules_included.specs.declared.limits.TheConstants.{TYPE_SIZE}
+use Rattle.asn_modules_notation.specs.Notation.{Notation, Base, Member, Members, notation, integer, enumerated, members, list_of, choice, reference, component, components_of, group, marker, no_members, member}
+use Rattle.asn_modules_sizes.specs.Sizes.{items_size, name_size, numbers_size}
 
--- So many types, which nest to so many levels.
+-- So many bytes, in types that nest to so many levels.
 pub record Extent : Type 0 where
-  pub types : ℕ
+  pub size : ℕ
   pub levels : ℕ
 
 abbrev pub nothing : Extent
-nothing = record { types = 0; levels = 0 }
+nothing = record { size = 0; levels = 0 }
+
+-- So many bytes, without a level.
+abbrev pub of_size : ℕ → Extent
+of_size n = record { size = n; levels = 0 }
 
 -- A type, or a name, and these within it.
 abbrev pub around : Extent → Extent
-around e = record { types = suc e.types; levels = suc e.levels }
+around e = record { size = TYPE_SIZE + e.size; levels = suc e.levels }
 
 -- These beside others.
 abbrev pub beside : Extent → Extent → Extent
-beside e f = record { types = e.types + f.types; levels = max e.levels f.levels }
+beside e f = record { size = e.size + f.size; levels = max e.levels f.levels }
 
--- How many of so many types are left behind these, where there are as many and the levels are enough.
+-- How many of so many bytes are left behind these, where there are as many and the levels are enough.
 abbrev pub left_behind : Extent → ℕ → ℕ → Option ℕ
-left_behind e left levels = if nat_le e.types left && nat_le e.levels levels then Some (left - e.types) else None
+left_behind e left levels = if nat_le e.size left && nat_le e.levels levels then Some (left - e.size) else None
 
 -- What names behind COMPONENTS OF include, each behind that of its module where it is stated.
 abbrev pub Inclusions : Type 0
 Inclusions = Option Token → Token → Extent
 
 abbrev mutual
-  -- A type with all those within it, where names behind COMPONENTS OF include these.
+  -- A type with all that stands within it, where names behind COMPONENTS OF include these.
   pub type_extent : Inclusions → Notation → Extent
   type_extent f (notation tags base sizes) = around (base_extent f base)
 
   pub base_extent : Inclusions → Base → Extent
+  base_extent f (integer ns) = of_size (numbers_size ns)
+  base_extent f (enumerated items) = of_size (items_size items)
   base_extent f (members kind ms) = members_extent f ms
   base_extent f (list_of kind n) = type_extent f n
   base_extent f (choice ms) = members_extent f ms
   base_extent f base = nothing
 
   pub member_extent : Inclusions → Member → Extent
-  member_extent f (component name n presence) = type_extent f n
+  member_extent f (component name n presence) = beside (of_size (name_size name)) (type_extent f n)
   member_extent f (components_of n) = included_extent f n
   member_extent f (group ms) = members_extent f ms
   member_extent f marker = nothing

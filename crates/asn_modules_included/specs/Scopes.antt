@@ -14,6 +14,6 @@ use Rattle.asn_modules_reader.specs.Views.{member_view}
 abbrev pub inclusions_in : List Source → Scope → ℕ → Inclusions
 inclusions_in ss s names = inclusions ss s.number (home_view s.home) (included ss (map type_view s.types.now) names)
 
--- The types within these entries.
+-- What is within these entries.
 abbrev pub entries_extent : Inclusions → List Member → Extent
 entries_extent f ms = members_extent f (members_of (map member_view ms))

@@ -5,7 +5,7 @@ use Rattle.asn_modules_faults.specs.declared.cause.NameRule.TheVariants.{TooLarg
 use Rattle.asn_modules_faults.specs.declared.error.ModuleError.{ModuleError}
 use Rattle.asn_modules_included.specs.Extents.{Extent, Inclusions, around, included_extent, left_behind, nothing}
 use Rattle.asn_modules_included.specs.Types.{AssignedType, stands_for, type_named, types_of}
-use Rattle.asn_modules_included.specs.declared.limits.TheConstants.{INCLUDED_LEVEL_LIMIT, INCLUDED_LIMIT, NAME_LIMIT}
+use Rattle.asn_modules_included.specs.declared.limits.TheConstants.{INCLUDED_LEVEL_LIMIT, INCLUDED_SIZE_LIMIT, NAME_LIMIT}
 use Rattle.asn_modules_included.specs.declared.names.TypeName.{TypeName}
 use Rattle.asn_modules_lookup.specs.Homes.{Home, homes}
 use Rattle.asn_modules_names.specs.Faults.{Fault, Tells, fault_of}
@@ -53,21 +53,21 @@ abbrev pub told_or : Fault → (ℕ → Option Fault) → Option ℕ → Option 
 told_or fault follows None = Some fault
 told_or fault follows (Some left) = follows left
 
--- The first of these names that is too large, where so many types are left: it includes more than those before it left, or more levels than the limit.
+-- The first of these names that is too large, where so many bytes are left: it includes more than those before it left, or more levels than the limit.
 abbrev pub too_large_from : List Source → List AssignedType → ℕ → List Counted → Option Fault
 too_large_from ss ts left [] = None
 too_large_from ss ts left (x ∷ xs) =
     told_or (fault_of TooLarge (mention_in x.within.home.source x.name.name)) (λ l. too_large_from ss ts l xs) (left_behind (extent_of ss ts x) left INCLUDED_LEVEL_LIMIT)
 
--- A check of these names, where so many types are left, succeeds with what they leave, or tells the first that is too large, whatever names follow them.
+-- A check of these names, where so many bytes are left, succeeds with what they leave, or tells the first that is too large, whatever names follow them.
 abbrev pub IsChecked : List Source → List AssignedType → ℕ → List Counted → Result ℕ ModuleError → Type 0
 IsChecked ss ts left xs (Ok rest) = (others : List Counted) → too_large_from ss ts left (xs ++ others) ≡ too_large_from ss ts rest others
 IsChecked ss ts left xs (Err e) = (others : List Counted) → Tells (too_large_from ss ts left (xs ++ others)) e
 
 -- The first name that is too large where these types are assigned.
 abbrev pub first_too_large_in : List Source → List AssignedType → Option Fault
-first_too_large_in ss ts = too_large_from ss ts INCLUDED_LIMIT (counted_of ts ts)
+first_too_large_in ss ts = too_large_from ss ts INCLUDED_SIZE_LIMIT (counted_of ts ts)
 
--- The first name with which COMPONENTS OF includes more types than the limit, those of all names before it counted too, or which includes more levels than the limit.
+-- The first name with which COMPONENTS OF includes more bytes than the limit, those of all names before it counted too, or which includes more levels than the limit.
 abbrev pub first_too_large : List Source → Option Fault
 first_too_large ss = first_too_large_in ss (types_of ss 0 (homes ss))

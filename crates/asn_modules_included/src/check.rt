@@ -8,8 +8,8 @@ ghost use Rattle.asn_modules_names.specs.Faults.{Checks};
 ghost use Rattle.asn_modules_names.specs.Mentions.{Source};
 ghost use Rattle.std.specs.Prelude.{List, map};
 
-use crate::count::past_name;
-use crate::limits::{INCLUDED_LEVEL_LIMIT, INCLUDED_LIMIT, NAME_LIMIT};
+use crate::count::past_type_name;
+use crate::limits::{INCLUDED_LEVEL_LIMIT, INCLUDED_SIZE_LIMIT, NAME_LIMIT};
 use crate::scope::{Depth, Scope};
 use crate::types::{AssignedType, stands_for, types_of};
 use asn_modules_faults::{ModuleError, NameRule};
@@ -17,7 +17,7 @@ use asn_modules_lookup::{Home, Index};
 use asn_modules_names::{broken, mention_of};
 use std::alloc::Global;
 
-/// Checks the names behind COMPONENTS OF in the type, where so many types are left, and returns how
+/// Checks the names behind COMPONENTS OF in the type, where so many bytes are left, and returns how
 /// many are left behind them.
 ///
 /// # Errors
@@ -46,7 +46,7 @@ fn check_type(
     let names = within.behind.as_slice();
     let mut rest = left;
     for name in names {
-        let Some(fewer) = past_name(&scope, depth, rest, *name) else {
+        let Some(fewer) = past_type_name(&scope, depth, rest, *name) else {
             let mention = mention_of(within.home.source, name.name);
             return Err(broken(alloc, NameRule::TooLarge, mention));
         };
@@ -68,7 +68,7 @@ fn check_types(
     ensures { (ss : List Source) → IsIndexOf Types ss index.now
         → Checks (first_too_large_in ss (map type_view types.now)) result }
 {
-    let mut left = INCLUDED_LIMIT;
+    let mut left = INCLUDED_SIZE_LIMIT;
     for assigned in types {
         let within = stands_for(types, NAME_LIMIT, assigned);
         left = check_type(alloc, index, types, left, within)?;
@@ -76,8 +76,8 @@ fn check_types(
     Ok(())
 }
 
-/// Checks that COMPONENTS OF includes neither more types than the limit, over all types that are
-/// assigned, nor more levels of them than the limit, by the index of types.
+/// Checks that COMPONENTS OF includes neither more bytes than the limit, over all types that are
+/// assigned, nor more levels of types than the limit, by the index of types.
 ///
 /// # Errors
 ///

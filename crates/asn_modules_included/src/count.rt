@@ -1,4 +1,4 @@
-//! Counts the types that COMPONENTS OF includes.
+//! Counts what COMPONENTS OF includes, in bytes.
 ghost use Rattle.asn_modules_included.specs.Extents.{around, included_extent, left_behind};
 ghost use Rattle.asn_modules_included.specs.Extents.{member_extent, members_extent};
 ghost use Rattle.asn_modules_included.specs.Extents.{front_extent, type_extent};
@@ -11,13 +11,16 @@ ghost use Rattle.asn_modules_notation.specs.View.{component_view, members_view, 
 ghost use Rattle.asn_modules_reader.specs.Views.{member_view};
 ghost use Rattle.std.specs.Prelude.{◌≡◌, List, map};
 
+use crate::limits::TYPE_SIZE;
 use crate::names::TypeName;
 use crate::scope::{Depth, Scope};
 use crate::types::{type_at, type_named};
 use asn_modules_notation::{Base, Component, Member, Members, Notation};
+use asn_modules_sizes::{past_items, past_name, past_numbers};
 
-/// Returns how many of so many types are left behind the type, or `None` where there aren't as
-/// many, or it nests too deep. This and the others below count a type with all types within it.
+/// Returns how many of so many bytes are left behind the type, or `None` where there aren't as
+/// many, or it nests too deep. This and the others below count a type with all that stands within
+/// it: types, names of components, items and named numbers.
 #[cycle(count)]
 fn past_type(
     scope: &Scope<'_, '_, '_>,
@@ -30,17 +33,17 @@ fn past_type(
         left depth.levels }
 {
     let within = depth.within()?;
-    let rest = left.checked_sub(1)?;
+    let rest = left.checked_sub(TYPE_SIZE)?;
     match &notation.base {
         Base::Sequence(members) => past_members(scope, within, rest, members),
         Base::Set(members) => past_members(scope, within, rest, members),
         Base::SequenceOf(element) => past_type(scope, within, rest, element),
         Base::SetOf(element) => past_type(scope, within, rest, element),
         Base::Choice(alternatives) => past_members(scope, within, rest, alternatives),
+        Base::Integer(named) => past_numbers(rest, named),
+        Base::Enumerated { items, added } => past_items(rest, items, added),
         Base::Leaf(_) => Some(rest),
-        Base::Integer(_) => Some(rest),
         Base::BitString(_) => Some(rest),
-        Base::Enumerated { .. } => Some(rest),
         Base::Reference { .. } => Some(rest),
     }
 }
@@ -151,7 +154,10 @@ fn past_component(
         left depth.levels }
 {
     match component {
-        Component::Named { notation, .. } => past_type(scope, depth, left, notation),
+        Component::Named { name, notation, .. } => {
+            let rest = past_name(left, *name)?;
+            past_type(scope, depth, rest, notation)
+        }
         Component::ComponentsOf(notation) => past_included(scope, depth, left, notation),
     }
 }
@@ -169,7 +175,7 @@ fn past_included(
         left depth.levels }
 {
     let within = depth.within()?;
-    let rest = left.checked_sub(1)?;
+    let rest = left.checked_sub(TYPE_SIZE)?;
     match &notation.base {
         Base::Sequence(members) => past_root(scope, within, rest, members),
         Base::Set(members) => past_root(scope, within, rest, members),
@@ -223,9 +229,9 @@ fn past_inclusion(
     past_included(&there, past, left, named.notation)
 }
 
-/// Returns how many of so many types are left behind the name behind COMPONENTS OF, with what it
+/// Returns how many of so many bytes are left behind the name behind COMPONENTS OF, with what it
 /// includes, or `None` where there aren't as many, or it nests too deep.
-pub fn past_name(
+pub fn past_type_name(
     scope: &Scope<'_, '_, '_>,
     depth: Depth,
     left: usize,
@@ -236,6 +242,6 @@ pub fn past_name(
         left depth.levels }
 {
     let within = depth.within()?;
-    let rest = left.checked_sub(1)?;
+    let rest = left.checked_sub(TYPE_SIZE)?;
     past_inclusion(scope, within, rest, name)
 }

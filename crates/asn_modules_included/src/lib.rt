@@ -1,4 +1,4 @@
-//! Checks that COMPONENTS OF includes neither too many types nor too many levels of them.
+//! Checks that COMPONENTS OF includes neither too many bytes nor too many levels of types.
 #![tactic(auto)]
 
 mod check;
@@ -9,4 +9,4 @@ mod scope;
 mod types;
 
 pub use check::check_included;
-pub use limits::{INCLUDED_LEVEL_LIMIT, INCLUDED_LIMIT, NAME_LIMIT};
+pub use limits::{INCLUDED_LEVEL_LIMIT, INCLUDED_SIZE_LIMIT, NAME_LIMIT, TYPE_SIZE};

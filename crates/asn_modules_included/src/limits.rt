@@ -4,9 +4,14 @@
 /// stand for one another, as `A ::= B`.
 pub const NAME_LIMIT: usize = 64;
 
-/// Limits the types that COMPONENTS OF includes in those of all texts, with what stands within. 64
+/// Is what a type counts besides what stands within it, in bytes. So does a name behind COMPONENTS
+/// OF.
+pub const TYPE_SIZE: usize = 64;
+
+/// Limits the bytes that COMPONENTS OF includes in the types of all texts: about what copies of it
+/// take. Types count, with the names of their components, their items and their named numbers. 64
 /// types, of which each includes the next one twice, would include 2^64.
-pub const INCLUDED_LIMIT: usize = 65_536;
+pub const INCLUDED_SIZE_LIMIT: usize = 4_194_304;
 
 /// Limits the levels to which the types that COMPONENTS OF includes nest, with the names behind it.
 /// A text alone has at most 64, but types that include others have those of each, and every level

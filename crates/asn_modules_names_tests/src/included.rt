@@ -21,40 +21,54 @@ fn expect_told(rt: &impl Abort, alloc: Global, text: &str, told: &str) -> Result
     Ok(())
 }
 
-/// Returns a text on one line each: `B` that includes `A`, these assignments, as many more types
-/// that are written so, and `A` with so many components.
-fn includers(
-    alloc: Global,
-    assignments: &str,
-    count: usize,
-    each: &str,
-    components: usize,
-) -> Result<String, Fail> {
+/// Begins names. With the number behind it, of five digits, each has 64 bytes.
+const LONG: &str = "a12345678b123456789b123456789b123456789b123456789b123456789";
+
+/// Returns a text on one line each: `B` that includes `A`, these assignments, and as many more
+/// types that are written so.
+fn includers(alloc: Global, assignments: &str, count: usize, each: &str) -> Result<String, Fail> {
     let mut text = String::from_str(alloc, "B ::= SEQUENCE { COMPONENTS OF A }\n")?;
     text.push_str(assignments)?;
     for number in 0..count {
         write!(&mut text, "C{number} ::= {each}\n")?;
     }
-    text.push_str("A ::= SEQUENCE { z NULL")?;
-    for number in 1..components {
-        write!(&mut text, ", a{number} NULL")?;
-    }
-    text.push_str(" }")?;
     Ok(text)
+}
+
+/// Appends `A`, with so many entries between these words. Each is a name of 64 bytes, and what
+/// stands behind it.
+fn push_entries(
+    text: &mut String,
+    opening: &str,
+    entries: usize,
+    behind: &str,
+    closing: &str,
+) -> Result<(), Fail> {
+    text.push_str("A ::= SEQUENCE { ")?;
+    text.push_str(opening)?;
+    for entry in 0..entries {
+        if entry > 0 {
+            text.push_str(", ")?;
+        }
+        write!(text, "{LONG}{}{behind}", 10_000 + entry)?;
+    }
+    text.push_str(closing)?;
+    Ok(())
 }
 
 /// Lists what stands behind `B`, how many more types there are and how each is written, and how
 /// many components `A` has, with what is told.
 ///
-/// `A` has 1,022 components. So it is 1,023 types with itself, and each name of it behind
-/// COMPONENTS OF, which counts too, comes to 1,024; 64 of them are 65,536.
+/// A component is 128 bytes: 64 for its type, and 64 of its name. So is the name of `A` behind
+/// COMPONENTS OF, which counts too, with `A` itself. Where `A` has 511 components, its name comes
+/// to 512 times 128 bytes, which are 65,536, and 64 such names to 4,194,304.
 const SUMS: [(&str, usize, &str, usize, &str); 11] = [
-    ("", 63, "SEQUENCE { COMPONENTS OF A }", 1_022, ""),
+    ("", 63, "SEQUENCE { COMPONENTS OF A }", 511, ""),
     (
         "",
         64,
         "SEQUENCE { COMPONENTS OF A }",
-        1_022,
+        511,
         "f:65:34: `A` is too large for COMPONENTS OF",
     ),
     // A component more.
@@ -62,16 +76,16 @@ const SUMS: [(&str, usize, &str, usize, &str); 11] = [
         "",
         63,
         "SEQUENCE { COMPONENTS OF A }",
-        1_023,
+        512,
         "f:64:34: `A` is too large for COMPONENTS OF",
     ),
     // One type alone, within and beyond the limit.
-    ("", 0, "", 65_534, ""),
+    ("", 0, "", 32_767, ""),
     (
         "",
         0,
         "",
-        65_535,
+        32_768,
         "f:1:32: `A` is too large for COMPONENTS OF",
     ),
     // A name counts, and so does a type without components.
@@ -79,23 +93,23 @@ const SUMS: [(&str, usize, &str, usize, &str); 11] = [
         "D ::= SET { COMPONENTS OF E } E ::= SET { }\n",
         62,
         "SEQUENCE { COMPONENTS OF A }",
-        1_022,
+        511,
         "",
     ),
     (
         "D ::= SET { COMPONENTS OF E } E ::= SET { }\n",
         63,
         "SEQUENCE { COMPONENTS OF A }",
-        1_022,
+        511,
         "f:65:34: `A` is too large for COMPONENTS OF",
     ),
     // A type that is a name has what its type has, and the name that is told stands in that one.
-    ("", 63, "B", 1_022, ""),
+    ("", 63, "B", 511, ""),
     (
         "",
         64,
         "B",
-        1_022,
+        511,
         "f:1:32: `A` is too large for COMPONENTS OF",
     ),
     // Wherever COMPONENTS OF stands.
@@ -103,7 +117,7 @@ const SUMS: [(&str, usize, &str, usize, &str); 11] = [
         "",
         64,
         "CHOICE { a SEQUENCE OF SEQUENCE { ..., [[ COMPONENTS OF A ]] } }",
-        1_022,
+        511,
         "f:65:65: `A` is too large for COMPONENTS OF",
     ),
     // A value's type is none that is assigned.
@@ -111,18 +125,137 @@ const SUMS: [(&str, usize, &str, usize, &str); 11] = [
         "v SEQUENCE { COMPONENTS OF A } ::= { }\n",
         63,
         "SEQUENCE { COMPONENTS OF A }",
-        1_022,
+        511,
         "",
     ),
 ];
 
-/// COMPONENTS OF includes 65,536 types in all, and no more.
+/// COMPONENTS OF includes 4,194,304 bytes in all, and no more.
 #[test]
 fn counts_types(rt: HostRuntime) -> Result<(), Fail> {
     let alloc = rt.alloc();
     for row in SUMS.iter() {
-        let text = includers(alloc, row.0, row.1, row.2, row.3)?;
+        let mut text = includers(alloc, row.0, row.1, row.2)?;
+        push_entries(&mut text, "", row.3, " NULL", " }")?;
         expect_told(&rt, alloc, text.as_str(), row.4)?;
+    }
+    Ok(())
+}
+
+/// Lists how the entries of `A` begin, how many there are, what stands behind each and behind all,
+/// with what is told where 64 names of it stand behind COMPONENTS OF.
+///
+/// An item or a named number is 128 bytes, as a component is: 64, and 64 of its name. So 510 of
+/// them in a component come to as much as 511 components.
+const ENTRIES: [(&str, usize, &str, &str, &str); 9] = [
+    (
+        "z123456789z123456789z123456789z123456789z123456789z123456789z123 ENUMERATED { ",
+        510,
+        "",
+        " } }",
+        "",
+    ),
+    (
+        "z123456789z123456789z123456789z123456789z123456789z123456789z123 ENUMERATED { ",
+        511,
+        "",
+        " } }",
+        "f:64:34: `A` is too large for COMPONENTS OF",
+    ),
+    // An item and a marker before the others.
+    (
+        "z123456789z123456789z123456789z123456789z123456789z123456789z123 ENUMERATED { \
+y123456789y123456789y123456789y123456789y123456789y123456789y123, ..., ",
+        509,
+        "",
+        " } }",
+        "",
+    ),
+    (
+        "z123456789z123456789z123456789z123456789z123456789z123456789z123 ENUMERATED { \
+y123456789y123456789y123456789y123456789y123456789y123456789y123, ..., ",
+        510,
+        "",
+        " } }",
+        "f:64:34: `A` is too large for COMPONENTS OF",
+    ),
+    (
+        "z123456789z123456789z123456789z123456789z123456789z123456789z123 INTEGER { ",
+        510,
+        "(5)",
+        " } }",
+        "",
+    ),
+    (
+        "z123456789z123456789z123456789z123456789z123456789z123456789z123 INTEGER { ",
+        511,
+        "(5)",
+        " } }",
+        "f:64:34: `A` is too large for COMPONENTS OF",
+    ),
+    // Within a list.
+    (
+        "z123456789z123456789z123456789z123456789z123456789z123456789z123 SET OF ENUMERATED { ",
+        510,
+        "",
+        " } }",
+        "f:64:34: `A` is too large for COMPONENTS OF",
+    ),
+    // Named bits count nothing, and neither do the items of a type that is named.
+    (
+        "z123456789z123456789z123456789z123456789z123456789z123456789z123 BIT STRING { ",
+        5_000,
+        "(v)",
+        " } }",
+        "",
+    ),
+    (
+        "z123456789z123456789z123456789z123456789z123456789z123456789z123 E } E ::= ENUMERATED { ",
+        5_000,
+        "",
+        " }",
+        "",
+    ),
+];
+
+/// Items and named numbers count, each with its name.
+#[test]
+fn counts_entries(rt: HostRuntime) -> Result<(), Fail> {
+    let alloc = rt.alloc();
+    for row in ENTRIES.iter() {
+        let mut text = includers(alloc, "", 63, "SEQUENCE { COMPONENTS OF A }")?;
+        push_entries(&mut text, row.0, row.1, row.2, row.3)?;
+        expect_told(&rt, alloc, text.as_str(), row.4)?;
+    }
+    Ok(())
+}
+
+/// Returns the text of `D` that includes `E`, whose component has a name of so many bytes.
+fn long_named(alloc: Global, length: usize) -> Result<String, Fail> {
+    let mut text = String::from_str(alloc, "D ::= SEQUENCE { COMPONENTS OF E } E ::= SEQUENCE { ")?;
+    for _byte in 0..length {
+        text.push('e')?;
+    }
+    text.push_str(" NULL }\n")?;
+    Ok(text)
+}
+
+/// Lists how many bytes the name has, with what is told where 63 names of `A` stand behind
+/// COMPONENTS OF. With its type, and `E` and the name of that, 65,344 bytes are 65,536.
+const LENGTHS: [(usize, &str); 2] = [
+    (65_344, ""),
+    (65_345, "f:64:34: `A` is too large for COMPONENTS OF"),
+];
+
+/// The names of components count.
+#[test]
+fn counts_names(rt: HostRuntime) -> Result<(), Fail> {
+    let alloc = rt.alloc();
+    for row in LENGTHS.iter() {
+        let named = long_named(alloc, row.0)?;
+        let mut text = includers(alloc, named.as_str(), 62, "SEQUENCE { COMPONENTS OF A }")?;
+        push_entries(&mut text, "", 511, " NULL", " }")?;
+        expect_told(&rt, alloc, text.as_str(), row.1)?;
     }
     Ok(())
 }

@@ -7,7 +7,8 @@ use asn_modules_reader::limits::NESTING_LIMIT;
 pub const NAME_LIMIT: usize = asn_modules_included::NAME_LIMIT;
 
 /// Limits the types that COMPONENTS OF includes in those of all texts, with what stands within.
-pub const INCLUDED_LIMIT: usize = asn_modules_included::INCLUDED_LIMIT;
+pub const INCLUDED_LIMIT: usize =
+    asn_modules_included::INCLUDED_SIZE_LIMIT / asn_modules_included::TYPE_SIZE;
 
 /// Limits the levels to which types, and names behind COMPONENTS OF, nest: those of a text, and
 /// below them those of what COMPONENTS OF includes.

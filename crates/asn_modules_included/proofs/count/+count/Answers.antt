@@ -1,15 +1,17 @@
 use Rattle.std.proofs.Common.{◌≡◌, ◌+◌, ◌-◌, ◌∙◌, Some, None, refl, ap, sym, map, arith}
-use Rattle.asn_modules_included.specs.Extents.{left_behind, member_extent, members_extent}
+use Rattle.asn_modules_included.specs.Extents.{left_behind, member_extent, members_extent, type_extent}
 use Rattle.asn_modules_included.specs.Scopes.{inclusions_in}
 use Rattle.asn_modules_included.specs.Types.{type_view}
 use Rattle.asn_modules_included.proofs.Following.{past_last, past_missing, past_named}
+use Rattle.asn_modules_included.proofs.Leaving.{left_size, sized_none, sized_on}
 use Rattle.asn_modules_included.proofs.Past.{included_on, members_none, members_on, past_entries, past_tail, root_none, root_on, type_on}
 use Rattle.asn_model.specs.Shape.{SeqKind}
 use Rattle.asn_modules_lookup.specs.Homes.{home_view}
-use Rattle.asn_modules_notation.specs.Notation.{choice, members, members_of}
-use Rattle.asn_modules_notation.specs.View.{component_view, members_view}
-use Rattle.asn_modules_reader.proofs.Viewing.{choice_viewed, components_of_viewed, group_viewed, named_viewed, one_viewed, sequence_viewed, set_viewed}
+use Rattle.asn_modules_notation.specs.Notation.{choice, enumerated, integer, members, members_of}
+use Rattle.asn_modules_notation.specs.View.{component_view, items_view, members_view, notation_view}
+use Rattle.asn_modules_reader.proofs.Viewing.{choice_viewed, components_of_viewed, enumerated_viewed, group_viewed, integer_viewed, named_viewed, one_viewed, sequence_viewed, set_viewed}
 use Rattle.asn_modules_reader.specs.Views.{base_view, member_view}
+use Rattle.asn_modules_sizes.specs.Sizes.{items_size, name_size, numbers_size, past}
 use Rattle.asn_modules_included.proofs.count.+count.Goals as goal
 
 pub past_type-returns-in-Sequence : goal.past_type-returns-in-Sequence
@@ -23,6 +25,22 @@ past_type-returns-in-Set t c = λ ss is.
     let w = c.in_ok-within in
     type_on (inclusions_in ss c.args.scope.now) c.args.depth.names w.within.names c.args.notation.now (members SeqKind.set (members_of (members_view c.in-Set.members))) c.args.left c.in_ok-rest.rest c.args.depth.levels w.within.levels c.past_members-in-Set.result
     w.ensures.0 c.in_ok-rest.ensures.0 c.in_ok-rest.ensures.1 w.ensures.1 (ap base_view c.in-Set.is ∙ set_viewed c.in-Set.members) (c.past_members-in-Set.ensures ss is)
+
+pub past_type-returns-in-Integer : goal.past_type-returns-in-Integer
+past_type-returns-in-Integer t c = λ ss is.
+    let w = c.in_ok-within in
+    let named = c.in-Integer.named in
+    type_on (inclusions_in ss c.args.scope.now) c.args.depth.names w.within.names c.args.notation.now (integer named.items) c.args.left c.in_ok-rest.rest c.args.depth.levels w.within.levels c.past_numbers.result
+    w.ensures.0 c.in_ok-rest.ensures.0 c.in_ok-rest.ensures.1 w.ensures.1 (ap base_view c.in-Integer.is ∙ integer_viewed named)
+    (c.past_numbers.ensures ∙ ap (λ l. past c.in_ok-rest.rest (numbers_size l)) c.deref.ensures.value ∙ sym (left_size (numbers_size named.items) c.in_ok-rest.rest w.within.levels))
+
+pub past_type-returns-in-Enumerated : goal.past_type-returns-in-Enumerated
+past_type-returns-in-Enumerated t c = λ ss is.
+    let w = c.in_ok-within in
+    let items = items_view c.in-Enumerated.items c.in-Enumerated.added in
+    type_on (inclusions_in ss c.args.scope.now) c.args.depth.names w.within.names c.args.notation.now (enumerated items) c.args.left c.in_ok-rest.rest c.args.depth.levels w.within.levels c.past_items.result
+    w.ensures.0 c.in_ok-rest.ensures.0 c.in_ok-rest.ensures.1 w.ensures.1 (ap base_view c.in-Enumerated.is ∙ enumerated_viewed c.in-Enumerated.items c.in-Enumerated.added)
+    (c.past_items.ensures ∙ sym (left_size (items_size items) c.in_ok-rest.rest w.within.levels))
 
 pub past_type-returns-in-Choice : goal.past_type-returns-in-Choice
 past_type-returns-in-Choice t c = λ ss is.
@@ -48,7 +66,15 @@ pub past_component-returns-in-Named : goal.past_component-returns-in-Named
 past_component-returns-in-Named t c = λ ss is.
     let f = inclusions_in ss c.args.scope.now c.args.depth.names in
     let seen = ap component_view c.in-Named.is ∙ named_viewed c.in-Named.name c.in-Named.notation c.in-Named.presence in
-    c.past_type.ensures ss is ∙ ap (λ m. left_behind (member_extent f m) c.args.left c.args.depth.levels) (sym seen)
+    sized_on (name_size c.in-Named.name) (type_extent f (notation_view c.in-Named.notation)) c.args.left c.in_ok-rest.rest c.args.depth.levels c.past_type.result c.in_ok-rest.ensures (c.past_type.ensures ss is)
+    ∙ ap (λ m. left_behind (member_extent f m) c.args.left c.args.depth.levels) (sym seen)
+
+pub past_component-returns-in_err-rest : goal.past_component-returns-in_err-rest
+past_component-returns-in_err-rest t c = λ ss is.
+    let f = inclusions_in ss c.args.scope.now c.args.depth.names in
+    let seen = ap component_view c.in-Named.is ∙ named_viewed c.in-Named.name c.in-Named.notation c.in-Named.presence in
+    c.from_residual.ensures ∙ sized_none (name_size c.in-Named.name) (type_extent f (notation_view c.in-Named.notation)) c.args.left c.args.depth.levels c.in_err-rest.ensures
+    ∙ ap (λ m. left_behind (member_extent f m) c.args.left c.args.depth.levels) (sym seen)
 
 pub past_component-returns-in-ComponentsOf : goal.past_component-returns-in-ComponentsOf
 past_component-returns-in-ComponentsOf t c = λ ss is.

@@ -15,10 +15,11 @@ use Rattle.asn_modules_names.specs.Mentions.{Source}
 use Rattle.asn_modules_notation.specs.Modules.{Assignment, type_assignment}
 use Rattle.asn_modules_notation.specs.Notation.{Base, Member, Notation, bit_string, choice, component, components_of, enumerated, group, integer, leaf, list_of, marker, members, members_of, notation, reference}
 use Rattle.asn_modules_notation.specs.declared.leaf.Leaf.TheVariants.{Boolean, Null}
-use Rattle.asn_modules_notation.specs.declared.notation.Presence.TheVariants.{Required}
+use Rattle.asn_modules_notation.specs.declared.notation.Presence.TheVariants.{Default, Required}
 use Rattle.asn_modules_notation.specs.declared.number.Constant.TheVariants as constant
 use Rattle.asn_modules_notation.specs.declared.number.Item.{Item}
 use Rattle.asn_modules_notation.specs.declared.number.NamedNumber.{NamedNumber}
+use Rattle.asn_modules_notation.specs.declared.value.Value.TheVariants as value
 
 -- The text of these examples, in which each token is one character.
 abbrev letters : List ℕ
@@ -65,17 +66,17 @@ one_marker : included_extent thousand (sequence (part 4 null ∷ marker ∷ part
 one_marker = refl
 
 -- A name is one type where it stands for a component, and with what it includes behind COMPONENTS OF.
-component_named : type_extent thousand (sequence (part 4 (named 1) ∷ [])) ≡ extent (2 * 64 + 1) 2
+component_named : type_extent thousand (sequence (part 4 (named 1) ∷ [])) ≡ extent (2 * 64 + 2) 2
 component_named = refl
 
-components_named : type_extent thousand (sequence (components_of (named 1) ∷ part 4 null ∷ [])) ≡ extent (3 * 64 + 1 + 1000) 9
+components_named : type_extent thousand (sequence (components_of (named 1) ∷ part 4 null ∷ [])) ≡ extent (3 * 64 + 2 + 1000) 9
 components_named = refl
 
 -- COMPONENTS OF a CHOICE includes nothing.
 chosen : included_extent thousand (plain (choice (members_of (part 4 null ∷ [])))) ≡ extent 64 1
 chosen = refl
 
--- Items and named numbers are 64 bytes each, with their names: ENUMERATED { a, b, ..., c } has three items, INTEGER { a(-5) } a number, and a component's name may be long.
+-- ENUMERATED { a, b, ..., c } has three items and INTEGER { a(-5) } a number, of 64 bytes each with their names.
 abbrev item : ℕ → Option Item
 item n = Some (record { name = word n; number = None })
 
@@ -91,6 +92,14 @@ integer_sized = refl
 bits_unsized : type_extent thousand (plain (bit_string (five_less ∷ []))) ≡ extent 64 1
 bits_unsized = refl
 
+-- NULL (SIZE (1..2)) has a size with two ends, and a b.c DEFAULT d four names.
+sized : type_extent thousand (notation [] (leaf Null) (record { low = word 4; high = word 5 } ∷ [])) ≡ extent (64 + 64 + 2) 1
+sized = refl
+
+four_names : member_extent thousand (component (word 4) (plain (reference (Some (word 5)) (word 6))) (Default (value.Word (word 7)))) ≡ extent (64 + 4) 1
+four_names = refl
+
+-- A name may be long.
 long_named : member_extent thousand (component (record { kind = kind.Name; start = 100; end = 900 }) null Required) ≡ extent (800 + 64) 1
 long_named = refl
 
@@ -136,15 +145,15 @@ past_none : included texts types 0 1 ≡ nothing
 unfolding included
 past_none = refl
 
-past_one : included texts types 1 1 ≡ extent 64 1
+past_one : included texts types 1 1 ≡ extent (64 + 1) 1
 unfolding included
 past_one = refl
 
-past_two : included texts types 2 1 ≡ extent (4 * 64 + 1) 3
+past_two : included texts types 2 1 ≡ extent (4 * 64 + 3) 3
 unfolding included
 past_two = refl
 
--- A ::= SEQUENCE { COMPONENTS OF B } and B ::= SEQUENCE { a NULL }: the name comes to three types and a name of a byte, on three levels.
+-- A ::= SEQUENCE { COMPONENTS OF B } and B ::= SEQUENCE { a NULL }: the name comes to three types with two names of a byte, on three levels.
 abbrev two_types : List Assignment
 two_types = type_assignment (word 0) (sequence (components_of (named 1) ∷ [])) ∷ type_assignment (word 1) (sequence (part 4 null ∷ [])) ∷ []
 
@@ -154,12 +163,12 @@ short = record { file = codes "f"; text = letters; modules = record { header = N
 abbrev both : List AssignedType
 both = types_of short 0 (homes short)
 
-fits : too_large_from short both 193 (counted_of both both) ≡ None
+fits : too_large_from short both 194 (counted_of both both) ≡ None
 unfolding included stands_for
 fits = refl
 
 -- It is too large where a byte less is left, and is told where it stands behind COMPONENTS OF.
-told : too_large_from short both 192 (counted_of both both) ≡ Some (fault_of TooLarge (record { file = codes "f"; text = letters; token = word 1 }))
+told : too_large_from short both 193 (counted_of both both) ≡ Some (fault_of TooLarge (record { file = codes "f"; text = letters; token = word 1 }))
 unfolding included stands_for
 told = refl
 

@@ -7,6 +7,19 @@ use Rattle.asn_modules_included.specs.Extents.{Extent, around, beside, left_behi
 use Rattle.asn_modules_included.specs.declared.limits.TheConstants.{TYPE_SIZE}
 use Rattle.asn_modules_sizes.specs.Sizes.{past}
 
+-- One after another.
+pub then_twice : {A B C : Type 0} (f : B → Option C) (g : A → Option B) (o : Option A) → option_and_then f (option_and_then g o) ≡ option_and_then (λ x. option_and_then f (g x)) o
+then_twice f g None = refl
+then_twice f g (Some x) = refl
+
+pub then_same : {A B : Type 0} (f g : A → Option B) (o : Option A) → ((x : A) → f x ≡ g x) → option_and_then f o ≡ option_and_then g o
+then_same f g None e = refl
+then_same f g (Some x) e = e x
+
+pub then_some : {A : Type 0} (o : Option A) → option_and_then (λ x. Some x) o ≡ o
+then_some None = refl
+then_some (Some x) = refl
+
 none_of : (b : Bool) (n : ℕ) → (if b && false then Some n else None) ≡ None
 none_of true n = refl
 none_of false n = refl

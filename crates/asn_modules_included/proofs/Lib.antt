@@ -1,4 +1,5 @@
 pub mod Leaving
+pub mod Sizing
 pub mod Unmarked
 pub mod Past
 pub mod Behinds

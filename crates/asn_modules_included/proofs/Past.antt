@@ -3,14 +3,16 @@ use Rattle.std.proofs.Common.{◌≡◌, ◌≤◌, ◌<◌, ◌+◌, ◌-◌, �
 use Rattle.std.proofs.lemmas.List.{drop_all}
 use Rattle.std.specs.Global.{Vec}
 use Rattle.std.specs.Option.{option_and_then}
-use Rattle.asn_modules_included.specs.Extents.{Extent, Inclusions, around, base_extent, front_extent, included_extent, left_behind, member_extent, members_extent, root_extent, tail_extent, type_extent}
+use Rattle.asn_modules_included.specs.Extents.{Extent, Inclusions, around, base_extent, beside, front_extent, included_extent, left_behind, member_extent, members_extent, of_size, root_extent, tail_extent, type_extent}
 use Rattle.asn_modules_included.specs.declared.limits.TheConstants.{TYPE_SIZE}
-use Rattle.asn_modules_included.proofs.Leaving.{left_around, left_beside, left_nothing, left_swapped}
+use Rattle.asn_modules_included.specs.Sizes.{constraints_size}
+use Rattle.asn_modules_included.proofs.Leaving.{left_around, left_beside, left_nothing, left_swapped, sized_none, sized_on, then_same, then_some, then_twice}
 use Rattle.asn_modules_included.proofs.Unmarked.{front_more, tail_more}
 use Rattle.asn_modules_names.proofs.Founds.{drop_at}
 use Rattle.asn_modules_notation.specs.Notation as spec
 use Rattle.asn_modules_notation.specs.Notation.{Base, Member, marker, members_of}
 use Rattle.asn_modules_notation.specs.View.{base_step, component_step, extension_step, member_step, members_step, members_view, notation_step, notation_view}
+use Rattle.asn_modules_notation.specs.declared.notation.Base as code_base
 use Rattle.asn_modules_notation.specs.declared.notation.Base.TheFolds.{fold_out-Notation}
 use Rattle.asn_modules_notation.specs.declared.notation.Extension.{Extension, out-Extension}
 use Rattle.asn_modules_notation.specs.declared.notation.Member as code
@@ -19,19 +21,7 @@ use Rattle.asn_modules_notation.specs.declared.notation.Notation as code_notatio
 use Rattle.asn_modules_reader.proofs.Viewing.{member_unmarked}
 use Rattle.asn_modules_reader.specs.Views.{base_view, member_view}
 use Rattle.asn_modules_references.proofs.Outs.{extension_seen, members_out, tail_seen}
-
--- One after another.
-then_twice : {A B C : Type 0} (f : B → Option C) (g : A → Option B) (o : Option A) → option_and_then f (option_and_then g o) ≡ option_and_then (λ x. option_and_then f (g x)) o
-then_twice f g None = refl
-then_twice f g (Some x) = refl
-
-then_same : {A B : Type 0} (f g : A → Option B) (o : Option A) → ((x : A) → f x ≡ g x) → option_and_then f o ≡ option_and_then g o
-then_same f g None e = refl
-then_same f g (Some x) e = e x
-
-then_some : {A : Type 0} (o : Option A) → option_and_then (λ x. Some x) o ≡ o
-then_some None = refl
-then_some (Some x) = refl
+use Rattle.asn_modules_sizes.specs.Sizes.{past}
 
 module _ (f : Inclusions) (levels : ℕ) where
   -- Of entries that are seen by v.
@@ -54,20 +44,20 @@ module _ (f : Inclusions) (levels : ℕ) where
     past_end all xs i left h was = sym (was ∙ ap (λ l. past_all l left) (drop_all i xs h) ∙ left_nothing left levels)
 
   -- Of entries before others.
-  abbrev past : List Member → ℕ → Option ℕ
-  past ms left = left_behind (members_extent f (members_of ms)) left levels
+  abbrev past_list : List Member → ℕ → Option ℕ
+  past_list ms left = left_behind (members_extent f (members_of ms)) left levels
 
-  past_append : (xs ys : List Member) (left : ℕ) → past (xs ++ ys) left ≡ option_and_then (past ys) (past xs left)
-  past_append [] ys left = ap (option_and_then (past ys)) (sym (left_nothing left levels))
+  past_append : (xs ys : List Member) (left : ℕ) → past_list (xs ++ ys) left ≡ option_and_then (past_list ys) (past_list xs left)
+  past_append [] ys left = ap (option_and_then (past_list ys)) (sym (left_nothing left levels))
   past_append (x ∷ xs) ys left =
       left_beside (member_extent f x) (members_extent f (members_of (xs ++ ys))) left levels
-      ∙ then_same (past (xs ++ ys)) (λ l. option_and_then (past ys) (past xs l)) (left_behind (member_extent f x) left levels) (past_append xs ys)
-      ∙ sym (then_twice (past ys) (past xs) (left_behind (member_extent f x) left levels))
-      ∙ ap (option_and_then (past ys)) (sym (left_beside (member_extent f x) (members_extent f (members_of xs)) left levels))
+      ∙ then_same (past_list (xs ++ ys)) (λ l. option_and_then (past_list ys) (past_list xs l)) (left_behind (member_extent f x) left levels) (past_append xs ys)
+      ∙ sym (then_twice (past_list ys) (past_list xs) (left_behind (member_extent f x) left levels))
+      ∙ ap (option_and_then (past_list ys)) (sym (left_beside (member_extent f x) (members_extent f (members_of xs)) left levels))
 
   -- Of a marker before others.
-  past_marker : (ms : List Member) (left : ℕ) → past (marker ∷ ms) left ≡ past ms left
-  past_marker ms left = past_append (marker ∷ []) ms left ∙ ap (option_and_then (past ms)) (left_nothing left levels)
+  past_marker : (ms : List Member) (left : ℕ) → past_list (marker ∷ ms) left ≡ past_list ms left
+  past_marker ms left = past_append (marker ∷ []) ms left ∙ ap (option_and_then (past_list ms)) (left_nothing left levels)
 
   abbrev pub past_entries : List code.Member → ℕ → Option ℕ
   past_entries = past_all member_view
@@ -85,16 +75,16 @@ module _ (f : Inclusions) (levels : ℕ) where
   past_first None left = Some left
   past_first (Some e) left = past_entries (out-Extension e).additions.items left
 
-  tail_is : (tail : Option (Vec code.Member)) (left : ℕ) → past (tail_seen tail) left ≡ past_tail tail left
+  tail_is : (tail : Option (Vec code.Member)) (left : ℕ) → past_list (tail_seen tail) left ≡ past_tail tail left
   tail_is None left = left_nothing left levels
   tail_is (Some ms) left = past_marker (map member_view ms.items) left
 
-  extension_is : (x : Option Extension) (left : ℕ) → past (extension_seen x) left ≡ option_and_then (past_second x) (past_first x left)
+  extension_is : (x : Option Extension) (left : ℕ) → past_list (extension_seen x) left ≡ option_and_then (past_second x) (past_first x left)
   extension_is None left = left_nothing left levels
   extension_is (Some e) left =
       let added = (out-Extension e).additions.items in
       past_marker (map member_view added ++ tail_seen (out-Extension e).tail) left ∙ past_append (map member_view added) (tail_seen (out-Extension e).tail) left
-      ∙ then_same (past (tail_seen (out-Extension e).tail)) (past_tail (out-Extension e).tail) (past_entries added left) (tail_is (out-Extension e).tail)
+      ∙ then_same (past_list (tail_seen (out-Extension e).tail)) (past_tail (out-Extension e).tail) (past_entries added left) (tail_is (out-Extension e).tail)
 
   -- The root alone.
   abbrev past_front : List Member → ℕ → Option ℕ
@@ -146,8 +136,8 @@ module _ (f : Inclusions) (levels : ℕ) where
   members_past m left =
       let x = (out-Members m).extension in
       let root = past_entries (out-Members m).root.items left in
-      ap (λ l. past l left) (members_out m) ∙ past_append (map member_view (out-Members m).root.items) (extension_seen x) left
-      ∙ then_same (past (extension_seen x)) (λ l. option_and_then (past_second x) (past_first x l)) root (extension_is x)
+      ap (λ l. past_list l left) (members_out m) ∙ past_append (map member_view (out-Members m).root.items) (extension_seen x) left
+      ∙ then_same (past_list (extension_seen x)) (λ l. option_and_then (past_second x) (past_first x l)) root (extension_is x)
       ∙ then_same (λ l. option_and_then (past_second x) (past_first x l)) (λ l. option_and_then (past_first x) (past_second x l)) root (second_first x)
       ∙ sym (then_twice (past_first x) (past_second x) root) ∙ ap (option_and_then (past_first x)) (sym (root_past m left))
 
@@ -169,19 +159,35 @@ module _ (f : Inclusions) (levels : ℕ) where
   members_on m x left rest r some is e =
       e ∙ ap (λ y. past_first y rest) (sym is) ∙ ap (option_and_then (past_first (out-Members m).extension)) some ∙ sym (members_past m left)
 
+notation_out : (n : code_notation.Notation) → notation_view n ≡ spec.notation (code_notation.out-Notation n).tags.items (base_view (code_notation.out-Notation n).base) (code_notation.out-Notation n).sizes.items
+notation_out n = fold_out-Notation spec.Base spec.Member spec.Member (List spec.Member) (List spec.Member) spec.Notation base_step component_step member_step extension_step members_step notation_step n
+
 -- A type, by what is left behind what it holds.
-module _ (g : ℕ → Inclusions) (names fewer : ℕ) (n : code_notation.Notation) (b : Base) (left rest levels deeper : ℕ) (r : Option ℕ) (same : fewer ≡ names) (there : TYPE_SIZE ≤ left) (one : rest ≡ left - TYPE_SIZE) (level : levels ≡ deeper + 1)
-    (is : base_view (code_notation.out-Notation n).base ≡ b) where
-  notation_out : notation_view n ≡ spec.notation (code_notation.out-Notation n).tags.items (base_view (code_notation.out-Notation n).base) (code_notation.out-Notation n).sizes.items
-  notation_out = fold_out-Notation spec.Base spec.Member spec.Member (List spec.Member) (List spec.Member) spec.Notation base_step component_step member_step extension_step members_step notation_step n
-
-  around_on : (held : Inclusions → Base → Extent) → r ≡ left_behind (held (g fewer) b) rest deeper → r ≡ left_behind (around (held (g names) (base_view (code_notation.out-Notation n).base))) left levels
+module _ (g : ℕ → Inclusions) (names fewer : ℕ) (n : code_notation.Notation) (left inner levels deeper : ℕ) (r : Option ℕ) (same : fewer ≡ names) (there : TYPE_SIZE ≤ left) (one : inner ≡ left - TYPE_SIZE) (level : levels ≡ deeper + 1) where
+  around_on : (held : Inclusions → Extent) → r ≡ left_behind (held (g fewer)) inner deeper → r ≡ left_behind (around (held (g names))) left levels
   around_on held e =
-      e ∙ ap (λ k. left_behind (held (g k) b) rest deeper) same ∙ ap (λ x. left_behind (held (g names) x) rest deeper) (sym is)
-      ∙ sym (left_around (held (g names) (base_view (code_notation.out-Notation n).base)) left levels rest deeper (omega (arith, there, one)) level)
+      e ∙ ap (λ k. left_behind (held (g k)) inner deeper) same ∙ sym (left_around (held (g names)) left levels inner deeper (omega (arith, there, one)) level)
 
-  pub type_on : r ≡ left_behind (base_extent (g fewer) b) rest deeper → r ≡ left_behind (type_extent (g names) (notation_view n)) left levels
-  type_on e = around_on base_extent e ∙ ap (λ x. left_behind (type_extent (g names) x) left levels) (sym notation_out)
+  abbrev sizes : ℕ
+  sizes = constraints_size (code_notation.out-Notation n).sizes.items
 
-  pub included_on : r ≡ left_behind (root_extent (g fewer) b) rest deeper → r ≡ left_behind (included_extent (g names) (notation_view n)) left levels
-  included_on e = around_on root_extent e ∙ ap (λ x. left_behind (included_extent (g names) x) left levels) (sym notation_out)
+  abbrev base : Base
+  base = base_view (code_notation.out-Notation n).base
+
+  constrained_on : r ≡ left_behind (beside (of_size sizes) (base_extent (g fewer) base)) inner deeper → r ≡ left_behind (type_extent (g names) (notation_view n)) left levels
+  constrained_on e =
+      around_on (λ f. beside (of_size sizes) (base_extent f base)) e ∙ ap (λ x. left_behind (type_extent (g names) x) left levels) (sym (notation_out n))
+
+  pub type_on : (rest : ℕ) → Some rest ≡ past inner sizes → r ≡ left_behind (base_extent (g fewer) base) rest deeper → r ≡ left_behind (type_extent (g names) (notation_view n)) left levels
+  type_on rest some e = constrained_on (sized_on sizes (base_extent (g fewer) base) inner rest deeper r some e)
+
+  pub type_none : None ≡ r → None ≡ past inner sizes → None ≡ left_behind (type_extent (g names) (notation_view n)) left levels
+  type_none is none = is ∙ constrained_on (sym is ∙ sized_none sizes (base_extent (g fewer) base) inner deeper none)
+
+  pub included_on : (b : Base) → base ≡ b → r ≡ left_behind (root_extent (g fewer) b) inner deeper → r ≡ left_behind (included_extent (g names) (notation_view n)) left levels
+  included_on b is e =
+      around_on (λ f. root_extent f base) (e ∙ ap (λ x. left_behind (root_extent (g fewer) x) inner deeper) (sym is)) ∙ ap (λ x. left_behind (included_extent (g names) x) left levels) (sym (notation_out n))
+
+-- What a type holds, by what it is.
+pub base_on : (f : Inclusions) (base : code_base.Base) (b : Base) (left levels : ℕ) (r : Option ℕ) → base_view base ≡ b → r ≡ left_behind (base_extent f b) left levels → r ≡ left_behind (base_extent f (base_view base)) left levels
+base_on f base b left levels r is e = e ∙ ap (λ x. left_behind (base_extent f x) left levels) (sym is)

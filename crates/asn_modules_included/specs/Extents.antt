@@ -1,6 +1,7 @@
 -- How many bytes COMPONENTS OF includes, and how deep its types nest.
 use Rattle.std.specs.Prelude.{ℕ, suc, ◌+◌, ◌-◌, max, nat_le, ◌&&◌, if◌then◌else◌, Option, Some, None}
 use Rattle.asn_lexer.specs.declared.token.Token.{Token}
+use Rattle.asn_modules_included.specs.Sizes.{constraints_size, presence_size, reference_size}
 use Rattle.asn_modules_included.specs.declared.limits.TheConstants.{TYPE_SIZE}
 use Rattle.asn_modules_notation.specs.Notation.{Notation, Base, Member, Members, notation, integer, enumerated, members, list_of, choice, reference, component, components_of, group, marker, no_members, member}
 use Rattle.asn_modules_sizes.specs.Sizes.{items_size, name_size, numbers_size}
@@ -33,10 +34,14 @@ left_behind e left levels = if nat_le e.size left && nat_le e.levels levels then
 abbrev pub Inclusions : Type 0
 Inclusions = Option Token → Token → Extent
 
+-- Such a name, with what it includes.
+abbrev pub named_extent : Inclusions → Option Token → Token → Extent
+named_extent f home name = beside (of_size (reference_size home name)) (f home name)
+
 abbrev mutual
   -- A type with all that stands within it, where names behind COMPONENTS OF include these.
   pub type_extent : Inclusions → Notation → Extent
-  type_extent f (notation tags base sizes) = around (base_extent f base)
+  type_extent f (notation tags base sizes) = around (beside (of_size (constraints_size sizes)) (base_extent f base))
 
   pub base_extent : Inclusions → Base → Extent
   base_extent f (integer ns) = of_size (numbers_size ns)
@@ -44,10 +49,11 @@ abbrev mutual
   base_extent f (members kind ms) = members_extent f ms
   base_extent f (list_of kind n) = type_extent f n
   base_extent f (choice ms) = members_extent f ms
+  base_extent f (reference home name) = of_size (reference_size home name)
   base_extent f base = nothing
 
   pub member_extent : Inclusions → Member → Extent
-  member_extent f (component name n presence) = beside (of_size (name_size name)) (type_extent f n)
+  member_extent f (component name n presence) = beside (of_size (name_size name + presence_size presence)) (type_extent f n)
   member_extent f (components_of n) = included_extent f n
   member_extent f (group ms) = members_extent f ms
   member_extent f marker = nothing
@@ -62,7 +68,7 @@ abbrev mutual
 
   pub root_extent : Inclusions → Base → Extent
   root_extent f (members kind ms) = front_extent f ms
-  root_extent f (reference home name) = f home name
+  root_extent f (reference home name) = named_extent f home name
   root_extent f base = nothing
 
   -- The root: what stands before the first extension marker, and behind the second one.

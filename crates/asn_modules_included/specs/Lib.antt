@@ -1,4 +1,5 @@
 pub mod Behind
+pub mod Sizes
 pub mod Extents
 pub mod Types
 pub mod TooLarge

@@ -3,7 +3,7 @@ use Rattle.std.specs.Prelude.{◌≡◌, ℕ, zero, suc, List, [], ◌∷◌, �
 use Rattle.std.specs.List.{slice_get}
 use Rattle.asn_modules_faults.specs.declared.cause.NameRule.TheVariants.{TooLarge}
 use Rattle.asn_modules_faults.specs.declared.error.ModuleError.{ModuleError}
-use Rattle.asn_modules_included.specs.Extents.{Extent, Inclusions, around, included_extent, left_behind, nothing}
+use Rattle.asn_modules_included.specs.Extents.{Extent, Inclusions, around, included_extent, left_behind, named_extent, nothing}
 use Rattle.asn_modules_included.specs.Types.{AssignedType, stands_for, type_named, types_of}
 use Rattle.asn_modules_included.specs.declared.limits.TheConstants.{INCLUDED_LEVEL_LIMIT, INCLUDED_SIZE_LIMIT, NAME_LIMIT}
 use Rattle.asn_modules_included.specs.declared.names.TypeName.{TypeName}
@@ -37,7 +37,7 @@ pub record Counted : Type 0 where
 
 -- The name with all that COMPONENTS OF it includes.
 abbrev pub extent_of : List Source → List AssignedType → Counted → Extent
-extent_of ss ts x = around (inclusions ss x.within.number x.within.home (included ss ts NAME_LIMIT) x.name.home x.name.name)
+extent_of ss ts x = around (named_extent (inclusions ss x.within.number x.within.home (included ss ts NAME_LIMIT)) x.name.home x.name.name)
 
 -- The names behind COMPONENTS OF in the type.
 abbrev pub counted_in : AssignedType → List Counted

@@ -1,26 +1,27 @@
 //! Counts what COMPONENTS OF includes, in bytes.
-ghost use Rattle.asn_modules_included.specs.Extents.{around, included_extent, left_behind};
-ghost use Rattle.asn_modules_included.specs.Extents.{member_extent, members_extent};
-ghost use Rattle.asn_modules_included.specs.Extents.{front_extent, type_extent};
+ghost use Rattle.asn_modules_included.specs.Extents.{around, base_extent, front_extent};
+ghost use Rattle.asn_modules_included.specs.Extents.{included_extent, left_behind};
+ghost use Rattle.asn_modules_included.specs.Extents.{member_extent, members_extent, named_extent};
+ghost use Rattle.asn_modules_included.specs.Extents.{type_extent};
 ghost use Rattle.asn_modules_included.specs.Scopes.{entries_extent, inclusions_in};
 ghost use Rattle.asn_modules_lookup.specs.Indexes.{IsIndexOf};
 ghost use Rattle.asn_modules_lookup.specs.declared.sort.Sort.TheVariants.{Types};
 ghost use Rattle.asn_modules_names.specs.Mentions.{Source};
 ghost use Rattle.asn_modules_notation.specs.Notation.{members_of};
 ghost use Rattle.asn_modules_notation.specs.View.{component_view, members_view, notation_view};
-ghost use Rattle.asn_modules_reader.specs.Views.{member_view};
+ghost use Rattle.asn_modules_reader.specs.Views.{base_view, member_view};
 ghost use Rattle.std.specs.Prelude.{◌≡◌, List, map};
 
 use crate::limits::TYPE_SIZE;
 use crate::names::TypeName;
 use crate::scope::{Depth, Scope};
+use crate::sizes::{past_constraints, past_presence, past_reference};
 use crate::types::{type_at, type_named};
 use asn_modules_notation::{Base, Component, Member, Members, Notation};
 use asn_modules_sizes::{past_items, past_name, past_numbers};
 
 /// Returns how many of so many bytes are left behind the type, or `None` where there aren't as
-/// many, or it nests too deep. This and the others below count a type with all that stands within
-/// it: types, names of components, items and named numbers.
+/// many, or it nests too deep. This and the others below count a type with all that stands in it.
 #[cycle(count)]
 fn past_type(
     scope: &Scope<'_, '_, '_>,
@@ -33,18 +34,29 @@ fn past_type(
         left depth.levels }
 {
     let within = depth.within()?;
-    let rest = left.checked_sub(TYPE_SIZE)?;
-    match &notation.base {
-        Base::Sequence(members) => past_members(scope, within, rest, members),
-        Base::Set(members) => past_members(scope, within, rest, members),
-        Base::SequenceOf(element) => past_type(scope, within, rest, element),
-        Base::SetOf(element) => past_type(scope, within, rest, element),
-        Base::Choice(alternatives) => past_members(scope, within, rest, alternatives),
-        Base::Integer(named) => past_numbers(rest, named),
-        Base::Enumerated { items, added } => past_items(rest, items, added),
-        Base::Leaf(_) => Some(rest),
-        Base::BitString(_) => Some(rest),
-        Base::Reference { .. } => Some(rest),
+    let unconstrained = left.checked_sub(TYPE_SIZE)?;
+    let rest = past_constraints(unconstrained, &notation.sizes)?;
+    past_base(scope, within, rest, &notation.base)
+}
+
+/// Returns how many are left behind what stands in a type without its tags and constraints.
+#[cycle(count)]
+fn past_base(scope: &Scope<'_, '_, '_>, depth: Depth, left: usize, base: &Base) -> Option<usize>
+    ensures { (ss : List Source) → IsIndexOf Types ss scope.now.index.now → result ≡ left_behind
+        (base_extent (inclusions_in ss scope.now depth.names) (base_view base.now))
+        left depth.levels }
+{
+    match base {
+        Base::Sequence(members) => past_members(scope, depth, left, members),
+        Base::Set(members) => past_members(scope, depth, left, members),
+        Base::SequenceOf(element) => past_type(scope, depth, left, element),
+        Base::SetOf(element) => past_type(scope, depth, left, element),
+        Base::Choice(alternatives) => past_members(scope, depth, left, alternatives),
+        Base::Integer(named) => past_numbers(left, named),
+        Base::Enumerated { items, added } => past_items(left, items, added),
+        Base::Reference { module, name } => past_reference(left, *module, *name),
+        Base::Leaf(_) => Some(left),
+        Base::BitString(_) => Some(left),
     }
 }
 
@@ -154,8 +166,13 @@ fn past_component(
         left depth.levels }
 {
     match component {
-        Component::Named { name, notation, .. } => {
-            let rest = past_name(left, *name)?;
+        Component::Named {
+            name,
+            notation,
+            presence,
+        } => {
+            let named = past_name(left, *name)?;
+            let rest = past_presence(named, *presence)?;
             past_type(scope, depth, rest, notation)
         }
         Component::ComponentsOf(notation) => past_included(scope, depth, left, notation),
@@ -184,7 +201,7 @@ fn past_included(
                 home: *module,
                 name: *name,
             };
-            past_inclusion(scope, within, rest, name)
+            past_named(scope, within, rest, name)
         }
         Base::Leaf(_) => Some(rest),
         Base::Integer(_) => Some(rest),
@@ -194,6 +211,22 @@ fn past_included(
         Base::SetOf(_) => Some(rest),
         Base::Choice(_) => Some(rest),
     }
+}
+
+/// Returns how many are left behind the name behind COMPONENTS OF, with what it includes.
+#[cycle(count)]
+fn past_named(
+    scope: &Scope<'_, '_, '_>,
+    depth: Depth,
+    left: usize,
+    name: TypeName,
+) -> Option<usize>
+    ensures { (ss : List Source) → IsIndexOf Types ss scope.now.index.now → result ≡ left_behind
+        (named_extent (inclusions_in ss scope.now depth.names) name.home name.name)
+        left depth.levels }
+{
+    let rest = past_reference(left, name.home, name.name)?;
+    past_inclusion(scope, depth, rest, name)
 }
 
 /// Returns how many are left behind what the name behind COMPONENTS OF includes.
@@ -238,10 +271,10 @@ pub fn past_type_name(
     name: TypeName,
 ) -> Option<usize>
     ensures { (ss : List Source) → IsIndexOf Types ss scope.now.index.now → result ≡ left_behind
-        (around (inclusions_in ss scope.now depth.names name.home name.name))
+        (around (named_extent (inclusions_in ss scope.now depth.names) name.home name.name))
         left depth.levels }
 {
     let within = depth.within()?;
     let rest = left.checked_sub(TYPE_SIZE)?;
-    past_inclusion(scope, within, rest, name)
+    past_named(scope, within, rest, name)
 }

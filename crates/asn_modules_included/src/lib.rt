@@ -6,6 +6,7 @@ mod count;
 mod limits;
 mod names;
 mod scope;
+mod sizes;
 mod types;
 
 pub use check::check_included;

@@ -4,13 +4,11 @@
 /// stand for one another, as `A ::= B`.
 pub const NAME_LIMIT: usize = 64;
 
-/// Is what a type counts besides what stands within it, in bytes. So does a name behind COMPONENTS
-/// OF.
+/// Is what a type counts besides what stands in it, in bytes. So does a name behind COMPONENTS OF.
 pub const TYPE_SIZE: usize = 64;
 
-/// Limits the bytes that COMPONENTS OF includes in the types of all texts: about what copies of it
-/// take. Types count, with the names of their components, their items and their named numbers. 64
-/// types, of which each includes the next one twice, would include 2^64.
+/// Limits the bytes that COMPONENTS OF includes in the types of all texts: about what is gone over
+/// and copied. 64 types, of which each includes the next one twice, would include 2^64.
 pub const INCLUDED_SIZE_LIMIT: usize = 4_194_304;
 
 /// Limits the levels to which the types that COMPONENTS OF includes nest, with the names behind it.

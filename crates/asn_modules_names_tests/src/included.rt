@@ -21,6 +21,9 @@ fn expect_told(rt: &impl Abort, alloc: Global, text: &str, told: &str) -> Result
     Ok(())
 }
 
+/// Is a name of 63 bytes.
+const SHORTER: &str = "z123456789z123456789z123456789z123456789z123456789z123456789z12";
+
 /// Begins names. With the number behind it, of five digits, each has 64 bytes.
 const LONG: &str = "a12345678b123456789b123456789b123456789b123456789b123456789";
 
@@ -35,8 +38,8 @@ fn includers(alloc: Global, assignments: &str, count: usize, each: &str) -> Resu
     Ok(text)
 }
 
-/// Appends `A`, with so many entries between these words. Each is a name of 64 bytes, and what
-/// stands behind it.
+/// Appends `A`, whose first component has a name of 63 bytes, with so many entries between these
+/// words. Each is a name of 64 bytes, and what stands behind it.
 fn push_entries(
     text: &mut String,
     opening: &str,
@@ -44,8 +47,7 @@ fn push_entries(
     behind: &str,
     closing: &str,
 ) -> Result<(), Fail> {
-    text.push_str("A ::= SEQUENCE { ")?;
-    text.push_str(opening)?;
+    write!(text, "A ::= SEQUENCE {{ {SHORTER} {opening}")?;
     for entry in 0..entries {
         if entry > 0 {
             text.push_str(", ")?;
@@ -57,18 +59,25 @@ fn push_entries(
 }
 
 /// Lists what stands behind `B`, how many more types there are and how each is written, and how
-/// many components `A` has, with what is told.
+/// many components `A` has behind the first one, with what is told.
 ///
-/// A component is 128 bytes: 64 for its type, and 64 of its name. So is the name of `A` behind
-/// COMPONENTS OF, which counts too, with `A` itself. Where `A` has 511 components, its name comes
-/// to 512 times 128 bytes, which are 65,536, and 64 such names to 4,194,304.
+/// A component is 128 bytes: 64 for its type, and 64 of its name, but the first one is 127. The
+/// name of `A` behind COMPONENTS OF, which counts too, is 129 bytes with `A` itself: twice 64, and
+/// one of its name. So where `A` has 510 more components, its name comes to 512 times 128 bytes,
+/// which are 65,536, and 64 such names to 4,194,304.
 const SUMS: [(&str, usize, &str, usize, &str); 11] = [
-    ("", 63, "SEQUENCE { COMPONENTS OF A }", 511, ""),
+    (
+        "",
+        63,
+        "SEQUENCE { COMPONENTS OF A }",
+        510,
+        "",
+    ),
     (
         "",
         64,
         "SEQUENCE { COMPONENTS OF A }",
-        511,
+        510,
         "f:65:34: `A` is too large for COMPONENTS OF",
     ),
     // A component more.
@@ -76,16 +85,22 @@ const SUMS: [(&str, usize, &str, usize, &str); 11] = [
         "",
         63,
         "SEQUENCE { COMPONENTS OF A }",
-        512,
+        511,
         "f:64:34: `A` is too large for COMPONENTS OF",
     ),
     // One type alone, within and beyond the limit.
-    ("", 0, "", 32_767, ""),
     (
         "",
         0,
         "",
-        32_768,
+        32_766,
+        "",
+    ),
+    (
+        "",
+        0,
+        "",
+        32_767,
         "f:1:32: `A` is too large for COMPONENTS OF",
     ),
     // A name counts, and so does a type without components.
@@ -93,23 +108,29 @@ const SUMS: [(&str, usize, &str, usize, &str); 11] = [
         "D ::= SET { COMPONENTS OF E } E ::= SET { }\n",
         62,
         "SEQUENCE { COMPONENTS OF A }",
-        511,
+        510,
         "",
     ),
     (
         "D ::= SET { COMPONENTS OF E } E ::= SET { }\n",
         63,
         "SEQUENCE { COMPONENTS OF A }",
-        511,
+        510,
         "f:65:34: `A` is too large for COMPONENTS OF",
     ),
     // A type that is a name has what its type has, and the name that is told stands in that one.
-    ("", 63, "B", 511, ""),
+    (
+        "",
+        63,
+        "B",
+        510,
+        "",
+    ),
     (
         "",
         64,
         "B",
-        511,
+        510,
         "f:1:32: `A` is too large for COMPONENTS OF",
     ),
     // Wherever COMPONENTS OF stands.
@@ -117,7 +138,7 @@ const SUMS: [(&str, usize, &str, usize, &str); 11] = [
         "",
         64,
         "CHOICE { a SEQUENCE OF SEQUENCE { ..., [[ COMPONENTS OF A ]] } }",
-        511,
+        510,
         "f:65:65: `A` is too large for COMPONENTS OF",
     ),
     // A value's type is none that is assigned.
@@ -125,7 +146,7 @@ const SUMS: [(&str, usize, &str, usize, &str); 11] = [
         "v SEQUENCE { COMPONENTS OF A } ::= { }\n",
         63,
         "SEQUENCE { COMPONENTS OF A }",
-        511,
+        510,
         "",
     ),
 ];
@@ -136,35 +157,35 @@ fn counts_types(rt: HostRuntime) -> Result<(), Fail> {
     let alloc = rt.alloc();
     for row in SUMS.iter() {
         let mut text = includers(alloc, row.0, row.1, row.2)?;
-        push_entries(&mut text, "", row.3, " NULL", " }")?;
+        push_entries(&mut text, "NULL, ", row.3, " NULL", " }")?;
         expect_told(&rt, alloc, text.as_str(), row.4)?;
     }
     Ok(())
 }
 
-/// Lists how the entries of `A` begin, how many there are, what stands behind each and behind all,
-/// with what is told where 64 names of it stand behind COMPONENTS OF.
+/// Lists how the type of the component of `A` begins, how many entries it has, and what stands
+/// behind each and behind all, with what is told where 64 names of `A` stand behind COMPONENTS OF.
 ///
 /// An item or a named number is 128 bytes, as a component is: 64, and 64 of its name. So 510 of
-/// them in a component come to as much as 511 components.
-const ENTRIES: [(&str, usize, &str, &str, &str); 9] = [
+/// them come to as much as 510 components.
+const ENTRIES: [(&str, usize, &str, &str, &str); 11] = [
     (
-        "z123456789z123456789z123456789z123456789z123456789z123456789z123 ENUMERATED { ",
+        "ENUMERATED { ",
         510,
         "",
         " } }",
         "",
     ),
     (
-        "z123456789z123456789z123456789z123456789z123456789z123456789z123 ENUMERATED { ",
+        "ENUMERATED { ",
         511,
         "",
         " } }",
         "f:64:34: `A` is too large for COMPONENTS OF",
     ),
-    // An item and a marker before the others.
+    // Behind an item and a marker.
     (
-        "z123456789z123456789z123456789z123456789z123456789z123456789z123 ENUMERATED { \
+        "ENUMERATED { \
 y123456789y123456789y123456789y123456789y123456789y123456789y123, ..., ",
         509,
         "",
@@ -172,7 +193,7 @@ y123456789y123456789y123456789y123456789y123456789y123456789y123, ..., ",
         "",
     ),
     (
-        "z123456789z123456789z123456789z123456789z123456789z123456789z123 ENUMERATED { \
+        "ENUMERATED { \
 y123456789y123456789y123456789y123456789y123456789y123456789y123, ..., ",
         510,
         "",
@@ -180,37 +201,51 @@ y123456789y123456789y123456789y123456789y123456789y123456789y123, ..., ",
         "f:64:34: `A` is too large for COMPONENTS OF",
     ),
     (
-        "z123456789z123456789z123456789z123456789z123456789z123456789z123 INTEGER { ",
+        "INTEGER { ",
         510,
         "(5)",
         " } }",
         "",
     ),
     (
-        "z123456789z123456789z123456789z123456789z123456789z123456789z123 INTEGER { ",
+        "INTEGER { ",
         511,
         "(5)",
         " } }",
         "f:64:34: `A` is too large for COMPONENTS OF",
     ),
-    // Within a list.
+    // The type of a list counts, and so do a size and a DEFAULT.
     (
-        "z123456789z123456789z123456789z123456789z123456789z123456789z123 SET OF ENUMERATED { ",
+        "SET OF ENUMERATED { ",
         510,
         "",
         " } }",
         "f:64:34: `A` is too large for COMPONENTS OF",
     ),
+    (
+        "INTEGER { ",
+        510,
+        "(5)",
+        " } (SIZE (5)) }",
+        "f:64:34: `A` is too large for COMPONENTS OF",
+    ),
+    (
+        "INTEGER { ",
+        510,
+        "(5)",
+        " } DEFAULT 5 }",
+        "f:64:34: `A` is too large for COMPONENTS OF",
+    ),
     // Named bits count nothing, and neither do the items of a type that is named.
     (
-        "z123456789z123456789z123456789z123456789z123456789z123456789z123 BIT STRING { ",
+        "BIT STRING { ",
         5_000,
         "(v)",
         " } }",
         "",
     ),
     (
-        "z123456789z123456789z123456789z123456789z123456789z123456789z123 E } E ::= ENUMERATED { ",
+        "E } E ::= ENUMERATED { ",
         5_000,
         "",
         " }",
@@ -230,32 +265,76 @@ fn counts_entries(rt: HostRuntime) -> Result<(), Fail> {
     Ok(())
 }
 
-/// Returns the text of `D` that includes `E`, whose component has a name of so many bytes.
-fn long_named(alloc: Global, length: usize) -> Result<String, Fail> {
-    let mut text = String::from_str(alloc, "D ::= SEQUENCE { COMPONENTS OF E } E ::= SEQUENCE { ")?;
-    for _byte in 0..length {
-        text.push('e')?;
+/// Returns the text of `D`, and between these words so many bytes.
+fn padded(alloc: Global, opening: &str, bytes: usize, closing: &str) -> Result<String, Fail> {
+    let mut text = String::from_str(alloc, "D ::= SEQUENCE { COMPONENTS OF ")?;
+    text.push_str(opening)?;
+    for _byte in 0..bytes {
+        text.push('5')?;
     }
-    text.push_str(" NULL }\n")?;
+    text.push_str(closing)?;
     Ok(text)
 }
 
-/// Lists how many bytes the name has, with what is told where 63 names of `A` stand behind
-/// COMPONENTS OF. With its type, and `E` and the name of that, 65,344 bytes are 65,536.
-const LENGTHS: [(usize, &str); 2] = [
-    (65_344, ""),
-    (65_345, "f:64:34: `A` is too large for COMPONENTS OF"),
+/// Lists what stands before and behind how many bytes in `D`, with what is told where 63 names of
+/// `A` stand behind COMPONENTS OF besides.
+///
+/// The name of `E`, `E` itself and its component are three times 64 bytes, and the names in these
+/// make it 65,536.
+const LENGTHS: [(&str, usize, &str, &str); 8] = [
+    // The name of the component, with its first letter, and `E`.
+    ("E } E ::= SEQUENCE { e", 65_342, " NULL }\n", ""),
+    (
+        "E } E ::= SEQUENCE { e",
+        65_343,
+        " NULL }\n",
+        "f:64:34: `A` is too large for COMPONENTS OF",
+    ),
+    // The name of its type, with its first letter, and `M`, `e` and `E`.
+    (
+        "E } E ::= SEQUENCE { e M.T",
+        65_340,
+        " }\n",
+        "",
+    ),
+    (
+        "E } E ::= SEQUENCE { e M.T",
+        65_341,
+        " }\n",
+        "f:64:34: `A` is too large for COMPONENTS OF",
+    ),
+    // A DEFAULT, with its first digit, and `e` and `E`.
+    (
+        "E } E ::= SEQUENCE { e INTEGER DEFAULT 5",
+        65_341,
+        " }\n",
+        "",
+    ),
+    (
+        "E } E ::= SEQUENCE { e INTEGER DEFAULT 5",
+        65_342,
+        " }\n",
+        "f:64:34: `A` is too large for COMPONENTS OF",
+    ),
+    // The name behind COMPONENTS OF, of a type that isn't there: 64 bytes, and both names.
+    ("M.T", 65_470, " }\n", ""),
+    (
+        "M.T",
+        65_471,
+        " }\n",
+        "f:64:34: `A` is too large for COMPONENTS OF",
+    ),
 ];
 
-/// The names of components count.
+/// Names count.
 #[test]
 fn counts_names(rt: HostRuntime) -> Result<(), Fail> {
     let alloc = rt.alloc();
     for row in LENGTHS.iter() {
-        let named = long_named(alloc, row.0)?;
-        let mut text = includers(alloc, named.as_str(), 62, "SEQUENCE { COMPONENTS OF A }")?;
-        push_entries(&mut text, "", 511, " NULL", " }")?;
-        expect_told(&rt, alloc, text.as_str(), row.1)?;
+        let assignments = padded(alloc, row.0, row.1, row.2)?;
+        let mut text = includers(alloc, assignments.as_str(), 62, "SEQUENCE { COMPONENTS OF A }")?;
+        push_entries(&mut text, "NULL, ", 510, " NULL", " }")?;
+        expect_told(&rt, alloc, text.as_str(), row.3)?;
     }
     Ok(())
 }

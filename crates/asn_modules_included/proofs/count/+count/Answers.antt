@@ -1,52 +1,73 @@
 use Rattle.std.proofs.Common.{◌≡◌, ◌+◌, ◌-◌, ◌∙◌, Some, None, refl, ap, sym, map, arith}
 use Rattle.asn_modules_included.specs.Extents.{left_behind, member_extent, members_extent, type_extent}
 use Rattle.asn_modules_included.specs.Scopes.{inclusions_in}
+use Rattle.asn_modules_included.specs.Sizes.{constraints_size, presence_size, reference_size}
 use Rattle.asn_modules_included.specs.Types.{type_view}
 use Rattle.asn_modules_included.proofs.Following.{past_last, past_missing, past_named}
 use Rattle.asn_modules_included.proofs.Leaving.{left_size, sized_none, sized_on}
-use Rattle.asn_modules_included.proofs.Past.{included_on, members_none, members_on, past_entries, past_tail, root_none, root_on, type_on}
+use Rattle.asn_modules_included.proofs.Sizing.{past_none, past_on}
+use Rattle.asn_modules_included.proofs.Past.{base_on, included_on, members_none, members_on, past_entries, past_tail, root_none, root_on, type_none, type_on}
 use Rattle.asn_model.specs.Shape.{SeqKind}
 use Rattle.asn_modules_lookup.specs.Homes.{home_view}
-use Rattle.asn_modules_notation.specs.Notation.{choice, enumerated, integer, members, members_of}
+use Rattle.asn_modules_notation.specs.Notation.{choice, enumerated, integer, members, members_of, reference}
 use Rattle.asn_modules_notation.specs.View.{component_view, items_view, members_view, notation_view}
-use Rattle.asn_modules_reader.proofs.Viewing.{choice_viewed, components_of_viewed, enumerated_viewed, group_viewed, integer_viewed, named_viewed, one_viewed, sequence_viewed, set_viewed}
+use Rattle.asn_modules_reader.proofs.Viewing.{choice_viewed, components_of_viewed, enumerated_viewed, group_viewed, integer_viewed, named_viewed, one_viewed, reference_viewed, sequence_viewed, set_viewed}
 use Rattle.asn_modules_reader.specs.Views.{base_view, member_view}
 use Rattle.asn_modules_sizes.specs.Sizes.{items_size, name_size, numbers_size, past}
 use Rattle.asn_modules_included.proofs.count.+count.Goals as goal
 
-pub past_type-returns-in-Sequence : goal.past_type-returns-in-Sequence
-past_type-returns-in-Sequence t c = λ ss is.
+pub past_type-returns-in_err-rest : goal.past_type-returns-in_err-rest
+past_type-returns-in_err-rest t c = λ ss is.
     let w = c.in_ok-within in
-    type_on (inclusions_in ss c.args.scope.now) c.args.depth.names w.within.names c.args.notation.now (members SeqKind.sequence (members_of (members_view c.in-Sequence.members))) c.args.left c.in_ok-rest.rest c.args.depth.levels w.within.levels c.past_members.result
-    w.ensures.0 c.in_ok-rest.ensures.0 c.in_ok-rest.ensures.1 w.ensures.1 (ap base_view c.in-Sequence.is ∙ sequence_viewed c.in-Sequence.members) (c.past_members.ensures ss is)
+    let u = c.in_ok-unconstrained in
+    c.from_residual.ensures
+    ∙ type_none (inclusions_in ss c.args.scope.now) c.args.depth.names w.within.names c.args.notation.now c.args.left u.unconstrained c.args.depth.levels w.within.levels None w.ensures.0 u.ensures.0 u.ensures.1 w.ensures.1 refl
+    (c.in_err-rest.ensures ∙ ap (λ l. past u.unconstrained (constraints_size l)) c.deref.ensures.value)
 
-pub past_type-returns-in-Set : goal.past_type-returns-in-Set
-past_type-returns-in-Set t c = λ ss is.
+pub past_type-returns : goal.past_type-returns
+past_type-returns t c = λ ss is.
     let w = c.in_ok-within in
-    type_on (inclusions_in ss c.args.scope.now) c.args.depth.names w.within.names c.args.notation.now (members SeqKind.set (members_of (members_view c.in-Set.members))) c.args.left c.in_ok-rest.rest c.args.depth.levels w.within.levels c.past_members-in-Set.result
-    w.ensures.0 c.in_ok-rest.ensures.0 c.in_ok-rest.ensures.1 w.ensures.1 (ap base_view c.in-Set.is ∙ set_viewed c.in-Set.members) (c.past_members-in-Set.ensures ss is)
+    let u = c.in_ok-unconstrained in
+    type_on (inclusions_in ss c.args.scope.now) c.args.depth.names w.within.names c.args.notation.now c.args.left u.unconstrained c.args.depth.levels w.within.levels c.past_base.result w.ensures.0 u.ensures.0 u.ensures.1 w.ensures.1 c.in_ok-rest.rest
+    (c.in_ok-rest.ensures ∙ ap (λ l. past u.unconstrained (constraints_size l)) c.deref.ensures.value) (c.past_base.ensures ss is)
 
-pub past_type-returns-in-Integer : goal.past_type-returns-in-Integer
-past_type-returns-in-Integer t c = λ ss is.
-    let w = c.in_ok-within in
+pub past_base-returns-in-Sequence : goal.past_base-returns-in-Sequence
+past_base-returns-in-Sequence t c = λ ss is.
+    let ms = c.in-Sequence.members in
+    base_on (inclusions_in ss c.args.scope.now c.args.depth.names) c.args.base.now (members SeqKind.sequence (members_of (members_view ms))) c.args.left c.args.depth.levels c.past_members.result
+    (ap base_view c.in-Sequence.is ∙ sequence_viewed ms) (c.past_members.ensures ss is)
+
+pub past_base-returns-in-Set : goal.past_base-returns-in-Set
+past_base-returns-in-Set t c = λ ss is.
+    let ms = c.in-Set.members in
+    base_on (inclusions_in ss c.args.scope.now c.args.depth.names) c.args.base.now (members SeqKind.set (members_of (members_view ms))) c.args.left c.args.depth.levels c.past_members-in-Set.result
+    (ap base_view c.in-Set.is ∙ set_viewed ms) (c.past_members-in-Set.ensures ss is)
+
+pub past_base-returns-in-Choice : goal.past_base-returns-in-Choice
+past_base-returns-in-Choice t c = λ ss is.
+    let ms = c.in-Choice.alternatives in
+    base_on (inclusions_in ss c.args.scope.now c.args.depth.names) c.args.base.now (choice (members_of (members_view ms))) c.args.left c.args.depth.levels c.past_members-in-Choice.result
+    (ap base_view c.in-Choice.is ∙ choice_viewed ms) (c.past_members-in-Choice.ensures ss is)
+
+pub past_base-returns-in-Integer : goal.past_base-returns-in-Integer
+past_base-returns-in-Integer t c = λ ss is.
     let named = c.in-Integer.named in
-    type_on (inclusions_in ss c.args.scope.now) c.args.depth.names w.within.names c.args.notation.now (integer named.items) c.args.left c.in_ok-rest.rest c.args.depth.levels w.within.levels c.past_numbers.result
-    w.ensures.0 c.in_ok-rest.ensures.0 c.in_ok-rest.ensures.1 w.ensures.1 (ap base_view c.in-Integer.is ∙ integer_viewed named)
-    (c.past_numbers.ensures ∙ ap (λ l. past c.in_ok-rest.rest (numbers_size l)) c.deref.ensures.value ∙ sym (left_size (numbers_size named.items) c.in_ok-rest.rest w.within.levels))
+    base_on (inclusions_in ss c.args.scope.now c.args.depth.names) c.args.base.now (integer named.items) c.args.left c.args.depth.levels c.past_numbers.result (ap base_view c.in-Integer.is ∙ integer_viewed named)
+    (c.past_numbers.ensures ∙ ap (λ l. past c.args.left (numbers_size l)) c.deref.ensures.value ∙ sym (left_size (numbers_size named.items) c.args.left c.args.depth.levels))
 
-pub past_type-returns-in-Enumerated : goal.past_type-returns-in-Enumerated
-past_type-returns-in-Enumerated t c = λ ss is.
-    let w = c.in_ok-within in
-    let items = items_view c.in-Enumerated.items c.in-Enumerated.added in
-    type_on (inclusions_in ss c.args.scope.now) c.args.depth.names w.within.names c.args.notation.now (enumerated items) c.args.left c.in_ok-rest.rest c.args.depth.levels w.within.levels c.past_items.result
-    w.ensures.0 c.in_ok-rest.ensures.0 c.in_ok-rest.ensures.1 w.ensures.1 (ap base_view c.in-Enumerated.is ∙ enumerated_viewed c.in-Enumerated.items c.in-Enumerated.added)
-    (c.past_items.ensures ∙ sym (left_size (items_size items) c.in_ok-rest.rest w.within.levels))
+pub past_base-returns-in-Enumerated : goal.past_base-returns-in-Enumerated
+past_base-returns-in-Enumerated t c = λ ss is.
+    let items = c.in-Enumerated.items in
+    let added = c.in-Enumerated.added in
+    base_on (inclusions_in ss c.args.scope.now c.args.depth.names) c.args.base.now (enumerated (items_view items added)) c.args.left c.args.depth.levels c.past_items.result (ap base_view c.in-Enumerated.is ∙ enumerated_viewed items added)
+    (c.past_items.ensures ∙ sym (left_size (items_size (items_view items added)) c.args.left c.args.depth.levels))
 
-pub past_type-returns-in-Choice : goal.past_type-returns-in-Choice
-past_type-returns-in-Choice t c = λ ss is.
-    let w = c.in_ok-within in
-    type_on (inclusions_in ss c.args.scope.now) c.args.depth.names w.within.names c.args.notation.now (choice (members_of (members_view c.in-Choice.alternatives))) c.args.left c.in_ok-rest.rest c.args.depth.levels w.within.levels c.past_members-in-Choice.result
-    w.ensures.0 c.in_ok-rest.ensures.0 c.in_ok-rest.ensures.1 w.ensures.1 (ap base_view c.in-Choice.is ∙ choice_viewed c.in-Choice.alternatives) (c.past_members-in-Choice.ensures ss is)
+pub past_base-returns-in-Reference : goal.past_base-returns-in-Reference
+past_base-returns-in-Reference t c = λ ss is.
+    let home = c.in-Reference.module in
+    let name = c.in-Reference.name in
+    base_on (inclusions_in ss c.args.scope.now c.args.depth.names) c.args.base.now (reference home name) c.args.left c.args.depth.levels c.past_reference.result (ap base_view c.in-Reference.is ∙ reference_viewed home name)
+    (c.past_reference.ensures ∙ sym (left_size (reference_size home name) c.args.left c.args.depth.levels))
 
 pub past_members-returns-in_err-rest : goal.past_members-returns-in_err-rest
 past_members-returns-in_err-rest t c = λ ss is.
@@ -62,18 +83,32 @@ pub past_members-returns-in-None : goal.past_members-returns-in-None
 past_members-returns-in-None t c = λ ss is.
     members_on (inclusions_in ss c.args.scope.now c.args.depth.names) c.args.depth.levels c.args.members.now None c.args.left c.in_ok-rest.rest (Some c.in_ok-rest.rest) (c.in_ok-rest.ensures ss is) c.in-None.is refl
 
-pub past_component-returns-in-Named : goal.past_component-returns-in-Named
-past_component-returns-in-Named t c = λ ss is.
+pub past_component-returns-in_err-named : goal.past_component-returns-in_err-named
+past_component-returns-in_err-named t c = λ ss is.
     let f = inclusions_in ss c.args.scope.now c.args.depth.names in
-    let seen = ap component_view c.in-Named.is ∙ named_viewed c.in-Named.name c.in-Named.notation c.in-Named.presence in
-    sized_on (name_size c.in-Named.name) (type_extent f (notation_view c.in-Named.notation)) c.args.left c.in_ok-rest.rest c.args.depth.levels c.past_type.result c.in_ok-rest.ensures (c.past_type.ensures ss is)
+    let n = c.in-Named in
+    let seen = ap component_view n.is ∙ named_viewed n.name n.notation n.presence in
+    c.from_residual.ensures
+    ∙ sized_none (name_size n.name + presence_size n.presence) (type_extent f (notation_view n.notation)) c.args.left c.args.depth.levels (past_none (name_size n.name) (presence_size n.presence) c.args.left c.in_err-named.ensures)
     ∙ ap (λ m. left_behind (member_extent f m) c.args.left c.args.depth.levels) (sym seen)
 
 pub past_component-returns-in_err-rest : goal.past_component-returns-in_err-rest
 past_component-returns-in_err-rest t c = λ ss is.
     let f = inclusions_in ss c.args.scope.now c.args.depth.names in
-    let seen = ap component_view c.in-Named.is ∙ named_viewed c.in-Named.name c.in-Named.notation c.in-Named.presence in
-    c.from_residual.ensures ∙ sized_none (name_size c.in-Named.name) (type_extent f (notation_view c.in-Named.notation)) c.args.left c.args.depth.levels c.in_err-rest.ensures
+    let n = c.in-Named in
+    let seen = ap component_view n.is ∙ named_viewed n.name n.notation n.presence in
+    c.from_residual-in_err-rest.ensures
+    ∙ sized_none (name_size n.name + presence_size n.presence) (type_extent f (notation_view n.notation)) c.args.left c.args.depth.levels
+    (past_on (name_size n.name) (presence_size n.presence) c.args.left c.in_ok-named.named None c.in_ok-named.ensures c.in_err-rest.ensures)
+    ∙ ap (λ m. left_behind (member_extent f m) c.args.left c.args.depth.levels) (sym seen)
+
+pub past_component-returns-in-Named : goal.past_component-returns-in-Named
+past_component-returns-in-Named t c = λ ss is.
+    let f = inclusions_in ss c.args.scope.now c.args.depth.names in
+    let n = c.in-Named in
+    let seen = ap component_view n.is ∙ named_viewed n.name n.notation n.presence in
+    sized_on (name_size n.name + presence_size n.presence) (type_extent f (notation_view n.notation)) c.args.left c.in_ok-rest.rest c.args.depth.levels c.past_type.result
+    (past_on (name_size n.name) (presence_size n.presence) c.args.left c.in_ok-named.named (Some c.in_ok-rest.rest) c.in_ok-named.ensures c.in_ok-rest.ensures) (c.past_type.ensures ss is)
     ∙ ap (λ m. left_behind (member_extent f m) c.args.left c.args.depth.levels) (sym seen)
 
 pub past_component-returns-in-ComponentsOf : goal.past_component-returns-in-ComponentsOf
@@ -140,11 +175,11 @@ past_root-returns-in-None t c = λ ss is.
 pub past_included-returns-in-Sequence : goal.past_included-returns-in-Sequence
 past_included-returns-in-Sequence t c = λ ss is.
     let w = c.in_ok-within in
-    included_on (inclusions_in ss c.args.scope.now) c.args.depth.names w.within.names c.args.notation.now (members SeqKind.sequence (members_of (members_view c.in-Sequence.members))) c.args.left c.in_ok-rest.rest c.args.depth.levels w.within.levels c.past_root.result
-    w.ensures.0 c.in_ok-rest.ensures.0 c.in_ok-rest.ensures.1 w.ensures.1 (ap base_view c.in-Sequence.is ∙ sequence_viewed c.in-Sequence.members) (c.past_root.ensures ss is)
+    included_on (inclusions_in ss c.args.scope.now) c.args.depth.names w.within.names c.args.notation.now c.args.left c.in_ok-rest.rest c.args.depth.levels w.within.levels c.past_root.result w.ensures.0 c.in_ok-rest.ensures.0 c.in_ok-rest.ensures.1 w.ensures.1
+    (members SeqKind.sequence (members_of (members_view c.in-Sequence.members))) (ap base_view c.in-Sequence.is ∙ sequence_viewed c.in-Sequence.members) (c.past_root.ensures ss is)
 
 pub past_included-returns-in-Set : goal.past_included-returns-in-Set
 past_included-returns-in-Set t c = λ ss is.
     let w = c.in_ok-within in
-    included_on (inclusions_in ss c.args.scope.now) c.args.depth.names w.within.names c.args.notation.now (members SeqKind.set (members_of (members_view c.in-Set.members))) c.args.left c.in_ok-rest.rest c.args.depth.levels w.within.levels c.past_root-in-Set.result
-    w.ensures.0 c.in_ok-rest.ensures.0 c.in_ok-rest.ensures.1 w.ensures.1 (ap base_view c.in-Set.is ∙ set_viewed c.in-Set.members) (c.past_root-in-Set.ensures ss is)
+    included_on (inclusions_in ss c.args.scope.now) c.args.depth.names w.within.names c.args.notation.now c.args.left c.in_ok-rest.rest c.args.depth.levels w.within.levels c.past_root-in-Set.result w.ensures.0 c.in_ok-rest.ensures.0 c.in_ok-rest.ensures.1 w.ensures.1
+    (members SeqKind.set (members_of (members_view c.in-Set.members))) (ap base_view c.in-Set.is ∙ set_viewed c.in-Set.members) (c.past_root-in-Set.ensures ss is)

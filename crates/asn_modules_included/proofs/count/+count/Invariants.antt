@@ -18,6 +18,9 @@ decreases-past_included l = 8 * l.depth.levels
 abbrev pub decreases-past_inclusion : goal.decreases-past_inclusion
 decreases-past_inclusion l = 8 * l.depth.levels + 1
 
+abbrev pub decreases-past_named : goal.decreases-past_named
+decreases-past_named l = 8 * l.depth.levels + 2
+
 abbrev pub decreases-past_component : goal.decreases-past_component
 decreases-past_component l = 8 * l.depth.levels + 1
 
@@ -35,6 +38,9 @@ decreases-past_root l = 8 * l.depth.levels + 5
 
 abbrev pub decreases-past_members : goal.decreases-past_members
 decreases-past_members l = 8 * l.depth.levels + 6
+
+abbrev pub decreases-past_base : goal.decreases-past_base
+decreases-past_base l = 8 * l.depth.levels + 7
 
 -- The entries that are left leave of the rest what all leave.
 abbrev pub invariant-past_entries-loop-entry : goal.invariant-past_entries-loop-entry

@@ -1,5 +1,6 @@
 -- How many bytes names, values and constraints count beside the types that they stand in.
-use Rattle.std.specs.Prelude.{ℕ, ◌+◌, List, [], ◌∷◌, Option, Some, None}
+use Rattle.std.specs.Prelude.{ℕ, ◌+◌, List, Option, Some, None}
+use Rattle.std.specs.List.{sum_by}
 use Rattle.asn_lexer.specs.declared.token.Token.{Token}
 use Rattle.asn_modules_notation.specs.declared.notation.Presence.{Presence}
 use Rattle.asn_modules_notation.specs.declared.notation.Presence.TheVariants.{Required, Optional, Default}
@@ -35,5 +36,4 @@ abbrev pub constraint_size : Size → ℕ
 constraint_size s = ENTRY_SIZE + (name_size s.low + name_size s.high)
 
 abbrev pub constraints_size : List Size → ℕ
-constraints_size [] = 0
-constraints_size (s ∷ ss) = constraint_size s + constraints_size ss
+constraints_size ss = sum_by constraint_size ss

@@ -34,8 +34,8 @@ fn past_type(
         left depth.levels }
 {
     let within = depth.within()?;
-    let unconstrained = left.checked_sub(TYPE_SIZE)?;
-    let rest = past_constraints(unconstrained, &notation.sizes)?;
+    let typed = left.checked_sub(TYPE_SIZE)?;
+    let rest = past_constraints(typed, &notation.sizes)?;
     past_base(scope, within, rest, &notation.base)
 }
 

@@ -19,17 +19,17 @@ use Rattle.asn_modules_included.proofs.count.+count.Goals as goal
 pub past_type-returns-in_err-rest : goal.past_type-returns-in_err-rest
 past_type-returns-in_err-rest t c = λ ss is.
     let w = c.in_ok-within in
-    let u = c.in_ok-unconstrained in
+    let u = c.in_ok-typed in
     c.from_residual.ensures
-    ∙ type_none (inclusions_in ss c.args.scope.now) c.args.depth.names w.within.names c.args.notation.now c.args.left u.unconstrained c.args.depth.levels w.within.levels None w.ensures.0 u.ensures.0 u.ensures.1 w.ensures.1 refl
-    (c.in_err-rest.ensures ∙ ap (λ l. past u.unconstrained (constraints_size l)) c.deref.ensures.value)
+    ∙ type_none (inclusions_in ss c.args.scope.now) c.args.depth.names w.within.names c.args.notation.now c.args.left u.typed c.args.depth.levels w.within.levels None w.ensures.0 u.ensures.0 u.ensures.1 w.ensures.1 refl
+    (c.in_err-rest.ensures ∙ ap (λ l. past u.typed (constraints_size l)) c.deref.ensures.value)
 
 pub past_type-returns : goal.past_type-returns
 past_type-returns t c = λ ss is.
     let w = c.in_ok-within in
-    let u = c.in_ok-unconstrained in
-    type_on (inclusions_in ss c.args.scope.now) c.args.depth.names w.within.names c.args.notation.now c.args.left u.unconstrained c.args.depth.levels w.within.levels c.past_base.result w.ensures.0 u.ensures.0 u.ensures.1 w.ensures.1 c.in_ok-rest.rest
-    (c.in_ok-rest.ensures ∙ ap (λ l. past u.unconstrained (constraints_size l)) c.deref.ensures.value) (c.past_base.ensures ss is)
+    let u = c.in_ok-typed in
+    type_on (inclusions_in ss c.args.scope.now) c.args.depth.names w.within.names c.args.notation.now c.args.left u.typed c.args.depth.levels w.within.levels c.past_base.result w.ensures.0 u.ensures.0 u.ensures.1 w.ensures.1 c.in_ok-rest.rest
+    (c.in_ok-rest.ensures ∙ ap (λ l. past u.typed (constraints_size l)) c.deref.ensures.value) (c.past_base.ensures ss is)
 
 pub past_base-returns-in-Sequence : goal.past_base-returns-in-Sequence
 past_base-returns-in-Sequence t c = λ ss is.

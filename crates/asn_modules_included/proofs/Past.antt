@@ -171,22 +171,22 @@ module _ (g : ℕ → Inclusions) (names fewer : ℕ) (n : code_notation.Notatio
   abbrev sizes : ℕ
   sizes = constraints_size (code_notation.out-Notation n).sizes.items
 
-  abbrev base : Base
-  base = base_view (code_notation.out-Notation n).base
+  abbrev held : Base
+  held = base_view (code_notation.out-Notation n).base
 
-  constrained_on : r ≡ left_behind (beside (of_size sizes) (base_extent (g fewer) base)) inner deeper → r ≡ left_behind (type_extent (g names) (notation_view n)) left levels
+  constrained_on : r ≡ left_behind (beside (of_size sizes) (base_extent (g fewer) held)) inner deeper → r ≡ left_behind (type_extent (g names) (notation_view n)) left levels
   constrained_on e =
-      around_on (λ f. beside (of_size sizes) (base_extent f base)) e ∙ ap (λ x. left_behind (type_extent (g names) x) left levels) (sym (notation_out n))
+      around_on (λ f. beside (of_size sizes) (base_extent f held)) e ∙ ap (λ x. left_behind (type_extent (g names) x) left levels) (sym (notation_out n))
 
-  pub type_on : (rest : ℕ) → Some rest ≡ past inner sizes → r ≡ left_behind (base_extent (g fewer) base) rest deeper → r ≡ left_behind (type_extent (g names) (notation_view n)) left levels
-  type_on rest some e = constrained_on (sized_on sizes (base_extent (g fewer) base) inner rest deeper r some e)
+  pub type_on : (rest : ℕ) → Some rest ≡ past inner sizes → r ≡ left_behind (base_extent (g fewer) held) rest deeper → r ≡ left_behind (type_extent (g names) (notation_view n)) left levels
+  type_on rest some e = constrained_on (sized_on sizes (base_extent (g fewer) held) inner rest deeper r some e)
 
   pub type_none : None ≡ r → None ≡ past inner sizes → None ≡ left_behind (type_extent (g names) (notation_view n)) left levels
-  type_none is none = is ∙ constrained_on (sym is ∙ sized_none sizes (base_extent (g fewer) base) inner deeper none)
+  type_none is none = is ∙ constrained_on (sym is ∙ sized_none sizes (base_extent (g fewer) held) inner deeper none)
 
-  pub included_on : (b : Base) → base ≡ b → r ≡ left_behind (root_extent (g fewer) b) inner deeper → r ≡ left_behind (included_extent (g names) (notation_view n)) left levels
+  pub included_on : (b : Base) → held ≡ b → r ≡ left_behind (root_extent (g fewer) b) inner deeper → r ≡ left_behind (included_extent (g names) (notation_view n)) left levels
   included_on b is e =
-      around_on (λ f. root_extent f base) (e ∙ ap (λ x. left_behind (root_extent (g fewer) x) inner deeper) (sym is)) ∙ ap (λ x. left_behind (included_extent (g names) x) left levels) (sym (notation_out n))
+      around_on (λ f. root_extent f held) (e ∙ ap (λ x. left_behind (root_extent (g fewer) x) inner deeper) (sym is)) ∙ ap (λ x. left_behind (included_extent (g names) x) left levels) (sym (notation_out n))
 
 -- What a type holds, by what it is.
 pub base_on : (f : Inclusions) (base : code_base.Base) (b : Base) (left levels : ℕ) (r : Option ℕ) → base_view base ≡ b → r ≡ left_behind (base_extent f b) left levels → r ≡ left_behind (base_extent f (base_view base)) left levels

@@ -215,12 +215,7 @@ fn past_included(
 
 /// Returns how many are left behind the name behind COMPONENTS OF, with what it includes.
 #[cycle(count)]
-fn past_named(
-    scope: &Scope<'_, '_, '_>,
-    depth: Depth,
-    left: usize,
-    name: TypeName,
-) -> Option<usize>
+fn past_named(scope: &Scope<'_, '_, '_>, depth: Depth, left: usize, name: TypeName) -> Option<usize>
     ensures { (ss : List Source) → IsIndexOf Types ss scope.now.index.now → result ≡ left_behind
         (named_extent (inclusions_in ss scope.now depth.names) name.home name.name)
         left depth.levels }

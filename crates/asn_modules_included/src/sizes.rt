@@ -18,11 +18,11 @@ fn past_both(left: usize, first: Token, second: Token) -> Option<usize>
 }
 
 /// Returns how many are left behind the name of a type, with that of its module where it is stated.
-pub fn past_reference(left: usize, module: Option<Token>, name: Token) -> Option<usize>
-    ensures { result ≡ past left (reference_size module name) }
+pub fn past_reference(left: usize, home: Option<Token>, name: Token) -> Option<usize>
+    ensures { result ≡ past left (reference_size home name) }
 {
-    match module {
-        Some(module) => past_both(left, module, name),
+    match home {
+        Some(home) => past_both(left, home, name),
         None => past_name(left, name),
     }
 }

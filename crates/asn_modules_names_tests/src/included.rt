@@ -66,13 +66,7 @@ fn push_entries(
 /// one of its name. So where `A` has 510 more components, its name comes to 512 times 128 bytes,
 /// which are 65,536, and 64 such names to 4,194,304.
 const SUMS: [(&str, usize, &str, usize, &str); 11] = [
-    (
-        "",
-        63,
-        "SEQUENCE { COMPONENTS OF A }",
-        510,
-        "",
-    ),
+    ("", 63, "SEQUENCE { COMPONENTS OF A }", 510, ""),
     (
         "",
         64,
@@ -89,13 +83,7 @@ const SUMS: [(&str, usize, &str, usize, &str); 11] = [
         "f:64:34: `A` is too large for COMPONENTS OF",
     ),
     // One type alone, within and beyond the limit.
-    (
-        "",
-        0,
-        "",
-        32_766,
-        "",
-    ),
+    ("", 0, "", 32_766, ""),
     (
         "",
         0,
@@ -119,13 +107,7 @@ const SUMS: [(&str, usize, &str, usize, &str); 11] = [
         "f:65:34: `A` is too large for COMPONENTS OF",
     ),
     // A type that is a name has what its type has, and the name that is told stands in that one.
-    (
-        "",
-        63,
-        "B",
-        510,
-        "",
-    ),
+    ("", 63, "B", 510, ""),
     (
         "",
         64,
@@ -169,13 +151,7 @@ fn counts_types(rt: HostRuntime) -> Result<(), Fail> {
 /// An item or a named number is 128 bytes, as a component is: 64, and 64 of its name. So 510 of
 /// them come to as much as 510 components.
 const ENTRIES: [(&str, usize, &str, &str, &str); 11] = [
-    (
-        "ENUMERATED { ",
-        510,
-        "",
-        " } }",
-        "",
-    ),
+    ("ENUMERATED { ", 510, "", " } }", ""),
     (
         "ENUMERATED { ",
         511,
@@ -200,13 +176,7 @@ y123456789y123456789y123456789y123456789y123456789y123456789y123, ..., ",
         " } }",
         "f:64:34: `A` is too large for COMPONENTS OF",
     ),
-    (
-        "INTEGER { ",
-        510,
-        "(5)",
-        " } }",
-        "",
-    ),
+    ("INTEGER { ", 510, "(5)", " } }", ""),
     (
         "INTEGER { ",
         511,
@@ -237,20 +207,8 @@ y123456789y123456789y123456789y123456789y123456789y123456789y123, ..., ",
         "f:64:34: `A` is too large for COMPONENTS OF",
     ),
     // Named bits count nothing, and neither do the items of a type that is named.
-    (
-        "BIT STRING { ",
-        5_000,
-        "(v)",
-        " } }",
-        "",
-    ),
-    (
-        "E } E ::= ENUMERATED { ",
-        5_000,
-        "",
-        " }",
-        "",
-    ),
+    ("BIT STRING { ", 5_000, "(v)", " } }", ""),
+    ("E } E ::= ENUMERATED { ", 5_000, "", " }", ""),
 ];
 
 /// Items and named numbers count, each with its name.
@@ -291,12 +249,7 @@ const LENGTHS: [(&str, usize, &str, &str); 8] = [
         "f:64:34: `A` is too large for COMPONENTS OF",
     ),
     // The name of its type, with its first letter, and `M`, `e` and `E`.
-    (
-        "E } E ::= SEQUENCE { e M.T",
-        65_340,
-        " }\n",
-        "",
-    ),
+    ("E } E ::= SEQUENCE { e M.T", 65_340, " }\n", ""),
     (
         "E } E ::= SEQUENCE { e M.T",
         65_341,
@@ -332,7 +285,12 @@ fn counts_names(rt: HostRuntime) -> Result<(), Fail> {
     let alloc = rt.alloc();
     for row in LENGTHS.iter() {
         let assignments = padded(alloc, row.0, row.1, row.2)?;
-        let mut text = includers(alloc, assignments.as_str(), 62, "SEQUENCE { COMPONENTS OF A }")?;
+        let mut text = includers(
+            alloc,
+            assignments.as_str(),
+            62,
+            "SEQUENCE { COMPONENTS OF A }",
+        )?;
         push_entries(&mut text, "NULL, ", 510, " NULL", " }")?;
         expect_told(&rt, alloc, text.as_str(), row.3)?;
     }

@@ -20,7 +20,7 @@ pub past_type-returns-in_err-rest : goal.past_type-returns-in_err-rest
 past_type-returns-in_err-rest t c = λ ss is.
     let w = c.in_ok-within in
     let u = c.in_ok-typed in
-    c.from_residual.ensures
+    c.from_residual-in_err-rest.ensures
     ∙ type_none (inclusions_in ss c.args.scope.now) c.args.depth.names w.within.names c.args.notation.now c.args.left u.typed c.args.depth.levels w.within.levels None w.ensures.0 u.ensures.0 u.ensures.1 w.ensures.1 refl
     (c.in_err-rest.ensures ∙ ap (λ l. past u.typed (constraints_size l)) c.deref.ensures.value)
 
@@ -53,7 +53,7 @@ pub past_base-returns-in-Integer : goal.past_base-returns-in-Integer
 past_base-returns-in-Integer t c = λ ss is.
     let named = c.in-Integer.named in
     base_on (inclusions_in ss c.args.scope.now c.args.depth.names) c.args.base.now (integer named.items) c.args.left c.args.depth.levels c.past_numbers.result (ap base_view c.in-Integer.is ∙ integer_viewed named)
-    (c.past_numbers.ensures ∙ ap (λ l. past c.args.left (numbers_size l)) c.deref.ensures.value ∙ sym (left_size (numbers_size named.items) c.args.left c.args.depth.levels))
+    (c.past_numbers.ensures ∙ ap (λ l. past c.args.left (numbers_size l)) c.deref-in-Integer.ensures.value ∙ sym (left_size (numbers_size named.items) c.args.left c.args.depth.levels))
 
 pub past_base-returns-in-Enumerated : goal.past_base-returns-in-Enumerated
 past_base-returns-in-Enumerated t c = λ ss is.
@@ -83,32 +83,32 @@ pub past_members-returns-in-None : goal.past_members-returns-in-None
 past_members-returns-in-None t c = λ ss is.
     members_on (inclusions_in ss c.args.scope.now c.args.depth.names) c.args.depth.levels c.args.members.now None c.args.left c.in_ok-rest.rest (Some c.in_ok-rest.rest) (c.in_ok-rest.ensures ss is) c.in-None.is refl
 
-pub past_component-returns-in_err-named : goal.past_component-returns-in_err-named
-past_component-returns-in_err-named t c = λ ss is.
+pub past_component-returns-in_err-named-in-Named : goal.past_component-returns-in_err-named-in-Named
+past_component-returns-in_err-named-in-Named t c = λ ss is.
     let f = inclusions_in ss c.args.scope.now c.args.depth.names in
     let n = c.in-Named in
     let seen = ap component_view n.is ∙ named_viewed n.name n.notation n.presence in
     c.from_residual.ensures
-    ∙ sized_none (name_size n.name + presence_size n.presence) (type_extent f (notation_view n.notation)) c.args.left c.args.depth.levels (past_none (name_size n.name) (presence_size n.presence) c.args.left c.in_err-named.ensures)
+    ∙ sized_none (name_size n.name + presence_size n.presence) (type_extent f (notation_view n.notation)) c.args.left c.args.depth.levels (past_none (name_size n.name) (presence_size n.presence) c.args.left c.in_err-named-in-Named.ensures)
     ∙ ap (λ m. left_behind (member_extent f m) c.args.left c.args.depth.levels) (sym seen)
 
-pub past_component-returns-in_err-rest : goal.past_component-returns-in_err-rest
-past_component-returns-in_err-rest t c = λ ss is.
+pub past_component-returns-in_err-rest-in-Named : goal.past_component-returns-in_err-rest-in-Named
+past_component-returns-in_err-rest-in-Named t c = λ ss is.
     let f = inclusions_in ss c.args.scope.now c.args.depth.names in
     let n = c.in-Named in
     let seen = ap component_view n.is ∙ named_viewed n.name n.notation n.presence in
-    c.from_residual-in_err-rest.ensures
+    c.from_residual-in_err-rest-in-Named.ensures
     ∙ sized_none (name_size n.name + presence_size n.presence) (type_extent f (notation_view n.notation)) c.args.left c.args.depth.levels
-    (past_on (name_size n.name) (presence_size n.presence) c.args.left c.in_ok-named.named None c.in_ok-named.ensures c.in_err-rest.ensures)
+    (past_on (name_size n.name) (presence_size n.presence) c.args.left c.in_ok-named-in-Named.named None c.in_ok-named-in-Named.ensures c.in_err-rest-in-Named.ensures)
     ∙ ap (λ m. left_behind (member_extent f m) c.args.left c.args.depth.levels) (sym seen)
 
-pub past_component-returns-in-Named : goal.past_component-returns-in-Named
-past_component-returns-in-Named t c = λ ss is.
+pub past_component-returns-in_ok-rest-in-Named : goal.past_component-returns-in_ok-rest-in-Named
+past_component-returns-in_ok-rest-in-Named t c = λ ss is.
     let f = inclusions_in ss c.args.scope.now c.args.depth.names in
     let n = c.in-Named in
     let seen = ap component_view n.is ∙ named_viewed n.name n.notation n.presence in
-    sized_on (name_size n.name + presence_size n.presence) (type_extent f (notation_view n.notation)) c.args.left c.in_ok-rest.rest c.args.depth.levels c.past_type.result
-    (past_on (name_size n.name) (presence_size n.presence) c.args.left c.in_ok-named.named (Some c.in_ok-rest.rest) c.in_ok-named.ensures c.in_ok-rest.ensures) (c.past_type.ensures ss is)
+    sized_on (name_size n.name + presence_size n.presence) (type_extent f (notation_view n.notation)) c.args.left c.in_ok-rest-in-Named.rest c.args.depth.levels c.past_type.result
+    (past_on (name_size n.name) (presence_size n.presence) c.args.left c.in_ok-named-in-Named.named (Some c.in_ok-rest-in-Named.rest) c.in_ok-named-in-Named.ensures c.in_ok-rest-in-Named.ensures) (c.past_type.ensures ss is)
     ∙ ap (λ m. left_behind (member_extent f m) c.args.left c.args.depth.levels) (sym seen)
 
 pub past_component-returns-in-ComponentsOf : goal.past_component-returns-in-ComponentsOf

@@ -149,7 +149,7 @@ part_of-returns-in_default-clause-parts t c =
     let s = scope_view NAME_LIMIT c.args.scope.now in
     let roots = roots_view c.args.depth.names c.args.scope.now in
     let n = c.in-Named in
-    part_missed roots s (place_view c.args.place) n.name (notation_view n.notation) n.presence (shape_view c.in_ok-shape-in-Named.shape) c.in_ok-shape-in-Named.ensures.shape
+    part_missed roots s (place_view c.args.place) n.name (notation_view n.notation) n.presence (shape_view c.in_ok-stated-in-Named.stated) (shape_view c.in_ok-shape-in-Named.shape) c.in_ok-stated-in-Named.ensures.shape c.in_ok-shape-in-Named.ensures
     (sym (ap (option_map presence_view) c.in_default.is) ∙ c.in_ok-presence-in-Named.ensures)
     ∙ ap (λ m. known_parts roots s (place_view c.args.place) (m ∷ [])) (sym (ap component_view n.is ∙ named_viewed n.name n.notation n.presence))
 
@@ -159,7 +159,7 @@ part_of-returns-in_ok-vec-in-Named-clause-parts t c =
     let roots = roots_view c.args.depth.names c.args.scope.now in
     let n = c.in-Named in
     ap (λ l. Some (map part_view l)) c.in_ok-vec-in-Named.ensures.items
-    ∙ part_made roots s (place_view c.args.place) n.name (notation_view n.notation) n.presence (shape_view c.in_ok-shape-in-Named.shape) c.in_ok-shape-in-Named.ensures.shape (string_bytes c.in_ok-name-in-Named.name) (presence_view c.in-Some.presence)
+    ∙ part_made roots s (place_view c.args.place) n.name (notation_view n.notation) n.presence (shape_view c.in_ok-stated-in-Named.stated) (shape_view c.in_ok-shape-in-Named.shape) c.in_ok-stated-in-Named.ensures.shape c.in_ok-shape-in-Named.ensures (string_bytes c.in_ok-name-in-Named.name) (presence_view c.in-Some.presence)
     (sym (ap (option_map presence_view) c.in-Some.is) ∙ c.in_ok-presence-in-Named.ensures) c.in_ok-name-in-Named.ensures
     ∙ ap (λ m. known_parts roots s (place_view c.args.place) (m ∷ [])) (sym (ap component_view n.is ∙ named_viewed n.name n.notation n.presence))
 

@@ -1,20 +1,16 @@
 -- Copies of types.
-use Rattle.std.proofs.Common.{◌≡◌, ◌-◌, ℕ, List, Bool, true, false, if◌then◌else◌, nat_le, Option, Some, None, refl, sym, ap, ◌∙◌}
+use Rattle.std.proofs.Common.{◌≡◌, ◌-◌, ℕ, List, Bool, true, false, if◌then◌else◌, nat_le, Option, Some, None, refl, ap, ◌∙◌}
 use Rattle.std.specs.List.{slice_get}
 use Rattle.asn_model.specs.Shape.{Shape}
 use Rattle.asn_modules_lookup.specs.Homes.{Home}
 use Rattle.asn_modules_lookup.specs.declared.sort.Sort.TheVariants.{Types}
 use Rattle.asn_modules_names.specs.Mentions.{Source}
 use Rattle.asn_modules_notation.specs.Notation.{Notation, enumerated}
-use Rattle.asn_modules_notation.specs.declared.notation.Presence.{Presence}
-use Rattle.asn_modules_notation.specs.declared.notation.Presence.TheVariants.{Default}
 use Rattle.asn_modules_notation.specs.declared.number.Item.{Item}
-use Rattle.asn_modules_notation.specs.declared.value.Value.{Value}
 use Rattle.asn_modules_sizes.specs.Sizes.{items_size, past}
 use Rattle.asn_modules_types.specs.Assigned.{Assigned, assigned, notation_of}
 use Rattle.asn_modules_types.specs.Leaves.{enumerated_shape}
 use Rattle.asn_modules_types.specs.Linked.{base_of, copied_base, copied_by, copied_type, is_extensible}
-use Rattle.asn_modules_types.specs.Types.{component_shape}
 use Rattle.asn_modules_types.specs.declared.limits.TheConstants.{DEFAULT_ITEMS_LIMIT}
 
 -- What fits leaves something, and what doesn't leaves nothing.
@@ -39,10 +35,6 @@ module _ (n : ℕ) (h : Home) (items : List (Option Item)) where
 
   pub many_named : None ≡ past DEFAULT_ITEMS_LIMIT (items_size items) → Shape.back n ≡ copied_base n h (enumerated items)
   many_named e = exceeds (items_size items) DEFAULT_ITEMS_LIMIT (enumerated_shape h.source.text (is_extensible h.parsed.header) items) (Shape.back n) e
-
--- A component with DEFAULT, whose type is a number.
-pub component_copied : (copied : ℕ → Shape) (p : Presence) (v : Value) (s : Shape) (n : ℕ) → p ≡ Default v → s ≡ Shape.back n → copied n ≡ component_shape copied p s
-component_copied copied p v s n e f = sym (ap (λ x. component_shape copied x s) e ∙ ap (component_shape copied (Default v)) f)
 
 -- The type of number n is assigned, or missing.
 module _ (ss : List Source) (n : ℕ) (list : List Assigned) (all : list ≡ assigned Types ss) where

@@ -1,5 +1,5 @@
 -- Types by example, each computed from its notation.
-use Rattle.std.proofs.Common.{◌≡◌, ℕ, ℤ, pos, suc, ◌+◌, List, [], ◌∷◌, ◌++◌, codes, Bool, true, false, if◌then◌else◌, Option, Some, None, refl}
+use Rattle.std.proofs.Common.{◌≡◌, ℕ, pos, suc, List, [], ◌∷◌, ◌++◌, codes, Bool, true, false, if◌then◌else◌, Some, None, refl}
 use Rattle.std.specs.Str.{chars, is_utf8}
 use Rattle.asn_expansion.specs.Expansion.{context_tag}
 use Rattle.asn_lexer.specs.declared.kind.Kind.{Kind}

@@ -1,4 +1,4 @@
-use Rattle.std.proofs.Common.{◌≡◌, ◌∙◌, ap, sym}
+use Rattle.std.proofs.Common.{◌∙◌, ap, sym}
 use Rattle.asn_modules_lookup.specs.Homes.{home_view}
 use Rattle.asn_modules_notation.specs.View.{items_view}
 use Rattle.asn_modules_reader.proofs.Viewing.{enumerated_viewed}

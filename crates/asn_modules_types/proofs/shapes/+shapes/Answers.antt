@@ -1,14 +1,13 @@
-use Rattle.std.proofs.Common.{◌≡◌, ◌≤◌, ◌+◌, ◌-◌, ◌∙◌, ◌∷◌, [], List, None, Option, Some, ap, arith, false, map, option_map, string_bytes, sym, true}
+use Rattle.std.proofs.Common.{◌≡◌, ◌+◌, ◌-◌, ◌∙◌, ◌∷◌, [], None, Some, ap, arith, map, option_map, string_bytes, sym}
 use Rattle.std.proofs.lemmas.Result.{IfOk-weaker}
 use Rattle.asn_model.specs.ShapeView.{kind_view, presence_view, shape_view}
 use Rattle.asn_modules_notation.specs.View.{component_view, notation_view}
-use Rattle.asn_modules_notation.specs.declared.notation.Notation.{out-Notation}
-use Rattle.asn_modules_reader.proofs.Viewing.{components_of_viewed, group_viewed, named_viewed, one_viewed, reference_viewed, sequence_viewed, set_viewed}
-use Rattle.asn_modules_reader.specs.Views.{base_view, member_view}
+use Rattle.asn_modules_reader.proofs.Viewing.{components_of_viewed, group_viewed, named_viewed, one_viewed}
+use Rattle.asn_modules_reader.specs.Views.{member_view}
 use Rattle.asn_modules_types.specs.Known.{assigned_view, known_parts, parts_view, part_view, place_view, roots_view, scope_view, sources_of}
 use Rattle.asn_modules_types.specs.Linked.{roots_of, scope_of}
 use Rattle.asn_modules_types.specs.Sizes.{sized}
-use Rattle.asn_modules_types.specs.Types.{Part, between_brackets, notation_roots, outside_brackets}
+use Rattle.asn_modules_types.specs.Types.{between_brackets, notation_roots, outside_brackets}
 use Rattle.asn_modules_types.specs.declared.limits.TheConstants.{NAME_LIMIT}
 use Rattle.asn_modules_types.proofs.Following.{follows_roots, roots_none}
 use Rattle.asn_modules_types.proofs.Seen.{included_known, notation_made, part_made, part_missed, roots_made}

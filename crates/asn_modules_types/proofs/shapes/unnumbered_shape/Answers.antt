@@ -1,4 +1,4 @@
-use Rattle.std.proofs.Common.{◌≡◌, ◌∙◌}
+use Rattle.std.proofs.Common.{◌∙◌}
 use Rattle.asn_modules_reader.specs.Views.{base_view}
 use Rattle.asn_modules_types.specs.Known.{scope_view}
 use Rattle.asn_modules_types.specs.declared.limits.TheConstants.{NAME_LIMIT}

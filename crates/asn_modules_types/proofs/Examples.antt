@@ -1,5 +1,5 @@
 -- Types by example, each computed from its notation.
-use Rattle.std.proofs.Common.{◌≡◌, ℕ, ℤ, pos, suc, ◌+◌, List, [], ◌∷◌, ◌++◌, codes, Bool, true, false, if◌then◌else◌, Option, Some, None, refl}
+use Rattle.std.proofs.Common.{◌≡◌, ℕ, pos, suc, List, [], ◌∷◌, ◌++◌, codes, Bool, true, false, if◌then◌else◌, Some, None, refl}
 use Rattle.std.specs.Str.{chars, is_utf8}
 use Rattle.asn_expansion.specs.Expansion.{context_tag}
 use Rattle.asn_lexer.specs.declared.kind.Kind.{Kind}
@@ -28,12 +28,13 @@ letters = codes "abcdefgh0123456789"
 abbrev number_three : Value
 number_three = value.Number (record { negative = false; digits = record { kind = kind.Number; start = 11; end = 12 } })
 
--- A module of this text, where names of types stand for the type of number 7, words for the number 5, and each value leads to that number.
+-- A module of this text, where names of types stand for the type of number 7, which is copied as an ENUMERATED of b and c, words for the number 5, and each value leads to that number.
 abbrev example : Bool → Scope
 example extensible = record {
   text = letters;
   extensible = extensible;
   type_named = λ home name. Shape.back 7;
+  copied = λ n. Shape.enum (codes "b" ∷ codes "c" ∷ []) None;
   number_named = λ home name word. Some (pos 5);
   values = λ v. (letters, v) ∷ (letters, number_three) ∷ [];
 }
@@ -47,6 +48,7 @@ quoting = record {
   text = strings;
   extensible = false;
   type_named = λ home name. Shape.back 7;
+  copied = λ n. Shape.back n;
   number_named = λ home name word. None;
   values = λ v. (strings, v) ∷ [];
 }
@@ -115,6 +117,14 @@ assigned = refl
 item : notation_shape no_roots (example false) (defaulted (enumerated (Some (record { name = word 1; number = None }) ∷ Some (record { name = word 2; number = None }) ∷ None ∷ [])) (value.Word (word 2)))
     ≡ by_default (Plain.item (codes "c")) (Shape.enum (codes "b" ∷ codes "c" ∷ []) (Some []))
 item = refl
+
+-- A type that is named, with DEFAULT c, is a copy; a component without DEFAULT is its number, as above.
+item_by_name : notation_shape no_roots (example false) (defaulted (reference None (word 7)) (value.Word (word 2))) ≡ by_default (Plain.item (codes "c")) (Shape.enum (codes "b" ∷ codes "c" ∷ []) None)
+item_by_name = refl
+
+-- Where it isn't copied, its DEFAULT isn't understood.
+item_unknown : notation_shape no_roots quoting (defaulted (reference None (word 7)) (value.Word (word 2))) ≡ no_values
+item_unknown = refl
 
 -- IA5String DEFAULT "en", and DEFAULT "a""a", which isn't understood.
 abbrev quoted : ℕ → ℕ → Value

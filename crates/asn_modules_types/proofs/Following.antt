@@ -13,7 +13,7 @@ use Rattle.asn_modules_notation.specs.declared.number.Constant.{Constant}
 use Rattle.asn_modules_notation.specs.declared.number.Constant.TheVariants as constant
 use Rattle.asn_modules_notation.specs.declared.number.NamedNumber.{NamedNumber}
 use Rattle.asn_modules_types.specs.Assigned.{Assigned, assigned, notation_of}
-use Rattle.asn_modules_types.specs.Linked.{base_of, has_parts, named_by, named_type, no_roots, number_by, number_word, opened_type, parts_shape, roots_by, scope_in, scope_of, type_roots}
+use Rattle.asn_modules_types.specs.Linked.{base_of, is_numbered, named_by, named_type, no_roots, number_by, number_word, numbered_shape, opened_type, roots_by, scope_in, scope_of, type_roots}
 use Rattle.asn_modules_types.specs.Numbers.{constant_in, named_number}
 use Rattle.asn_modules_types.specs.Types.{Place, notation_shape, number_in_type}
 
@@ -62,16 +62,16 @@ module _ (ss : List Source) (more less n : ℕ) (above : more ≡ less + 1) (lis
   follows_roots place o e =
       ap (roots_by ss (type_roots ss less) place) (e ∙ ap (λ l. slice_get l n) all) ∙ sym (roots_once ss less n place) ∙ ap (λ k. type_roots ss k n place) (sym above_suc)
 
-  -- A type with parts is named by its number, and another one has its shape.
+  -- A type with parts or items is named by its number, and another one has its shape.
   module _ (t : Assigned) (there : Some t ≡ slice_get list n) (held : Notation) (is : notation_of t.assignment ≡ held) where
     abbrev chosen : Bool → Notation → Shape
     chosen b x = if b then Shape.back n else notation_shape no_roots (scope_of ss less t.number t.home) x
 
-    pub follows_parts : has_parts (base_of held) ≡ true → Shape.back n ≡ named_type ss more n
-    follows_parts e = sym (ap (λ b. chosen b held) e) ∙ sym (ap (λ x. chosen (has_parts (base_of x)) x) is) ∙ follows (Some t) there
+    pub follows_number : is_numbered (base_of held) ≡ true → Shape.back n ≡ named_type ss more n
+    follows_number e = sym (ap (λ b. chosen b held) e) ∙ sym (ap (λ x. chosen (is_numbered (base_of x)) x) is) ∙ follows (Some t) there
 
-    pub follows_unit : has_parts (base_of held) ≡ false → notation_shape no_roots (scope_of ss less t.number t.home) held ≡ named_type ss more n
-    follows_unit e = sym (ap (λ b. chosen b held) e) ∙ sym (ap (λ x. chosen (has_parts (base_of x)) x) is) ∙ follows (Some t) there
+    pub follows_unit : is_numbered (base_of held) ≡ false → notation_shape no_roots (scope_of ss less t.number t.home) held ≡ named_type ss more n
+    follows_unit e = sym (ap (λ b. chosen b held) e) ∙ sym (ap (λ x. chosen (is_numbered (base_of x)) x) is) ∙ follows (Some t) there
 
 -- What words name doesn't depend on the shapes of types.
 module _ (ss : List Source) (k : ℕ) (h : Home) (f g : ℕ → Shape) (numbers : ℕ → List ℕ → Option ℤ) where
@@ -104,5 +104,5 @@ word_assigned ss more less n list t held word above all there is =
     ∙ follows_word ss more less n above list all word (Some t) there
 
 -- A number, opened.
-pub opened_number : (ss : List Source) (s : Shape) (n : ℕ) (list : List Assigned) (o : Option Assigned) → s ≡ Shape.back n → list ≡ assigned Types ss → o ≡ slice_get list n → opened_type ss s ≡ parts_shape ss o
-opened_number ss s n list o e all there = ap (opened_type ss) e ∙ ap (parts_shape ss) (sym (there ∙ ap (λ l. slice_get l n) all))
+pub opened_number : (ss : List Source) (s : Shape) (n : ℕ) (list : List Assigned) (o : Option Assigned) → s ≡ Shape.back n → list ≡ assigned Types ss → o ≡ slice_get list n → opened_type ss s ≡ numbered_shape ss o
+opened_number ss s n list o e all there = ap (opened_type ss) e ∙ ap (numbered_shape ss) (sym (there ∙ ap (λ l. slice_get l n) all))

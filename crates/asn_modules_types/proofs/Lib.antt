@@ -7,6 +7,7 @@ mod Naming
 mod Leading
 mod Sizing
 mod Following
+mod Copying
 mod Seen
 mod Numbering
 mod Separated

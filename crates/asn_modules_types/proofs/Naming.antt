@@ -1,5 +1,5 @@
 -- Words that name numbers and items.
-use Rattle.std.proofs.Common.{◌≡◌, ℕ, ◌+◌, ◌<◌, List, [], map, true, false, if◌then◌else◌, Option, Some, None, String, string_bytes, ap, sym, ◌∙◌, get_or, drop, length}
+use Rattle.std.proofs.Common.{◌≡◌, ℕ, ◌+◌, ◌<◌, List, [], map, Bool, true, false, if◌then◌else◌, Option, Some, None, String, string_bytes, ap, sym, ◌∙◌, get_or, drop, length}
 use Rattle.std.proofs.lemmas.List.{drop_more}
 use Rattle.std.specs.Global.{Global, Vec}
 use Rattle.std.specs.Option.{option_map}
@@ -19,22 +19,22 @@ named_here s ns i word d h e =
     ap (λ l. named_number s l word) (drop_more ns i d h) ∙ ap (λ b. if b then constant_in s (get_or ns i d).number else named_number s (drop (i + 1) ns) word) e
 
 -- The items behind the extension marker of an ENUMERATED.
-module _ (s : Scope) (items : Vec Item) (o : Option (Vec Item)) (made : Option (Vec (String Global))) where
+module _ (text : List ℕ) (extensible : Bool) (items : Vec Item) (o : Option (Vec Item)) (made : Option (Vec (String Global))) where
   abbrev texts : Option (Vec (String Global)) → Option (List (List ℕ))
   texts x = option_map (λ v. map string_bytes v.items) x
 
   abbrev pub added_items : Option (List (List ℕ))
-  added_items = option_map (item_names s) (implied s.extensible (added_of (items_view items o)))
+  added_items = option_map (item_names text) (implied extensible (added_of (items_view items o)))
 
-  behind_is : (x : Option (Vec Item)) (a : Option (List Item)) → o ≡ x → added_of (items_view items x) ≡ a → option_map (item_names s) (implied s.extensible a) ≡ added_items
-  behind_is x a is e = sym (ap (λ y. option_map (item_names s) (implied s.extensible (added_of (items_view items y)))) is ∙ ap (λ y. option_map (item_names s) (implied s.extensible y)) e)
+  behind_is : (x : Option (Vec Item)) (a : Option (List Item)) → o ≡ x → added_of (items_view items x) ≡ a → option_map (item_names text) (implied extensible a) ≡ added_items
+  behind_is x a is e = sym (ap (λ y. option_map (item_names text) (implied extensible (added_of (items_view items y)))) is ∙ ap (λ y. option_map (item_names text) (implied extensible y)) e)
 
-  pub items_extended : (added : Vec Item) (names : Vec (String Global)) → o ≡ Some added → made ≡ Some names → map string_bytes names.items ≡ item_names s added.items → option_map (λ v. map string_bytes v.items) made ≡ added_items
+  pub items_extended : (added : Vec Item) (names : Vec (String Global)) → o ≡ Some added → made ≡ Some names → map string_bytes names.items ≡ item_names text added.items → option_map (λ v. map string_bytes v.items) made ≡ added_items
   items_extended added names is m e = ap texts m ∙ ap Some e ∙ behind_is (Some added) (Some added.items) is (items_added items added)
 
-  pub items_implied : (names : Vec (String Global)) → o ≡ None → made ≡ Some names → names.items ≡ [] → s.extensible ≡ true → option_map (λ v. map string_bytes v.items) made ≡ added_items
+  pub items_implied : (names : Vec (String Global)) → o ≡ None → made ≡ Some names → names.items ≡ [] → extensible ≡ true → option_map (λ v. map string_bytes v.items) made ≡ added_items
   items_implied names is m e x =
-      ap texts m ∙ ap (λ l. Some (map string_bytes l)) e ∙ sym (ap (λ b. option_map (item_names s) (if b then Some [] else None)) x) ∙ behind_is None None is (items_closed items)
+      ap texts m ∙ ap (λ l. Some (map string_bytes l)) e ∙ sym (ap (λ b. option_map (item_names text) (if b then Some [] else None)) x) ∙ behind_is None None is (items_closed items)
 
-  pub items_ended : o ≡ None → made ≡ None → s.extensible ≡ false → option_map (λ v. map string_bytes v.items) made ≡ added_items
-  items_ended is m x = ap texts m ∙ sym (ap (λ b. option_map (item_names s) (if b then Some [] else None)) x) ∙ behind_is None None is (items_closed items)
+  pub items_ended : o ≡ None → made ≡ None → extensible ≡ false → option_map (λ v. map string_bytes v.items) made ≡ added_items
+  items_ended is m x = ap texts m ∙ sym (ap (λ b. option_map (item_names text) (if b then Some [] else None)) x) ∙ behind_is None None is (items_closed items)

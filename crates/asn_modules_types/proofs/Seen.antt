@@ -16,9 +16,9 @@ use Rattle.asn_modules_reader.specs.Views.{base_view}
 use Rattle.asn_modules_types.specs.Scopes.{Scope, name_in}
 use Rattle.asn_modules_types.specs.Sizes.{sized}
 use Rattle.asn_modules_types.specs.Known.{known_parts}
-use Rattle.asn_modules_types.specs.Linked.{has_parts, no_roots}
+use Rattle.asn_modules_types.specs.Linked.{is_numbered, no_roots}
 use Rattle.asn_modules_types.specs.Lists.{all_known, front}
-use Rattle.asn_modules_types.specs.Types.{Part, Place, Roots, base_roots, base_shape, included, notation_roots, notation_shape, of_kind, part_of, presence_of}
+use Rattle.asn_modules_types.specs.Types.{Part, Place, Roots, base_roots, base_shape, component_shape, included, notation_roots, notation_shape, of_kind, part_of, presence_of}
 
 -- The shape of a number.
 pub back_viewed : (n : ℕ) → shape_view (Back n) ≡ Shape.back n
@@ -32,12 +32,12 @@ notation_out n = fold_out-Notation spec.Base spec.Member spec.Member (List spec.
 pub notation_made : (roots : Roots) (s : Scope) (n : Notation) (inner r : Shape) → inner ≡ base_shape roots s (base_view (out-Notation n).base) → r ≡ sized s (out-Notation n).sizes.items inner → r ≡ notation_shape roots s (notation_view n)
 notation_made roots s n inner r b e = e ∙ ap (sized s (out-Notation n).sizes.items) b ∙ ap (notation_shape roots s) (sym (notation_out n))
 
--- What COMPONENTS OF stands for doesn't matter for a type without parts.
-pub unit_same : (roots : Roots) (s : Scope) (b : spec.Base) → has_parts b ≡ false → base_shape no_roots s b ≡ base_shape roots s b
+-- What COMPONENTS OF stands for doesn't matter for a type without parts and items.
+pub unit_same : (roots : Roots) (s : Scope) (b : spec.Base) → is_numbered b ≡ false → base_shape no_roots s b ≡ base_shape roots s b
 unit_same roots s (spec.leaf l) e = refl
 unit_same roots s (spec.integer ns) e = refl
 unit_same roots s (spec.bit_string ns) e = refl
-unit_same roots s (spec.enumerated items) e = refl
+unit_same roots s (spec.enumerated items) e = cc e
 unit_same roots s (spec.members kind ms) e = cc e
 unit_same roots s (spec.list_of kind n) e = cc e
 unit_same roots s (spec.choice ms) e = cc e
@@ -55,9 +55,9 @@ kind_included SeqKind.sequence SeqKind.set ps e = cc e
 kind_included SeqKind.set SeqKind.sequence ps e = cc e
 
 -- The part that a component is.
-module _ (roots : Roots) (s : Scope) (place : Place) (t : Token) (n : spec.Notation) (p : stated.Presence) (shape : Shape) (is : shape ≡ notation_shape roots s n) where
+module _ (roots : Roots) (s : Scope) (place : Place) (t : Token) (n : spec.Notation) (p : stated.Presence) (whole shape : Shape) (known : whole ≡ notation_shape roots s n) (is : shape ≡ component_shape s.copied p whole) where
   part_known : (o : Option Part) → o ≡ part_of s place.grouped t n p shape → of_both (λ x xs. x ∷ xs) o (Some []) ≡ known_parts roots s place (spec.component t n p ∷ [])
-  part_known o e = ap (λ x. of_both (λ y ys. y ∷ ys) x (Some [])) (e ∙ ap (part_of s place.grouped t n p) is)
+  part_known o e = ap (λ x. of_both (λ y ys. y ∷ ys) x (Some [])) (e ∙ ap (part_of s place.grouped t n p) (is ∙ ap (component_shape s.copied p) known))
 
   pub part_made : (name : List ℕ) (presence : Presence) → Some presence ≡ presence_of s place.grouped n shape p → name ≡ name_in s.text t → Some (record { name = name; presence = presence; shape = shape } ∷ []) ≡ known_parts roots s place (spec.component t n p ∷ [])
   part_made name presence there named =

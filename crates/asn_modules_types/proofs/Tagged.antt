@@ -1,17 +1,15 @@
 -- Fields and alternatives that are made of parts.
-use Rattle.std.proofs.Common.{◌≡◌, ℕ, suc, ◌+◌, List, [], ◌∷◌, ◌++◌, map, Bool, Option, Some, None, refl, sym, ap, ◌∙◌, length, string_bytes, arith}
+use Rattle.std.proofs.Common.{◌≡◌, ℕ, suc, ◌+◌, List, [], ◌∷◌, ◌++◌, map, Option, Some, None, refl, sym, ap, ◌∙◌, length, string_bytes, arith}
 use Rattle.std.proofs.lemmas.List.{length-map, map-append}
-use Rattle.std.proofs.lemmas.Option.{some_pair_parts}
 use Rattle.std.specs.Global.{Vec}
 use Rattle.std.specs.Option.{option_map}
 use Rattle.asn_expansion.specs.Expansion.{context_tag}
 use Rattle.asn_model.proofs.Viewing.{added_alternative_views}
-use Rattle.asn_model.specs.Shape.{AlternativeAdditions, Alternatives, FieldAdditions, Fields, SeqKind, Shape, join_alternatives, join_fields}
+use Rattle.asn_model.specs.Shape.{AlternativeAdditions, Alternatives, FieldAdditions, Fields, join_alternatives, join_fields}
 use Rattle.asn_model.specs.ShapeView.{added_field_views, alternative_views, field_views, presence_view, shape_view}
 use Rattle.asn_model.specs.declared.shape_type.AlternativeShape.{AlternativeShape}
 use Rattle.asn_model.specs.declared.shape_type.FieldShape.{FieldShape}
 use Rattle.asn_modules_types.specs.Known.{part_view, parts_view}
-use Rattle.asn_modules_types.specs.Lists.{added_of, implied, root_of}
 use Rattle.asn_modules_types.specs.Types as spec
 use Rattle.asn_modules_types.specs.Types.{added_alternatives_from, added_fields_from, alternatives_from, choice_shape, fields_from, members_shape}
 use Rattle.asn_modules_types.specs.declared.parts.Part.{Part}

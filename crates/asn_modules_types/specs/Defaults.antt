@@ -12,6 +12,7 @@ use Rattle.asn_modules_notation.specs.declared.value.Value.{Value}
 use Rattle.asn_modules_notation.specs.declared.value.Value.TheVariants as value
 use Rattle.asn_modules_types.specs.Numbers.{signed_in}
 use Rattle.asn_modules_types.specs.Scopes.{Scope, ascii_of, name_in}
+use Rattle.asn_modules_types.specs.declared.limits.TheConstants.{DEFAULT_STRING_LIMIT}
 
 abbrev pub boolean_named : List ℕ → Option Plain
 boolean_named word = if bytes_eq word (codes "TRUE") then Some (Plain.boolean true) else if bytes_eq word (codes "FALSE") then Some (Plain.boolean false) else None
@@ -27,11 +28,11 @@ word_plain numbers s word = None
 abbrev pub is_verbatim : ℕ → Bool
 is_verbatim c = nat_le 32 c && not (nat_eq c 34)
 
--- The bytes, if each is of a character that stands for itself and they are UTF-8.
+-- The bytes, if they are few and UTF-8, and each is of a character that stands for itself.
 abbrev pub verbatim : List ℕ → Option (List ℕ)
-verbatim bytes = if list_all is_verbatim bytes && is_utf8 bytes then Some bytes else None
+verbatim bytes = if nat_le (length bytes) DEFAULT_STRING_LIMIT && (list_all is_verbatim bytes && is_utf8 bytes) then Some bytes else None
 
--- The characters of a string between its quotes. One with a quote in it, or over several lines, isn't understood.
+-- The characters of a string between its quotes. A long one, or one with a quote in it or over several lines, isn't understood.
 abbrev pub string_in : List ℕ → Token → Option (List ℕ)
 string_in text t = verbatim (slice_range (text_of text t) 1 (length (text_of text t) - 1))
 

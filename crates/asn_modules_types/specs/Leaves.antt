@@ -1,5 +1,5 @@
 -- The shapes of types without parts.
-use Rattle.std.specs.Prelude.{ℕ, pos, negsuc, ◌-◌, ◌^◌, List, map, Option}
+use Rattle.std.specs.Prelude.{ℕ, pos, negsuc, ◌-◌, ◌^◌, List, map, Bool, Option}
 use Rattle.std.specs.Option.{option_map}
 use Rattle.asn_linked_types.specs.Expansion.{no_values}
 use Rattle.asn_model.specs.Shape.{Alphabet, Shape}
@@ -10,7 +10,7 @@ use Rattle.asn_modules_notation.specs.declared.leaf.Leaf.{Leaf}
 use Rattle.asn_modules_notation.specs.declared.leaf.Leaf.TheVariants as leaf
 use Rattle.asn_modules_notation.specs.declared.number.Item.{Item}
 use Rattle.asn_modules_types.specs.Lists.{added_of, implied, root_of}
-use Rattle.asn_modules_types.specs.Scopes.{Scope, name_in}
+use Rattle.asn_modules_types.specs.Scopes.{name_in}
 
 -- ANY has any octets; no value of another one of these is read.
 abbrev pub closed_shape : Closed → Shape
@@ -35,10 +35,10 @@ leaf_shape (leaf.Closed c) = closed_shape c
 abbrev pub integer_shape : Shape
 integer_shape = Shape.int (negsuc (2 ^ 127 - 1)) (pos (2 ^ 127 - 1)) 128
 
--- The identifiers of these items.
-abbrev pub item_names : Scope → List Item → List (List ℕ)
-item_names s items = map (λ i. name_in s.text i.name) items
+-- The identifiers of these items in their text.
+abbrev pub item_names : List ℕ → List Item → List (List ℕ)
+item_names text items = map (λ i. name_in text i.name) items
 
--- ENUMERATED, by its items, of which `None` is the extension marker. Their numbers have no meaning.
-abbrev pub enumerated_shape : Scope → List (Option Item) → Shape
-enumerated_shape s items = Shape.enum (item_names s (root_of items)) (option_map (item_names s) (implied s.extensible (added_of items)))
+-- ENUMERATED, by its text, whether extensibility is implied there, and its items, of which `None` is the extension marker. Their numbers have no meaning.
+abbrev pub enumerated_shape : List ℕ → Bool → List (Option Item) → Shape
+enumerated_shape text extensible items = Shape.enum (item_names text (root_of items)) (option_map (item_names text) (implied extensible (added_of items)))

@@ -1,5 +1,5 @@
 -- The types that modules assign, each as one shape, in which `back` of a number means the type of that number.
-use Rattle.std.specs.Prelude.{ℕ, ℤ, zero, suc, List, [], ◌∷◌, length, Bool, true, false, if◌then◌else◌, Option, Some, None}
+use Rattle.std.specs.Prelude.{ℕ, ℤ, zero, suc, nat_le, List, [], ◌∷◌, length, Bool, true, false, if◌then◌else◌, Option, Some, None}
 use Rattle.std.specs.List.{slice_get}
 use Rattle.std.specs.Option.{option_and_then}
 use Rattle.asn_headers.specs.Headers.{Header}
@@ -9,12 +9,14 @@ use Rattle.asn_model.specs.Shape.{Shape}
 use Rattle.asn_modules_lookup.specs.Homes.{Home}
 use Rattle.asn_modules_lookup.specs.declared.sort.Sort.TheVariants.{Types}
 use Rattle.asn_modules_names.specs.Mentions.{Source}
-use Rattle.asn_modules_notation.specs.Notation.{Base, Notation, choice, list_of, members, notation}
+use Rattle.asn_modules_notation.specs.Notation.{Base, Notation, choice, enumerated, list_of, members, notation}
+use Rattle.asn_modules_sizes.specs.Sizes.{items_size}
 use Rattle.asn_modules_types.specs.Assigned.{Assigned, assigned, notation_of}
+use Rattle.asn_modules_types.specs.Leaves.{enumerated_shape}
 use Rattle.asn_modules_types.specs.Scopes.{Scope}
 use Rattle.asn_modules_types.specs.Types.{Part, Place, Roots, notation_roots, notation_shape, number_in_type}
 use Rattle.asn_modules_types.specs.Values.{found_in, value_in, values_from}
-use Rattle.asn_modules_types.specs.declared.limits.TheConstants.{NAME_LIMIT}
+use Rattle.asn_modules_types.specs.declared.limits.TheConstants.{DEFAULT_ITEMS_LIMIT, NAME_LIMIT}
 
 -- EXTENSIBILITY IMPLIED stands in the header, if there is one.
 abbrev pub is_extensible : Option Header → Bool
@@ -26,25 +28,41 @@ abbrev pub shape_or : (ℕ → Shape) → Option ℕ → Shape
 shape_or shapes None = no_values
 shape_or shapes (Some n) = shapes n
 
+abbrev pub base_of : Notation → Base
+base_of (notation tags base sizes) = base
+
+-- A copy of the type in its module, if it is an ENUMERATED whose items take few bytes; else its number.
+abbrev pub copied_base : ℕ → Home → Base → Shape
+copied_base n h (enumerated items) =
+    if nat_le (items_size items) DEFAULT_ITEMS_LIMIT then enumerated_shape h.source.text (is_extensible h.parsed.header) items else Shape.back n
+copied_base n h base = Shape.back n
+
+-- That of the type of number n, by its assignment.
+abbrev pub copied_by : ℕ → Option Assigned → Shape
+copied_by n None = Shape.back n
+copied_by n (Some t) = copied_base n t.home (base_of (notation_of t.assignment))
+
+abbrev pub copied_type : List Source → ℕ → Shape
+copied_type ss n = copied_by n (slice_get (assigned Types ss) n)
+
 -- The scope of a module in which types of these numbers have these shapes and named numbers.
 abbrev pub scope_in : List Source → ℕ → Home → (ℕ → Shape) → (ℕ → List ℕ → Option ℤ) → Scope
 scope_in ss k h shapes numbers = record {
   text = h.source.text;
   extensible = is_extensible h.parsed.header;
   type_named = λ home name. shape_or shapes (found_in Types ss k h home name);
+  copied = copied_type ss;
   number_named = λ home name word. option_and_then (λ n. numbers n word) (found_in Types ss k h home name);
   values = λ v. values_from ss NAME_LIMIT (value_in k h v);
 }
 
--- The type has parts, and is named by its number.
-abbrev pub has_parts : Base → Bool
-has_parts (members kind ms) = true
-has_parts (list_of kind n) = true
-has_parts (choice ms) = true
-has_parts b = false
-
-abbrev pub base_of : Notation → Base
-base_of (notation tags base sizes) = base
+-- The type has parts or items, and is named by its number.
+abbrev pub is_numbered : Base → Bool
+is_numbered (enumerated items) = true
+is_numbered (members kind ms) = true
+is_numbered (list_of kind n) = true
+is_numbered (choice ms) = true
+is_numbered b = false
 
 -- The root components of types, where types of these numbers have these.
 abbrev pub roots_in : List Source → ℕ → Home → (ℕ → Place → Option (List Part)) → Roots
@@ -54,11 +72,11 @@ roots_in ss k h roots = λ place home name. option_and_then (λ n. roots n place
 abbrev pub no_roots : Roots
 no_roots = λ place home name. None
 
--- What the name of the type of number n stands for, by its assignment: the number, where it has parts; else its shape, where names in it have these shapes and numbers.
+-- What the name of the type of number n stands for, by its assignment: the number, where it has parts or items; else its shape, where names in it have these shapes and numbers.
 abbrev pub named_by : List Source → (ℕ → Shape) → (ℕ → List ℕ → Option ℤ) → ℕ → Option Assigned → Shape
 named_by ss shapes numbers n None = no_values
 named_by ss shapes numbers n (Some t) =
-    if has_parts (base_of (notation_of t.assignment)) then Shape.back n else notation_shape no_roots (scope_in ss t.number t.home shapes numbers) (notation_of t.assignment)
+    if is_numbered (base_of (notation_of t.assignment)) then Shape.back n else notation_shape no_roots (scope_in ss t.number t.home shapes numbers) (notation_of t.assignment)
 
 abbrev pub number_by : List Source → (ℕ → List ℕ → Option ℤ) → Option Assigned → List ℕ → Option ℤ
 number_by ss numbers None word = None
@@ -92,14 +110,14 @@ type_roots ss (suc more) n place = roots_by ss (type_roots ss more) place (slice
 abbrev pub roots_of : List Source → ℕ → ℕ → Home → Roots
 roots_of ss limit k h = roots_in ss k h (type_roots ss limit)
 
--- The shape of a type with parts, by its assignment.
-abbrev pub parts_shape : List Source → Option Assigned → Shape
-parts_shape ss None = no_values
-parts_shape ss (Some t) = notation_shape (roots_of ss NAME_LIMIT t.number t.home) (scope_of ss NAME_LIMIT t.number t.home) (notation_of t.assignment)
+-- The shape of a type that is named by its number, by its assignment.
+abbrev pub numbered_shape : List Source → Option Assigned → Shape
+numbered_shape ss None = no_values
+numbered_shape ss (Some t) = notation_shape (roots_of ss NAME_LIMIT t.number t.home) (scope_of ss NAME_LIMIT t.number t.home) (notation_of t.assignment)
 
 -- What a name stands for, opened: a number is the shape of the type of that number.
 abbrev pub opened_type : List Source → Shape → Shape
-opened_type ss (Shape.back n) = parts_shape ss (slice_get (assigned Types ss) n)
+opened_type ss (Shape.back n) = numbered_shape ss (slice_get (assigned Types ss) n)
 opened_type ss s = s
 
 -- The shape, if it can be read where so many types are named; else one without values.

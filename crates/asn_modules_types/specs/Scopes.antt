@@ -14,6 +14,8 @@ pub record Scope : Type 0 where
   pub extensible : Bool
   -- What the name of a type stands for, behind that of its module where it is stated.
   pub type_named : Option Token → Token → Shape
+  -- What a component with DEFAULT has in the place of the number of its type: a copy of that type, if it is an ENUMERATED of few items; else the number.
+  pub copied : ℕ → Shape
   -- The number that a word names in the type of that name, where it is an INTEGER.
   pub number_named : Option Token → Token → List ℕ → Option ℤ
   -- The values that a value here leads to, each with its text: itself, and where it is a name, those that the value leads to that is assigned to it.

@@ -58,6 +58,11 @@ number_in_type s (notation tags (integer ns) sizes) word = named_number s ns wor
 number_in_type s (notation tags (reference home name) sizes) word = s.number_named home name word
 number_in_type s (notation tags base sizes) word = None
 
+-- The shape of a component, by that of its type, where numbers are copied so: the value of a DEFAULT is one of a shape, and not of a number.
+abbrev pub component_shape : (ℕ → Shape) → stated.Presence → Shape → Shape
+component_shape copied (Default v) (Shape.back n) = copied n
+component_shape copied presence shape = shape
+
 -- Whether a part may be absent: one between version brackets may, since they may be absent as a whole. There is no presence where its DEFAULT isn't understood.
 abbrev pub presence_of : Scope → Bool → Notation → Shape → stated.Presence → Option Presence
 presence_of s grouped n shape Required = Some (if grouped then Presence.optional else Presence.required)
@@ -104,7 +109,7 @@ abbrev mutual
   base_shape roots s (leaf l) = leaf_shape l
   base_shape roots s (integer ns) = integer_shape
   base_shape roots s (bit_string ns) = Shape.bits None
-  base_shape roots s (enumerated items) = enumerated_shape s items
+  base_shape roots s (enumerated items) = enumerated_shape s.text s.extensible items
   base_shape roots s (members kind ms) = members_shape kind (lists_of s.extensible (parts roots s (outside_brackets kind) ms))
   base_shape roots s (list_of kind n) = list_shape kind (notation_shape roots s n)
   base_shape roots s (choice ms) = choice_shape (lists_of s.extensible (parts roots s (outside_brackets SeqKind.sequence) ms))
@@ -116,7 +121,7 @@ abbrev mutual
   parts roots s place (member m ms) = entry_parts roots s place m ++ parts roots s place ms
 
   pub entry_parts : Roots → Scope → Place → Member → List (Option (Option Part))
-  entry_parts roots s place (component name n presence) = Some (part_of s place.grouped name n presence (notation_shape roots s n)) ∷ []
+  entry_parts roots s place (component name n presence) = Some (part_of s place.grouped name n presence (component_shape s.copied presence (notation_shape roots s n))) ∷ []
   entry_parts roots s place (components_of n) = included (notation_roots roots s place n)
   entry_parts roots s place (group ms) = parts roots s (between_brackets place) ms
   entry_parts roots s place marker = None ∷ []

@@ -1,10 +1,11 @@
 //! Makes the shapes of types without parts.
 ghost use Rattle.asn_model.specs.ShapeView.{shape_view};
+ghost use Rattle.asn_modules_lookup.specs.Homes.{home_view};
 ghost use Rattle.asn_modules_notation.specs.View.{items_view};
-ghost use Rattle.asn_modules_types.specs.Known.{scope_view};
 ghost use Rattle.asn_modules_types.specs.Leaves.{enumerated_shape, integer_shape, item_names};
 ghost use Rattle.asn_modules_types.specs.Leaves.{leaf_shape};
-ghost use Rattle.std.specs.Prelude.{◌≡◌, ℕ, IfOk, map, string_bytes};
+ghost use Rattle.asn_modules_types.specs.Linked.{is_extensible};
+ghost use Rattle.std.specs.Prelude.{◌≡◌, IfOk, map, string_bytes};
 
 use crate::fault::LinkFault;
 use crate::scope::{Scope, is_extensible};
@@ -47,18 +48,18 @@ pub fn leaf_shape(alloc: Global, leaf: Leaf) -> Shape
     }
 }
 
-/// Returns the identifiers of the items.
+/// Returns the identifiers of the items in this text.
 ///
 /// # Errors
 ///
 /// Where memory runs out.
-fn item_names(scope: &Scope<'_, '_, '_>, items: &[Item]) -> Result<Vec<String>, AllocError>
-    ensures { (limit : ℕ) → IfOk result (λ names. map string_bytes names.items
-        ≡ item_names (scope_view limit scope.now) items.now) }
+fn item_names(alloc: Global, text: &str, items: &[Item]) -> Result<Vec<String>, AllocError>
+    ensures { IfOk result (λ names.
+        map string_bytes names.items ≡ item_names text.now items.now) }
 {
-    let mut names = Vec::new(scope.names.alloc);
+    let mut names = Vec::new(alloc);
     for item in items {
-        names.push(name_in(scope.names.alloc, scope.home.source.text, item.name)?)?;
+        names.push(name_in(alloc, text, item.name)?)?;
     }
     Ok(names)
 }
@@ -74,15 +75,19 @@ pub fn enumerated_shape(
     items: &Vec<Item>,
     added: &Option<Vec<Item>>,
 ) -> Result<Shape, AllocError>
-    ensures { (limit : ℕ) → IfOk result (λ s. shape_view s
-        ≡ enumerated_shape (scope_view limit scope.now) (items_view items.now added.now)) }
+    ensures { IfOk result (λ s. shape_view s
+        ≡ enumerated_shape (home_view scope.now.home).source.text
+        (is_extensible (home_view scope.now.home).parsed.header)
+        (items_view items.now added.now)) }
 {
-    let items = item_names(scope, items)?;
+    let alloc = scope.names.alloc;
+    let text = scope.home.source.text;
+    let items = item_names(alloc, text, items)?;
     let added = match added {
-        Some(added) => Some(item_names(scope, added)?),
+        Some(added) => Some(item_names(alloc, text, added)?),
         None => {
             if is_extensible(scope) {
-                Some(Vec::new(scope.names.alloc))
+                Some(Vec::new(alloc))
             } else {
                 None
             }

@@ -5,6 +5,7 @@
 
 mod allowance;
 mod assigned;
+mod copies;
 mod defaults;
 mod fault;
 mod leaves;
@@ -21,6 +22,8 @@ mod words;
 
 pub use assigned::{Assigned, assigned_of};
 pub use fault::LinkFault;
-pub use limits::{INCLUDED_LIMIT, LEVEL_LIMIT, NAME_LIMIT};
+pub use limits::{
+    DEFAULT_ITEMS_LIMIT, DEFAULT_STRING_LIMIT, INCLUDED_LIMIT, LEVEL_LIMIT, NAME_LIMIT,
+};
 pub use linked::linked_types;
 pub use words::name_in;

@@ -6,7 +6,17 @@ use asn_modules_reader::limits::NESTING_LIMIT;
 /// has one that leads to itself.
 pub const NAME_LIMIT: usize = asn_modules_included::NAME_LIMIT;
 
-/// Limits the types that COMPONENTS OF includes in those of all texts, with what stands within.
+/// Limits the bytes that the items of an ENUMERATED take (`asn_modules_sizes`) which a component
+/// with DEFAULT names: the shape of that component holds a copy of it. A DEFAULT of one with more
+/// isn't understood. An ENUMERATED that the component states itself isn't limited.
+pub const DEFAULT_ITEMS_LIMIT: usize = 16_384;
+
+/// Limits the bytes of a string that a DEFAULT states or leads to, between its quotes: the shape of
+/// its component holds a copy of it. A DEFAULT by one with more isn't understood.
+pub const DEFAULT_STRING_LIMIT: usize = 1_024;
+
+/// Limits the types that COMPONENTS OF includes in those of all texts, with what stands within: no
+/// more than these are let through by `asn_modules_included`.
 pub const INCLUDED_LIMIT: usize =
     asn_modules_included::INCLUDED_SIZE_LIMIT / asn_modules_included::TYPE_SIZE;
 

@@ -2,13 +2,13 @@
 ghost use Rattle.asn_model.specs.ShapeView.{shape_view};
 ghost use Rattle.asn_modules_reader.specs.Views.{base_view};
 ghost use Rattle.asn_modules_types.specs.Known.{KnowsNames, scope_view, sources_of};
-ghost use Rattle.asn_modules_types.specs.Linked.{has_parts, named_type, no_roots};
+ghost use Rattle.asn_modules_types.specs.Linked.{is_numbered, named_type, no_roots};
 ghost use Rattle.asn_modules_types.specs.Types.{base_shape};
 ghost use Rattle.std.specs.Prelude.{◌≡◌, IfOk, MatchOption, false, true};
 
 use crate::assigned::{Assigned, assigned_at, notation_of};
 use crate::fault::LinkFault;
-use crate::leaves::{enumerated_shape, integer_shape, leaf_shape};
+use crate::leaves::{integer_shape, leaf_shape};
 use crate::scope::{Scope, find};
 use crate::sizes::sized;
 use asn_linked_types::no_values;
@@ -39,7 +39,7 @@ pub struct Names<'s, 't> {
 }
 
 /// Returns what the name of the type of the number stands for, past at most so many names: its
-/// number where it has parts, else its shape.
+/// number where it has parts or items, else its shape.
 ///
 /// # Errors
 ///
@@ -70,8 +70,8 @@ pub fn named_type(names: &Names<'_, '_>, more: usize, number: usize) -> Result<S
     }
 }
 
-/// Returns the shape of a type without parts, where names are followed past at most so many
-/// others, or `None` for a type with parts.
+/// Returns the shape of a type without parts and items, where names are followed past at most so
+/// many others, or `None` for one that is named by its number.
 ///
 /// # Errors
 ///
@@ -83,8 +83,8 @@ pub fn unit_shape(
     base: &Base,
 ) -> Result<Option<Shape>, LinkFault>
     requires known { KnowsNames scope.now.names.now }
-    ensures { IfOk result (λ o. MatchOption o (has_parts (base_view base.now) ≡ true) (λ s.
-        (has_parts (base_view base.now) ≡ false)
+    ensures { IfOk result (λ o. MatchOption o (is_numbered (base_view base.now) ≡ true) (λ s.
+        (is_numbered (base_view base.now) ≡ false)
         × (shape_view s
         ≡ base_shape no_roots (scope_view more scope.now) (base_view base.now)))) }
 {
@@ -92,11 +92,11 @@ pub fn unit_shape(
         Base::Leaf(leaf) => Ok(Some(leaf_shape(scope.names.alloc, *leaf))),
         Base::Integer(_) => Ok(Some(integer_shape())),
         Base::BitString(_) => Ok(Some(Shape::Bits { fixed: None })),
-        Base::Enumerated { items, added } => Ok(Some(enumerated_shape(scope, items, added)?)),
         Base::Reference { module, name } => match find(scope, *module, *name) {
             Some(number) => Ok(Some(named_type(scope.names, more, number)?)),
             None => Ok(Some(no_values(scope.names.alloc))),
         },
+        Base::Enumerated { .. } => Ok(None),
         Base::Sequence(_) => Ok(None),
         Base::Set(_) => Ok(None),
         Base::SequenceOf(_) => Ok(None),

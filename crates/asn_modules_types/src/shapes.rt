@@ -7,7 +7,7 @@ ghost use Rattle.asn_modules_reader.specs.Views.{base_view, member_view};
 ghost use Rattle.asn_modules_types.specs.Known.{KnowsNames, known_parts, lists_view};
 ghost use Rattle.asn_modules_types.specs.Known.{parts_view, place_view, roots_view, scope_view};
 ghost use Rattle.asn_modules_types.specs.Known.{sources_of, tail_of};
-ghost use Rattle.asn_modules_types.specs.Linked.{has_parts, no_roots, type_roots};
+ghost use Rattle.asn_modules_types.specs.Linked.{is_numbered, no_roots, type_roots};
 ghost use Rattle.asn_modules_types.specs.Lists.{all_known, root_of};
 ghost use Rattle.asn_modules_types.specs.Types.{Roots, base_roots, base_shape};
 ghost use Rattle.asn_modules_types.specs.Types.{choice_shape, lists_of, members_shape};
@@ -18,8 +18,10 @@ ghost use Rattle.std.specs.Prelude.{true};
 
 use crate::allowance::{Allowance, Depth, take_type};
 use crate::assigned::{assigned_at, notation_of};
+use crate::copies::component_shape;
 use crate::defaults::presence_of;
 use crate::fault::LinkFault;
+use crate::leaves::enumerated_shape;
 use crate::limits::NAME_LIMIT;
 use crate::names::{Names, unit_shape};
 use crate::parts::{Lists, Part, Place, alternatives_of, fields_of};
@@ -105,22 +107,22 @@ fn base_shape_of(
             alloc,
             lists_of(scope, depth, left, SeqKind::Sequence, members)?,
         ),
-        Base::Leaf(_) => without_parts(scope, base),
-        Base::Integer(_) => without_parts(scope, base),
-        Base::BitString(_) => without_parts(scope, base),
-        Base::Enumerated { .. } => without_parts(scope, base),
-        Base::Reference { .. } => without_parts(scope, base),
+        Base::Enumerated { items, added } => Ok(enumerated_shape(scope, items, added)?),
+        Base::Leaf(_) => unnumbered_shape(scope, base),
+        Base::Integer(_) => unnumbered_shape(scope, base),
+        Base::BitString(_) => unnumbered_shape(scope, base),
+        Base::Reference { .. } => unnumbered_shape(scope, base),
     }
 }
 
-/// Returns the shape of a type without parts.
+/// Returns the shape of a type without parts and items.
 ///
 /// # Errors
 ///
 /// `OutOfMemory` alone.
-fn without_parts(scope: &Scope<'_, '_, '_>, base: &Base) -> Result<Shape, LinkFault>
+fn unnumbered_shape(scope: &Scope<'_, '_, '_>, base: &Base) -> Result<Shape, LinkFault>
     requires known { KnowsNames scope.now.names.now }
-    requires unit { has_parts (base_view base.now) ≡ false }
+    requires unit { is_numbered (base_view base.now) ≡ false }
     ensures { IfOk result (λ s. (roots : Roots) → shape_view s
         ≡ base_shape roots (scope_view NAME_LIMIT scope.now) (base_view base.now)) }
 {
@@ -388,7 +390,8 @@ fn part_of(
             notation,
             presence,
         } => {
-            let shape = shape_of(scope, depth, left, notation)?;
+            let stated = shape_of(scope, depth, left, notation)?;
+            let shape = component_shape(scope.names, *presence, stated)?;
             let Some(presence) = presence_of(scope, place.grouped, notation, &shape, *presence)?
             else {
                 return Ok(None);

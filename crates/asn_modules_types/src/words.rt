@@ -2,8 +2,9 @@
 ghost use Rattle.asn_modules_types.specs.Defaults.{is_verbatim, string_in};
 ghost use Rattle.asn_modules_types.specs.Scopes.{ascii_of, name_in};
 ghost use Rattle.std.specs.List.{list_all, slice_range};
-ghost use Rattle.std.specs.Prelude.{◌≡◌, ◌-◌, IfOk, length, nat_lt, option_map, string_bytes};
+ghost use Rattle.std.specs.Prelude.{◌≡◌, ◌-◌, IfOk, length, nat_le, nat_lt, option_map, string_bytes};
 
+use crate::limits::DEFAULT_STRING_LIMIT;
 use asn_lexer::Token;
 use asn_modules_faults::text_of;
 use std::alloc::{AllocError, Global};
@@ -76,8 +77,15 @@ fn are_verbatim(bytes: &[u8]) -> bool
     bytes.iter().all(|byte| is_verbatim(*byte))
 }
 
-/// Returns the characters of a string between its quotes, or `None` where a quote or the end of a
-/// line is among them.
+/// Returns whether the bytes are few enough for a DEFAULT.
+fn is_short(bytes: &[u8]) -> bool
+    ensures { result ≡ nat_le (length bytes.now) DEFAULT_STRING_LIMIT }
+{
+    bytes.len() <= DEFAULT_STRING_LIMIT
+}
+
+/// Returns the characters of a string between its quotes, or `None` where they take more bytes than
+/// the limit, or a quote or the end of a line is among them.
 ///
 /// # Errors
 ///
@@ -86,6 +94,9 @@ pub fn string_in(alloc: Global, text: &str, token: Token) -> Result<Option<Strin
     ensures { IfOk result (λ o. option_map string_bytes o ≡ string_in text.now token) }
 {
     let bytes = inner(text_of(text, token));
+    if !is_short(bytes) {
+        return Ok(None);
+    }
     if !are_verbatim(bytes) {
         return Ok(None);
     }

@@ -1,14 +1,13 @@
-use Rattle.std.proofs.Common.{◌≡◌, ◌≤◌, ◌+◌, ◌-◌, ◌∙◌, ◌∷◌, [], List, None, Option, Some, ap, arith, false, map, option_map, string_bytes, sym, true}
+use Rattle.std.proofs.Common.{◌≡◌, ◌+◌, ◌-◌, ◌∙◌, ◌∷◌, [], None, Some, ap, arith, map, option_map, string_bytes, sym}
 use Rattle.std.proofs.lemmas.Result.{IfOk-weaker}
 use Rattle.asn_model.specs.ShapeView.{kind_view, presence_view, shape_view}
 use Rattle.asn_modules_notation.specs.View.{component_view, notation_view}
-use Rattle.asn_modules_notation.specs.declared.notation.Notation.{out-Notation}
-use Rattle.asn_modules_reader.proofs.Viewing.{components_of_viewed, group_viewed, named_viewed, one_viewed, reference_viewed, sequence_viewed, set_viewed}
-use Rattle.asn_modules_reader.specs.Views.{base_view, member_view}
+use Rattle.asn_modules_reader.proofs.Viewing.{components_of_viewed, group_viewed, named_viewed, one_viewed}
+use Rattle.asn_modules_reader.specs.Views.{member_view}
 use Rattle.asn_modules_types.specs.Known.{assigned_view, known_parts, parts_view, part_view, place_view, roots_view, scope_view, sources_of}
 use Rattle.asn_modules_types.specs.Linked.{roots_of, scope_of}
 use Rattle.asn_modules_types.specs.Sizes.{sized}
-use Rattle.asn_modules_types.specs.Types.{Part, between_brackets, notation_roots, outside_brackets}
+use Rattle.asn_modules_types.specs.Types.{between_brackets, notation_roots, outside_brackets}
 use Rattle.asn_modules_types.specs.declared.limits.TheConstants.{NAME_LIMIT}
 use Rattle.asn_modules_types.proofs.Following.{follows_roots, roots_none}
 use Rattle.asn_modules_types.proofs.Seen.{included_known, notation_made, part_made, part_missed, roots_made}
@@ -149,7 +148,7 @@ part_of-returns-in_default-clause-parts t c =
     let s = scope_view NAME_LIMIT c.args.scope.now in
     let roots = roots_view c.args.depth.names c.args.scope.now in
     let n = c.in-Named in
-    part_missed roots s (place_view c.args.place) n.name (notation_view n.notation) n.presence (shape_view c.in_ok-shape-in-Named.shape) c.in_ok-shape-in-Named.ensures.shape
+    part_missed roots s (place_view c.args.place) n.name (notation_view n.notation) n.presence (shape_view c.in_ok-stated-in-Named.stated) (shape_view c.in_ok-shape-in-Named.shape) c.in_ok-stated-in-Named.ensures.shape c.in_ok-shape-in-Named.ensures
     (sym (ap (option_map presence_view) c.in_default.is) ∙ c.in_ok-presence-in-Named.ensures)
     ∙ ap (λ m. known_parts roots s (place_view c.args.place) (m ∷ [])) (sym (ap component_view n.is ∙ named_viewed n.name n.notation n.presence))
 
@@ -159,7 +158,7 @@ part_of-returns-in_ok-vec-in-Named-clause-parts t c =
     let roots = roots_view c.args.depth.names c.args.scope.now in
     let n = c.in-Named in
     ap (λ l. Some (map part_view l)) c.in_ok-vec-in-Named.ensures.items
-    ∙ part_made roots s (place_view c.args.place) n.name (notation_view n.notation) n.presence (shape_view c.in_ok-shape-in-Named.shape) c.in_ok-shape-in-Named.ensures.shape (string_bytes c.in_ok-name-in-Named.name) (presence_view c.in-Some.presence)
+    ∙ part_made roots s (place_view c.args.place) n.name (notation_view n.notation) n.presence (shape_view c.in_ok-stated-in-Named.stated) (shape_view c.in_ok-shape-in-Named.shape) c.in_ok-stated-in-Named.ensures.shape c.in_ok-shape-in-Named.ensures (string_bytes c.in_ok-name-in-Named.name) (presence_view c.in-Some.presence)
     (sym (ap (option_map presence_view) c.in-Some.is) ∙ c.in_ok-presence-in-Named.ensures) c.in_ok-name-in-Named.ensures
     ∙ ap (λ m. known_parts roots s (place_view c.args.place) (m ∷ [])) (sym (ap component_view n.is ∙ named_viewed n.name n.notation n.presence))
 

@@ -1,9 +1,9 @@
-use Rattle.std.proofs.Common.{◌≡◌, ◌∙◌}
+use Rattle.std.proofs.Common.{◌∙◌}
 use Rattle.asn_modules_reader.specs.Views.{base_view}
 use Rattle.asn_modules_types.specs.Known.{scope_view}
 use Rattle.asn_modules_types.specs.declared.limits.TheConstants.{NAME_LIMIT}
 use Rattle.asn_modules_types.proofs.Seen.{unit_same}
-use Rattle.asn_modules_types.proofs.shapes.without_parts.Goals as goal
+use Rattle.asn_modules_types.proofs.shapes.unnumbered_shape.Goals as goal
 
 pub returns-in-Some : goal.returns-in-Some
 returns-in-Some c =

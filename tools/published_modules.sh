@@ -1,7 +1,7 @@
 #!/bin/bash
 # Reads published ASN.1 modules, and converts values of their types.
 #
-# usage: tools/published_modules.sh [-u] [FOLDER]
+# usage: tools/published_modules.sh [-u | -w] [FOLDER]
 #
 # The program is $ASN, or else ./asn. The modules are those of Debian's source packages asn1c (UMTS
 # RRC, and its parser's tests), libtasn1-6 (PKIX) and heimdal (Kerberos, X.509, CMS and others). They
@@ -16,10 +16,12 @@
 # seconds of processor time, and values of its largest type are to be converted in 64 MB. The last
 # lines have the counts. The status is 1 where one of them isn't as it is expected, and 2 where a
 # package can't be had. -u is for a program that isn't proved, which is slow and takes much memory:
-# one value is made of each type, and neither time nor memory counts.
+# one value is made of each type, and neither time nor memory counts. -w takes the protocols of
+# Debian's source package wireshark in place of these, each of which is a folder of modules.
 set -u
-count=10
+count=10 wide=
 [ "${1-}" = -u ] && count=1 && shift
+[ "${1-}" = -w ] && wide=1 && shift
 tools=$(dirname -- "$(readlink -f -- "$0")")
 asn=$(readlink -f -- "${ASN:-$tools/../asn}")
 folder=${1:-$(mktemp -d)}
@@ -69,6 +71,16 @@ same() {
     echo "  $3 isn't the same: $(cat "$room/err")"
 }
 
+# Leaves out the values with a part whose type has none that is read, and says how many these are.
+leave_out() {
+    "$asn" convert "${modules[@]}" -t Trials.Trial --lines --from jer --to jer "$room/made" >"$room/out" 2>"$room/err"
+    sed -n "s|^$room/made:\([0-9]*\): .*: The type has no values that can be read\$|\1|p" "$room/err" >"$room/numbers"
+    [ -s "$room/numbers" ] || return
+    awk -v numbers="$room/numbers" 'BEGIN { while ((getline n <numbers) > 0) out[n] } !(NR in out)' "$room/made" >"$room/kept"
+    mv "$room/kept" "$room/made"
+    echo "  $(wc -l <"$room/numbers") values have a part whose type has none that is read"
+}
+
 # Converts random values of the types of these files, which are read together.
 values() {
     python3 "$tools/module_values.py" --count $count --trials "$room/trials.asn" "$@" >"$room/made" 2>"$room/unmade"
@@ -78,6 +90,7 @@ values() {
     for file; do
         modules+=(-m "$file")
     done
+    [ -z "$wide" ] || leave_out
     convert jer jer made json
     convert jer avn made notation
     convert jer jer json json-json
@@ -116,10 +129,35 @@ sys.exit(child.returncode or seconds > float(sys.argv[1]) or memory > float(sys.
 ' "$@" || [ $count = 1 ] || bad=$((bad + 1))
 }
 
+# Prints what is said of each protocol of Wireshark, and converts values of those that are read.
+protocols() {
+    local folder all=0 whole=0 types=0
+    for folder in wireshark-*/epan/dissectors/asn1/*/; do
+        files=("$folder"*.asn*)
+        [ -e "${files[0]}" ] || continue
+        all=$((all + 1))
+        if "$asn" check "${files[@]}" >"$room/out" 2>"$room/err"; then
+            echo "$folder: $(head -n 1 "$room/out"), $(($(wc -l <"$room/out") - 1)) parts without values"
+            whole=$((whole + 1))
+            types=$((types + $(head -n 1 "$room/out" | cut -d' ' -f1)))
+            values "${files[@]}"
+        else
+            echo "$folder: $(head -n 1 "$room/err")"
+        fi
+    done
+    echo "$whole of $all protocols are read whole, with $types types; $made values; $bad faults"
+    [ "$bad" = 0 ] && [ "$made" -gt 0 ]
+}
+
+made=0 bad=0
+if [ -n "$wide" ]; then
+    fetch wireshark wireshark
+    protocols
+    exit
+fi
 fetch asn1c asn1c
 fetch libtasn1 libtasn1-6
 fetch heimdal heimdal
-made=0 bad=0
 
 # The last of these isn't valid as it is published: it assigns id-at-name and X520name twice. A copy
 # without the second assignments is read.

@@ -1,12 +1,12 @@
 -- Imports that were read so far, and what is said of all of them.
-use Rattle.std.proofs.Common.{◌≡◌, ◌≤◌, ◌<◌, ℕ, suc, List, [], ◌∷◌, ◌++◌, map, Bool, true, false, ◌||◌, drop, length, length-drop, if◌then◌else◌, Option, Some, None, refl, sym, ap, subst, ◌∙◌, arith}
+use Rattle.std.proofs.Common.{◌≡◌, ◌≤◌, ◌<◌, ℕ, suc, List, [], ◌∷◌, ◌++◌, map, Bool, true, false, not, ◌&&◌, ◌||◌, drop, length, length-drop, if◌then◌else◌, Option, Some, None, refl, sym, ap, subst, ◌∙◌, arith}
 use Rattle.std.specs.Prelude.{IfSome}
 use Rattle.std.proofs.lemmas.List.{map-append}
-use Rattle.std.specs.Option.{option_map}
+use Rattle.std.specs.Option.{option_map, option_and_then}
 use Rattle.asn_lexer.specs.declared.token.Token.{Token}
 use Rattle.asn_headers.specs.Fronts.{first_is, is_name}
 use Rattle.asn_headers.specs.Groups.{opens, closes, past_groups, past_optional_braces}
-use Rattle.asn_headers.specs.Headers.{names_at, from_at, names_from, import_at, ImportsReach, reaches_here, reaches_next, ImportsParse, no_imports, imports_parse}
+use Rattle.asn_headers.specs.Headers.{names_at, past_identifier, past_selection, follows_imported, from_at, names_from, import_at, ImportsReach, reaches_here, reaches_next, ImportsParse, no_imports, imports_parse}
 use Rattle.asn_headers.specs.Marks.{is_mark}
 use Rattle.asn_headers.specs.Views.{import_view}
 use Rattle.asn_headers.specs.declared.group.Group.{Group}
@@ -43,6 +43,28 @@ optional_le : (u : List Token) → AtMost (length u) (past_optional_braces u)
 optional_le [] = omega arith
 optional_le (t ∷ u) = chosen (AtMost (suc (length u))) (opens Braces t.kind) _ _ (more _ (past_groups (Braces ∷ []) u) (groups_le (Braces ∷ []) u)) (omega arith)
 
+-- None are added behind an identifier, or behind WITH.
+wider : (n m : ℕ) (o : Option (List Token)) → n ≤ m → AtMost n o → AtMost m o
+wider n m None l h = tt
+wider n m (Some v) l h = omega (arith, l, h)
+
+identifier_le : (u : List Token) → AtMost (length u) (past_identifier u)
+identifier_le u =
+    chosen (AtMost (length u)) (first_is is_name u && not (first_is follows_imported (drop 1 u))) (Some (drop 1 u)) (past_optional_braces u)
+    (omega (arith, length-drop 1 u)) (optional_le u)
+
+selection_le : (u : List Token) → AtMost (length u) (past_selection u)
+selection_le u =
+    let P : Option (List Token) → Type 0 = AtMost (length u) in
+    chosen P (first_is (is_mark mark.With) u) _ (Some u)
+    (chosen P (first_is (is_mark mark.Successors) (drop 1 u) || first_is (is_mark mark.Descendants) (drop 1 u)) (Some (drop 1 (drop 1 u))) None
+    (omega (arith, length-drop 1 u, length-drop 1 (drop 1 u))) tt)
+    (omega arith)
+
+selected_le : (n : ℕ) (o : Option (List Token)) → AtMost n o → AtMost n (option_and_then past_selection o)
+selected_le n None h = tt
+selected_le n (Some v) h = wider (length v) n (past_selection v) h (selection_le v)
+
 mapped : {A B : Type 0} (n m : ℕ) (f : A → B) (o : Option (A × List Token)) → n ≤ m → Below n o → Below m (option_map (λ p. (f p.0, p.1)) o)
 mapped n m f None l h = tt
 mapped n m f (Some p) l h = omega (arith, l, h)
@@ -56,7 +78,7 @@ names_lt (t ∷ c ∷ u) =
 
 from_lt : (ns : List Token) (n : ℕ) (u : List Token) → length u < n → Below {A = List Token × Token} n (from_at ns u)
 from_lt ns n [] l = tt
-from_lt ns n (t ∷ u) l = chosen (Below {A = List Token × Token} n) (is_name t.kind) _ None (kept (past_optional_braces u) (optional_le u)) tt
+from_lt ns n (t ∷ u) l = chosen (Below {A = List Token × Token} n) (is_name t.kind) _ None (kept (option_and_then past_selection (past_identifier u)) (selected_le _ (past_identifier u) (identifier_le u))) tt
   where
     kept : (o : Option (List Token)) → AtMost (length u) o → Below {A = List Token × Token} n (option_map (λ v. ((ns, t), v)) o)
     kept None h = tt

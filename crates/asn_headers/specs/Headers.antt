@@ -1,5 +1,5 @@
 -- What stands in a module before its assignments (X.680, section 13).
-use Rattle.std.specs.Prelude.{◌≡◌, List, [], ◌∷◌, drop, Bool, true, false, ◌&&◌, if◌then◌else◌, Option, Some, None}
+use Rattle.std.specs.Prelude.{◌≡◌, List, [], ◌∷◌, drop, Bool, true, false, not, ◌&&◌, ◌||◌, if◌then◌else◌, Option, Some, None}
 use Rattle.std.specs.Option.{option_map, option_and_then}
 use Rattle.asn_lexer.specs.declared.keyword.Keyword.TheVariants as keyword
 use Rattle.asn_lexer.specs.declared.kind.Kind.{Kind}
@@ -8,8 +8,9 @@ use Rattle.asn_lexer.specs.declared.token.Token.{Token}
 use Rattle.asn_headers.specs.declared.tagging.Tagging.{Tagging}
 use Rattle.asn_headers.specs.declared.tagging.Tagging.TheVariants as tagging
 use Rattle.asn_headers.specs.Fronts.{first_is, is_name}
+use Rattle.asn_headers.specs.declared.group.Group.TheVariants.{Braces}
 use Rattle.asn_headers.specs.declared.opening.Opening.{Opening}
-use Rattle.asn_headers.specs.Groups.{past_optional_braces}
+use Rattle.asn_headers.specs.Groups.{opens, past_optional_braces}
 use Rattle.asn_headers.specs.Marks.{is_mark}
 use Rattle.asn_headers.specs.declared.mark.Mark.TheVariants as mark
 
@@ -78,10 +79,25 @@ exported_at u =
 abbrev pub exports_at : List Token → Option (Option (List Token) × List Token)
 exports_at u = if first_is (is_mark mark.Exports) u then exported_at (drop 1 u) else Some (None, u)
 
+-- Behind one of the names that are imported stands a comma or FROM, or parameters, which aren't read.
+abbrev pub follows_imported : Kind → Bool
+follows_imported k = is_mark mark.Comma k || (is_mark mark.From k || opens Braces k)
+
+-- What follows the optional identifier of a module: the name of a value, which is none of the names that are imported next, or a group in braces.
+abbrev pub past_identifier : List Token → Option (List Token)
+past_identifier u = if first_is is_name u && not (first_is follows_imported (drop 1 u)) then Some (drop 1 u) else past_optional_braces u
+
+-- What follows WITH SUCCESSORS or WITH DESCENDANTS, if one of them stands here.
+abbrev pub past_selection : List Token → Option (List Token)
+past_selection u =
+    if first_is (is_mark mark.With) u then
+        (if first_is (is_mark mark.Successors) (drop 1 u) || first_is (is_mark mark.Descendants) (drop 1 u) then Some (drop 1 (drop 1 u)) else None)
+    else Some u
+
 -- The module that names are imported from, and what follows it.
 abbrev pub from_at : List Token → List Token → Option ((List Token × Token) × List Token)
 from_at names [] = None
-from_at names (t ∷ u) = if is_name t.kind then option_map (λ v. ((names, t), v)) (past_optional_braces u) else None
+from_at names (t ∷ u) = if is_name t.kind then option_map (λ v. ((names, t), v)) (option_and_then past_selection (past_identifier u)) else None
 
 abbrev pub names_from : Option (List Token × List Token) → Option ((List Token × Token) × List Token)
 names_from None = None

@@ -27,6 +27,8 @@ pub enum Expected {
     CommaOrSemicolon,
     /// `,` or `FROM`.
     CommaOrFrom,
+    /// `SUCCESSORS` or `DESCENDANTS`.
+    Selection,
     /// A number.
     Number,
     /// A number or a name.

@@ -1,6 +1,7 @@
 //! Reads what a module imports.
-ghost use Rattle.asn_headers.specs.Fronts.{Answers, IsSyntax};
-ghost use Rattle.asn_headers.specs.Headers.{ImportsParse, import_at};
+ghost use Rattle.asn_headers.specs.Fronts.{Answers, AnswersRest, IsSyntax};
+ghost use Rattle.asn_headers.specs.Headers.{ImportsParse, follows_imported, import_at};
+ghost use Rattle.asn_headers.specs.Headers.{past_identifier, past_selection};
 ghost use Rattle.asn_headers.specs.Views.{import_view};
 ghost use Rattle.asn_lexer.specs.declared.token.Token.{Token};
 ghost use Rattle.std.specs.Prelude.{◌≡◌, IfErr, IfOk, List, map};
@@ -9,7 +10,7 @@ use crate::fault::{Expected, SyntaxFault, unexpected};
 use crate::group::past_optional_braces;
 use crate::mark::{Mark, take_mark};
 use crate::name::{read_names, take_name};
-use asn_lexer::Token;
+use asn_lexer::{Keyword, Kind, Token};
 use std::alloc::Global;
 
 /// Holds names that are imported from a module.
@@ -21,12 +22,61 @@ pub struct Import {
     pub module: Token,
 }
 
+/// Returns whether a token of the kind shows that the name before it is one of those that are
+/// imported. A brace begins parameters.
+fn follows_imported(kind: Kind) -> bool
+    ensures { result ≡ follows_imported kind }
+{
+    matches!(
+        kind,
+        Kind::Comma | Kind::Reserved(Keyword::From) | Kind::OpenBrace
+    )
+}
+
+/// Returns what follows the optional identifier of a module: the name of a value, which is none of
+/// the names that are imported next, or a group in braces.
+///
+/// # Errors
+///
+/// `Unexpected` where a brace isn't closed, and `OutOfMemory`.
+fn past_identifier(alloc: Global, tokens: &[Token]) -> Result<&[Token], SyntaxFault>
+    ensures { AnswersRest (past_identifier tokens.now) result }
+{
+    let Some((_name, rest)) = take_name(tokens) else {
+        return past_optional_braces(alloc, tokens);
+    };
+    match rest {
+        [next, ..] if follows_imported(next.kind) => Ok(tokens),
+        _ => Ok(rest),
+    }
+}
+
+/// Returns what follows `WITH SUCCESSORS` or `WITH DESCENDANTS`, if one of them stands here.
+///
+/// # Errors
+///
+/// `Unexpected` where another token stands behind `WITH`.
+fn past_selection(tokens: &[Token]) -> Result<&[Token], SyntaxFault>
+    ensures { AnswersRest (past_selection tokens.now) result }
+{
+    let Some(behind) = take_mark(Mark::With, tokens) else {
+        return Ok(tokens);
+    };
+    if let Some(rest) = take_mark(Mark::Successors, behind) {
+        return Ok(rest);
+    }
+    match take_mark(Mark::Descendants, behind) {
+        Some(rest) => Ok(rest),
+        None => Err(unexpected(behind, Expected::Selection)),
+    }
+}
+
 /// Returns names and the module that they are imported from, and what follows them.
 ///
 /// # Errors
 ///
-/// `Unexpected` where no name or `FROM` stands where one has to, or a brace isn't closed, and
-/// `OutOfMemory`.
+/// `Unexpected` where no name or `FROM` stands where one has to, a brace isn't closed, or another
+/// word than `SUCCESSORS` and `DESCENDANTS` stands behind `WITH`, and `OutOfMemory`.
 fn read_import(alloc: Global, tokens: &[Token]) -> Result<(Import, &[Token]), SyntaxFault>
     ensures { Answers import_view (import_at tokens.now) result }
 {
@@ -37,7 +87,8 @@ fn read_import(alloc: Global, tokens: &[Token]) -> Result<(Import, &[Token]), Sy
     let Some((module, after)) = take_name(rest) else {
         return Err(unexpected(rest, Expected::Name));
     };
-    let rest = past_optional_braces(alloc, after)?;
+    let identified = past_identifier(alloc, after)?;
+    let rest = past_selection(identified)?;
     Ok((Import { names, module }, rest))
 }
 

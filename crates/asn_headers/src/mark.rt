@@ -16,6 +16,12 @@ pub(crate) enum Mark {
     Imports,
     /// Is `FROM`.
     From,
+    /// Is `WITH`.
+    With,
+    /// Is `SUCCESSORS`.
+    Successors,
+    /// Is `DESCENDANTS`.
+    Descendants,
     /// Is `DEFINITIONS`.
     Definitions,
     /// Is `::=`.
@@ -37,6 +43,9 @@ fn is_mark(mark: Mark, kind: Kind) -> bool
         Mark::All => matches!(kind, Kind::Reserved(Keyword::All)),
         Mark::Imports => matches!(kind, Kind::Reserved(Keyword::Imports)),
         Mark::From => matches!(kind, Kind::Reserved(Keyword::From)),
+        Mark::With => matches!(kind, Kind::Reserved(Keyword::With)),
+        Mark::Successors => matches!(kind, Kind::Reserved(Keyword::Successors)),
+        Mark::Descendants => matches!(kind, Kind::Reserved(Keyword::Descendants)),
         Mark::Definitions => matches!(kind, Kind::Reserved(Keyword::Definitions)),
         Mark::Assignment => matches!(kind, Kind::Assignment),
         Mark::Begin => matches!(kind, Kind::Reserved(Keyword::Begin)),

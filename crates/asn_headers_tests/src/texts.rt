@@ -34,13 +34,34 @@ fn reads_a_whole_header(rt: HostRuntime) -> Result<(), Fail> {
 }
 
 /// Lists headers with the number of their exported names, or 99 for all, and of their imports.
-const HEADERS: [(&str, usize, usize); 5] = [
+const HEADERS: [(&str, usize, usize); 9] = [
     ("M DEFINITIONS ::= BEGIN", 99, 0),
     ("M DEFINITIONS EXPLICIT TAGS ::= BEGIN EXPORTS ALL;", 99, 0),
     ("M DEFINITIONS ::= BEGIN EXPORTS ;", 0, 0),
     ("M DEFINITIONS ::= BEGIN IMPORTS ;", 99, 0),
     (
         "M {} DEFINITIONS ::= BEGIN IMPORTS a FROM N b FROM N;",
+        99,
+        2,
+    ),
+    // A name behind that of a module is of a value that identifies it, or the first of the next.
+    (
+        "M DEFINITIONS ::= BEGIN IMPORTS a FROM N n b FROM O o;",
+        99,
+        2,
+    ),
+    (
+        "M DEFINITIONS ::= BEGIN IMPORTS a FROM N b, c FROM O;",
+        99,
+        2,
+    ),
+    (
+        "M DEFINITIONS ::= BEGIN IMPORTS a FROM N {1 2} WITH SUCCESSORS b FROM O n WITH DESCENDANTS;",
+        99,
+        2,
+    ),
+    (
+        "M DEFINITIONS ::= BEGIN IMPORTS a FROM N WITH SUCCESSORS b, c FROM O;",
         99,
         2,
     ),
@@ -70,7 +91,7 @@ fn reads_headers(rt: HostRuntime) -> Result<(), Fail> {
 }
 
 /// Lists texts that are refused, with the places of the tokens that fit nothing, or 99 for the end.
-const REFUSED: [(&str, usize); 12] = [
+const REFUSED: [(&str, usize); 16] = [
     ("", 99),
     ("DEFINITIONS ::= BEGIN", 0),
     ("M ::= BEGIN", 2),
@@ -83,6 +104,10 @@ const REFUSED: [(&str, usize); 12] = [
     ("M DEFINITIONS ::= BEGIN IMPORTS a", 99),
     ("M DEFINITIONS ::= BEGIN IMPORTS a FROM ;", 39),
     ("M DEFINITIONS ::= BEGIN IMPORTS a N;", 34),
+    ("M DEFINITIONS ::= BEGIN IMPORTS a FROM N n o;", 44),
+    ("M DEFINITIONS ::= BEGIN IMPORTS a FROM N n {};", 43),
+    ("M DEFINITIONS ::= BEGIN IMPORTS a FROM N WITH n;", 46),
+    ("M DEFINITIONS ::= BEGIN IMPORTS WITH FROM N;", 32),
 ];
 
 /// Compares the place of the token that the fault names.

@@ -11,7 +11,8 @@ header_words =
     (codes "DEFINITIONS", keyword.Definitions) ∷ (codes "EXPLICIT", keyword.Explicit) ∷ (codes "IMPLICIT", keyword.Implicit) ∷ (codes "AUTOMATIC", keyword.Automatic)
     ∷ (codes "TAGS", keyword.Tags) ∷ (codes "EXTENSIBILITY", keyword.Extensibility) ∷ (codes "IMPLIED", keyword.Implied) ∷ (codes "BEGIN", keyword.Begin)
     ∷ (codes "END", keyword.End) ∷ (codes "EXPORTS", keyword.Exports) ∷ (codes "ALL", keyword.All) ∷ (codes "IMPORTS", keyword.Imports)
-    ∷ (codes "FROM", keyword.From) ∷ (codes "MACRO", keyword.Macro) ∷ (codes "CLASS", keyword.Class) ∷ (codes "INSTANCE", keyword.Instance) ∷ []
+    ∷ (codes "FROM", keyword.From) ∷ (codes "WITH", keyword.With) ∷ (codes "SUCCESSORS", keyword.Successors) ∷ (codes "DESCENDANTS", keyword.Descendants)
+    ∷ (codes "MACRO", keyword.Macro) ∷ (codes "CLASS", keyword.Class) ∷ (codes "INSTANCE", keyword.Instance) ∷ []
 
 -- Those within types.
 abbrev pub part_words : List (List ℕ × Keyword)

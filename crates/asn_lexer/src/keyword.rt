@@ -33,6 +33,12 @@ pub enum Keyword {
     Imports,
     /// Is `FROM`.
     From,
+    /// Is `WITH`.
+    With,
+    /// Is `SUCCESSORS`.
+    Successors,
+    /// Is `DESCENDANTS`.
+    Descendants,
     /// Is `MACRO`.
     Macro,
     /// Is `CLASS`.
@@ -159,6 +165,9 @@ fn header_word(text: &str) -> Option<Keyword>
         "ALL" => Some(Keyword::All),
         "IMPORTS" => Some(Keyword::Imports),
         "FROM" => Some(Keyword::From),
+        "WITH" => Some(Keyword::With),
+        "SUCCESSORS" => Some(Keyword::Successors),
+        "DESCENDANTS" => Some(Keyword::Descendants),
         "MACRO" => Some(Keyword::Macro),
         "CLASS" => Some(Keyword::Class),
         "INSTANCE" => Some(Keyword::Instance),

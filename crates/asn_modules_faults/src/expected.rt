@@ -18,6 +18,7 @@ pub(crate) fn expected_words(expected: Expected) -> &'static str
         Expected::Begin => "BEGIN",
         Expected::CommaOrSemicolon => "`,` or `;`",
         Expected::CommaOrFrom => "`,` or FROM",
+        Expected::Selection => "SUCCESSORS or DESCENDANTS",
         Expected::Number => "a number",
         Expected::NumberOrName => "a number or a name",
         Expected::Word => "an identifier",

@@ -91,7 +91,7 @@ past_identifier u = if first_is is_name u && not (first_is follows_imported (dro
 abbrev pub past_selection : List Token → Option (List Token)
 past_selection u =
     if first_is (is_mark mark.With) u then
-        (if first_is (is_mark mark.Successors) (drop 1 u) || first_is (is_mark mark.Descendants) (drop 1 u) then Some (drop 1 (drop 1 u)) else None)
+    (if first_is (is_mark mark.Successors) (drop 1 u) || first_is (is_mark mark.Descendants) (drop 1 u) then Some (drop 1 (drop 1 u)) else None)
     else Some u
 
 -- The module that names are imported from, and what follows it.

@@ -52,7 +52,7 @@ fn push_entries(
         if entry > 0 {
             text.push_str(", ")?;
         }
-        write!(text, "{LONG}{}{behind}", 10_000 + entry)?;
+        write!(text, "{LONG}{entry:05}{behind}")?;
     }
     text.push_str(closing)?;
     Ok(())

@@ -17,8 +17,8 @@ pub const DEFAULT_STRING_LIMIT: usize = 1_024;
 
 /// Limits the types that COMPONENTS OF includes in those of all texts, with what stands within: no
 /// more than these are let through by `asn_modules_included`.
-pub const INCLUDED_LIMIT: usize =
-    asn_modules_included::INCLUDED_SIZE_LIMIT / asn_modules_included::TYPE_SIZE;
+pub const INCLUDED_LIMIT: usize = asn_modules_included::INCLUDED_SIZE_LIMIT
+    / asn_modules_included::TYPE_SIZE;
 
 /// Limits the levels to which types, and names behind COMPONENTS OF, nest: those of a text, and
 /// below them those of what COMPONENTS OF includes.

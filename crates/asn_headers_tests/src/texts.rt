@@ -56,7 +56,8 @@ const HEADERS: [(&str, usize, usize); 9] = [
         2,
     ),
     (
-        "M DEFINITIONS ::= BEGIN IMPORTS a FROM N {1 2} WITH SUCCESSORS b FROM O n WITH DESCENDANTS;",
+        "M DEFINITIONS ::= BEGIN IMPORTS a FROM N {1 2} WITH SUCCESSORS b FROM O n \
+WITH DESCENDANTS;",
         99,
         2,
     ),

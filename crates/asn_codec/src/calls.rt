@@ -20,10 +20,10 @@ use crate::refusals::{CodecRefusal, decode_refusal, encode_refusal};
 use asn_core::Codec;
 use asn_fault::{DecodeError, EncodeError};
 use asn_traits::{Decode, Encode};
-use asn_utf8::from_utf8;
 use avn_grammar::limits::{GREATEST_LEVEL_LIMIT, LEVEL_LIMIT};
 use avn_rules::avn;
 use jer_rules::jer;
+use simdutf8::basic::from_utf8;
 use std::alloc::Global;
 
 /// Provides the calls of a codec.

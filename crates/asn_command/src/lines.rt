@@ -11,8 +11,8 @@ use asn_core::{Codec, OutOfMemory};
 use asn_dynamic::{Part, convert_part};
 use asn_lines::{LineReply, LineWork};
 use asn_replies::with_feed;
-use asn_utf8::from_utf8;
 use asn_value_refusals::{Origin, not_text_line, origin_of};
+use simdutf8::basic::from_utf8;
 use std::alloc::Global;
 
 /// Converts lines of a stream, each a text of a value.

@@ -8,8 +8,8 @@ use asn_core::{Codec, OutOfMemory};
 use asn_filter::cut;
 use asn_lines::{LineReply, LineWork};
 use asn_replies::with_feed;
-use asn_utf8::from_utf8;
 use asn_value_refusals::{Origin, not_text_line, refusal_lines};
+use simdutf8::basic::from_utf8;
 use std::alloc::Global;
 
 /// Cuts lines of a stream, each a text of the newer version of a type.

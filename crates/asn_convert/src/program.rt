@@ -34,8 +34,8 @@ use asn_module_reports::{Reply, growth_reply, printing_reply};
 use asn_samples::{Sample, SampleVisitor};
 use asn_streams::{Sink, Source, Stopped, read_to_end, write_all};
 use asn_traits::{Decode, Encode};
-use asn_utf8::from_utf8;
 use avn_grammar::limits::LEVEL_LIMIT;
+use simdutf8::basic::from_utf8;
 use std::alloc::Global;
 
 /// Reads the whole input, and writes the canonical text of the value that its text decodes to; or

@@ -6,7 +6,7 @@ use Rattle.std.specs.Option.{option_map, option_and_then}
 use Rattle.asn_lexer.specs.declared.token.Token.{Token}
 use Rattle.asn_headers.specs.Fronts.{first_is, is_name}
 use Rattle.asn_headers.specs.Groups.{opens, closes, past_groups, past_optional_braces}
-use Rattle.asn_headers.specs.Headers.{names_at, past_identifier, past_selection, follows_imported, from_at, names_from, import_at, ImportsReach, reaches_here, reaches_next, ImportsParse, no_imports, imports_parse}
+use Rattle.asn_headers.specs.Headers.{names_at, names_from, names_past, names_behind, past_identifier, past_selection, follows_imported, from_at, names_from_module, import_at, ImportsReach, reaches_here, reaches_next, ImportsParse, no_imports, imports_parse}
 use Rattle.asn_headers.specs.Marks.{is_mark}
 use Rattle.asn_headers.specs.Views.{import_view}
 use Rattle.asn_headers.specs.declared.group.Group.{Group}
@@ -19,10 +19,10 @@ chosen : {A : Type 0} (P : A → Type 0) (b : Bool) (x y : A) → P x → P y �
 chosen P true x y p q = p
 chosen P false x y p q = q
 
-abbrev AtMost : ℕ → Option (List Token) → Type 0
+abbrev pub AtMost : ℕ → Option (List Token) → Type 0
 AtMost n o = IfSome o (λ v. length v ≤ n)
 
-abbrev Below : {A : Type 0} → ℕ → Option (A × List Token) → Type 0
+abbrev pub Below : {A : Type 0} → ℕ → Option (A × List Token) → Type 0
 Below n o = IfSome o (λ p. length p.1 < n)
 
 more : (n : ℕ) (o : Option (List Token)) → AtMost n o → AtMost (suc n) o
@@ -39,7 +39,7 @@ groups_le (g ∷ gs) (t ∷ u) =
     (chosen P (closes g t.kind) _ _ (more _ (past_groups gs u) (groups_le gs u))
     (chosen P (closes Braces t.kind || closes Parens t.kind) _ _ tt (more _ (past_groups (g ∷ gs) u) (groups_le (g ∷ gs) u)))))
 
-optional_le : (u : List Token) → AtMost (length u) (past_optional_braces u)
+pub optional_le : (u : List Token) → AtMost (length u) (past_optional_braces u)
 optional_le [] = omega arith
 optional_le (t ∷ u) = chosen (AtMost (suc (length u))) (opens Braces t.kind) _ _ (more _ (past_groups (Braces ∷ []) u) (groups_le (Braces ∷ []) u)) (omega arith)
 
@@ -69,12 +69,29 @@ mapped : {A B : Type 0} (n m : ℕ) (f : A → B) (o : Option (A × List Token))
 mapped n m f None l h = tt
 mapped n m f (Some p) l h = omega (arith, l, h)
 
-names_lt : (u : List Token) → Below (length u) (names_at u)
-names_lt [] = tt
-names_lt (t ∷ []) = chosen (Below 1) (is_name t.kind) (Some (t ∷ [], [])) None (omega arith) tt
-names_lt (t ∷ c ∷ u) =
-    let P : Option (List Token × List Token) → Type 0 = Below (suc (suc (length u))) in
-    chosen P (is_name t.kind) _ None (chosen P (is_mark mark.Comma c.kind) _ (Some (t ∷ [], c ∷ u)) (mapped (length u) _ (λ ns. t ∷ ns) (names_at u) (omega arith) (names_lt u)) (omega arith)) tt
+-- A wider bound holds too.
+below_more : {A : Type 0} (n : ℕ) (o : Option (A × List Token)) → Below n o → Below (suc (suc n)) o
+below_more n None h = tt
+below_more n (Some p) h = omega (arith, h)
+
+mutual
+  pub names_lt : (u : List Token) → Below (length u) (names_at u)
+  names_lt [] = tt
+  names_lt (t ∷ u) = chosen (Below (suc (length u))) (is_name t.kind) _ None (from_le t u) tt
+
+  from_le : (t : Token) (u : List Token) → Below (suc (length u)) (names_from t u)
+  from_le t [] = omega arith
+  from_le t (c ∷ u) =
+      let P : Option (List Token × List Token) → Type 0 = Below (suc (suc (length u))) in
+      chosen P (opens Braces c.kind) _ _ (past_le t u) (chosen P (is_mark mark.Comma c.kind) _ (Some (t ∷ [], c ∷ u)) (mapped (length u) _ (λ ns. t ∷ ns) (names_at u) (omega arith) (names_lt u)) (omega arith))
+
+  past_le : (t : Token) (u : List Token) → Below (suc (suc (length u))) (names_past t u)
+  past_le t [] = tt
+  past_le t (c ∷ u) = chosen (Below (suc (suc (suc (length u))))) (closes Braces c.kind) _ None (below_more _ (names_behind t u) (behind_le t u)) tt
+
+  behind_le : (t : Token) (u : List Token) → Below (suc (length u)) (names_behind t u)
+  behind_le t [] = omega arith
+  behind_le t (c ∷ u) = chosen (Below (suc (suc (length u)))) (is_mark mark.Comma c.kind) _ (Some (t ∷ [], c ∷ u)) (mapped (length u) _ (λ ns. t ∷ ns) (names_at u) (omega arith) (names_lt u)) (omega arith)
 
 from_lt : (ns : List Token) (n : ℕ) (u : List Token) → length u < n → Below {A = List Token × Token} n (from_at ns u)
 from_lt ns n [] l = tt
@@ -84,7 +101,7 @@ from_lt ns n (t ∷ u) l = chosen (Below {A = List Token × Token} n) (is_name t
     kept None h = tt
     kept (Some v) h = omega (arith, l, h)
 
-behind_lt : (n : ℕ) (o : Option (List Token × List Token)) → Below n o → Below n (names_from o)
+behind_lt : (n : ℕ) (o : Option (List Token × List Token)) → Below n o → Below n (names_from_module o)
 behind_lt n None h = tt
 behind_lt n (Some p) h = chosen (Below n) (first_is (is_mark mark.From) p.1) (from_at p.0 (drop 1 p.1)) None (from_lt p.0 n (drop 1 p.1) (omega (arith, length-drop 1 p.1, h))) tt
 

@@ -10,16 +10,43 @@ use Rattle.asn_headers.specs.declared.tagging.Tagging.TheVariants as tagging
 use Rattle.asn_headers.specs.Fronts.{first_is, is_name}
 use Rattle.asn_headers.specs.declared.group.Group.TheVariants.{Braces}
 use Rattle.asn_headers.specs.declared.opening.Opening.{Opening}
-use Rattle.asn_headers.specs.Groups.{opens, past_optional_braces}
+use Rattle.asn_headers.specs.Groups.{opens, closes, past_optional_braces}
 use Rattle.asn_headers.specs.Marks.{is_mark}
 use Rattle.asn_headers.specs.declared.mark.Mark.TheVariants as mark
 
--- Names with commas between them, and what follows them.
-abbrev pub names_at : List Token → Option (List Token × List Token)
-names_at [] = None
-names_at (t ∷ []) = if is_name t.kind then Some (t ∷ [], []) else None
-names_at (t ∷ c ∷ u) =
-    if is_name t.kind then (if is_mark mark.Comma c.kind then option_map (λ p. (t ∷ p.0, p.1)) (names_at u) else Some (t ∷ [], c ∷ u)) else None
+-- What follows a closing brace that stands here.
+abbrev pub closed_here : List Token → Option (List Token)
+closed_here [] = None
+closed_here (t ∷ u) = if closes Braces t.kind then Some u else None
+
+-- What follows optional braces that nothing stands in.
+abbrev pub past_empty_braces : List Token → Option (List Token)
+past_empty_braces [] = Some []
+past_empty_braces (t ∷ u) = if opens Braces t.kind then closed_here u else Some (t ∷ u)
+
+abbrev mutual
+  -- Names with commas between them, and what follows them. Behind each, empty braces may stand.
+  pub names_at : List Token → Option (List Token × List Token)
+  names_at [] = None
+  names_at (t ∷ u) = if is_name t.kind then names_from t u else None
+
+  -- The names from this one on, which tokens follow.
+  pub names_from : Token → List Token → Option (List Token × List Token)
+  names_from t [] = Some (t ∷ [], [])
+  names_from t (c ∷ u) =
+      if opens Braces c.kind then names_past t u
+      else if is_mark mark.Comma c.kind then option_map (λ p. (t ∷ p.0, p.1)) (names_at u)
+      else Some (t ∷ [], c ∷ u)
+
+  -- So behind an opening brace.
+  pub names_past : Token → List Token → Option (List Token × List Token)
+  names_past t [] = None
+  names_past t (c ∷ u) = if closes Braces c.kind then names_behind t u else None
+
+  -- So behind the braces.
+  pub names_behind : Token → List Token → Option (List Token × List Token)
+  names_behind t [] = Some (t ∷ [], [])
+  names_behind t (c ∷ u) = if is_mark mark.Comma c.kind then option_map (λ p. (t ∷ p.0, p.1)) (names_at u) else Some (t ∷ [], c ∷ u)
 
 -- The tagging that a reserved word begins.
 abbrev pub tagging_of : Kind → Option Tagging
@@ -79,7 +106,7 @@ exported_at u =
 abbrev pub exports_at : List Token → Option (Option (List Token) × List Token)
 exports_at u = if first_is (is_mark mark.Exports) u then exported_at (drop 1 u) else Some (None, u)
 
--- Behind one of the names that are imported stands a comma or FROM, or parameters, which aren't read.
+-- Behind one of the names that are imported stands a comma, FROM or a brace.
 abbrev pub follows_imported : Kind → Bool
 follows_imported k = is_mark mark.Comma k || (is_mark mark.From k || opens Braces k)
 
@@ -99,13 +126,13 @@ abbrev pub from_at : List Token → List Token → Option ((List Token × Token)
 from_at names [] = None
 from_at names (t ∷ u) = if is_name t.kind then option_map (λ v. ((names, t), v)) (option_and_then past_selection (past_identifier u)) else None
 
-abbrev pub names_from : Option (List Token × List Token) → Option ((List Token × Token) × List Token)
-names_from None = None
-names_from (Some p) = if first_is (is_mark mark.From) p.1 then from_at p.0 (drop 1 p.1) else None
+abbrev pub names_from_module : Option (List Token × List Token) → Option ((List Token × Token) × List Token)
+names_from_module None = None
+names_from_module (Some p) = if first_is (is_mark mark.From) p.1 then from_at p.0 (drop 1 p.1) else None
 
 -- Names and the module that they are imported from, and what follows them.
 abbrev pub import_at : List Token → Option ((List Token × Token) × List Token)
-import_at u = names_from (names_at u)
+import_at u = names_from_module (names_at u)
 
 -- From u these imports stand up to v, none of which begins with a semicolon.
 pub data ImportsReach : List Token → List (List Token × Token) → List Token → Type 0 where

@@ -63,6 +63,8 @@ pub enum Expected {
     Pdv,
     /// `BY`.
     By,
+    /// `SYNTAX`.
+    Syntax,
     /// A type.
     Type,
     /// A type at a level that types may stand at.

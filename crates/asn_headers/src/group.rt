@@ -17,7 +17,7 @@ pub enum Group {
 }
 
 /// Returns whether a token of the kind opens the group.
-fn opens(group: Group, kind: Kind) -> bool
+pub(crate) fn opens(group: Group, kind: Kind) -> bool
     ensures { result ≡ opens group kind }
 {
     match group {
@@ -27,7 +27,7 @@ fn opens(group: Group, kind: Kind) -> bool
 }
 
 /// Returns whether a token of the kind closes the group.
-fn closes(group: Group, kind: Kind) -> bool
+pub(crate) fn closes(group: Group, kind: Kind) -> bool
     ensures { result ≡ closes group kind }
 {
     match group {

@@ -18,5 +18,6 @@ pub use fault::{Expected, SyntaxFault, unexpected};
 pub use group::{Group, past_group, past_optional_braces};
 pub use header::{Header, read_header};
 pub use import::Import;
+pub use name::read_names;
 pub use opening::Opening;
 pub use tagging::Tagging;

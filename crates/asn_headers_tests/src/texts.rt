@@ -11,7 +11,7 @@ fn text_of<'a>(text: &'a str, token: &Token) -> &'a str {
 
 /// Is a module with all parts of a header.
 const WHOLE: &str = "M { iso (1) {2} } DEFINITIONS AUTOMATIC TAGS EXTENSIBILITY IMPLIED ::= BEGIN \
-EXPORTS a, B; IMPORTS c, D FROM N { x } e FROM O; A ::= NULL END";
+EXPORTS a {}, B; IMPORTS c{}, D FROM N { x } e {} FROM O; A ::= NULL END";
 
 /// All parts of a header are read.
 #[test]
@@ -92,7 +92,7 @@ fn reads_headers(rt: HostRuntime) -> Result<(), Fail> {
 }
 
 /// Lists texts that are refused, with the places of the tokens that fit nothing, or 99 for the end.
-const REFUSED: [(&str, usize); 16] = [
+const REFUSED: [(&str, usize); 18] = [
     ("", 99),
     ("DEFINITIONS ::= BEGIN", 0),
     ("M ::= BEGIN", 2),
@@ -106,7 +106,9 @@ const REFUSED: [(&str, usize); 16] = [
     ("M DEFINITIONS ::= BEGIN IMPORTS a FROM ;", 39),
     ("M DEFINITIONS ::= BEGIN IMPORTS a N;", 34),
     ("M DEFINITIONS ::= BEGIN IMPORTS a FROM N n o;", 44),
-    ("M DEFINITIONS ::= BEGIN IMPORTS a FROM N n {};", 43),
+    ("M DEFINITIONS ::= BEGIN IMPORTS a FROM N n {};", 45),
+    ("M DEFINITIONS ::= BEGIN IMPORTS a { b } FROM N;", 36),
+    ("M DEFINITIONS ::= BEGIN EXPORTS a {", 99),
     ("M DEFINITIONS ::= BEGIN IMPORTS a FROM N WITH n;", 46),
     ("M DEFINITIONS ::= BEGIN IMPORTS WITH FROM N;", 32),
 ];

@@ -12,7 +12,8 @@ header_words =
     ∷ (codes "TAGS", keyword.Tags) ∷ (codes "EXTENSIBILITY", keyword.Extensibility) ∷ (codes "IMPLIED", keyword.Implied) ∷ (codes "BEGIN", keyword.Begin)
     ∷ (codes "END", keyword.End) ∷ (codes "EXPORTS", keyword.Exports) ∷ (codes "ALL", keyword.All) ∷ (codes "IMPORTS", keyword.Imports)
     ∷ (codes "FROM", keyword.From) ∷ (codes "WITH", keyword.With) ∷ (codes "SUCCESSORS", keyword.Successors) ∷ (codes "DESCENDANTS", keyword.Descendants)
-    ∷ (codes "MACRO", keyword.Macro) ∷ (codes "CLASS", keyword.Class) ∷ (codes "INSTANCE", keyword.Instance) ∷ []
+    ∷ (codes "MACRO", keyword.Macro) ∷ (codes "CLASS", keyword.Class) ∷ (codes "INSTANCE", keyword.Instance) ∷ (codes "SYNTAX", keyword.Syntax)
+    ∷ (codes "TYPE-IDENTIFIER", keyword.TypeIdentifier) ∷ (codes "ABSTRACT-SYNTAX", keyword.AbstractSyntax) ∷ []
 
 -- Those within types.
 abbrev pub part_words : List (List ℕ × Keyword)

@@ -45,6 +45,12 @@ pub enum Keyword {
     Class,
     /// Is `INSTANCE`.
     Instance,
+    /// Is `SYNTAX`.
+    Syntax,
+    /// Is `TYPE-IDENTIFIER`.
+    TypeIdentifier,
+    /// Is `ABSTRACT-SYNTAX`.
+    AbstractSyntax,
     /// Is `SIZE`.
     Size,
     /// Is `UNIVERSAL`.
@@ -171,6 +177,9 @@ fn header_word(text: &str) -> Option<Keyword>
         "MACRO" => Some(Keyword::Macro),
         "CLASS" => Some(Keyword::Class),
         "INSTANCE" => Some(Keyword::Instance),
+        "SYNTAX" => Some(Keyword::Syntax),
+        "TYPE-IDENTIFIER" => Some(Keyword::TypeIdentifier),
+        "ABSTRACT-SYNTAX" => Some(Keyword::AbstractSyntax),
         _ => None,
     }
 }

@@ -9,13 +9,14 @@ use Rattle.asn_lexer.specs.declared.token.Token.{Token}
 use Rattle.asn_headers.specs.Headers.{no_imports}
 use Rattle.asn_headers.specs.declared.tagging.Tagging.TheVariants as tagging
 use Rattle.asn_model.specs.Shape.{SeqKind}
-use Rattle.asn_modules_notation.specs.Grammar.{NotationParses, notation_parses, leaf_parses, reference_parses, bit_string_parses, enumerated_parses, members_parse, list_parses, component_parses, components_of_parses, marker_parses, group_parses, last_member, next_member, some_members_parse}
+use Rattle.asn_modules_notation.specs.Grammar.{NotationParses, notation_parses, leaf_parses, reference_parses, bit_string_parses, enumerated_parses, members_parse, list_parses, instance_parses, last_argument, other_arguments, component_parses, components_of_parses, marker_parses, group_parses, last_member, next_member, some_members_parse}
 use Rattle.asn_modules_notation.specs.Lists.{no_more, one_more, last_entry, next_entry}
-use Rattle.asn_modules_notation.specs.Modules.{type_assignment, value_assignment, TextParses, modules_parse, no_modules, next_module, no_assignments, next_assignment, type_parses, value_parses}
-use Rattle.asn_modules_notation.specs.Notation.{notation, leaf, bit_string, enumerated, members, list_of, reference, component, components_of, group, marker, members_of}
+use Rattle.asn_modules_notation.specs.Modules.{type_assignment, value_assignment, TextParses, modules_parse, assignments_parse, no_modules, next_module, no_assignments, next_assignment, assignment_parses, type_parses, value_parses, template_assignment}
+use Rattle.asn_modules_notation.specs.Notation.{notation, leaf, bit_string, enumerated, members, list_of, reference, instance_of, notations_of, component, components_of, group, marker, members_of}
 use Rattle.asn_modules_notation.specs.Numbers.{no_named_numbers, some_items}
 use Rattle.asn_modules_notation.specs.Values.{value_at}
-use Rattle.asn_modules_notation.specs.declared.leaf.Leaf.TheVariants.{Boolean}
+use Rattle.asn_modules_notation.specs.declared.leaf.Closed.TheVariants.{Parameterized}
+use Rattle.asn_modules_notation.specs.declared.leaf.Leaf.TheVariants.{Boolean, Closed}
 use Rattle.asn_modules_notation.specs.declared.notation.Presence.TheVariants.{Optional, Default}
 use Rattle.asn_modules_notation.specs.declared.number.Constant.TheVariants as constant
 use Rattle.asn_modules_notation.specs.declared.tag.TagMode.TheVariants.{Implicit}
@@ -52,7 +53,7 @@ tagged : NotationParses 64 0
     ∷ word keyword.Of 11 ∷ at kind.Name 12 ∷ at kind.Point 13 ∷ at kind.Name 14 ∷ [])
     (notation (record { class = Context; number = at kind.Number 1; mode = Some Implicit } ∷ []) (list_of SeqKind.sequence (notation [] (reference (Some (at kind.Name 12)) (at kind.Name 14)) [])) []) []
 tagged = notation_parses (fits 0 refl) (one_more refl refl (no_more refl)) refl
-    (list_parses refl (notation_parses fits_one (no_more refl) refl reference_parses (no_more refl))) (no_more refl)
+    (list_parses refl (notation_parses fits_one (no_more refl) refl (reference_parses (λ e. cc)) (no_more refl))) (no_more refl)
 
 -- ENUMERATED { a, b (-1), ... }
 items : NotationParses 64 0
@@ -75,7 +76,7 @@ fields =
     (next_member (marker_parses refl) refl
     (next_member (group_parses refl (last_member (component_parses refl (notation_parses fits_one (no_more refl) refl leaf_parses (no_more refl)) refl) refl)) refl
     (next_member (marker_parses refl) refl
-    (last_member (components_of_parses refl refl (notation_parses fits_one (no_more refl) refl reference_parses (no_more refl)) refl) refl))))) refl)) (no_more refl)
+    (last_member (components_of_parses refl refl (notation_parses fits_one (no_more refl) refl (reference_parses (λ e. cc)) (no_more refl)) refl) refl))))) refl)) (no_more refl)
 
 -- The value of an alternative is kept by its first token alone: a : b : -1
 chosen : value_at (at kind.Name 0 ∷ at kind.Colon 1 ∷ at kind.Name 2 ∷ at kind.Colon 3 ∷ at kind.Minus 4 ∷ at kind.Number 5 ∷ []) ≡ Some (value.Other (at kind.Name 0), [])
@@ -89,5 +90,23 @@ whole_text : TextParses 64
       assignments = type_assignment (at kind.Name 4) (notation [] (leaf Boolean) []) ∷ value_assignment (at kind.Name 7) (notation [] (reference None (at kind.Name 8)) []) (value.Word (at kind.Name 10)) ∷ [];
     } ∷ [])
 whole_text = modules_parse refl (next_module (record { behind_opening = _; behind_exports = _; opening = refl; exports = refl; imports = no_imports refl })
-    (next_assignment (type_parses refl refl (notation_parses (fits 0 refl) (no_more refl) refl leaf_parses (no_more refl)))
-    (next_assignment (value_parses refl (λ e. cc) (notation_parses (fits 0 refl) (no_more refl) refl reference_parses (no_more refl)) refl refl) (no_assignments refl))) refl no_modules)
+    (next_assignment (assignment_parses refl refl (type_parses refl (notation_parses (fits 0 refl) (no_more refl) refl leaf_parses (no_more refl))))
+    (next_assignment (assignment_parses refl refl (value_parses (λ e. cc) (notation_parses (fits 0 refl) (no_more refl) refl (reference_parses (λ e. cc)) (no_more refl)) refl refl)) (no_assignments refl))) refl no_modules)
+
+-- S {T} ::= BOOLEAN has a parameter, and U ::= S {BOOLEAN} one in its place.
+with_parameters : TextParses 64
+    (at kind.Name 0 ∷ at kind.OpenBrace 1 ∷ at kind.Name 2 ∷ at kind.CloseBrace 3 ∷ at kind.Assignment 4 ∷ word keyword.Boolean 5
+    ∷ at kind.Name 6 ∷ at kind.Assignment 7 ∷ at kind.Name 8 ∷ at kind.OpenBrace 9 ∷ word keyword.Boolean 10 ∷ at kind.CloseBrace 11 ∷ [])
+    (record {
+      header = None;
+      assignments = template_assignment (at kind.Name 0) (at kind.Name 2 ∷ []) (notation [] (leaf Boolean) [])
+          ∷ type_assignment (at kind.Name 6) (notation [] (instance_of None (at kind.Name 8) (notations_of (notation [] (leaf Boolean) [] ∷ []))) []) ∷ [];
+    } ∷ [])
+with_parameters = assignments_parse refl
+    (next_assignment (assignment_parses refl refl (type_parses refl (notation_parses (fits 0 refl) (no_more refl) refl leaf_parses (no_more refl))))
+    (next_assignment (assignment_parses refl refl (type_parses refl (notation_parses (fits 0 refl) (no_more refl) refl
+    (instance_parses refl (last_argument refl (notation_parses fits_one (no_more refl) refl leaf_parses (no_more refl)) refl)) (no_more refl)))) (no_assignments refl)))
+
+-- S {1} has an actual parameter that is no type.
+with_number : NotationParses 64 0 (at kind.Name 0 ∷ at kind.OpenBrace 1 ∷ at kind.Number 2 ∷ at kind.CloseBrace 3 ∷ []) (notation [] (leaf (Closed Parameterized)) []) []
+with_number = notation_parses (fits 0 refl) (no_more refl) refl (instance_parses refl (other_arguments refl refl)) (no_more refl)

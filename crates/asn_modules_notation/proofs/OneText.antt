@@ -4,14 +4,16 @@ use Rattle.asn_lexer.specs.declared.keyword.Keyword.TheVariants as keyword
 use Rattle.asn_lexer.specs.declared.kind.Kind.{Kind}
 use Rattle.asn_lexer.specs.declared.kind.Kind.TheVariants as kind
 use Rattle.asn_lexer.specs.declared.token.Token.{Token}
+use Rattle.asn_headers.specs.Groups.{past_groups, past_optional_braces}
+use Rattle.asn_headers.specs.declared.group.Group.TheVariants.{Braces}
 use Rattle.asn_headers.specs.Headers.{HeaderParses}
 use Rattle.asn_headers.proofs.HeadersRead.{same_header}
 use Rattle.asn_headers.proofs.Imports.{some_same}
-use Rattle.asn_modules_notation.specs.Grammar.{NotationParses, notation_parses, BaseParses, leaf_parses, reference_parses, integer_parses, bit_string_parses, enumerated_parses, members_parse, list_parses, choice_parses, MemberParses, component_parses, components_of_parses, marker_parses, group_parses, MembersParse, last_member, next_member, BracesParse, no_members_parse, some_members_parse, sizes_of}
+use Rattle.asn_modules_notation.specs.Grammar.{NotationParses, notation_parses, BaseParses, leaf_parses, reference_parses, instance_parses, ArgumentsParse, other_arguments, last_argument, next_argument, unlike_argument, integer_parses, bit_string_parses, enumerated_parses, members_parse, list_parses, choice_parses, MemberParses, component_parses, components_of_parses, marker_parses, group_parses, MembersParse, last_member, next_member, BracesParse, no_members_parse, some_members_parse, sizes_of}
 use Rattle.asn_modules_notation.specs.Kinds.{assigned_at, first_kind, token_at, is_component_word}
 use Rattle.asn_modules_notation.specs.Lists.{Repeated, no_more, one_more, Listed, last_entry, next_entry}
-use Rattle.asn_modules_notation.specs.Modules.{Assignment, type_assignment, value_assignment, Module, AssignmentParses, type_parses, value_parses, AssignmentsParse, no_assignments, next_assignment, ModulesParse, no_modules, next_module, TextParses, modules_parse, assignments_parse}
-use Rattle.asn_modules_notation.specs.Notation.{Notation, Base, Member, notation, integer, bit_string, enumerated, members, list_of, choice, component, components_of, group, members_of}
+use Rattle.asn_modules_notation.specs.Modules.{Assignment, type_assignment, value_assignment, Module, BodyParses, type_parses, value_parses, assigned_by, AssignmentParses, assignment_parses, AssignmentsParse, no_assignments, next_assignment, ModulesParse, no_modules, next_module, TextParses, modules_parse, assignments_parse}
+use Rattle.asn_modules_notation.specs.Notation.{Notation, Base, Member, notation, integer, bit_string, enumerated, members, list_of, choice, all_types, instance_or, component, components_of, group, members_of}
 use Rattle.asn_modules_notation.specs.Numbers.{NamedNumbersParse, no_named_numbers, named_numbers, ItemsParse, no_items, some_items, item_at, item_by}
 use Rattle.asn_modules_notation.specs.Sizes.{of_at, of_by}
 use Rattle.asn_modules_notation.specs.Starts.{Start, start_at}
@@ -100,6 +102,10 @@ members_brace : {limit level : ℕ} {fields : Bool} {closing : Kind} {u r : List
 members_brace (last_member p h) o = member_brace p o
 members_brace (next_member p h q) o = member_brace p o
 
+-- A kind at the place of the same tokens.
+kind_along : {u v : List Token} {k : Kind} → u ≡ v → first_kind v ≡ Some k → first_kind u ≡ Some k
+kind_along {k = k} e h = subst (λ y. first_kind y ≡ Some k) (sym e) h
+
 -- No comma closes a list.
 version_closes : kind.CloseVersion ≢ kind.Comma
 version_closes e = cc
@@ -121,7 +127,10 @@ mutual
 
   pub same_base : {limit level : ℕ} {start : Start} {u r s : List Token} {b c : Base} → BaseParses limit level start u b r → BaseParses limit level start u c s → (b ≡ c) × (r ≡ s)
   same_base leaf_parses leaf_parses = (refl, refl)
-  same_base reference_parses reference_parses = (refl, refl)
+  same_base (reference_parses h) (reference_parses k) = (refl, refl)
+  same_base (reference_parses h) (instance_parses k q) = absurd (h k)
+  same_base (instance_parses h p) (reference_parses k) = absurd (k h)
+  same_base (instance_parses {home = home} {name = name} h p) (instance_parses k q) = let e = same_arguments p q in (ap (λ ns. instance_or home name (all_types ns)) e.0, e.1)
   same_base (integer_parses p) (integer_parses q) = let e = same_named_numbers p q in (ap integer e.0, e.1)
   same_base (bit_string_parses p) (bit_string_parses q) = let e = same_named_numbers p q in (ap bit_string e.0, e.1)
   same_base (enumerated_parses h p) (enumerated_parses k q) = let e = same_items p q in (ap enumerated e.0, e.1)
@@ -131,6 +140,27 @@ mutual
   same_base {limit = limit} {level = level} (list_parses {seq = seq} a p) (list_parses {rest = rest'} {n = m} b q) =
       let e = same_notation p (subst (λ y. NotationParses limit (suc level) y m rest') (sym (some_same a b)) q) in (ap (list_of seq) e.0, e.1)
   same_base (choice_parses h p) (choice_parses k q) = let e = same_braces p q in (ap (λ ms. choice (members_of ms)) e.0, e.1)
+
+  pub same_arguments : {limit level : ℕ} {u r s : List Token} {ns ms : List (Option Notation)} → ArgumentsParse limit level u ns r → ArgumentsParse limit level u ms s → (ns ≡ ms) × (r ≡ s)
+  same_arguments (other_arguments b g) (other_arguments c h) = (refl, some_same g h)
+  same_arguments (other_arguments b g) (last_argument c q h) = absurd (true_false (sym c ∙ b))
+  same_arguments (other_arguments b g) (next_argument c q h qs) = absurd (true_false (sym c ∙ b))
+  same_arguments (other_arguments b g) (unlike_argument c q h k f) = absurd (true_false (sym c ∙ b))
+  same_arguments (last_argument b p g) (other_arguments c h) = absurd (true_false (sym b ∙ c))
+  same_arguments (last_argument b p g) (last_argument c q h) = let e = same_notation p q in (ap (λ n. Some n ∷ []) e.0, ap (drop 1) e.1)
+  same_arguments (last_argument b p g) (next_argument c q h qs) = absurd (brace_comma g (kind_along (same_notation p q).1 h))
+  same_arguments (last_argument b p g) (unlike_argument c q h k f) = absurd (h (kind_along (sym (same_notation p q).1) g))
+  same_arguments (next_argument b p g ps) (other_arguments c h) = absurd (true_false (sym b ∙ c))
+  same_arguments (next_argument b p g ps) (last_argument c q h) = absurd (brace_comma (kind_along (same_notation p q).1 h) g)
+  same_arguments {limit = limit} {level = level} {s = s} (next_argument {ns = ns} b p g ps) (next_argument {n = m} {ns = ms} c q h qs) =
+      let e = same_notation p q in
+      let f = same_arguments ps (subst (λ y. ArgumentsParse limit level (drop 1 y) ms s) (sym e.1) qs) in (ap (λ n. Some n ∷ ns) e.0 ∙ ap (λ l. Some m ∷ l) f.0, f.1)
+  same_arguments (next_argument b p g ps) (unlike_argument c q h k f) = absurd (k (kind_along (sym (same_notation p q).1) g))
+  same_arguments (unlike_argument b p g k f) (other_arguments c h) = absurd (true_false (sym b ∙ c))
+  same_arguments (unlike_argument b p g k f) (last_argument c q h) = absurd (g (kind_along (same_notation p q).1 h))
+  same_arguments (unlike_argument b p g k f) (next_argument c q h qs) = absurd (k (kind_along (same_notation p q).1 h))
+  same_arguments {s = s} (unlike_argument b p g k f) (unlike_argument c q h l d) =
+      let e = same_notation p q in (ap (λ n. Some n ∷ None ∷ []) e.0, some_same f (subst (λ y. past_groups (Braces ∷ []) y ≡ Some s) (sym e.1) d))
 
   pub same_member : {limit level : ℕ} {fields : Bool} {closing : Kind} {u r s : List Token} {m n : Member} → MemberParses limit level fields closing u m r → MemberParses limit level fields closing u n s → (m ≡ n) × (r ≡ s)
   same_member {limit = limit} {level = level} {fields = fields} (component_parses {name = name} {n = n} {presence = p} a d h) (component_parses {v = v'} {w = w'} {rest = rest'} {name = name'} {n = n'} {presence = p'} a' d' h') =
@@ -168,23 +198,25 @@ mutual
   same_braces (some_members_parse p h) (no_members_parse a) = absurd (members_brace p a)
   same_braces (some_members_parse p h) (some_members_parse q k) = same_members p q brace_closes
 
-pub same_assignment : {limit : ℕ} {u r s : List Token} {a b : Assignment} → AssignmentParses limit u a r → AssignmentParses limit u b s → (a ≡ b) × (r ≡ s)
-same_assignment {limit = limit} {s = s} (type_parses {n = n} a h d) (type_parses {name = name'} {n = n'} a' h' d') =
-    let e = some_same a a' in
-    let f = same_notation d (subst (λ y. NotationParses limit 0 (drop 1 y) n' s) (sym (ap (λ y. y.1) e)) d') in
-    (ap (λ y. type_assignment y.0 n) e ∙ ap (type_assignment name') f.0, f.1)
-same_assignment (type_parses a h d) (value_parses a' h' d' k' x') = absurd (h' (moved a' a h))
-same_assignment (value_parses a' h' d' k' x') (type_parses a h d) = absurd (h' (moved a' a h))
-same_assignment {limit = limit} (value_parses {n = n} {x = x} a h d k b) (value_parses {w = w'} {rest = rest'} {name = name'} {n = n'} {x = x'} a' h' d' k' b') =
-    let e = some_same a a' in
-    let f = same_notation d (subst (λ y. NotationParses limit 0 y n' w') (sym (ap (λ y. y.1) e)) d') in
+same_body : {limit : ℕ} {name : Token} {u r s : List Token} {a b : Assignment} → BodyParses limit name u a r → BodyParses limit name u b s → (a ≡ b) × (r ≡ s)
+same_body {name = name} (type_parses h d) (type_parses h' d') = let e = same_notation d d' in (ap (type_assignment name) e.0, e.1)
+same_body (type_parses h d) (value_parses h' d' k' x') = absurd (h' h)
+same_body (value_parses h' d' k' x') (type_parses h d) = absurd (h' h)
+same_body {name = name} (value_parses {x = x} h d k b) (value_parses {v = w'} {rest = rest'} {n = n'} {x = x'} h' d' k' b') =
+    let f = same_notation d d' in
     let g = some_same b (subst (λ y. value_at (drop 1 y) ≡ Some (x', rest')) (sym f.1) b') in
-    (ap (λ y. value_assignment y.0 n x) e ∙ ap (λ y. value_assignment name' y x) f.0 ∙ ap (λ y. value_assignment name' n' y.0) g, ap (λ y. y.1) g)
+    (ap (λ y. value_assignment name y x) f.0 ∙ ap (λ y. value_assignment name n' y.0) g, ap (λ y. y.1) g)
+
+pub same_assignment : {limit : ℕ} {u r s : List Token} {a b : Assignment} → AssignmentParses limit u a r → AssignmentParses limit u b s → (a ≡ b) × (r ≡ s)
+same_assignment {limit = limit} {s = s} (assignment_parses {v = v} {w = w} {a = a} n p d) (assignment_parses {v = v'} {w = w'} {name = name'} {a = a'} n' p' d') =
+    let e = some_same n n' in
+    let f = some_same p (subst (λ y. past_optional_braces y ≡ Some w') (sym (ap (λ y. y.1) e)) p') in
+    let g = same_body d (subst (λ y. BodyParses limit y w a' s) (sym (ap (λ y. y.0) e)) (subst (λ y. BodyParses limit name' y a' s) (sym f) d')) in
+    (ap (λ y. assigned_by y.1 a) e ∙ ap (assigned_by v') g.0, g.1)
 
 -- An assignment begins with what something is assigned to.
 named : {limit : ℕ} {u r : List Token} {a : Assignment} → AssignmentParses limit u a r → assigned_at u ≡ None → ⊥
-named (type_parses a h d) n = none_some n a
-named (value_parses a h d k x) n = none_some n a
+named (assignment_parses a p d) n = none_some n a
 
 pub same_assignments : {limit : ℕ} {u r s : List Token} {xs ys : List Assignment} → AssignmentsParse limit u xs r → AssignmentsParse limit u ys s → (xs ≡ ys) × (r ≡ s)
 same_assignments (no_assignments a) (no_assignments b) = (refl, refl)

@@ -1,17 +1,19 @@
 -- The grammar of types: which type stands at the front of tokens, and what follows it.
-use Rattle.std.specs.Prelude.{ℕ, suc, ◌≤◌, ◌≡◌, List, [], ◌∷◌, drop, Bool, true, false, ◌&&◌, nat_le, if◌then◌else◌, Option, Some, filter_map}
+use Rattle.std.specs.Prelude.{ℕ, suc, ◌≤◌, ◌≡◌, ◌≢◌, List, [], ◌∷◌, drop, Bool, true, false, ◌&&◌, nat_le, if◌then◌else◌, Option, Some, None, filter_map}
 use Rattle.std.specs.List.{count_by}
 use Rattle.asn_lexer.specs.declared.keyword.Keyword.TheVariants as keyword
 use Rattle.asn_lexer.specs.declared.kind.Kind.{Kind}
 use Rattle.asn_lexer.specs.declared.kind.Kind.TheVariants as kind
 use Rattle.asn_lexer.specs.declared.token.Token.{Token}
 use Rattle.asn_headers.specs.Fronts.{first_is}
+use Rattle.asn_headers.specs.Groups.{past_groups}
+use Rattle.asn_headers.specs.declared.group.Group.TheVariants.{Braces}
 use Rattle.asn_model.specs.Shape.{SeqKind}
 use Rattle.asn_modules_notation.specs.Kinds.{first_kind, token_at, is_colon, is_component_word, is_number}
-use Rattle.asn_modules_notation.specs.Notation.{Notation, Base, Member, notation, leaf, integer, bit_string, enumerated, members, list_of, choice, reference, component, components_of, group, marker, members_of, is_marker, may_have_components}
+use Rattle.asn_modules_notation.specs.Notation.{Notation, Base, Member, notation, leaf, integer, bit_string, enumerated, members, list_of, choice, reference, all_types, instance_or, component, components_of, group, marker, members_of, is_marker, may_have_components}
 use Rattle.asn_modules_notation.specs.Numbers.{NamedNumbersParse, ItemsParse}
 use Rattle.asn_modules_notation.specs.Sizes.{ConstraintsParse, of_at}
-use Rattle.asn_modules_notation.specs.Starts.{Start, start_at}
+use Rattle.asn_modules_notation.specs.Starts.{Start, start_at, begins_type}
 use Rattle.asn_modules_notation.specs.Tags.{TagsParse}
 use Rattle.asn_modules_notation.specs.Values.{presence_at}
 use Rattle.asn_modules_notation.specs.declared.leaf.Leaf.{Leaf}
@@ -38,7 +40,9 @@ mutual
   -- Behind the words that stand for this start, at the level, the type goes on, and the rest follows it.
   pub data BaseParses (limit : ℕ) : ℕ → Start → List Token → Base → List Token → Type 0 where
     leaf_parses : {level : ℕ} {u : List Token} {l : Leaf} → BaseParses limit level (Start.leaf l) u (leaf l) u
-    reference_parses : {level : ℕ} {u : List Token} {home : Option Token} {name : Token} → BaseParses limit level (Start.reference home name) u (reference home name) u
+    reference_parses : {level : ℕ} {u : List Token} {home : Option Token} {name : Token} → first_kind u ≢ Some kind.OpenBrace → BaseParses limit level (Start.reference home name) u (reference home name) u
+    instance_parses : {level : ℕ} {u rest : List Token} {home : Option Token} {name : Token} {ns : List (Option Notation)} → first_kind u ≡ Some kind.OpenBrace → ArgumentsParse limit (suc level) (drop 1 u) ns rest
+        → BaseParses limit level (Start.reference home name) u (instance_or home name (all_types ns)) rest
     integer_parses : {level : ℕ} {u rest : List Token} {ns : List NamedNumber} → NamedNumbersParse u ns rest → BaseParses limit level Start.integer u (integer ns) rest
     bit_string_parses : {level : ℕ} {u rest : List Token} {ns : List NamedNumber} → NamedNumbersParse u ns rest → BaseParses limit level Start.bit_string u (bit_string ns) rest
     enumerated_parses : {level : ℕ} {u rest : List Token} {items : List (Option Item)} → first_kind u ≡ Some kind.OpenBrace → ItemsParse (drop 1 u) items rest → BaseParses limit level Start.enumerated u (enumerated items) rest
@@ -46,6 +50,15 @@ mutual
         → BaseParses limit level (Start.members seq) u (members seq (members_of ms)) rest
     list_parses : {level : ℕ} {u v rest : List Token} {seq : SeqKind} {n : Notation} → of_at u ≡ Some v → NotationParses limit (suc level) v n rest → BaseParses limit level (Start.members seq) u (list_of seq n) rest
     choice_parses : {level : ℕ} {u rest : List Token} {ms : List Member} → first_kind u ≡ Some kind.OpenBrace → BracesParse limit (suc level) false (drop 1 u) ms rest → BaseParses limit level Start.choice u (choice (members_of ms)) rest
+
+  -- From the tokens these actual parameters stand, with commas between them, up to the brace that closes them, and the rest follows that. `None` is what begins no type, or goes on behind one otherwise than with a comma, with all that follows it.
+  pub data ArgumentsParse (limit : ℕ) : ℕ → List Token → List (Option Notation) → List Token → Type 0 where
+    other_arguments : {level : ℕ} {u rest : List Token} → begins_type u ≡ false → past_groups (Braces ∷ []) u ≡ Some rest → ArgumentsParse limit level u (None ∷ []) rest
+    last_argument : {level : ℕ} {u v : List Token} {n : Notation} → begins_type u ≡ true → NotationParses limit level u n v → first_kind v ≡ Some kind.CloseBrace → ArgumentsParse limit level u (Some n ∷ []) (drop 1 v)
+    next_argument : {level : ℕ} {u v rest : List Token} {n : Notation} {ns : List (Option Notation)} → begins_type u ≡ true → NotationParses limit level u n v → first_kind v ≡ Some kind.Comma
+        → ArgumentsParse limit level (drop 1 v) ns rest → ArgumentsParse limit level u (Some n ∷ ns) rest
+    unlike_argument : {level : ℕ} {u v rest : List Token} {n : Notation} → begins_type u ≡ true → NotationParses limit level u n v → first_kind v ≢ Some kind.CloseBrace → first_kind v ≢ Some kind.Comma
+        → past_groups (Braces ∷ []) v ≡ Some rest → ArgumentsParse limit level u (Some n ∷ None ∷ []) rest
 
   -- Within what a token of the kind closes, an entry stands at the front of the tokens, whose types are looked for at the level. `fields` states whether it is one of a SEQUENCE or SET: only there may it be absent or COMPONENTS OF, of a SEQUENCE, a SET or a name. Only braces hold markers and groups.
   pub data MemberParses (limit : ℕ) : ℕ → Bool → Kind → List Token → Member → List Token → Type 0 where

@@ -65,6 +65,28 @@ abbrev pub is_close_bracket : Kind → Bool
 is_close_bracket kind.CloseBracket = true
 is_close_bracket k = false
 
+abbrev pub is_close_brace : Kind → Bool
+is_close_brace kind.CloseBrace = true
+is_close_brace k = false
+
+abbrev pub is_ampersand : Kind → Bool
+is_ampersand kind.Ampersand = true
+is_ampersand k = false
+
+abbrev pub is_with : Kind → Bool
+is_with (kind.Reserved keyword.With) = true
+is_with k = false
+
+abbrev pub is_syntax : Kind → Bool
+is_syntax (kind.Reserved keyword.Syntax) = true
+is_syntax k = false
+
+-- What names an object class behind INSTANCE OF.
+abbrev pub is_class_word : Kind → Bool
+is_class_word kind.Name = true
+is_class_word (kind.Reserved keyword.TypeIdentifier) = true
+is_class_word k = false
+
 abbrev pub is_colon : Kind → Bool
 is_colon kind.Colon = true
 is_colon k = false

@@ -1,4 +1,5 @@
 pub mod Kinds
+pub mod Classes
 pub mod Lists
 pub mod Numbers
 pub mod Tags

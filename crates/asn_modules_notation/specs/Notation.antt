@@ -1,8 +1,11 @@
 -- The types that stand in modules, with their parts.
-use Rattle.std.specs.Prelude.{List, [], ◌∷◌, Bool, true, false, Option}
+use Rattle.std.specs.Prelude.{List, [], ◌∷◌, Bool, true, false, Option, Some, None}
+use Rattle.std.specs.Option.{option_map}
 use Rattle.asn_lexer.specs.declared.token.Token.{Token}
 use Rattle.asn_model.specs.Shape.{SeqKind}
+use Rattle.asn_modules_notation.specs.declared.leaf.Closed.TheVariants.{Parameterized}
 use Rattle.asn_modules_notation.specs.declared.leaf.Leaf.{Leaf}
+use Rattle.asn_modules_notation.specs.declared.leaf.Leaf.TheVariants.{Closed}
 use Rattle.asn_modules_notation.specs.declared.notation.Presence.{Presence}
 use Rattle.asn_modules_notation.specs.declared.number.Item.{Item}
 use Rattle.asn_modules_notation.specs.declared.number.NamedNumber.{NamedNumber}
@@ -32,6 +35,13 @@ mutual
     choice : Members → Base
     -- The name of a type, behind that of its module where it is stated.
     reference : Option Token → Token → Base
+    -- The name of a type with parameters, so, and the types that stand for them.
+    instance_of : Option Token → Token → Notations → Base
+
+  -- Types, in order.
+  pub data Notations : Type 0 where
+    no_notations : Notations
+    another_notation : Notation → Notations → Notations
 
   -- An entry between the braces of SEQUENCE, SET and CHOICE.
   pub data Member : Type 0 where
@@ -53,6 +63,8 @@ mutual
 abbrev pub takes_components : Base → Bool
 takes_components (members kind ms) = true
 takes_components (reference home name) = true
+takes_components (instance_of home name ns) = true
+takes_components (leaf (Closed Parameterized)) = true
 takes_components base = false
 
 abbrev pub may_have_components : Notation → Bool
@@ -69,3 +81,19 @@ is_marker (component name n presence) = false
 is_marker (components_of n) = false
 is_marker (group ms) = false
 is_marker marker = true
+
+-- The types of a list, in order.
+abbrev pub notations_of : List Notation → Notations
+notations_of [] = no_notations
+notations_of (n ∷ ns) = another_notation n (notations_of ns)
+
+-- The types, if all are there.
+abbrev pub all_types : List (Option Notation) → Option (List Notation)
+all_types [] = Some []
+all_types (None ∷ ns) = None
+all_types (Some n ∷ ns) = option_map (λ ms. n ∷ ms) (all_types ns)
+
+-- A type with actual parameters, by those: if some are no types, it has no values.
+abbrev pub instance_or : Option Token → Token → Option (List Notation) → Base
+instance_or home name None = leaf (Closed Parameterized)
+instance_or home name (Some ns) = instance_of home name (notations_of ns)

@@ -1,6 +1,6 @@
 -- Values, by what stands first.
 use Rattle.std.specs.Prelude.{List, [], ◌∷◌, drop, Bool, true, false, ◌&&◌, if◌then◌else◌, Option, Some, None}
-use Rattle.std.specs.Option.{option_map}
+use Rattle.std.specs.Option.{option_map, option_and_then}
 use Rattle.asn_lexer.specs.declared.keyword.Keyword.TheVariants as keyword
 use Rattle.asn_lexer.specs.declared.kind.Kind.{Kind}
 use Rattle.asn_lexer.specs.declared.kind.Kind.TheVariants as kind
@@ -8,16 +8,31 @@ use Rattle.asn_lexer.specs.declared.token.Token.{Token}
 use Rattle.asn_headers.specs.Fronts.{first_is}
 use Rattle.asn_headers.specs.Groups.{past_groups}
 use Rattle.asn_headers.specs.declared.group.Group.TheVariants.{Braces}
-use Rattle.asn_modules_notation.specs.Kinds.{first_kind, name_at, is_colon, is_point, is_word}
+use Rattle.asn_modules_notation.specs.Classes.{begins_field, past_braces, past_fields}
+use Rattle.asn_modules_notation.specs.Kinds.{first_kind, name_at, is_colon, is_open_brace, is_point, is_word}
 use Rattle.asn_modules_notation.specs.Numbers.{negative_at}
 use Rattle.asn_modules_notation.specs.declared.notation.Presence.{Presence}
 use Rattle.asn_modules_notation.specs.declared.notation.Presence.TheVariants.{Required, Optional, Default}
 use Rattle.asn_modules_notation.specs.declared.value.Value.{Value}
 use Rattle.asn_modules_notation.specs.declared.value.Value.TheVariants as value
 
+-- Some other value, of which this is the first token, and what follows it.
+abbrev pub other_at : Token → Option (List Token) → Option (Value × List Token)
+other_at t = option_map (λ v. (value.Other t, v))
+
+-- The value of a name, and what follows it: fields of an object and actual parameters make another.
+abbrev pub named_value_at : Value → Token → List Token → Option (Value × List Token)
+named_value_at x t u =
+    if begins_field u then other_at t (past_fields u)
+    else if first_is is_open_brace u then other_at t (past_braces u)
+    else Some (x, u)
+
 -- The value that a word begins, and what follows it: with `.` and a name behind it, it is the name of a module.
 abbrev pub word_value_at : Token → List Token → Option (Value × List Token)
-word_value_at t u = if first_is is_point u then option_map (λ p. (value.Qualified t p.0, p.1)) (name_at (drop 1 u)) else Some (value.Word t, u)
+word_value_at t u =
+    if begins_field u then named_value_at (value.Word t) t u
+    else if first_is is_point u then option_and_then (λ p. named_value_at (value.Qualified t p.0) t p.1) (name_at (drop 1 u))
+    else named_value_at (value.Word t) t u
 
 -- What a value without `:` is, by the kind of its first token.
 abbrev pub value_by : Kind → Token → List Token → Option (Value × List Token)

@@ -10,7 +10,7 @@ use Rattle.asn_modules_notation.specs.declared.module.Assignment.{Assignment}
 use Rattle.asn_modules_notation.specs.declared.module.Assignment.TheVariants as assignment
 use Rattle.asn_modules_notation.specs.declared.module.Module.{Module}
 use Rattle.asn_modules_notation.specs.declared.notation.Base.{Base}
-use Rattle.asn_modules_notation.specs.declared.notation.Base.TheOpen.{Base-F, Component-F, Extension-F, Member-F, Members-F, Notation-F, Leaf, Integer, BitString, Enumerated, Sequence, Set, SequenceOf, SetOf, Choice, Reference, One, Group, Named, ComponentsOf}
+use Rattle.asn_modules_notation.specs.declared.notation.Base.TheOpen.{Base-F, Component-F, Extension-F, Member-F, Members-F, Notation-F, Leaf, Integer, BitString, Enumerated, Sequence, Set, SequenceOf, SetOf, Choice, Reference, Instance, One, Group, Named, ComponentsOf}
 use Rattle.asn_modules_notation.specs.declared.notation.Base.TheFolds.{fold-Base, fold-Component, fold-Member, fold-Members, fold-Notation}
 use Rattle.asn_modules_notation.specs.declared.notation.Component.{Component}
 use Rattle.asn_modules_notation.specs.declared.notation.Member.{Member}
@@ -45,6 +45,7 @@ base_step (SequenceOf n) = spec.list_of SeqKind.sequence n.value
 base_step (SetOf n) = spec.list_of SeqKind.set n.value
 base_step (Choice ms) = spec.choice (spec.members_of ms)
 base_step (Reference home name) = spec.reference home name
+base_step (Instance home name ns) = spec.instance_of home name (spec.notations_of ns.items)
 
 abbrev pub component_step : {B C M E L : Type 0} → Component-F B C M E L spec.Notation → spec.Member
 component_step (Named name n presence) = spec.component name n presence
@@ -79,6 +80,7 @@ members_view = fold-Members spec.Base spec.Member spec.Member (List spec.Member)
 abbrev pub assignment_view : Assignment → modules.Assignment
 assignment_view (assignment.Type name n) = modules.type_assignment name (notation_view n)
 assignment_view (assignment.Value name n value) = modules.value_assignment name (notation_view n) value
+assignment_view (assignment.Template name parameters n) = modules.template_assignment name parameters.items (notation_view n)
 
 -- The module that a `Module` is.
 abbrev pub module_view : Module → modules.Module

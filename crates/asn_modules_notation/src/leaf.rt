@@ -55,4 +55,12 @@ pub enum Closed {
     DateTime,
     /// Is DURATION.
     Duration,
+    /// Is a type with parameters of which some are no types.
+    Parameterized,
+    /// Is what a field of an object class holds.
+    ClassField,
+    /// Is an object class.
+    ObjectClass,
+    /// Is INSTANCE OF.
+    InstanceOf,
 }

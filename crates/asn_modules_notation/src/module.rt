@@ -4,7 +4,7 @@ use crate::value::Value;
 use asn_headers::Header;
 use asn_lexer::Token;
 
-/// Assigns a type or a value to a name (X.680, section 16).
+/// Assigns a type or a value to a name (X.680, section 16), perhaps with parameters (X.683).
 #[derive(Drop)]
 pub enum Assignment {
     /// Assigns a type.
@@ -22,6 +22,15 @@ pub enum Assignment {
         notation: Notation,
         /// Is the value.
         value: Value,
+    },
+    /// Assigns a type with parameters.
+    Template {
+        /// Is the name.
+        name: Token,
+        /// Lists the names of the parameters.
+        parameters: Vec<Token>,
+        /// Describes the type, in which the names of the parameters stand for types.
+        notation: Notation,
     },
 }
 

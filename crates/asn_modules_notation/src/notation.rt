@@ -53,6 +53,15 @@ pub enum Base {
         /// Is its name.
         name: Token,
     },
+    /// Is the name of a type with parameters, and the types that stand for them (X.683).
+    Instance {
+        /// Is the name of its module, where it is stated.
+        module: Option<Token>,
+        /// Is its name.
+        name: Token,
+        /// Lists the actual parameters.
+        arguments: Vec<Notation>,
+    },
 }
 
 /// Lists what stands between the braces of SEQUENCE, SET and CHOICE.

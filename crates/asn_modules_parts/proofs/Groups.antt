@@ -5,7 +5,7 @@ use Rattle.std.specs.Borrow.{Bor}
 use Rattle.asn_headers.specs.Fronts.{AnswersRest}
 use Rattle.asn_headers.specs.declared.fault.SyntaxFault.{SyntaxFault}
 use Rattle.asn_lexer.specs.declared.token.Token.{Token}
-use Rattle.asn_headers.specs.Groups.{opens, closes, past_groups}
+use Rattle.asn_headers.specs.Groups.{opens, closes, past_groups, past_optional_braces}
 use Rattle.asn_headers.specs.declared.group.Group.{Group}
 use Rattle.asn_headers.specs.declared.group.Group.TheVariants.{Braces, Parens}
 
@@ -36,3 +36,11 @@ past_le gs u v e = subst (AtMost (length u)) e (groups_le gs u)
 pub past_shorter : (gs : List Group) (u : List Token) (r : Result (Bor (List Token)) SyntaxFault) → AnswersRest (past_groups gs u) r → IfOk r (λ rest. length rest.now ≤ length u)
 past_shorter gs u (Ok rest) h = past_le gs u rest.now h
 past_shorter gs u (Err e) h = tt
+
+pub optional_le : (u : List Token) → AtMost (length u) (past_optional_braces u)
+optional_le [] = omega arith
+optional_le (t ∷ u) = chosen (AtMost (suc (length u))) (opens Braces t.kind) _ (Some (t ∷ u)) (more _ (past_groups (Braces ∷ []) u) (groups_le (Braces ∷ []) u)) (omega arith)
+
+pub optional_shorter : (u : List Token) (r : Result (Bor (List Token)) SyntaxFault) → AnswersRest (past_optional_braces u) r → IfOk r (λ rest. length rest.now ≤ length u)
+optional_shorter u (Ok rest) h = subst (AtMost (length u)) h (optional_le u)
+optional_shorter u (Err e) h = tt

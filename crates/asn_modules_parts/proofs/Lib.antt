@@ -2,6 +2,7 @@ pub mod Runs
 pub mod Repeats
 pub mod SignsTaken
 pub mod Groups
+pub mod Fields
 pub mod Openings
 pub mod ValuesRead
 pub mod EntriesSeen

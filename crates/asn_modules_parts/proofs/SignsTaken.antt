@@ -4,8 +4,8 @@ use Rattle.asn_lexer.specs.declared.keyword.Keyword.TheVariants as keyword
 use Rattle.asn_lexer.specs.declared.kind.Kind.{Kind}
 use Rattle.asn_lexer.specs.declared.kind.Kind.TheVariants as kind
 use Rattle.asn_lexer.specs.declared.token.Token.{Token}
-use Rattle.asn_modules_notation.specs.Kinds.{first_kind, is_assignment, is_open_brace, is_of}
-use Rattle.asn_modules_parts.specs.Signs.{kind_of, is_sign, is_close_brace, is_close_version, is_comma, is_end, is_components, is_ellipsis, is_open_version}
+use Rattle.asn_modules_notation.specs.Kinds.{first_kind, is_assignment, is_open_brace, is_close_brace, is_of}
+use Rattle.asn_modules_parts.specs.Signs.{kind_of, is_sign, is_close_version, is_comma, is_end, is_components, is_ellipsis, is_open_version}
 use Rattle.asn_modules_parts.specs.declared.sign.Sign.{Sign}
 use Rattle.asn_modules_parts.specs.declared.sign.Sign.TheVariants as sign
 use Rattle.asn_modules_parts.proofs.Repeats.{true_false, some_same}

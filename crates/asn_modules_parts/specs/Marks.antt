@@ -2,7 +2,7 @@
 use Rattle.std.specs.Prelude.{Bool}
 use Rattle.asn_headers.specs.Fronts.{is_name}
 use Rattle.asn_lexer.specs.declared.kind.Kind.{Kind}
-use Rattle.asn_modules_notation.specs.Kinds.{is_word, is_component_word, is_number, is_number_or_name, is_open_paren, is_close_paren, is_open_bracket, is_close_bracket, is_colon, is_point, is_range, is_size, is_of, is_by, is_defined, is_string, is_identifier, is_pdv}
+use Rattle.asn_modules_notation.specs.Kinds.{is_word, is_component_word, is_number, is_number_or_name, is_open_paren, is_close_paren, is_open_bracket, is_close_bracket, is_colon, is_point, is_range, is_size, is_of, is_by, is_defined, is_string, is_identifier, is_pdv, is_class_word, is_open_brace, is_close_brace, is_assignment, is_ampersand, is_with, is_syntax}
 use Rattle.asn_modules_parts.specs.declared.mark.Mark.{Mark}
 use Rattle.asn_modules_parts.specs.declared.mark.Mark.TheVariants as mark
 
@@ -27,3 +27,10 @@ passes mark.Defined k = is_defined k
 passes mark.String k = is_string k
 passes mark.Identifier k = is_identifier k
 passes mark.Pdv k = is_pdv k
+passes mark.ClassWord k = is_class_word k
+passes mark.OpenBrace k = is_open_brace k
+passes mark.CloseBrace k = is_close_brace k
+passes mark.Assignment k = is_assignment k
+passes mark.Ampersand k = is_ampersand k
+passes mark.With k = is_with k
+passes mark.Syntax k = is_syntax k

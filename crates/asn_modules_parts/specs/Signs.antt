@@ -3,7 +3,7 @@ use Rattle.std.specs.Prelude.{Bool, true, false}
 use Rattle.asn_lexer.specs.declared.keyword.Keyword.TheVariants as keyword
 use Rattle.asn_lexer.specs.declared.kind.Kind.{Kind}
 use Rattle.asn_lexer.specs.declared.kind.Kind.TheVariants as kind
-use Rattle.asn_modules_notation.specs.Kinds.{is_open_brace, is_of, is_assignment}
+use Rattle.asn_modules_notation.specs.Kinds.{is_open_brace, is_close_brace, is_of, is_assignment}
 use Rattle.asn_modules_parts.specs.declared.sign.Sign.{Sign}
 use Rattle.asn_modules_parts.specs.declared.sign.Sign.TheVariants as sign
 
@@ -19,10 +19,6 @@ kind_of sign.Of = kind.Reserved keyword.Of
 kind_of sign.Components = kind.Reserved keyword.Components
 kind_of sign.Ellipsis = kind.Ellipsis
 kind_of sign.OpenVersion = kind.OpenVersion
-
-abbrev pub is_close_brace : Kind → Bool
-is_close_brace kind.CloseBrace = true
-is_close_brace k = false
 
 abbrev pub is_close_version : Kind → Bool
 is_close_version kind.CloseVersion = true

@@ -34,6 +34,9 @@ abbrev pub opening_view : Opening → spec.Opening
 opening_view (opening.Whole s) = spec.whole (start_view s)
 opening_view (opening.Pair m s) = spec.pair (passes m) (start_view s)
 opening_view opening.Any = spec.any
+opening_view opening.ClassBody = spec.class_body
+opening_view opening.InstanceOf = spec.instance_of
+opening_view opening.NamedClass = spec.named_class
 opening_view opening.Nothing = spec.nothing
 
 -- What two words stand for of which the second passes, and what follows it.
@@ -87,4 +90,8 @@ other_by keyword.Choice = spec.whole spec.choice
 other_by keyword.Any = spec.any
 other_by keyword.Embedded = spec.pair is_pdv (spec.leaf (Closed closed.EmbeddedPdv))
 other_by keyword.Character = spec.pair is_string (spec.leaf (Closed closed.CharacterString))
+other_by keyword.Class = spec.class_body
+other_by keyword.Instance = spec.instance_of
+other_by keyword.TypeIdentifier = spec.named_class
+other_by keyword.AbstractSyntax = spec.named_class
 other_by k = spec.nothing

@@ -47,6 +47,20 @@ pub enum Mark {
     Identifier,
     /// Is `PDV`.
     Pdv,
+    /// Is a name or `TYPE-IDENTIFIER`.
+    ClassWord,
+    /// Is `{`.
+    OpenBrace,
+    /// Is `}`.
+    CloseBrace,
+    /// Is `::=`.
+    Assignment,
+    /// Is `&`.
+    Ampersand,
+    /// Is `WITH`.
+    With,
+    /// Is `SYNTAX`.
+    Syntax,
 }
 
 /// Returns whether a token of the kind is a word that names a component.
@@ -84,6 +98,13 @@ fn passes(mark: Mark, kind: Kind) -> bool
         Mark::String => matches!(kind, Kind::Reserved(Keyword::String)),
         Mark::Identifier => matches!(kind, Kind::Reserved(Keyword::Identifier)),
         Mark::Pdv => matches!(kind, Kind::Reserved(Keyword::Pdv)),
+        Mark::ClassWord => matches!(kind, Kind::Name | Kind::Reserved(Keyword::TypeIdentifier)),
+        Mark::OpenBrace => matches!(kind, Kind::OpenBrace),
+        Mark::CloseBrace => matches!(kind, Kind::CloseBrace),
+        Mark::Assignment => matches!(kind, Kind::Assignment),
+        Mark::Ampersand => matches!(kind, Kind::Ampersand),
+        Mark::With => matches!(kind, Kind::Reserved(Keyword::With)),
+        Mark::Syntax => matches!(kind, Kind::Reserved(Keyword::Syntax)),
     }
 }
 

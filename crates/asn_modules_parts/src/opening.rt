@@ -18,6 +18,12 @@ pub(crate) enum Opening {
     Pair(Mark, Start),
     /// It is ANY.
     Any,
+    /// It is CLASS.
+    ClassBody,
+    /// It is INSTANCE.
+    InstanceOf,
+    /// It is the name of a class.
+    NamedClass,
     /// No type begins with it.
     Nothing,
 }
@@ -88,6 +94,9 @@ fn other_of(keyword: Keyword) -> Opening
                 Start::Leaf(Leaf::Closed(Closed::CharacterString)),
             )
         }
+        Keyword::Class => Opening::ClassBody,
+        Keyword::Instance => Opening::InstanceOf,
+        Keyword::TypeIdentifier | Keyword::AbstractSyntax => Opening::NamedClass,
         _ => Opening::Nothing,
     }
 }

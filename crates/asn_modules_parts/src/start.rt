@@ -1,16 +1,23 @@
 //! Reads the words that begin types.
 ghost use Rattle.asn_headers.specs.Fronts.{Answers};
-ghost use Rattle.asn_modules_notation.specs.Starts.{any_at, opened_at, reference_at, start_at};
+ghost use Rattle.asn_modules_notation.specs.Classes.{past_class, past_fields, past_instance};
+ghost use Rattle.asn_modules_notation.specs.Starts.{any_at, begins_type, is_opening, leaf_at};
+ghost use Rattle.asn_modules_notation.specs.Starts.{named_at, named_class_at, opened_at, opens_type};
+ghost use Rattle.asn_modules_notation.specs.Starts.{reference_at, start_at};
+ghost use Rattle.asn_modules_notation.specs.declared.leaf.Closed.TheVariants as closed;
+ghost use Rattle.asn_modules_notation.specs.declared.leaf.Leaf.TheVariants as leaf;
 ghost use Rattle.asn_modules_parts.specs.Marks.{passes};
 ghost use Rattle.asn_modules_parts.specs.Starts.{opening_view, pair_at, start_view};
 ghost use Rattle.std.specs.Prelude.{◌≡◌, ◌<◌, ◌≤◌, IfOk, length};
 
+use crate::class::{past_class, past_fields, past_instance, take_field};
 use crate::mark::{Mark, take};
 use crate::opening::{Opening, opening_of};
 use asn_headers::{Expected, SyntaxFault, unexpected};
 use asn_lexer::{Kind, Token};
 use asn_model::SeqKind;
 use asn_modules_notation::{Closed, Leaf};
+use std::alloc::Global;
 
 /// States what the words that begin a type stand for.
 #[derive(Clone, Copy, Drop)]
@@ -36,26 +43,59 @@ pub enum Start {
     },
 }
 
-/// Returns the reference that the name begins, and what follows it.
+/// Returns what the fields of an object class are that stand here, and what follows them.
 ///
 /// # Errors
 ///
-/// `Unexpected` where no name stands behind `.`.
+/// `Unexpected` where no name stands behind `&`.
+fn read_field(tokens: &[Token]) -> Result<(Start, &[Token]), SyntaxFault>
+    ensures found { Answers start_view
+        (leaf_at (leaf.Closed closed.ClassField) (past_fields tokens.now)) result }
+    ensures shorter { IfOk result (λ found. length found.1.now ≤ length tokens.now) }
+{
+    let rest = past_fields(tokens)?;
+    Ok((Start::Leaf(Leaf::Closed(Closed::ClassField)), rest))
+}
+
+/// Returns the type of this name, or what the fields of a class of this name are, and what follows.
+/// `home` is the name of the module, where it is stated.
+///
+/// # Errors
+///
+/// Those of `read_field`.
+fn read_named(
+    home: Option<Token>,
+    name: Token,
+    tokens: &[Token],
+) -> Result<(Start, &[Token]), SyntaxFault>
+    ensures found { Answers start_view (named_at home name tokens.now) result }
+    ensures shorter { IfOk result (λ found. length found.1.now ≤ length tokens.now) }
+{
+    match take_field(tokens) {
+        Some(_naming) => read_field(tokens),
+        None => Ok((Start::Reference { module: home, name }, tokens)),
+    }
+}
+
+/// Returns what the name begins, and what follows it.
+///
+/// # Errors
+///
+/// `Unexpected` where no name stands behind `.`, and those of `read_field`.
 fn read_reference(name: Token, tokens: &[Token]) -> Result<(Start, &[Token]), SyntaxFault>
     ensures found { Answers start_view (reference_at name tokens.now) result }
     ensures shorter { IfOk result (λ found. length found.1.now ≤ length tokens.now) }
 {
+    if let Some(_naming) = take_field(tokens) {
+        return read_named(None, name, tokens);
+    }
     let Some((_point, behind)) = take(Mark::Point, tokens) else {
-        return Ok((Start::Reference { module: None, name }, tokens));
+        return read_named(None, name, tokens);
     };
-    let Some((second, rest)) = take(Mark::Name, behind) else {
-        return Err(unexpected(behind, Expected::Name));
-    };
-    let start = Start::Reference {
-        module: Some(name),
-        name: second,
-    };
-    Ok((start, rest))
+    match take(Mark::Name, behind) {
+        Some((second, rest)) => read_named(Some(name), second, rest),
+        None => Err(unexpected(behind, Expected::Name)),
+    }
 }
 
 /// Returns ANY, whose word was read, and what follows it.
@@ -105,12 +145,55 @@ fn read_pair(second: Mark, start: Start, tokens: &[Token]) -> Result<(Start, &[T
     }
 }
 
+/// Returns the object class behind `CLASS`, and what follows it.
+///
+/// # Errors
+///
+/// `Unexpected` where its braces or its syntax don't stand here, and `OutOfMemory`.
+fn read_class(alloc: Global, tokens: &[Token]) -> Result<(Start, &[Token]), SyntaxFault>
+    ensures found { Answers start_view
+        (leaf_at (leaf.Closed closed.ObjectClass) (past_class tokens.now)) result }
+    ensures shorter { IfOk result (λ found. length found.1.now ≤ length tokens.now) }
+{
+    let rest = past_class(alloc, tokens)?;
+    Ok((Start::Leaf(Leaf::Closed(Closed::ObjectClass)), rest))
+}
+
+/// Returns INSTANCE OF, whose first word was read, and what follows it.
+///
+/// # Errors
+///
+/// `Unexpected` where `OF` and the name of a class don't stand here.
+fn read_instance(tokens: &[Token]) -> Result<(Start, &[Token]), SyntaxFault>
+    ensures found { Answers start_view
+        (leaf_at (leaf.Closed closed.InstanceOf) (past_instance tokens.now)) result }
+    ensures shorter { IfOk result (λ found. length found.1.now ≤ length tokens.now) }
+{
+    let rest = past_instance(tokens)?;
+    Ok((Start::Leaf(Leaf::Closed(Closed::InstanceOf)), rest))
+}
+
+/// Returns a class that a reserved word names, or what its fields are, and what follows.
+///
+/// # Errors
+///
+/// Those of `read_field`.
+fn read_named_class(tokens: &[Token]) -> Result<(Start, &[Token]), SyntaxFault>
+    ensures found { Answers start_view (named_class_at tokens.now) result }
+    ensures shorter { IfOk result (λ found. length found.1.now ≤ length tokens.now) }
+{
+    match take_field(tokens) {
+        Some(_naming) => read_field(tokens),
+        None => Ok((Start::Leaf(Leaf::Closed(Closed::ObjectClass)), tokens)),
+    }
+}
+
 /// Returns what begins a type, and what follows it.
 ///
 /// # Errors
 ///
-/// `Unexpected` where no type begins.
-pub fn read_start(tokens: &[Token]) -> Result<(Start, &[Token]), SyntaxFault>
+/// `Unexpected` where no type begins, and `OutOfMemory`.
+pub fn read_start(alloc: Global, tokens: &[Token]) -> Result<(Start, &[Token]), SyntaxFault>
     ensures found { Answers start_view (start_at tokens.now) result }
     ensures shorter { IfOk result (λ found. length found.1.now < length tokens.now) }
 {
@@ -123,8 +206,39 @@ pub fn read_start(tokens: &[Token]) -> Result<(Start, &[Token]), SyntaxFault>
             Opening::Whole(start) => Ok((start, rest)),
             Opening::Pair(second, start) => read_pair(second, start, rest),
             Opening::Any => read_any(rest),
+            Opening::ClassBody => read_class(alloc, rest),
+            Opening::InstanceOf => read_instance(rest),
+            Opening::NamedClass => read_named_class(rest),
             Opening::Nothing => Err(unexpected(tokens, Expected::Type)),
         },
         _ => Err(unexpected(tokens, Expected::Type)),
+    }
+}
+
+/// Returns whether a type begins with a word that this is.
+fn is_opening(opening: Opening) -> bool
+    ensures { result ≡ is_opening (opening_view opening) }
+{
+    !matches!(opening, Opening::Nothing)
+}
+
+/// Returns whether a type begins with a token of the kind.
+fn opens_type(kind: Kind) -> bool
+    ensures { result ≡ opens_type kind }
+{
+    match kind {
+        Kind::Name | Kind::OpenBracket => true,
+        Kind::Reserved(keyword) => is_opening(opening_of(keyword)),
+        _ => false,
+    }
+}
+
+/// Returns whether a type begins here.
+pub fn begins_type(tokens: &[Token]) -> bool
+    ensures { result ≡ begins_type tokens.now }
+{
+    match tokens {
+        [first, ..] => opens_type(first.kind),
+        [] => false,
     }
 }

@@ -2,16 +2,18 @@
 ghost use Rattle.asn_headers.specs.Fronts.{Answers};
 ghost use Rattle.asn_headers.specs.Groups.{past_groups};
 ghost use Rattle.asn_headers.specs.declared.group.Group.TheVariants.{Braces};
+ghost use Rattle.asn_modules_notation.specs.Classes.{past_fields};
 ghost use Rattle.asn_modules_notation.specs.Kinds.{first_kind};
 ghost use Rattle.asn_modules_notation.specs.Numbers.{negative_at};
 ghost use Rattle.asn_modules_notation.specs.Values.{presence_at, presence_by, value_at};
-ghost use Rattle.asn_modules_notation.specs.Values.{word_value_at};
+ghost use Rattle.asn_modules_notation.specs.Values.{named_value_at, other_at, word_value_at};
 ghost use Rattle.asn_modules_notation.specs.declared.notation.Presence.TheVariants.{Default};
 ghost use Rattle.asn_modules_notation.specs.declared.value.Value.TheVariants as value;
 ghost use Rattle.asn_modules_parts.specs.Values.{value_here};
 ghost use Rattle.std.specs.Option.{option_map};
 ghost use Rattle.std.specs.Prelude.{◌≡◌, ◌<◌, ◌≤◌, ◌∷◌, [], IfOk, MatchOption, length};
 
+use crate::class::{past_fields, take_field};
 use crate::group::past;
 use crate::mark::{Mark, take, take_first};
 use crate::number::read_negative;
@@ -19,38 +21,6 @@ use asn_headers::{Expected, Group, SyntaxFault, unexpected};
 use asn_lexer::{Keyword, Kind, Token};
 use asn_modules_notation::{Presence, SignedNumber, Value};
 use std::alloc::Global;
-
-/// Returns the value that a word begins, and what follows it.
-///
-/// # Errors
-///
-/// `Unexpected` where no name stands behind `.`.
-fn read_word_value(word: Token, tokens: &[Token]) -> Result<(Value, &[Token]), SyntaxFault>
-    ensures found { Answers (λ value. value) (word_value_at word tokens.now) result }
-    ensures shorter { IfOk result (λ found. length found.1.now ≤ length tokens.now) }
-{
-    let Some((_point, behind)) = take(Mark::Point, tokens) else {
-        return Ok((Value::Word(word), tokens));
-    };
-    match take(Mark::Name, behind) {
-        Some((name, rest)) => Ok((Value::Qualified { module: word, name }, rest)),
-        None => Err(unexpected(behind, Expected::Name)),
-    }
-}
-
-/// Returns the number behind a minus as a value, and what follows it.
-///
-/// # Errors
-///
-/// `Unexpected` where no digits stand there.
-fn read_negative_value(tokens: &[Token]) -> Result<(Value, &[Token]), SyntaxFault>
-    ensures found { Answers (λ value. value)
-        (option_map (λ p. (value.Number p.0, p.1)) (negative_at tokens.now)) result }
-    ensures shorter { IfOk result (λ found. length found.1.now ≤ length tokens.now) }
-{
-    let (number, rest) = read_negative(tokens)?;
-    Ok((Value::Number(number), rest))
-}
 
 /// Returns the value between braces of which this is the first, and what follows it.
 ///
@@ -68,6 +38,86 @@ fn read_braced_value(
 {
     let rest = past(alloc, Group::Braces, tokens)?;
     Ok((Value::Other(first), rest))
+}
+
+/// Returns the value that the fields of an object are of which this is the word, and what follows
+/// them.
+///
+/// # Errors
+///
+/// `Unexpected` where no name stands behind `&`.
+fn read_field_value(word: Token, tokens: &[Token]) -> Result<(Value, &[Token]), SyntaxFault>
+    ensures found { Answers (λ value. value) (other_at word (past_fields tokens.now)) result }
+    ensures shorter { IfOk result (λ found. length found.1.now ≤ length tokens.now) }
+{
+    let rest = past_fields(tokens)?;
+    Ok((Value::Other(word), rest))
+}
+
+/// Returns the value of a name that this word begins, and what follows it. Fields of an object and
+/// actual parameters make another value.
+///
+/// # Errors
+///
+/// `Unexpected` where a group isn't closed or no name stands behind `&`, and `OutOfMemory`.
+fn read_named_value(
+    alloc: Global,
+    value: Value,
+    word: Token,
+    tokens: &[Token],
+) -> Result<(Value, &[Token]), SyntaxFault>
+    ensures found { Answers (λ value. value) (named_value_at value word tokens.now) result }
+    ensures shorter { IfOk result (λ found. length found.1.now ≤ length tokens.now) }
+{
+    if let Some(_naming) = take_field(tokens) {
+        return read_field_value(word, tokens);
+    }
+    match take(Mark::OpenBrace, tokens) {
+        Some((_brace, inner)) => read_braced_value(alloc, word, inner),
+        None => Ok((value, tokens)),
+    }
+}
+
+/// Returns the value that a word begins, and what follows it.
+///
+/// # Errors
+///
+/// `Unexpected` where no name stands behind `.`, and those of `read_named_value`.
+fn read_word_value(
+    alloc: Global,
+    word: Token,
+    tokens: &[Token],
+) -> Result<(Value, &[Token]), SyntaxFault>
+    ensures found { Answers (λ value. value) (word_value_at word tokens.now) result }
+    ensures shorter { IfOk result (λ found. length found.1.now ≤ length tokens.now) }
+{
+    if let Some(_naming) = take_field(tokens) {
+        return read_named_value(alloc, Value::Word(word), word, tokens);
+    }
+    let Some((_point, behind)) = take(Mark::Point, tokens) else {
+        return read_named_value(alloc, Value::Word(word), word, tokens);
+    };
+    match take(Mark::Name, behind) {
+        Some((name, rest)) => {
+            let qualified = Value::Qualified { module: word, name };
+            read_named_value(alloc, qualified, word, rest)
+        }
+        None => Err(unexpected(behind, Expected::Name)),
+    }
+}
+
+/// Returns the number behind a minus as a value, and what follows it.
+///
+/// # Errors
+///
+/// `Unexpected` where no digits stand there.
+fn read_negative_value(tokens: &[Token]) -> Result<(Value, &[Token]), SyntaxFault>
+    ensures found { Answers (λ value. value)
+        (option_map (λ p. (value.Number p.0, p.1)) (negative_at tokens.now)) result }
+    ensures shorter { IfOk result (λ found. length found.1.now ≤ length tokens.now) }
+{
+    let (number, rest) = read_negative(tokens)?;
+    Ok((Value::Number(number), rest))
 }
 
 /// Returns the value that stands here where it is none of an alternative, and what follows it.
@@ -94,7 +144,7 @@ fn read_plain_value(alloc: Global, tokens: &[Token]) -> Result<(Value, &[Token])
         Kind::Cstring => Ok((Value::Cstring(first), rest)),
         Kind::Bstring => Ok((Value::Bstring(first), rest)),
         Kind::Hstring => Ok((Value::Hstring(first), rest)),
-        Kind::Name | Kind::Reserved(_) => read_word_value(first, rest),
+        Kind::Name | Kind::Reserved(_) => read_word_value(alloc, first, rest),
         Kind::OpenBrace => read_braced_value(alloc, first, rest),
         _ => Err(unexpected(tokens, Expected::Value)),
     }

@@ -6,7 +6,7 @@ use Rattle.std.specs.Global.{Vec}
 use Rattle.std.specs.List.{count_by}
 use Rattle.asn_headers.specs.declared.fault.SyntaxFault.{SyntaxFault}
 use Rattle.asn_lexer.specs.declared.token.Token.{Token}
-use Rattle.asn_modules_notation.specs.Grammar.{BaseParses, leaf_parses, reference_parses}
+use Rattle.asn_modules_notation.specs.Grammar.{BaseParses, leaf_parses}
 use Rattle.asn_modules_notation.specs.Notation as spec
 use Rattle.asn_modules_notation.specs.Numbers.{ItemsParse, no_items, some_items, is_item_marker}
 use Rattle.asn_modules_notation.specs.Starts.{Start}
@@ -31,9 +31,6 @@ none_as limit level u s k e none b rest p = none b rest (subst (λ z. BaseParses
 
 pub leaf_base : (limit level : ℕ) (u : List Token) (s : Start) (l : Leaf) (b : spec.Base) → s ≡ Start.leaf l → b ≡ spec.leaf l → BaseParses limit level s u b u
 leaf_base limit level u s l b e f = base_as limit level u u s (Start.leaf l) b (spec.leaf l) e f leaf_parses
-
-pub reference_base : (limit level : ℕ) (u : List Token) (s : Start) (home : Option Token) (name : Token) (b : spec.Base) → s ≡ Start.reference home name → b ≡ spec.reference home name → BaseParses limit level s u b u
-reference_base limit level u s home name b e f = base_as limit level u u s (Start.reference home name) b (spec.reference home name) e f reference_parses
 
 pub reads_as : (limit level : ℕ) (u : List Token) (s k : Start) (r : Result (Base × Bor (List Token)) SyntaxFault) → s ≡ k → Reads base_view (BaseParses limit level k u) r → Reads base_view (BaseParses limit level s u) r
 reads_as limit level u s k r e p = subst (λ z. Reads base_view (BaseParses limit level z u) r) (sym e) p

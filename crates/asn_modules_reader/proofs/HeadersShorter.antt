@@ -1,16 +1,15 @@
 -- What follows a header is shorter than what it stands in.
 use Rattle.std.proofs.Common.{◌≡◌, ◌≤◌, ◌<◌, ℕ, suc, List, [], ◌∷◌, drop, length, length-drop, Bool, true, false, if◌then◌else◌, Option, Some, None, subst, arith}
 use Rattle.std.specs.Prelude.{IfSome}
-use Rattle.std.specs.Option.{option_map, option_and_then}
+use Rattle.std.specs.Option.{option_and_then}
 use Rattle.asn_lexer.specs.declared.token.Token.{Token}
 use Rattle.asn_headers.specs.Fronts.{is_name}
-use Rattle.asn_headers.specs.Groups.{opens, past_groups, past_optional_braces}
+use Rattle.asn_headers.specs.Groups.{past_optional_braces}
 use Rattle.asn_headers.specs.Headers.{Header, HeaderParses, ImportsReach, reaches_here, reaches_next, ImportsParse, no_imports, imports_parse, begun_at, defined_at, definitions_at, ended, exported_at, exports_at, implied_at, implied_behind, is_extensibility, is_implied, is_tags, names_at, names_ended, opening_at, tags_at, tags_behind, tagging_of}
-use Rattle.asn_headers.specs.declared.group.Group.TheVariants.{Braces}
 use Rattle.asn_headers.specs.declared.opening.Opening.{Opening}
 use Rattle.asn_headers.specs.declared.tagging.Tagging.{Tagging}
-use Rattle.asn_headers.proofs.Imports.{import_lt}
-use Rattle.asn_modules_parts.proofs.Groups.{AtMost, chosen, groups_le}
+use Rattle.asn_headers.proofs.Imports.{Below, names_lt, import_lt}
+use Rattle.asn_modules_parts.proofs.Groups.{chosen, optional_le}
 
 -- What is found leaves at most so many tokens.
 abbrev Within : {A : Type 0} → ℕ → Option (A × List Token) → Type 0
@@ -56,14 +55,6 @@ definitions_within : (n : ℕ) (name : Token) (u : List Token) → length u ≤ 
 definitions_within n name u h =
     chosen (Within {A = Opening} n) _ (defined_at name (drop 1 u)) None (defined_within n name (drop 1 u) (omega (arith, h, length-drop 1 u))) tt
 
-optional_le : (u : List Token) → AtMost (length u) (past_optional_braces u)
-optional_le [] = omega arith
-optional_le (t ∷ u) = chosen (AtMost (suc (length u))) (opens Braces t.kind) _ _ (more (past_groups (Braces ∷ []) u) (groups_le (Braces ∷ []) u)) (omega arith)
-  where
-    more : (o : Option (List Token)) → AtMost (length u) o → AtMost (suc (length u)) o
-    more None h = tt
-    more (Some v) h = omega (arith, h)
-
 opening_within : (t : Token) (u : List Token) → Within (length u) (opening_at (t ∷ u))
 opening_within t u =
     chosen (Within {A = Opening} (length u)) (is_name t.kind) (option_and_then (definitions_at t) (past_optional_braces u)) None
@@ -73,16 +64,12 @@ opening_lt : (u v : List Token) (o : Opening) → opening_at u ≡ Some (o, v) �
 opening_lt [] v o e = let f : ◌≡◌ {A = Option (Opening × List Token)} None (Some (o, v)) = e in let y : ⊥ = cc in absurd y
 opening_lt (t ∷ u) v o e = let f : length v ≤ length u = subst (Within {A = Opening} (length u)) e (opening_within t u) in omega arith
 
-mapped : {A B : Type 0} (n m : ℕ) (f : A → B) (o : Option (A × List Token)) → n ≤ m → Within n o → Within m (option_map (λ p. (f p.0, p.1)) o)
-mapped n m f None l h = tt
-mapped n m f (Some p) l h = omega (arith, l, h)
-
 names_within : (u : List Token) → Within (length u) (names_at u)
-names_within [] = tt
-names_within (t ∷ []) = chosen (Within {A = List Token} 1) (is_name t.kind) (Some (t ∷ [], [])) None (omega arith) tt
-names_within (t ∷ c ∷ u) =
-    let P : Option (List Token × List Token) → Type 0 = Within (suc (suc (length u))) in
-    chosen P (is_name t.kind) _ None (chosen P _ _ (Some (t ∷ [], c ∷ u)) (mapped (length u) _ (λ ns. t ∷ ns) (names_at u) (omega arith) (names_within u)) (omega arith)) tt
+names_within u = no_more (names_at u) (names_lt u)
+  where
+    no_more : (o : Option (List Token × List Token)) → Below (length u) o → Within (length u) o
+    no_more None h = tt
+    no_more (Some p) h = omega (arith, h)
 
 ended_within : {A : Type 0} (n : ℕ) (x : A) (u : List Token) → length u ≤ n → Within n (ended x u)
 ended_within {A = A} n x u h = chosen (Within {A = A} n) _ (Some (x, drop 1 u)) None (omega (arith, h, length-drop 1 u)) tt

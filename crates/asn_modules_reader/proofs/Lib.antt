@@ -1,5 +1,6 @@
 pub mod Viewing
 pub mod Notations
+pub mod ArgumentsRead
 pub mod BasesRead
 pub mod MembersRead
 pub mod BracesRead

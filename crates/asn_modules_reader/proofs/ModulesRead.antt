@@ -1,13 +1,16 @@
 -- The assignments and modules that a reader goes over.
-use Rattle.std.proofs.Common.{◌≡◌, ◌≢◌, ℕ, List, [], ◌∷◌, ◌++◌, drop, true, false, if◌then◌else◌, Option, Some, None, refl, sym, ap, subst, ◌∙◌, append_assoc, append-nil}
+use Rattle.std.proofs.Common.{◌≡◌, ◌≢◌, ℕ, List, [], ◌∷◌, ◌++◌, drop, true, false, ◌&&◌, ◌||◌, if◌then◌else◌, Option, Some, None, refl, sym, ap, subst, ◌∙◌, append_assoc, append-nil}
 use Rattle.asn_lexer.specs.declared.keyword.Keyword.TheVariants as keyword
 use Rattle.asn_lexer.specs.declared.kind.Kind.TheVariants as kind
 use Rattle.asn_lexer.specs.declared.token.Token.{Token}
-use Rattle.asn_headers.specs.Headers.{Header, HeaderParses}
+use Rattle.std.specs.Option.{option_and_then}
+use Rattle.asn_headers.specs.Fronts.{first_is, is_name}
+use Rattle.asn_headers.specs.Groups.{past_optional_braces}
+use Rattle.asn_headers.specs.Headers.{Header, HeaderParses, definitions_at}
 use Rattle.asn_headers.proofs.HeadersRead.{same_header}
 use Rattle.asn_modules_notation.specs.Grammar.{NotationParses}
-use Rattle.asn_modules_notation.specs.Kinds.{assigned_at, first_kind}
-use Rattle.asn_modules_notation.specs.Modules.{Assignment, type_assignment, value_assignment, Module, AssignmentParses, type_parses, value_parses, AssignmentsParse, no_assignments, next_assignment, ModulesParse, no_modules, next_module, TextParses, modules_parse, assignments_parse, begins_module}
+use Rattle.asn_modules_notation.specs.Kinds.{assigned_at, assigns_universal, first_kind, is_open_brace, is_string_type}
+use Rattle.asn_modules_notation.specs.Modules.{Assignment, type_assignment, value_assignment, Module, BodyParses, type_parses, value_parses, parameters_at, with_parameters, assigned_by, AssignmentParses, assignment_parses, AssignmentsParse, no_assignments, next_assignment, ModulesParse, no_modules, next_module, TextParses, modules_parse, assignments_parse, begins_module}
 use Rattle.asn_modules_notation.specs.Notation.{Notation}
 use Rattle.asn_modules_notation.specs.Values.{value_at}
 use Rattle.asn_modules_notation.specs.declared.value.Value.{Value}
@@ -16,45 +19,56 @@ use Rattle.asn_modules_parts.proofs.Repeats.{true_false, some_same, none_some}
 use Rattle.asn_modules_parts.proofs.Runs.{Step}
 use Rattle.asn_modules_reader.specs.Modules.{ModuleParses, module_parses}
 
--- What stands behind the same name.
-behind_name : {x : Token × List Token} {v : List Token} {t : Token} (u : List Token) → assigned_at u ≡ Some (t, v) → assigned_at u ≡ Some x → v ≡ x.1
-behind_name u e a = ap (λ y. y.1) (some_same e a)
-
 pub unnamed : (limit : ℕ) (u : List Token) → assigned_at u ≡ None → (a : Assignment) (rest : List Token) → AssignmentParses limit u a rest → ⊥
-unnamed limit u h a rest (type_parses n k d) = none_some h n
-unnamed limit u h a rest (value_parses n k d l x) = none_some h n
+unnamed limit u h a rest (assignment_parses n p d) = none_some h n
 
-pub type_read : (limit : ℕ) (u v w rest : List Token) (name : Token) (n : Notation) → assigned_at u ≡ Some (name, v) → first_kind v ≡ Some kind.Assignment → w ≡ drop 1 v → NotationParses limit 0 w n rest
-    → AssignmentParses limit u (type_assignment name n) rest
-type_read limit u v w rest name n e k f d = type_parses e k (subst (λ z. NotationParses limit 0 z n rest) f d)
+-- What goes on behind a name and its parameters.
+pub type_read : (limit : ℕ) (name : Token) (u v rest : List Token) (n : Notation) → first_kind u ≡ Some kind.Assignment → v ≡ drop 1 u → NotationParses limit 0 v n rest → BodyParses limit name u (type_assignment name n) rest
+type_read limit name u v rest n k f d = type_parses k (subst (λ z. NotationParses limit 0 z n rest) f d)
 
-pub type_none : (limit : ℕ) (u v w : List Token) (name : Token) → assigned_at u ≡ Some (name, v) → first_kind v ≡ Some kind.Assignment → w ≡ drop 1 v → ((n : Notation) (rest : List Token) → NotationParses limit 0 w n rest → ⊥)
+pub type_none : (limit : ℕ) (name : Token) (u v : List Token) → first_kind u ≡ Some kind.Assignment → v ≡ drop 1 u → ((n : Notation) (rest : List Token) → NotationParses limit 0 v n rest → ⊥)
+    → (a : Assignment) (rest : List Token) → BodyParses limit name u a rest → ⊥
+type_none limit name u v k f none a rest (type_parses {n = n} j d) = none n rest (subst (λ z. NotationParses limit 0 z n rest) (sym f) d)
+type_none limit name u v k f none a rest (value_parses j d l x) = j k
+
+pub value_read : (limit : ℕ) (name : Token) (u v w rest : List Token) (n : Notation) (value : Value) → first_kind u ≢ Some kind.Assignment → NotationParses limit 0 u n v → first_kind v ≡ Some kind.Assignment → w ≡ drop 1 v → value_at w ≡ Some (value, rest)
+    → BodyParses limit name u (value_assignment name n value) rest
+value_read limit name u v w rest n value k d l f p = value_parses k d l (ap value_at (sym f) ∙ p)
+
+pub value_untyped : (limit : ℕ) (name : Token) (u : List Token) → first_kind u ≢ Some kind.Assignment → ((n : Notation) (v : List Token) → NotationParses limit 0 u n v → ⊥) → (a : Assignment) (rest : List Token) → BodyParses limit name u a rest → ⊥
+value_untyped limit name u k none a rest (type_parses j d) = k j
+value_untyped limit name u k none a rest (value_parses {v = v} {n = n} j d l x) = none n v d
+
+pub value_unassigned : (limit : ℕ) (name : Token) (u v : List Token) (n : Notation) → first_kind u ≢ Some kind.Assignment → NotationParses limit 0 u n v → first_kind v ≢ Some kind.Assignment → (a : Assignment) (rest : List Token) → BodyParses limit name u a rest → ⊥
+value_unassigned limit name u v n k d l a rest (type_parses j c) = k j
+value_unassigned limit name u v n k d l a rest (value_parses j c m x) = l (ap first_kind (same_notation d c).1 ∙ m)
+
+pub value_none : (limit : ℕ) (name : Token) (u v w : List Token) (n : Notation) → first_kind u ≢ Some kind.Assignment → NotationParses limit 0 u n v → w ≡ drop 1 v → value_at w ≡ None → (a : Assignment) (rest : List Token) → BodyParses limit name u a rest → ⊥
+value_none limit name u v w n k d f none a rest (type_parses j c) = k j
+value_none limit name u v w n k d f none a rest (value_parses j c m p) = none_some (ap value_at (sym (f ∙ ap (drop 1) (same_notation d c).1)) ∙ none) p
+
+-- An assignment, by what follows its name.
+pub unclosed_parameters : (limit : ℕ) (u v : List Token) (name : Token) → assigned_at u ≡ Some (name, v) → past_optional_braces v ≡ None → (a : Assignment) (rest : List Token) → AssignmentParses limit u a rest → ⊥
+unclosed_parameters limit u v name e h a rest (assignment_parses n p d) = none_some (ap (λ y. past_optional_braces y.1) (sym (some_same e n)) ∙ h) p
+
+pub bodiless : (limit : ℕ) (u v w : List Token) (name : Token) → assigned_at u ≡ Some (name, v) → past_optional_braces v ≡ Some w → ((a : Assignment) (rest : List Token) → BodyParses limit name w a rest → ⊥)
     → (a : Assignment) (rest : List Token) → AssignmentParses limit u a rest → ⊥
-type_none limit u v w name e k f none a rest (type_parses {n = n} i j d) =
-    none n rest (subst (λ z. NotationParses limit 0 z n rest) (sym (f ∙ ap (drop 1) (behind_name u e i))) d)
-type_none limit u v w name e k f none a rest (value_parses i j d l x) = j (ap first_kind (sym (behind_name u e i)) ∙ k)
+bodiless limit u v w name e p none a rest (assignment_parses {w = w'} {name = name'} {a = b} n q d) =
+    let f = some_same e n in
+    let g = some_same p (ap (λ y. past_optional_braces y.1) f ∙ q) in
+    none b rest (subst (λ y. BodyParses limit y w b rest) (sym (ap (λ y. y.0) f)) (subst (λ y. BodyParses limit name' y b rest) (sym g) d))
 
-pub value_read : (limit : ℕ) (u v w x rest : List Token) (name : Token) (n : Notation) (value : Value) → assigned_at u ≡ Some (name, v) → first_kind v ≢ Some kind.Assignment → NotationParses limit 0 v n w
-    → first_kind w ≡ Some kind.Assignment → x ≡ drop 1 w → value_at x ≡ Some (value, rest) → AssignmentParses limit u (value_assignment name n value) rest
-value_read limit u v w x rest name n value e k d l f p = value_parses e k d l (ap value_at (sym f) ∙ p)
+assignment_read : (limit : ℕ) (u v w rest : List Token) (name : Token) (a b : Assignment) → assigned_at u ≡ Some (name, v) → past_optional_braces v ≡ Some w → BodyParses limit name w a rest → b ≡ assigned_by v a → AssignmentParses limit u b rest
+assignment_read limit u v w rest name a b e p d f = subst (λ y. AssignmentParses limit u y rest) (sym f) (assignment_parses e p d)
 
-pub value_untyped : (limit : ℕ) (u v : List Token) (name : Token) → assigned_at u ≡ Some (name, v) → first_kind v ≢ Some kind.Assignment → ((n : Notation) (rest : List Token) → NotationParses limit 0 v n rest → ⊥)
-    → (a : Assignment) (rest : List Token) → AssignmentParses limit u a rest → ⊥
-value_untyped limit u v name e k none a rest (type_parses i j d) = k (ap first_kind (behind_name u e i) ∙ j)
-value_untyped limit u v name e k none a rest (value_parses {w = w} {n = n} i j d l x) = none n w (subst (λ z. NotationParses limit 0 z n w) (sym (behind_name u e i)) d)
+pub with_them : (limit : ℕ) (u v w rest : List Token) (name : Token) (a b : Assignment) (ps : Option (List Token)) → assigned_at u ≡ Some (name, v) → past_optional_braces v ≡ Some w → BodyParses limit name w a rest → first_is is_open_brace v ≡ true
+    → ps ≡ parameters_at v → b ≡ with_parameters ps a → AssignmentParses limit u b rest
+with_them limit u v w rest name a b ps e p d o f g =
+    assignment_read limit u v w rest name a b e p d (g ∙ ap (λ y. with_parameters y a) f ∙ sym (ap (λ y. if y then with_parameters (parameters_at v) a else a) o))
 
-pub value_unassigned : (limit : ℕ) (u v w : List Token) (name : Token) (n : Notation) → assigned_at u ≡ Some (name, v) → first_kind v ≢ Some kind.Assignment → NotationParses limit 0 v n w → first_kind w ≢ Some kind.Assignment
-    → (a : Assignment) (rest : List Token) → AssignmentParses limit u a rest → ⊥
-value_unassigned limit u v w name n e k d l a rest (type_parses i j c) = k (ap first_kind (behind_name u e i) ∙ j)
-value_unassigned limit u v w name n e k d l a rest (value_parses {w = w'} {n = n'} i j c m x) =
-    l (ap first_kind (same_notation d (subst (λ z. NotationParses limit 0 z n' w') (sym (behind_name u e i)) c)).1 ∙ m)
-
-pub value_none : (limit : ℕ) (u v w x : List Token) (name : Token) (n : Notation) → assigned_at u ≡ Some (name, v) → first_kind v ≢ Some kind.Assignment → NotationParses limit 0 v n w → x ≡ drop 1 w → value_at x ≡ None
-    → (a : Assignment) (rest : List Token) → AssignmentParses limit u a rest → ⊥
-value_none limit u v w x name n e k d f none a rest (type_parses i j c) = k (ap first_kind (behind_name u e i) ∙ j)
-value_none limit u v w x name n e k d f none a rest (value_parses {w = w'} {n = n'} i j c m p) =
-    let g = (same_notation d (subst (λ z. NotationParses limit 0 z n' w') (sym (behind_name u e i)) c)).1 in
-    none_some (ap value_at (sym (f ∙ ap (drop 1) g)) ∙ none) p
+pub without_them : (limit : ℕ) (u v w rest : List Token) (name : Token) (a : Assignment) → assigned_at u ≡ Some (name, v) → past_optional_braces v ≡ Some w → BodyParses limit name w a rest → first_is is_open_brace v ≡ false
+    → AssignmentParses limit u a rest
+without_them limit u v w rest name a e p d o = assignment_read limit u v w rest name a a e p d (sym (ap (λ y. if y then with_parameters (parameters_at v) a else a) o))
 
 -- Assignments in turn.
 assignments_behind : {limit : ℕ} {u v rest : List Token} {a : Assignment} {ys : List Assignment} → (assigned_at u ≡ None → ⊥) → AssignmentParses limit u a v → AssignmentsParse limit u ys rest
@@ -142,3 +156,22 @@ bare_none limit u b none all (assignments_parse {found = found} c p) = none foun
 pub bare_unended : (limit : ℕ) (u rest : List Token) (xs : List Assignment) → begins_module u ≡ false → AssignmentsParse limit u xs rest → (rest ≡ [] → ⊥) → (all : List Module) → TextParses limit u all → ⊥
 bare_unended limit u rest xs b p n all (modules_parse c q) = true_false (sym c ∙ b)
 bare_unended limit u rest xs b p n all (assignments_parse c q) = n (same_assignments p q).1
+
+-- Braces behind the first name aren't closed.
+headless : (limit : ℕ) (t : Token) (v : List Token) → is_name t.kind ≡ true → past_optional_braces v ≡ None → (all : List Module) → ModulesParse limit (t ∷ v) all → ⊥
+headless limit t v n h all (next_module p q k r) =
+    none_some (ap (λ b. if b then option_and_then (definitions_at t) (past_optional_braces v) else None) n ∙ ap (option_and_then (definitions_at t)) h) p.opening
+
+named : (t : Token) (v : List Token) → is_name t.kind ≡ true → assigned_at (t ∷ v) ≡ Some (t, v)
+named t v n = ap (λ b. if b || (is_string_type t.kind && assigns_universal v) then Some (t, v) else None) n
+
+unassigned : (limit : ℕ) (t : Token) (v rest : List Token) → is_name t.kind ≡ true → past_optional_braces v ≡ None → rest ≡ [] → (xs : List Assignment) → AssignmentsParse limit (t ∷ v) xs rest → ⊥
+unassigned limit t v rest n h e xs (no_assignments k) = none_some k (named t v n)
+unassigned limit t v rest n h e xs (next_assignment {v = w} {a = a} p ps) = unclosed_parameters limit (t ∷ v) v t (named t v n) h a w p
+
+pub unclosed : (limit : ℕ) (t : Token) (u v : List Token) → u ≡ t ∷ v → is_name t.kind ≡ true → past_optional_braces v ≡ None → (all : List Module) → TextParses limit u all → ⊥
+unclosed limit t u v e n h all p = here all (subst (λ z. TextParses limit z all) e p)
+  where
+    here : (all : List Module) → TextParses limit (t ∷ v) all → ⊥
+    here all (modules_parse b p) = headless limit t v n h all p
+    here all (assignments_parse {found = xs} b p) = unassigned limit t v [] n h refl xs p

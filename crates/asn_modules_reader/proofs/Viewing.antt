@@ -10,7 +10,7 @@ use Rattle.asn_modules_notation.specs.declared.notation.Base.{Base}
 use Rattle.asn_modules_notation.specs.declared.notation.Base.TheOpen as layer
 use Rattle.asn_modules_notation.specs.declared.notation.Base.TheOpen.{Component-F, Member-F}
 use Rattle.asn_modules_notation.specs.declared.notation.Base.TheViews.{out-Component, out-Member, roll-Component, roll-Member}
-use Rattle.asn_modules_notation.specs.declared.notation.Base.TheVariants.{Leaf, Integer, BitString, Enumerated, Sequence, Set, SequenceOf, SetOf, Choice, Reference, rolls-Leaf, rolls-Integer, rolls-BitString, rolls-Enumerated, rolls-Sequence, rolls-Set, rolls-SequenceOf, rolls-SetOf, rolls-Choice, rolls-Reference}
+use Rattle.asn_modules_notation.specs.declared.notation.Base.TheVariants.{Leaf, Integer, BitString, Enumerated, Sequence, Set, SequenceOf, SetOf, Choice, Reference, Instance, rolls-Leaf, rolls-Integer, rolls-BitString, rolls-Enumerated, rolls-Sequence, rolls-Set, rolls-SequenceOf, rolls-SetOf, rolls-Choice, rolls-Reference, rolls-Instance}
 use Rattle.asn_modules_notation.specs.declared.notation.Base.TheFolds.{fold-Extension, fold_out-Component, fold_out-Member, fold-roll-Base, fold-roll-Component, fold-roll-Member, fold-roll-Extension, fold-roll-Members, fold-roll-Notation}
 use Rattle.asn_modules_notation.specs.declared.notation.Component.{Component}
 use Rattle.asn_modules_notation.specs.declared.notation.Component.TheVariants.{Named, ComponentsOf, rolls-Named, rolls-ComponentsOf}
@@ -56,6 +56,9 @@ choice_viewed ms = ap base_view (sym (rolls-Choice ms)) ∙ fold-roll-Base spec.
 
 pub reference_viewed : (home : Option Token) (name : Token) → base_view (Reference home name) ≡ spec.reference home name
 reference_viewed home name = ap base_view (sym (rolls-Reference home name)) ∙ fold-roll-Base spec.Base spec.Member spec.Member (List spec.Member) (List spec.Member) spec.Notation base_step component_step member_step extension_step members_step notation_step (layer.Reference home name)
+
+pub instance_viewed : (home : Option Token) (name : Token) (ns : Vec Notation) → base_view (Instance home name ns) ≡ spec.instance_of home name (spec.notations_of (map notation_view ns.items))
+instance_viewed home name ns = ap base_view (sym (rolls-Instance home name ns)) ∙ fold-roll-Base spec.Base spec.Member spec.Member (List spec.Member) (List spec.Member) spec.Notation base_step component_step member_step extension_step members_step notation_step (layer.Instance home name ns)
 
 pub named_viewed : (name : Token) (n : Notation) (presence : Presence) → component_view (Named name n presence) ≡ spec.component name (notation_view n) presence
 named_viewed name n presence = ap component_view (sym (rolls-Named name n presence)) ∙ fold-roll-Component spec.Base spec.Member spec.Member (List spec.Member) (List spec.Member) spec.Notation base_step component_step member_step extension_step members_step notation_step (layer.Named name n presence)

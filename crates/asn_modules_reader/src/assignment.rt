@@ -1,16 +1,23 @@
 //! Reads assignments.
+ghost use Rattle.asn_headers.specs.Fronts.{IsSyntax, first_is};
+ghost use Rattle.asn_modules_notation.specs.Kinds.{assigned_at, assigns_universal, is_open_brace};
+ghost use Rattle.asn_modules_notation.specs.Kinds.{is_string_type};
 ghost use Rattle.asn_modules_notation.specs.Modules.{AssignmentParses, AssignmentsParse};
-ghost use Rattle.asn_modules_notation.specs.View.{assignment_view};
+ghost use Rattle.asn_modules_notation.specs.Modules.{BodyParses, parameterized, parameters_at};
+ghost use Rattle.asn_modules_notation.specs.Modules.{with_parameters};
+ghost use Rattle.asn_modules_notation.specs.View.{assignment_view, notation_view};
 ghost use Rattle.asn_modules_parts.specs.Reading.{Reads};
-ghost use Rattle.asn_modules_notation.specs.Kinds.{assigned_at, assigns_universal, is_string_type};
-ghost use Rattle.std.specs.Prelude.{◌≡◌, ◌<◌, ◌≤◌, IfOk, MatchOption, None, Some, length, map};
+ghost use Rattle.std.specs.Global.{Vec};
+ghost use Rattle.std.specs.Option.{option_map};
+ghost use Rattle.std.specs.Prelude.{◌≡◌, ◌<◌, ◌≤◌, IfErr, IfOk, MatchOption, None, Some, length};
+ghost use Rattle.std.specs.Prelude.{map};
 
 use crate::limits::NESTING_LIMIT;
 use crate::notation::read_notation;
-use asn_headers::{Expected, SyntaxFault, unexpected};
+use asn_headers::{Expected, SyntaxFault, read_names, unexpected};
 use asn_lexer::{Keyword, Kind, Token};
-use asn_modules_notation::Assignment;
-use asn_modules_parts::{Sign, read_value, take_sign};
+use asn_modules_notation::{Assignment, Base, Closed, Leaf, Notation, Value};
+use asn_modules_parts::{Mark, Sign, past_parameters, read_value, take, take_sign};
 use std::alloc::Global;
 
 /// Returns whether the word is that of a type of character strings.
@@ -71,7 +78,117 @@ fn take_assigned(tokens: &[Token]) -> Option<(Token, &[Token])>
     }
 }
 
-/// Returns an assignment, and what follows it. The token behind its name tells its kind.
+/// Returns the assignment to this name without its parameters, which goes on here, and what follows
+/// it. The first token tells its kind.
+///
+/// # Errors
+///
+/// `Unexpected` where none goes on here, and `OutOfMemory`.
+fn read_body(
+    alloc: Global,
+    name: Token,
+    tokens: &[Token],
+) -> Result<(Assignment, &[Token]), SyntaxFault>
+    ensures found { Reads assignment_view (BodyParses NESTING_LIMIT name tokens.now) result }
+    ensures shorter { IfOk result (λ found. length found.1.now < length tokens.now) }
+{
+    if let Some(inner) = take_sign(Sign::Assignment, tokens) {
+        let (assigned, rest) = read_notation(alloc, inner, 0)?;
+        let assignment = Assignment::Type {
+            name,
+            notation: assigned,
+        };
+        return Ok((assignment, rest));
+    }
+    let (notation, assigning) = read_notation(alloc, tokens, 0)?;
+    let Some(inner) = take_sign(Sign::Assignment, assigning) else {
+        return Err(unexpected(assigning, Expected::Assignment));
+    };
+    let (value, rest) = read_value(alloc, inner)?;
+    let assignment = Assignment::Value {
+        name,
+        notation,
+        value,
+    };
+    Ok((assignment, rest))
+}
+
+/// Returns whether a brace opens here.
+fn opens_brace(tokens: &[Token]) -> bool
+    ensures { result ≡ first_is is_open_brace tokens.now }
+{
+    match tokens {
+        [first, ..] => matches!(first.kind, Kind::OpenBrace),
+        [] => false,
+    }
+}
+
+/// Returns a type with parameters that aren't all types.
+fn parameterized(alloc: Global) -> Notation
+    ensures { notation_view result ≡ parameterized }
+{
+    Notation {
+        tags: Vec::new(alloc),
+        base: Base::Leaf(Leaf::Closed(Closed::Parameterized)),
+        sizes: Vec::new(alloc),
+    }
+}
+
+/// Returns the names of the parameters in braces, of which the first token opens; `None` where they
+/// aren't names alone.
+///
+/// # Errors
+///
+/// `OutOfMemory`.
+fn read_parameters(alloc: Global, tokens: &[Token]) -> Result<Option<Vec<Token>>, SyntaxFault>
+    ensures ok { IfOk result (λ names.
+        option_map (λ (v : Vec Token). v.items) names ≡ parameters_at tokens.now) }
+    ensures err { IfErr result (λ e. IsSyntax e → ⊥) }
+{
+    let [_brace, inner @ ..] = tokens else {
+        return Ok(None);
+    };
+    match read_names(alloc, inner) {
+        Ok((names, behind)) => match take(Mark::CloseBrace, behind) {
+            Some((_brace, _rest)) => Ok(Some(names)),
+            None => Ok(None),
+        },
+        Err(SyntaxFault::Unexpected { .. }) => Ok(None),
+        Err(SyntaxFault::OutOfMemory) => Err(SyntaxFault::OutOfMemory),
+    }
+}
+
+/// Returns what the assignment is with parameters of these names, or with others.
+fn with_parameters(
+    alloc: Global,
+    parameters: Option<Vec<Token>>,
+    assignment: Assignment,
+) -> Assignment
+    ensures { assignment_view result ≡ with_parameters
+        (option_map (λ (v : Vec Token). v.items) parameters) (assignment_view assignment) }
+{
+    match assignment {
+        Assignment::Type { name, notation } => match parameters {
+            Some(parameters) => Assignment::Template {
+                name,
+                parameters,
+                notation,
+            },
+            None => Assignment::Type {
+                name,
+                notation: parameterized(alloc),
+            },
+        },
+        Assignment::Value { name, .. } => Assignment::Value {
+            name,
+            notation: parameterized(alloc),
+            value: Value::Other(name),
+        },
+        Assignment::Template { .. } => assignment,
+    }
+}
+
+/// Returns an assignment, and what follows it. Its parameters stand behind its name.
 ///
 /// # Errors
 ///
@@ -86,24 +203,12 @@ pub fn read_assignment(
     let Some((name, behind)) = take_assigned(tokens) else {
         return Err(unexpected(tokens, Expected::Name));
     };
-    if let Some(inner) = take_sign(Sign::Assignment, behind) {
-        let (assigned, rest) = read_notation(alloc, inner, 0)?;
-        let assignment = Assignment::Type {
-            name,
-            notation: assigned,
-        };
-        return Ok((assignment, rest));
+    let body = past_parameters(alloc, behind)?;
+    let (assignment, rest) = read_body(alloc, name, body)?;
+    if opens_brace(behind) {
+        let parameters = read_parameters(alloc, behind)?;
+        return Ok((with_parameters(alloc, parameters, assignment), rest));
     }
-    let (notation, assigning) = read_notation(alloc, behind, 0)?;
-    let Some(inner) = take_sign(Sign::Assignment, assigning) else {
-        return Err(unexpected(assigning, Expected::Assignment));
-    };
-    let (value, rest) = read_value(alloc, inner)?;
-    let assignment = Assignment::Value {
-        name,
-        notation,
-        value,
-    };
     Ok((assignment, rest))
 }
 

@@ -1,18 +1,21 @@
 //! Reads modules, and whole texts.
 ghost use Rattle.asn_headers.specs.Fronts.{IsSyntax};
+ghost use Rattle.asn_headers.specs.Groups.{past_optional_braces};
 ghost use Rattle.asn_modules_notation.specs.Modules as spec;
 ghost use Rattle.asn_modules_notation.specs.Modules.{ModulesParse, TextParses, begins_module};
+ghost use Rattle.asn_modules_notation.specs.Modules.{names_module};
 ghost use Rattle.asn_modules_notation.specs.View.{module_view};
 ghost use Rattle.asn_modules_parts.specs.Reading.{Reads};
 ghost use Rattle.asn_modules_reader.specs.Modules.{ModuleParses};
-ghost use Rattle.std.specs.Prelude.{◌≡◌, ◌<◌, [], IfErr, IfOk, List, MatchOption, false, length, map};
+ghost use Rattle.std.specs.Prelude.{◌≡◌, ◌<◌, [], IfErr, IfOk, List, MatchOption, None, false, length};
+ghost use Rattle.std.specs.Prelude.{map};
 
 use crate::assignment::read_assignments;
 use crate::limits::NESTING_LIMIT;
 use asn_headers::{Expected, SyntaxFault, read_header, unexpected};
 use asn_lexer::{Keyword, Kind, Token};
 use asn_modules_notation::Module;
-use asn_modules_parts::{Mark, Sign, take, take_sign};
+use asn_modules_parts::{Mark, Sign, past_parameters, take, take_sign};
 use std::alloc::Global;
 
 /// Returns a module, and what follows it.
@@ -94,20 +97,47 @@ fn read_bare(alloc: Global, tokens: &[Token]) -> Result<Vec<Module>, SyntaxFault
     Ok(modules)
 }
 
-/// Returns whether a module begins here.
-fn begins_module(tokens: &[Token]) -> bool
-    ensures { result ≡ begins_module tokens.now }
+/// Returns whether a module goes on here behind a name: with `DEFINITIONS`, or braces that nothing is
+/// assigned behind.
+///
+/// # Errors
+///
+/// `Unexpected` where braces aren't closed, and `OutOfMemory`.
+fn names_module(alloc: Global, tokens: &[Token]) -> Result<bool, SyntaxFault>
+    ensures ok { IfOk result (λ listed. listed ≡ names_module tokens.now) }
+    ensures none { IfErr result (λ e. IsSyntax e → past_optional_braces tokens.now ≡ None) }
+{
+    let [first, ..] = tokens else {
+        return Ok(false);
+    };
+    match first.kind {
+        Kind::Reserved(Keyword::Definitions) => Ok(true),
+        Kind::OpenBrace => {
+            let behind = past_parameters(alloc, tokens)?;
+            match take(Mark::Assignment, behind) {
+                Some((_assignment, _rest)) => Ok(false),
+                None => Ok(true),
+            }
+        }
+        _ => Ok(false),
+    }
+}
+
+/// Returns whether a module begins here, and no assignment.
+///
+/// # Errors
+///
+/// `Unexpected` where braces behind a name aren't closed, and `OutOfMemory`.
+fn begins_module(alloc: Global, tokens: &[Token]) -> Result<bool, SyntaxFault>
+    ensures ok { IfOk result (λ listed. listed ≡ begins_module tokens.now) }
+    ensures none { IfErr result (λ e. IsSyntax e → (modules : List spec.Module)
+        → TextParses NESTING_LIMIT tokens.now modules → ⊥) }
 {
     let Some((_name, behind)) = take(Mark::Name, tokens) else {
-        return false;
+        return Ok(false);
     };
-    match behind {
-        [second, ..] => matches!(
-            second.kind,
-            Kind::OpenBrace | Kind::Reserved(Keyword::Definitions)
-        ),
-        [] => false,
-    }
+    let listed = names_module(alloc, behind)?;
+    Ok(listed)
 }
 
 /// Returns the modules that the tokens of a whole text stand for: a list of them, or assignments
@@ -123,7 +153,8 @@ pub fn read_text(alloc: Global, tokens: &[Token]) -> Result<Vec<Module>, SyntaxF
     ensures none { IfErr result (λ e. IsSyntax e → (modules : List spec.Module)
         → TextParses NESTING_LIMIT tokens.now modules → ⊥) }
 {
-    if begins_module(tokens) {
+    let listed = begins_module(alloc, tokens)?;
+    if listed {
         return read_modules(alloc, tokens);
     }
     read_bare(alloc, tokens)

@@ -9,20 +9,21 @@ ghost use Rattle.asn_modules_notation.specs.Starts as starts;
 ghost use Rattle.asn_modules_notation.specs.View.{component_view, members_view, notation_view};
 ghost use Rattle.asn_modules_parts.specs.Reading.{Reads};
 ghost use Rattle.asn_modules_parts.specs.Starts.{start_view};
+ghost use Rattle.asn_modules_reader.specs.Arguments.{AreArguments, arguments_view};
 ghost use Rattle.asn_modules_reader.specs.Views.{base_view, member_seen};
 ghost use Rattle.std.specs.Prelude.{◌≡◌, ◌<◌, ◌≤◌, ◌^◌, IfOk, false, length, map};
 
-use crate::bases::{fields_of, list_of, may_have_components};
+use crate::bases::{fields_of, instance_or, list_of, may_have_components};
 use crate::limits::NESTING_LIMIT;
 use crate::members::members_of;
 use crate::version::past_version;
-use asn_headers::{Expected, SyntaxFault, unexpected};
+use asn_headers::{Expected, Group, SyntaxFault, unexpected};
 use asn_lexer::Token;
 use asn_model::SeqKind;
 use asn_modules_notation::{Base, Component, Member, Members, Notation};
 use asn_modules_parts::{
-    Entries, Mark, Sign, Start, read_items, read_named_numbers, read_of, read_presence, read_sizes,
-    read_start, read_tags, take, take_sign,
+    Entries, Mark, Sign, Start, begins_type, past, read_items, read_named_numbers, read_of,
+    read_presence, read_sizes, read_start, read_tags, take, take_sign,
 };
 use std::alloc::Global;
 
@@ -264,6 +265,68 @@ fn read_enumerated(alloc: Global, tokens: &[Token]) -> Result<(Base, &[Token]), 
     Ok((Base::Enumerated { items: root, added }, rest))
 }
 
+/// Reads the actual parameters of a type, behind the opening brace, to the closing one. Types are
+/// looked for at the level. `None` is returned where some are no types: those are passed over.
+///
+/// # Errors
+///
+/// `Unexpected` where a type doesn't go on as it begins, or a group isn't closed, and `OutOfMemory`.
+#[cycle(read)]
+fn read_arguments(
+    alloc: Global,
+    tokens: &[Token],
+    level: usize,
+) -> Result<(Option<Vec<Notation>>, &[Token]), SyntaxFault>
+    requires { level < 2 ^ 32 }
+    ensures found { Reads arguments_view (AreArguments NESTING_LIMIT level tokens.now) result }
+    ensures shorter { IfOk result (λ found. length found.1.now ≤ length tokens.now) }
+{
+    let mut arguments = Vec::new(alloc);
+    let mut rest = tokens;
+    'arguments: loop {
+        if !begins_type(rest) {
+            let after = past(alloc, Group::Braces, rest)?;
+            return Ok((None, after));
+        }
+        let (argument, behind) = read_notation(alloc, rest, level)?;
+        arguments.push(argument)?;
+        if let Some(after) = take_sign(Sign::CloseBrace, behind) {
+            return Ok((Some(arguments), after));
+        }
+        let Some(next) = take_sign(Sign::Comma, behind) else {
+            let after = past(alloc, Group::Braces, behind)?;
+            return Ok((None, after));
+        };
+        rest = next;
+    }
+}
+
+/// Reads what stands behind the name of a type at the level: actual parameters in braces, or none.
+/// `home` is the name of the module, where it is stated.
+///
+/// # Errors
+///
+/// Those of `read_arguments`.
+#[cycle(read)]
+fn read_named(
+    alloc: Global,
+    home: Option<Token>,
+    name: Token,
+    tokens: &[Token],
+    level: usize,
+) -> Result<(Base, &[Token]), SyntaxFault>
+    requires { level < 2 ^ 31 }
+    ensures found { Reads base_view
+        (BaseParses NESTING_LIMIT level (starts.reference home name) tokens.now) result }
+    ensures shorter { IfOk result (λ found. length found.1.now ≤ length tokens.now) }
+{
+    let Some(inner) = take_sign(Sign::OpenBrace, tokens) else {
+        return Ok((Base::Reference { module: home, name }, tokens));
+    };
+    let (arguments, rest) = read_arguments(alloc, inner, level + 1)?;
+    Ok((instance_or(home, name, arguments), rest))
+}
+
 /// Reads what stands behind the words that begin a type at the level.
 ///
 /// # Errors
@@ -283,7 +346,7 @@ fn read_base(
 {
     match start {
         Start::Leaf(leaf) => Ok((Base::Leaf(leaf), tokens)),
-        Start::Reference { module, name } => Ok((Base::Reference { module, name }, tokens)),
+        Start::Reference { module, name } => read_named(alloc, module, name, tokens, level),
         Start::Integer => {
             let (numbers, rest) = read_named_numbers(alloc, tokens)?;
             Ok((Base::Integer(numbers), rest))
@@ -318,7 +381,7 @@ pub fn read_notation(
         return Err(unexpected(tokens, Expected::HigherType));
     }
     let (tags, named) = read_tags(alloc, tokens)?;
-    let (start, behind) = read_start(named)?;
+    let (start, behind) = read_start(alloc, named)?;
     let (base, constrained) = read_base(alloc, start, behind, level)?;
     let (sizes, rest) = read_sizes(alloc, constrained)?;
     let notation = Notation { tags, base, sizes };

@@ -19,8 +19,8 @@ no_text : (u : List Token) (r : Result (Vec Module) SyntaxFault) → begins_modu
 no_text u (Ok ms) b p = tt
 no_text u (Err e) b p = λ syntax ms q. text_of_modules 64 u b (p syntax) ms q
 
-pub returns-then-begins_module-clause-ok : goal.returns-then-begins_module-clause-ok
-returns-then-begins_module-clause-ok c = as_text c.args.tokens.now c.read_modules.result (sym c.begins_module.ensures ∙ c.if-begins_module.true) c.read_modules.ensures.ok
+pub returns-then-listed-clause-ok : goal.returns-then-listed-clause-ok
+returns-then-listed-clause-ok c = as_text c.args.tokens.now c.read_modules.result (sym c.in_ok-listed.ensures.ok ∙ c.if-listed.true) c.read_modules.ensures.ok
 
-pub returns-then-begins_module-clause-none : goal.returns-then-begins_module-clause-none
-returns-then-begins_module-clause-none c = no_text c.args.tokens.now c.read_modules.result (sym c.begins_module.ensures ∙ c.if-begins_module.true) c.read_modules.ensures.none
+pub returns-then-listed-clause-none : goal.returns-then-listed-clause-none
+returns-then-listed-clause-none c = no_text c.args.tokens.now c.read_modules.result (sym c.in_ok-listed.ensures.ok ∙ c.if-listed.true) c.read_modules.ensures.none

@@ -1,9 +1,9 @@
-use Rattle.std.proofs.Common.{◌+◌, refl, sym, ap, subst, ◌∙◌, map, nat_le, add-one, arith}
+use Rattle.std.proofs.Common.{◌+◌, Some, refl, sym, ap, subst, ◌∙◌, map, nat_le, add-one, arith}
 use Rattle.std.proofs.lemmas.Result.{err_from_is_err_and}
 use Rattle.std.specs.List.{count_by}
 use Rattle.asn_lexer.specs.declared.kind.Kind.TheVariants as kind
 use Rattle.asn_model.specs.ShapeView.{kind_view}
-use Rattle.asn_modules_notation.specs.Grammar.{NotationParses, BaseParses, MemberParses, MembersParse}
+use Rattle.asn_modules_notation.specs.Grammar.{NotationParses, ArgumentsParse, BaseParses, MemberParses, MembersParse}
 use Rattle.asn_modules_notation.specs.Starts as starts
 use Rattle.asn_modules_notation.specs.View.{component_view, members_view, notation_view}
 use Rattle.asn_modules_parts.specs.EntryLists.{entries_of, is_marker}
@@ -11,7 +11,8 @@ use Rattle.asn_modules_parts.specs.Starts.{start_view}
 use Rattle.asn_modules_parts.proofs.EntriesSeen.{map_join}
 use Rattle.asn_modules_parts.proofs.Runs.{going_start, going_next, going_last, going_none}
 use Rattle.asn_modules_reader.specs.Views.{base_view, member_seen}
-use Rattle.asn_modules_reader.proofs.BasesRead.{leaf_base, reference_base, base_as, none_as, reads_as, enumerated_reads}
+use Rattle.asn_modules_reader.proofs.ArgumentsRead.{given, more_given, arguments_step, arguments_untyped, arguments_open, unlike_open, none_are, all_are, others_are, unlike_are, reference_read, instance_read, instance_none}
+use Rattle.asn_modules_reader.proofs.BasesRead.{leaf_base, base_as, none_as, reads_as, enumerated_reads}
 use Rattle.asn_modules_reader.proofs.BracesRead.{more_seen, braces_empty, braces_all, braces_none, braces_over}
 use Rattle.asn_modules_reader.proofs.MembersRead.{component_read, component_untyped, component_unstated, components_of_read, alternative_unnamed, components_unnamed, components_without_of, components_untyped, components_without_any, marker_read, group_read, group_none, one_read, one_none, members_step, members_last, members_none, members_unended, version_no_comma, brace_no_comma}
 use Rattle.asn_modules_reader.proofs.Notations.{notation_read, notation_untagged, notation_unstarted, notation_unbased, notation_unsized, integer_read, integer_none, bit_string_read, bit_string_none, fields_read, fields_none, list_read, list_unopened, list_none, choice_read, choice_unopened, choice_none}
@@ -220,12 +221,80 @@ read_choice-returns-clause-found t c =
     subst (λ z. BaseParses 64 c.args.level starts.choice c.args.tokens.now z c.in_ok-members.rest.now) (sym (choice_viewed c.in_ok-members.members))
     (choice_read 64 c.args.level (c.args.level + 1) c.args.tokens.now c.in-Some.inner.now c.in_ok-members.rest.now (members_view c.in_ok-members.members) (add-one c.args.level) c.in-Some.ensures.0 c.in-Some.ensures.1 c.in_ok-members.ensures.found)
 
+pub read_arguments-arguments-init : goal.read_arguments-arguments-init
+read_arguments-arguments-init t c = (
+  going_start (ArgumentsParse 64 c.args.level) c.args.tokens.now c.args.tokens.now (given (map notation_view c.new-arguments.result.items)) refl (ap (λ l. given (map notation_view l)) c.new-arguments.ensures.items),
+  omega arith,
+)
+
+pub read_arguments-returns-in_err-after-clause-found : goal.read_arguments-returns-in_err-after-clause-found
+read_arguments-returns-in_err-after-clause-found t c =
+    let p = err_from_is_err_and c.from_residual.result c.from_residual.ensures.1 in
+    rw (p.1, p.2) (λ syntax found rest q.
+    none_are 64 c.args.level c.args.tokens.now c.arguments.rest.now (given (map notation_view c.arguments.arguments.items)) c.arguments.invariant.0
+    (arguments_open 64 c.args.level c.arguments.rest.now (sym c.begins_type.ensures ∙ c.if-not-begins_type.true) (c.in_err-after.ensures.found syntax)) found rest q)
+
+pub read_arguments-returns-then-not-begins_type-clause-found : goal.read_arguments-returns-then-not-begins_type-clause-found
+read_arguments-returns-then-not-begins_type-clause-found t c =
+    others_are 64 c.args.level c.args.tokens.now c.arguments.rest.now c.in_ok-after.after.now (map notation_view c.arguments.arguments.items) c.arguments.invariant.0 (sym c.begins_type.ensures ∙ c.if-not-begins_type.true) c.in_ok-after.ensures.found
+
+pub read_arguments-returns-in_err-argument-clause-found : goal.read_arguments-returns-in_err-argument-clause-found
+read_arguments-returns-in_err-argument-clause-found t c =
+    let p = err_from_is_err_and c.from_residual-in_err-argument.result c.from_residual-in_err-argument.ensures.1 in
+    rw (p.1, p.2) (λ syntax found rest q.
+    none_are 64 c.args.level c.args.tokens.now c.arguments.rest.now (given (map notation_view c.arguments.arguments.items)) c.arguments.invariant.0
+    (arguments_untyped 64 c.args.level c.arguments.rest.now (sym c.begins_type.ensures ∙ c.if-not-begins_type.false) (c.in_err-argument.ensures.found syntax)) found rest q)
+
+pub read_arguments-returns-in-Some-clause-found : goal.read_arguments-returns-in-Some-clause-found
+read_arguments-returns-in-Some-clause-found t c =
+    all_are 64 c.args.level c.args.tokens.now c.arguments.rest.now c.in_ok-argument.behind.now c.in-Some.after.now (map notation_view c.arguments.arguments.items) (map notation_view c.push.new.self.items) (notation_view c.in_ok-argument.argument)
+    c.arguments.invariant.0 (sym c.begins_type.ensures ∙ c.if-not-begins_type.false) c.in_ok-argument.ensures.found c.in-Some.ensures.0 c.in-Some.ensures.1
+    (ap (map notation_view) c.in_ok-push.ensures.items ∙ map_join notation_view c.arguments.arguments.items _)
+
+pub read_arguments-returns-in_err-after-2-clause-found : goal.read_arguments-returns-in_err-after-2-clause-found
+read_arguments-returns-in_err-after-2-clause-found t c =
+    let p = err_from_is_err_and c.from_residual-in_err-after-2.result c.from_residual-in_err-after-2.ensures.1 in
+    rw (p.1, p.2) (λ syntax found rest q.
+    none_are 64 c.args.level c.args.tokens.now c.arguments.rest.now (given (map notation_view c.arguments.arguments.items)) c.arguments.invariant.0
+    (unlike_open 64 c.args.level c.arguments.rest.now c.in_ok-argument.behind.now (notation_view c.in_ok-argument.argument) (sym c.begins_type.ensures ∙ c.if-not-begins_type.false) c.in_ok-argument.ensures.found
+    c.in_default.ensures c.in_default-take_sign.ensures (c.in_err-after-2.ensures.found syntax)) found rest q)
+
+pub read_arguments-returns-in_default-take_sign-clause-found : goal.read_arguments-returns-in_default-take_sign-clause-found
+read_arguments-returns-in_default-take_sign-clause-found t c =
+    unlike_are 64 c.args.level c.args.tokens.now c.arguments.rest.now c.in_ok-argument.behind.now c.in_ok-after-2.after.now (map notation_view c.arguments.arguments.items) (notation_view c.in_ok-argument.argument)
+    c.arguments.invariant.0 (sym c.begins_type.ensures ∙ c.if-not-begins_type.false) c.in_ok-argument.ensures.found c.in_default.ensures c.in_default-take_sign.ensures c.in_ok-after-2.ensures.found
+
+pub read_arguments-arguments-preserved : goal.read_arguments-arguments-preserved
+read_arguments-arguments-preserved t c = (
+  going_next (ArgumentsParse 64 c.args.level) c.args.tokens.now c.arguments.rest.now c.in-Some-take_sign.next.now (given (map notation_view c.arguments.arguments.items)) (given (map notation_view c.push.new.self.items))
+      (Some (notation_view c.in_ok-argument.argument)) c.arguments.invariant.0
+      (arguments_step 64 c.args.level c.arguments.rest.now c.in_ok-argument.behind.now c.in-Some-take_sign.next.now (notation_view c.in_ok-argument.argument) (sym c.begins_type.ensures ∙ c.if-not-begins_type.false) c.in_ok-argument.ensures.found c.in-Some-take_sign.ensures.0 c.in-Some-take_sign.ensures.1)
+      (more_given (map notation_view c.arguments.arguments.items) (map notation_view c.push.new.self.items) (notation_view c.in_ok-argument.argument) (ap (map notation_view) c.in_ok-push.ensures.items ∙ map_join notation_view c.arguments.arguments.items _)),
+  omega (arith, c.arguments.invariant.1, c.in_ok-argument.ensures.shorter, c.in-Some-take_sign.ensures.2),
+)
+
+pub read_named-returns-in_default-clause-found : goal.read_named-returns-in_default-clause-found
+read_named-returns-in_default-clause-found t c =
+    subst (λ z. BaseParses 64 c.args.level (starts.reference c.args.home c.args.name) c.args.tokens.now z c.args.tokens.now) (sym (reference_viewed c.args.home c.args.name))
+    (reference_read 64 c.args.level c.args.tokens.now c.args.home c.args.name c.in_default.ensures)
+
+pub read_named-returns-in_err-arguments-clause-found : goal.read_named-returns-in_err-arguments-clause-found
+read_named-returns-in_err-arguments-clause-found t c =
+    let p = err_from_is_err_and c.from_residual.result c.from_residual.ensures.1 in
+    rw (p.1, p.2) (λ syntax b rest q.
+    instance_none 64 c.args.level (c.args.level + 1) c.args.tokens.now c.in-Some.inner.now c.args.home c.args.name (add-one c.args.level) c.in-Some.ensures.0 c.in-Some.ensures.1 (c.in_err-arguments.ensures.found syntax) b rest q)
+
+pub read_named-returns-clause-found : goal.read_named-returns-clause-found
+read_named-returns-clause-found t c =
+    subst (λ z. BaseParses 64 c.args.level (starts.reference c.args.home c.args.name) c.args.tokens.now z c.in_ok-arguments.rest.now) (sym c.instance_or.ensures)
+    (instance_read 64 c.args.level (c.args.level + 1) c.args.tokens.now c.in-Some.inner.now c.in_ok-arguments.rest.now c.args.home c.args.name _ (add-one c.args.level) c.in-Some.ensures.0 c.in-Some.ensures.1 c.in_ok-arguments.ensures.found)
+
 pub read_base-returns-in-Leaf-clause-found : goal.read_base-returns-in-Leaf-clause-found
 read_base-returns-in-Leaf-clause-found t c = leaf_base 64 c.args.level c.args.tokens.now (start_view c.args.start) c.in-Leaf.leaf _ (ap start_view c.in-Leaf.is) (leaf_viewed c.in-Leaf.leaf)
 
 pub read_base-returns-in-Reference-clause-found : goal.read_base-returns-in-Reference-clause-found
 read_base-returns-in-Reference-clause-found t c =
-    reference_base 64 c.args.level c.args.tokens.now (start_view c.args.start) c.in-Reference.module c.in-Reference.name _ (ap start_view c.in-Reference.is) (reference_viewed c.in-Reference.module c.in-Reference.name)
+    reads_as 64 c.args.level c.args.tokens.now (start_view c.args.start) (starts.reference c.in-Reference.module c.in-Reference.name) c.read_named.result (ap start_view c.in-Reference.is) c.read_named.ensures.found
 
 pub read_base-returns-in_err-numbers-in-Integer-clause-found : goal.read_base-returns-in_err-numbers-in-Integer-clause-found
 read_base-returns-in_err-numbers-in-Integer-clause-found t c =

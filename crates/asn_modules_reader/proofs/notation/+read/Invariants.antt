@@ -1,11 +1,12 @@
 use Rattle.std.proofs.Common.{◌≡◌, ◌≤◌, ◌+◌, ◌*◌, length, map, nat_le, true}
 use Rattle.std.specs.List.{count_by}
 use Rattle.asn_lexer.specs.declared.kind.Kind.TheVariants as kind
-use Rattle.asn_modules_notation.specs.Grammar.{MembersParse}
-use Rattle.asn_modules_notation.specs.View.{component_view}
+use Rattle.asn_modules_notation.specs.Grammar.{ArgumentsParse, MembersParse}
+use Rattle.asn_modules_notation.specs.View.{component_view, notation_view}
 use Rattle.asn_modules_parts.specs.EntryLists.{entries_of, is_marker}
 use Rattle.asn_modules_parts.proofs.Runs.{Going}
 use Rattle.asn_modules_reader.specs.Views.{member_seen}
+use Rattle.asn_modules_reader.proofs.ArgumentsRead.{given}
 use Rattle.asn_modules_reader.proofs.notation.+read.Given as goal
 
 abbrev pub decreases-read_notation : goal.decreases-read_notation
@@ -13,6 +14,18 @@ decreases-read_notation l = 8 * length l.tokens.now
 
 abbrev pub decreases-read_base : goal.decreases-read_base
 decreases-read_base l = 8 * length l.tokens.now + 4
+
+abbrev pub decreases-read_named : goal.decreases-read_named
+decreases-read_named l = 8 * length l.tokens.now + 3
+
+abbrev pub decreases-read_arguments : goal.decreases-read_arguments
+decreases-read_arguments l = 8 * length l.tokens.now + 3
+
+abbrev pub invariant-read_arguments-arguments : goal.invariant-read_arguments-arguments
+invariant-read_arguments-arguments l = Going (ArgumentsParse 64 l.level) l.tokens l.rest (given (map notation_view l.arguments.items)) × (length l.rest ≤ length l.tokens)
+
+abbrev pub decreases-read_arguments-arguments : goal.decreases-read_arguments-arguments
+decreases-read_arguments-arguments l = length l.rest
 
 abbrev pub decreases-read_members : goal.decreases-read_members
 decreases-read_members l = 8 * length l.tokens.now + 3

@@ -36,6 +36,7 @@ pub(crate) fn expected_words(expected: Expected) -> &'static str
         Expected::Identifier => "IDENTIFIER",
         Expected::Pdv => "PDV",
         Expected::By => "BY",
+        Expected::Syntax => "SYNTAX",
         Expected::Type => "a type",
         Expected::HigherType => "a type at a higher level",
         Expected::Value => "a value",

@@ -1,6 +1,5 @@
 //! Tells the parts of ASN.1 that aren't read.
-ghost use Rattle.asn_modules_faults.specs.LeftOuts.{follows_reference, is_too_deep, left_out};
-ghost use Rattle.asn_modules_faults.specs.LeftOuts.{left_out_text, part_of};
+ghost use Rattle.asn_modules_faults.specs.LeftOuts.{is_too_deep, left_out, left_out_text, part_of};
 ghost use Rattle.std.specs.Prelude.{◌≡◌, Some};
 
 use asn_headers::Expected;
@@ -10,10 +9,6 @@ use std::fmt;
 /// Names a part of ASN.1 that isn't read.
 #[derive(Clone, Copy, Debug, Drop, PartialEq, Eq)]
 pub enum LeftOut {
-    /// Is parameters of a type or value (X.683).
-    Parameters,
-    /// Is object classes, and what refers to their fields (X.681).
-    ObjectClasses,
     /// Is macros, as earlier standards have them.
     Macros,
     /// Is selection types (X.680, section 30).
@@ -31,40 +26,13 @@ fn is_too_deep(expected: Expected) -> bool
     matches!(expected, Expected::HigherType)
 }
 
-/// Returns whether what is expected may stand behind the name of a type or value.
-fn follows_reference(expected: Expected) -> bool
-    ensures { result ≡ follows_reference expected }
-{
-    matches!(
-        expected,
-        Expected::CommaOrBrace
-            | Expected::CommaOrVersion
-            | Expected::NameOrEnd
-            | Expected::NameOrNothing
-            | Expected::Assignment
-            | Expected::Type
-            | Expected::CommaOrFrom
-            | Expected::CommaOrSemicolon
-    )
-}
-
-/// Returns the part that a token of the kind belongs to, in place of what is expected.
-fn part_of(kind: Kind, expected: Expected) -> Option<LeftOut>
-    ensures { result ≡ part_of kind (follows_reference expected) }
+/// Returns the part that a token of the kind belongs to.
+fn part_of(kind: Kind) -> Option<LeftOut>
+    ensures { result ≡ part_of kind }
 {
     match kind {
-        Kind::OpenBrace => {
-            if follows_reference(expected) {
-                Some(LeftOut::Parameters)
-            } else {
-                None
-            }
-        }
         Kind::Less => Some(LeftOut::SelectionTypes),
         Kind::Exclamation => Some(LeftOut::Exceptions),
-        Kind::Ampersand => Some(LeftOut::ObjectClasses),
-        Kind::Reserved(Keyword::Class) => Some(LeftOut::ObjectClasses),
-        Kind::Reserved(Keyword::Instance) => Some(LeftOut::ObjectClasses),
         Kind::Reserved(Keyword::Macro) => Some(LeftOut::Macros),
         _ => None,
     }
@@ -79,7 +47,7 @@ pub fn left_out(met: Option<Kind>, expected: Expected) -> Option<LeftOut>
         return Some(LeftOut::DeepNesting);
     }
     match met {
-        Some(kind) => part_of(kind, expected),
+        Some(kind) => part_of(kind),
         None => None,
     }
 }
@@ -90,8 +58,6 @@ impl fmt::Display for LeftOut {
 
     fn fmt<W: fmt::Write>(&self, f: &mut fmt::Formatter<W>) -> fmt::Result {
         f.write_str(match self {
-            LeftOut::Parameters => "parameters",
-            LeftOut::ObjectClasses => "object classes",
             LeftOut::Macros => "macros",
             LeftOut::SelectionTypes => "selection types",
             LeftOut::Exceptions => "exception specifications",

@@ -37,6 +37,7 @@ fn name_of(assignment: &Assignment) -> Token
     match assignment {
         Assignment::Type { name, .. } => *name,
         Assignment::Value { name, .. } => *name,
+        Assignment::Template { name, .. } => *name,
     }
 }
 

@@ -2,8 +2,8 @@
 use Rattle.std.specs.Prelude.{ℕ, suc, ◌+◌, ◌-◌, max, nat_le, ◌&&◌, if◌then◌else◌, Option, Some, None}
 use Rattle.asn_lexer.specs.declared.token.Token.{Token}
 use Rattle.asn_modules_included.specs.Sizes.{constraints_size, presence_size, reference_size}
-use Rattle.asn_modules_included.specs.declared.limits.TheConstants.{TYPE_SIZE}
-use Rattle.asn_modules_notation.specs.Notation.{Notation, Base, Member, Members, notation, integer, enumerated, members, list_of, choice, reference, component, components_of, group, marker, no_members, member}
+use Rattle.asn_modules_included.specs.declared.limits.TheConstants.{INSTANCE_SIZE, TYPE_SIZE}
+use Rattle.asn_modules_notation.specs.Notation.{Notation, Base, Member, Members, notation, integer, enumerated, members, list_of, choice, reference, instance_of, component, components_of, group, marker, no_members, member}
 use Rattle.asn_modules_sizes.specs.Sizes.{items_size, name_size, numbers_size}
 
 -- So many bytes, in types that nest to so many levels.
@@ -50,6 +50,7 @@ abbrev mutual
   base_extent f (list_of kind n) = type_extent f n
   base_extent f (choice ms) = members_extent f ms
   base_extent f (reference home name) = of_size (reference_size home name)
+  base_extent f (instance_of home name ns) = of_size INSTANCE_SIZE
   base_extent f base = nothing
 
   pub member_extent : Inclusions → Member → Extent

@@ -1,15 +1,16 @@
 -- The names that are too large for COMPONENTS OF.
-use Rattle.std.specs.Prelude.{◌≡◌, ℕ, zero, suc, List, [], ◌∷◌, ◌++◌, map, Option, Some, None, Result, Ok, Err}
+use Rattle.std.specs.Prelude.{◌≡◌, ℕ, zero, suc, List, [], ◌∷◌, ◌++◌, map, Bool, is_some, Option, Some, None, Result, Ok, Err}
 use Rattle.std.specs.List.{slice_get}
 use Rattle.asn_modules_faults.specs.declared.cause.NameRule.TheVariants.{TooLarge}
 use Rattle.asn_modules_faults.specs.declared.error.ModuleError.{ModuleError}
-use Rattle.asn_modules_included.specs.Extents.{Extent, Inclusions, around, included_extent, left_behind, named_extent, nothing}
+use Rattle.asn_modules_included.specs.Extents.{Extent, Inclusions, around, included_extent, left_behind, named_extent, nothing, type_extent}
 use Rattle.asn_modules_included.specs.Types.{AssignedType, stands_for, type_named, types_of}
-use Rattle.asn_modules_included.specs.declared.limits.TheConstants.{INCLUDED_LEVEL_LIMIT, INCLUDED_SIZE_LIMIT, NAME_LIMIT}
+use Rattle.asn_modules_included.specs.declared.limits.TheConstants.{INCLUDED_LEVEL_LIMIT, INCLUDED_SIZE_LIMIT, INSTANCE_SIZE, NAME_LIMIT}
 use Rattle.asn_modules_included.specs.declared.names.TypeName.{TypeName}
 use Rattle.asn_modules_lookup.specs.Homes.{Home, homes}
 use Rattle.asn_modules_names.specs.Faults.{Fault, Tells, fault_of}
 use Rattle.asn_modules_names.specs.Mentions.{Source, mention_in}
+use Rattle.asn_modules_notation.specs.Notation.{Notation}
 
 -- What the type of the number includes, if it is known.
 abbrev pub extent_or : (ℕ → Extent) → Option ℕ → Extent
@@ -29,6 +30,10 @@ extent_by ss f (Some t) = included_extent (inclusions ss t.number t.home f) t.no
 unfoldable pub included : List Source → List AssignedType → ℕ → ℕ → Extent
 included ss ts zero n = nothing
 included ss ts (suc more) n = extent_by ss (included ss ts more) (slice_get ts n)
+
+-- The type in the module of number k counts as little as one with actual parameters may that stands in place of a name.
+abbrev pub is_small : List Source → ℕ → Home → Notation → Bool
+is_small ss k h n = is_some (left_behind (type_extent (inclusions ss k h (included ss [] 0)) n) INSTANCE_SIZE INCLUDED_LEVEL_LIMIT)
 
 -- A name behind COMPONENTS OF, and the type that it stands in.
 pub record Counted : Type 0 where

@@ -9,7 +9,7 @@ use Rattle.asn_modules_lookup.specs.Homes.{Home, bytes_in, home_view}
 use Rattle.asn_modules_lookup.specs.Lookup.{found}
 use Rattle.asn_modules_lookup.specs.declared.sort.Sort.TheVariants.{Types}
 use Rattle.asn_modules_names.specs.Mentions.{Source}
-use Rattle.asn_modules_notation.specs.Modules.{Assignment, type_assignment, value_assignment}
+use Rattle.asn_modules_notation.specs.Modules.{Assignment, type_assignment}
 use Rattle.asn_modules_notation.specs.Notation.{Notation}
 use Rattle.asn_modules_notation.specs.View.{notation_view}
 
@@ -31,7 +31,7 @@ type_named ss k h x = found Types ss k (option_map (bytes_in h) x.home) (bytes_i
 -- What is assigned in the module of number k, where it is a type.
 abbrev pub type_as : List Source → ℕ → Home → Assignment → Option AssignedType
 type_as ss k h (type_assignment name n) = Some (record { number = k; home = h; notation = n; behind = behind n; next = option_and_then (type_named ss k h) (name_of n) })
-type_as ss k h (value_assignment name n v) = None
+type_as ss k h a = None
 
 -- The types among the assignments of a module.
 abbrev pub types_in : List Source → ℕ → Home → List Assignment → List AssignedType

@@ -1,21 +1,47 @@
 //! Checks that no name is too large for COMPONENTS OF.
-ghost use Rattle.asn_modules_included.specs.TooLarge.{IsChecked, counted_in, first_too_large_in};
+ghost use Rattle.asn_modules_included.specs.TooLarge.{IsChecked, counted_in, first_too_large_in, is_small};
 ghost use Rattle.asn_modules_included.specs.Types.{type_view, types_of};
 ghost use Rattle.asn_modules_lookup.specs.Homes.{home_view};
 ghost use Rattle.asn_modules_lookup.specs.Indexes.{IsIndexOf};
 ghost use Rattle.asn_modules_lookup.specs.declared.sort.Sort.TheVariants.{Types};
 ghost use Rattle.asn_modules_names.specs.Faults.{Checks};
 ghost use Rattle.asn_modules_names.specs.Mentions.{Source};
-ghost use Rattle.std.specs.Prelude.{List, map};
+ghost use Rattle.asn_modules_notation.specs.View.{notation_view};
+ghost use Rattle.std.specs.Prelude.{◌≡◌, List, map};
 
-use crate::count::past_type_name;
-use crate::limits::{INCLUDED_LEVEL_LIMIT, INCLUDED_SIZE_LIMIT, NAME_LIMIT};
+use crate::count::{past_type, past_type_name};
+use crate::limits::{INCLUDED_LEVEL_LIMIT, INCLUDED_SIZE_LIMIT, INSTANCE_SIZE, NAME_LIMIT};
 use crate::scope::{Depth, Scope};
 use crate::types::{AssignedType, stands_for, types_of};
 use asn_modules_faults::{ModuleError, NameRule};
 use asn_modules_lookup::{Home, Index};
 use asn_modules_names::{broken, mention_of};
+use asn_modules_notation::Notation;
 use std::alloc::Global;
+
+/// Returns whether the type in the module of the number counts as little as one with actual
+/// parameters may that stands in place of a name, by the index of types.
+pub fn is_small<'t>(
+    index: &Index<'t>,
+    number: usize,
+    home: Home<'_, 't>,
+    notation: &Notation,
+) -> bool
+    ensures { (ss : List Source) → IsIndexOf Types ss index.now
+        → result ≡ is_small ss number (home_view home.entry) (notation_view notation.now) }
+{
+    let scope = Scope {
+        index,
+        types: &[],
+        number,
+        home,
+    };
+    let depth = Depth {
+        names: 0,
+        levels: INCLUDED_LEVEL_LIMIT,
+    };
+    past_type(&scope, depth, INSTANCE_SIZE, notation).is_some()
+}
 
 /// Checks the names behind COMPONENTS OF in the type, where so many bytes are left, and returns how
 /// many are left behind them.

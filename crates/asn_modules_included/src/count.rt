@@ -15,7 +15,7 @@ ghost use Rattle.std.specs.Prelude.{◌≡◌, List, map};
 use crate::limits::TYPE_SIZE;
 use crate::names::TypeName;
 use crate::scope::{Depth, Scope};
-use crate::sizes::{past_constraints, past_presence, past_reference};
+use crate::sizes::{past_constraints, past_instance, past_presence, past_reference};
 use crate::types::{type_at, type_named};
 use asn_modules_notation::{Base, Component, Member, Members, Notation};
 use asn_modules_sizes::{past_items, past_name, past_numbers};
@@ -23,7 +23,7 @@ use asn_modules_sizes::{past_items, past_name, past_numbers};
 /// Returns how many of so many bytes are left behind the type, or `None` where there aren't as
 /// many, or it nests too deep. This and the others below count a type with all that stands in it.
 #[cycle(count)]
-fn past_type(
+pub fn past_type(
     scope: &Scope<'_, '_, '_>,
     depth: Depth,
     left: usize,
@@ -55,6 +55,7 @@ fn past_base(scope: &Scope<'_, '_, '_>, depth: Depth, left: usize, base: &Base) 
         Base::Integer(named) => past_numbers(left, named),
         Base::Enumerated { items, added } => past_items(left, items, added),
         Base::Reference { module, name } => past_reference(left, *module, *name),
+        Base::Instance { .. } => past_instance(left),
         Base::Leaf(_) => Some(left),
         Base::BitString(_) => Some(left),
     }
@@ -210,6 +211,7 @@ fn past_included(
         Base::SequenceOf(_) => Some(rest),
         Base::SetOf(_) => Some(rest),
         Base::Choice(_) => Some(rest),
+        Base::Instance { .. } => Some(rest),
     }
 }
 

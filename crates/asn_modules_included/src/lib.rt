@@ -9,5 +9,5 @@ mod scope;
 mod sizes;
 mod types;
 
-pub use check::check_included;
-pub use limits::{INCLUDED_LEVEL_LIMIT, INCLUDED_SIZE_LIMIT, NAME_LIMIT, TYPE_SIZE};
+pub use check::{check_included, is_small};
+pub use limits::{INCLUDED_LEVEL_LIMIT, INCLUDED_SIZE_LIMIT, INSTANCE_SIZE, NAME_LIMIT, TYPE_SIZE};

@@ -39,6 +39,7 @@ pub fn name_of(notation: &Notation) -> Option<TypeName>
         Base::SequenceOf(_) => None,
         Base::SetOf(_) => None,
         Base::Choice(_) => None,
+        Base::Instance { .. } => None,
     }
 }
 
@@ -80,6 +81,7 @@ pub fn add_behind(names: &mut Vec<TypeName>, notation: &Notation) -> Result<(), 
         Base::BitString(_) => Ok(()),
         Base::Enumerated { .. } => Ok(()),
         Base::Reference { .. } => Ok(()),
+        Base::Instance { .. } => Ok(()),
     }
 }
 

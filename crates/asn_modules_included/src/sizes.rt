@@ -4,6 +4,7 @@ ghost use Rattle.asn_modules_included.specs.Sizes.{presence_size, reference_size
 ghost use Rattle.asn_modules_sizes.specs.Sizes.{name_size, past};
 ghost use Rattle.std.specs.Prelude.{◌≡◌, ◌+◌};
 
+use crate::limits::INSTANCE_SIZE;
 use asn_lexer::Token;
 use asn_modules_notation::{Presence, Size, Value};
 use asn_modules_sizes::{ENTRY_SIZE, past_name};
@@ -25,6 +26,13 @@ pub fn past_reference(left: usize, home: Option<Token>, name: Token) -> Option<u
         Some(home) => past_both(left, home, name),
         None => past_name(left, name),
     }
+}
+
+/// Returns how many are left behind a type with actual parameters.
+pub fn past_instance(left: usize) -> Option<usize>
+    ensures { result ≡ past left INSTANCE_SIZE }
+{
+    left.checked_sub(INSTANCE_SIZE)
 }
 
 /// Returns how many are left behind the value.

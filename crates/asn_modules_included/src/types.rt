@@ -97,7 +97,7 @@ fn type_of<'s, 't>(
                 next: next_of(index, number, home, notation),
             }))
         }
-        Assignment::Value { .. } => Ok(None),
+        Assignment::Value { .. } | Assignment::Template { .. } => Ok(None),
     }
 }
 

@@ -2,7 +2,7 @@
 use Rattle.std.specs.Prelude.{List, [], ◌∷◌, ◌++◌, map}
 use Rattle.asn_modules_lists.specs.declared.written.WrittenType as code
 use Rattle.asn_modules_names.specs.Mentions.{Source, source_view}
-use Rattle.asn_modules_notation.specs.Modules.{Assignment, Module, type_assignment, value_assignment}
+use Rattle.asn_modules_notation.specs.Modules.{Assignment, Module, type_assignment, value_assignment, template_assignment}
 use Rattle.asn_modules_notation.specs.Notation.{Notation, Base, Member, Members, notation, members, list_of, choice, component, components_of, group, marker, no_members, member}
 use Rattle.asn_modules_reader.specs.Views.{base_view}
 
@@ -31,6 +31,7 @@ abbrev mutual
 abbrev pub assigned_type : Assignment → Notation
 assigned_type (type_assignment name n) = n
 assigned_type (value_assignment name n value) = n
+assigned_type (template_assignment name ps n) = n
 
 -- A type that stands in a text, without its tags and constraints.
 pub record Written : Type 0 where

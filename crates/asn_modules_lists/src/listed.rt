@@ -81,6 +81,7 @@ fn add_names(names: &mut Vec<Token>, base: &Base) -> Result<(), AllocError>
         Base::SequenceOf(_element) => Ok(()),
         Base::SetOf(_element) => Ok(()),
         Base::Reference { .. } => Ok(()),
+        Base::Instance { .. } => Ok(()),
     }
 }
 

@@ -37,6 +37,7 @@ fn add_assignment<'s, 't>(
     match assignment {
         Assignment::Type { notation, .. } => add_type(found, source, notation),
         Assignment::Value { notation, .. } => add_type(found, source, notation),
+        Assignment::Template { notation, .. } => add_type(found, source, notation),
     }
 }
 

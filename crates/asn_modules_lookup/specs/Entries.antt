@@ -6,9 +6,9 @@ use Rattle.asn_headers.specs.Headers.{Header}
 use Rattle.asn_lexer.specs.declared.token.Token.{Token}
 use Rattle.asn_modules_lookup.specs.Homes.{Home, bytes_in}
 use Rattle.asn_modules_lookup.specs.declared.sort.Sort.{Sort}
-use Rattle.asn_modules_lookup.specs.declared.sort.Sort.TheVariants.{Types, Values}
+use Rattle.asn_modules_lookup.specs.declared.sort.Sort.TheVariants.{Types, Values, Templates}
 use Rattle.asn_modules_names.specs.Assigned.{module_name}
-use Rattle.asn_modules_notation.specs.Modules.{Assignment, type_assignment, value_assignment}
+use Rattle.asn_modules_notation.specs.Modules.{Assignment, type_assignment, value_assignment, template_assignment}
 
 -- The names of modules, each with the number of its module; the first has number k.
 abbrev pub module_entries : ℕ → List Home → List (List ℕ × ℕ)
@@ -18,9 +18,11 @@ module_entries k (h ∷ hs) = cons_option (option_map (λ t. (bytes_in h t, k)) 
 -- The name that is assigned, where the assignment is of the sort.
 abbrev pub name_as : Sort → Assignment → Option Token
 name_as Types (type_assignment name n) = Some name
-name_as Types (value_assignment name n value) = None
-name_as Values (type_assignment name n) = None
+name_as Types a = None
 name_as Values (value_assignment name n value) = Some name
+name_as Values a = None
+name_as Templates (template_assignment name ps n) = Some name
+name_as Templates a = None
 
 -- The names that these assignments of a module assign, of those of the sort, each behind the number of the module.
 abbrev pub keys_in : Sort → ℕ → Home → List Assignment → List (ℕ × List ℕ)

@@ -55,11 +55,15 @@ fn name_as(sort: Sort, assignment: &Assignment) -> Option<Token>
     match sort {
         Sort::Types => match assignment {
             Assignment::Type { name, .. } => Some(*name),
-            Assignment::Value { .. } => None,
+            _ => None,
         },
         Sort::Values => match assignment {
-            Assignment::Type { .. } => None,
             Assignment::Value { name, .. } => Some(*name),
+            _ => None,
+        },
+        Sort::Templates => match assignment {
+            Assignment::Template { name, .. } => Some(*name),
+            _ => None,
         },
     }
 }

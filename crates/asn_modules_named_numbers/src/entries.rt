@@ -36,6 +36,7 @@ fn numbers_in(notation: &Notation) -> &[NamedNumber]
         Base::SetOf(_) => &[],
         Base::Choice(_) => &[],
         Base::Reference { .. } => &[],
+        Base::Instance { .. } => &[],
     }
 }
 

@@ -6,7 +6,7 @@ use Rattle.asn_modules_faults.specs.declared.cause.NameRule.TheVariants.{Assigne
 use Rattle.asn_modules_names.specs.Faults.{Fault}
 use Rattle.asn_modules_names.specs.Mentions.{Mention, Source, mention_in}
 use Rattle.asn_modules_names.specs.Repeats.{repeated}
-use Rattle.asn_modules_notation.specs.Modules.{Assignment, Module, type_assignment, value_assignment}
+use Rattle.asn_modules_notation.specs.Modules.{Assignment, Module, type_assignment, value_assignment, template_assignment}
 
 -- The first that f finds in the list.
 abbrev pub first_found : {A B : Type 0} → (A → Option B) → List A → Option B
@@ -30,6 +30,7 @@ all_module_names (s ∷ ss) = module_names s s.modules ++ all_module_names ss
 abbrev pub assigned_name : Assignment → Token
 assigned_name (type_assignment name n) = name
 assigned_name (value_assignment name n value) = name
+assigned_name (template_assignment name ps n) = name
 
 -- The names that these assignments of the text assign, to types and values, in order.
 abbrev pub assigned_names : Source → List Assignment → List Mention

@@ -50,6 +50,7 @@ fn number_fault(alloc: Global, text: &str, base: &Base) -> Result<Option<Broken>
         Base::SetOf(_element) => Ok(None),
         Base::Choice(_alternatives) => Ok(None),
         Base::Reference { .. } => Ok(None),
+        Base::Instance { .. } => Ok(None),
     }
 }
 

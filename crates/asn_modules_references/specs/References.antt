@@ -7,11 +7,11 @@ use Rattle.asn_modules_faults.specs.declared.cause.NameRule.TheVariants.{NotAssi
 use Rattle.asn_modules_lookup.specs.Homes.{Home, bytes_in}
 use Rattle.asn_modules_lookup.specs.Lookup.{is_known}
 use Rattle.asn_modules_lookup.specs.declared.sort.Sort.{Sort}
-use Rattle.asn_modules_lookup.specs.declared.sort.Sort.TheVariants.{Types, Values}
+use Rattle.asn_modules_lookup.specs.declared.sort.Sort.TheVariants.{Types, Values, Templates}
 use Rattle.asn_modules_names.specs.Assigned.{first_found}
 use Rattle.asn_modules_names.specs.Faults.{Fault, fault_of}
 use Rattle.asn_modules_names.specs.Mentions.{Source, mention_in}
-use Rattle.asn_modules_notation.specs.Modules.{Assignment, type_assignment, value_assignment}
+use Rattle.asn_modules_notation.specs.Modules.{Assignment, type_assignment, value_assignment, template_assignment}
 use Rattle.asn_modules_notation.specs.Notation.{Notation, Base, Member, Members, notation, leaf, integer, bit_string, enumerated, members, list_of, choice, reference, component, components_of, group, marker, no_members, member}
 use Rattle.asn_modules_references.specs.ValueNames.{value_name}
 
@@ -38,15 +38,17 @@ abbrev mutual
   members_references no_members = []
   members_references (member m ms) = member_references m ++ members_references ms
 
--- Those that an assignment refers to, with the type of a value.
+-- Those that an assignment refers to, with the type of a value. A type with parameters may name those.
 abbrev pub assignment_references : Assignment → List Token
 assignment_references (type_assignment name n) = references n
 assignment_references (value_assignment name n value) = references n
+assignment_references (template_assignment name ps n) = []
 
 -- The names of types that it refers to, or those of values.
 abbrev pub references_as : Sort → Assignment → List Token
 references_as Types a = assignment_references a
 references_as Values a = cons_option (value_name a) []
+references_as Templates a = []
 
 abbrev pub all_references : Sort → List Assignment → List Token
 all_references sort [] = []

@@ -3,8 +3,8 @@ use Rattle.std.specs.Prelude.{List, [], ◌∷◌, Bool, true, false, if◌then�
 use Rattle.asn_lexer.specs.declared.kind.Kind.{Kind}
 use Rattle.asn_lexer.specs.declared.kind.Kind.TheVariants as kind
 use Rattle.asn_lexer.specs.declared.token.Token.{Token}
-use Rattle.asn_modules_notation.specs.Modules.{Assignment, type_assignment, value_assignment}
-use Rattle.asn_modules_notation.specs.Notation.{Notation, Base, notation, leaf, integer, enumerated, reference}
+use Rattle.asn_modules_notation.specs.Modules.{Assignment, type_assignment, value_assignment, template_assignment}
+use Rattle.asn_modules_notation.specs.Notation.{Notation, Base, notation, leaf, integer, enumerated, reference, instance_of}
 use Rattle.asn_modules_notation.specs.declared.leaf.Leaf.{Leaf}
 use Rattle.asn_modules_notation.specs.declared.leaf.Leaf.TheVariants.{Boolean, Closed}
 use Rattle.asn_modules_notation.specs.declared.number.NamedNumber.{NamedNumber}
@@ -27,6 +27,7 @@ base_names (leaf l) = leaf_names l
 base_names (integer ns) = has_named ns
 base_names (enumerated items) = true
 base_names (reference home name) = true
+base_names (instance_of home name ns) = true
 base_names base = false
 
 abbrev pub names_values : Notation → Bool
@@ -45,4 +46,5 @@ name_in v = None
 -- The name of a value that is assigned as a value, where it is the name of nothing else.
 abbrev pub value_name : Assignment → Option Token
 value_name (type_assignment name n) = None
+value_name (template_assignment name ps n) = None
 value_name (value_assignment name n v) = if names_values n then None else name_in v

@@ -31,6 +31,7 @@ fn add_types(names: &mut Vec<Token>, assignment: &Assignment) -> Result<(), Allo
     match assignment {
         Assignment::Type { notation, .. } => add_references(names, notation),
         Assignment::Value { notation, .. } => add_references(names, notation),
+        Assignment::Template { .. } => Ok(()),
     }
 }
 
@@ -56,6 +57,7 @@ fn add_assignment(
             }
             None => Ok(()),
         },
+        Sort::Templates => Ok(()),
     }
 }
 

@@ -46,6 +46,7 @@ fn names_values(notation: &Notation) -> bool
         Base::Integer(numbers) => has_named(numbers.as_slice()),
         Base::Enumerated { .. } => true,
         Base::Reference { .. } => true,
+        Base::Instance { .. } => true,
         Base::Leaf(leaf) => leaf_names(*leaf),
         Base::BitString(_) => false,
         Base::Sequence(_) => false,
@@ -83,6 +84,7 @@ pub fn value_name(assignment: &Assignment) -> Option<Token>
 {
     match assignment {
         Assignment::Type { .. } => None,
+        Assignment::Template { .. } => None,
         Assignment::Value {
             notation,
             value,

@@ -7,7 +7,7 @@ use Rattle.asn_modules_lookup.specs.Lookup.{found}
 use Rattle.asn_modules_lookup.specs.declared.sort.Sort.TheVariants.{Values}
 use Rattle.asn_modules_names.specs.Faults.{Fault, fault_of}
 use Rattle.asn_modules_names.specs.Mentions.{Mention, Source, mention_in, mention_view}
-use Rattle.asn_modules_notation.specs.Modules.{Assignment, type_assignment, value_assignment}
+use Rattle.asn_modules_notation.specs.Modules.{Assignment, type_assignment, value_assignment, template_assignment}
 use Rattle.asn_modules_references.specs.ValueNames.{value_name}
 use Rattle.asn_modules_values.specs.Leads.{leads}
 use Rattle.asn_modules_values.specs.declared.links.ValueLink as code
@@ -27,6 +27,7 @@ next_of ss k h a = option_and_then (λ t. found Values ss k None (bytes_in h t))
 -- What is assigned there, where it is a value.
 abbrev pub link_as : List Source → ℕ → Home → Assignment → Option ValueLink
 link_as ss k h (type_assignment name n) = None
+link_as ss k h (template_assignment name ps n) = None
 link_as ss k h (value_assignment name n v) = Some (record { name = mention_in h.source name; next = next_of ss k h (value_assignment name n v) })
 
 -- The values among the assignments of a module.

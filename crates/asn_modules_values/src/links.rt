@@ -43,7 +43,7 @@ fn next_of<'t>(
     }
 }
 
-/// Returns what is assigned in the module of the number, or `None` where it is a type.
+/// Returns what is assigned in the module of the number, or `None` where it is no value.
 fn link_of<'t>(
     index: &Index<'t>,
     number: usize,
@@ -55,6 +55,7 @@ fn link_of<'t>(
 {
     match assignment {
         Assignment::Type { .. } => None,
+        Assignment::Template { .. } => None,
         Assignment::Value { name, .. } => Some(ValueLink {
             name: mention_of(home.source, *name),
             next: next_of(index, number, home, assignment),

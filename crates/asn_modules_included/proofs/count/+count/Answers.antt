@@ -3,6 +3,7 @@ use Rattle.asn_modules_included.specs.Extents.{left_behind, member_extent, membe
 use Rattle.asn_modules_included.specs.Scopes.{inclusions_in}
 use Rattle.asn_modules_included.specs.Sizes.{constraints_size, presence_size, reference_size}
 use Rattle.asn_modules_included.specs.Types.{type_view}
+use Rattle.asn_modules_included.specs.declared.limits.TheConstants.{INSTANCE_SIZE}
 use Rattle.asn_modules_included.proofs.Following.{past_last, past_missing, past_named}
 use Rattle.asn_modules_included.proofs.Leaving.{left_size, sized_none, sized_on}
 use Rattle.asn_modules_included.proofs.Sizing.{past_none, past_on}
@@ -11,7 +12,7 @@ use Rattle.asn_model.specs.Shape.{SeqKind}
 use Rattle.asn_modules_lookup.specs.Homes.{home_view}
 use Rattle.asn_modules_notation.specs.Notation.{choice, enumerated, integer, members, members_of, reference}
 use Rattle.asn_modules_notation.specs.View.{component_view, items_view, members_view, notation_view}
-use Rattle.asn_modules_reader.proofs.Viewing.{choice_viewed, components_of_viewed, enumerated_viewed, group_viewed, integer_viewed, named_viewed, one_viewed, reference_viewed, sequence_viewed, set_viewed}
+use Rattle.asn_modules_reader.proofs.Viewing.{choice_viewed, components_of_viewed, enumerated_viewed, group_viewed, instance_viewed, integer_viewed, named_viewed, one_viewed, reference_viewed, sequence_viewed, set_viewed}
 use Rattle.asn_modules_reader.specs.Views.{base_view, member_view}
 use Rattle.asn_modules_sizes.specs.Sizes.{items_size, name_size, numbers_size, past}
 use Rattle.asn_modules_included.proofs.count.+count.Goals as goal
@@ -68,6 +69,11 @@ past_base-returns-in-Reference t c = λ ss is.
     let name = c.in-Reference.name in
     base_on (inclusions_in ss c.args.scope.now c.args.depth.names) c.args.base.now (reference home name) c.args.left c.args.depth.levels c.past_reference.result (ap base_view c.in-Reference.is ∙ reference_viewed home name)
     (c.past_reference.ensures ∙ sym (left_size (reference_size home name) c.args.left c.args.depth.levels))
+
+pub past_base-returns-in-Instance : goal.past_base-returns-in-Instance
+past_base-returns-in-Instance t c = λ ss is.
+    base_on (inclusions_in ss c.args.scope.now c.args.depth.names) c.args.base.now _ c.args.left c.args.depth.levels c.past_instance.result (ap base_view c.in-Instance.is ∙ instance_viewed _ _ _)
+    (c.past_instance.ensures ∙ sym (left_size INSTANCE_SIZE c.args.left c.args.depth.levels))
 
 pub past_members-returns-in_err-rest : goal.past_members-returns-in_err-rest
 past_members-returns-in_err-rest t c = λ ss is.

@@ -1,6 +1,6 @@
 -- Values behind the identifiers of alternatives.
 use Rattle.std.proofs.Common.{◌≡◌, List, [], ◌∷◌, Bool, true, false, ◌&&◌, if◌then◌else◌, Option, Some, None, refl, sym, ap, subst, ◌∙◌}
-use Rattle.std.specs.Option.{option_map}
+use Rattle.std.specs.Option.{option_and_then, option_map}
 use Rattle.asn_lexer.specs.declared.token.Token.{Token}
 use Rattle.asn_headers.specs.Fronts.{Answers, first_is}
 use Rattle.asn_headers.specs.Groups.{past_groups}
@@ -9,8 +9,9 @@ use Rattle.asn_headers.specs.declared.group.Group.TheVariants.{Braces}
 use Rattle.asn_lexer.specs.declared.kind.Kind.TheVariants as kind
 use Rattle.std.specs.Borrow.{Bor}
 use Rattle.std.specs.Prelude.{Result}
-use Rattle.asn_modules_notation.specs.Kinds.{is_colon, is_word}
-use Rattle.asn_modules_notation.specs.Values.{value_at, value_by}
+use Rattle.asn_modules_notation.specs.Classes.{begins_field, past_braces, past_fields}
+use Rattle.asn_modules_notation.specs.Kinds.{is_colon, is_open_brace, is_word}
+use Rattle.asn_modules_notation.specs.Values.{named_value_at, other_at, value_at, value_by}
 use Rattle.asn_modules_notation.specs.declared.value.Value.{Value}
 use Rattle.asn_modules_notation.specs.declared.value.Value.TheVariants as value
 use Rattle.asn_modules_parts.specs.Values.{value_here}
@@ -52,6 +53,14 @@ last_alternative s v e = ap (option_map (λ p. (value.Other s, p.1))) e
 
 pub braced_here : (t : Token) (u v : List Token) → v ≡ t ∷ u → t.kind ≡ kind.OpenBrace → value_here v ≡ option_map (λ w. (value.Other t, w)) (past_groups (Braces ∷ []) u)
 braced_here t u v e h = ap value_here e ∙ ap (λ k. value_by k t u) h
+
+-- A name with a brace behind it.
+pub braced_name : (x : Value) (t b : Token) (u v : List Token) → u ≡ b ∷ v → is_open_brace b.kind ≡ true → begins_field u ≡ false → named_value_at x t u ≡ option_map (λ w. (value.Other t, w)) (past_groups (Braces ∷ []) v)
+braced_name x t b u v e h n =
+    ap (λ z. if z then other_at t (past_fields u) else if first_is is_open_brace u then other_at t (past_braces u) else Some (x, u)) n
+    ∙ ap (λ z. if first_is is_open_brace z then other_at t (past_braces z) else Some (x, z)) e
+    ∙ ap (λ z. if z then other_at t (past_braces (b ∷ v)) else Some (x, b ∷ v)) h
+    ∙ ap (λ z. other_at t (option_and_then (past_groups (Braces ∷ [])) (if z then Some v else None))) h
 
 -- The same answer to an equal question.
 pub answered : (o p : Option (Value × List Token)) (r : Result (Value × Bor (List Token)) SyntaxFault) → o ≡ p → Answers (λ x. x) p r → Answers (λ x. x) o r

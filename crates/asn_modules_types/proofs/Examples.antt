@@ -8,7 +8,7 @@ use Rattle.asn_lexer.specs.declared.token.Token.{Token}
 use Rattle.asn_linked_types.specs.Expansion.{no_values}
 use Rattle.asn_model.specs.Shape.{Alphabet, Alternatives, AlternativeAdditions, Fields, FieldAdditions, Plain, Presence, SeqKind, Shape}
 use Rattle.asn_model.specs.declared.shape_type.Alphabet.TheVariants as alphabet
-use Rattle.asn_modules_notation.specs.Notation.{Base, Member, Notation, bit_string, choice, component, components_of, enumerated, group, integer, leaf, marker, members, members_of, no_members, notation, reference}
+use Rattle.asn_modules_notation.specs.Notation.{Base, Member, Notation, bit_string, choice, component, components_of, enumerated, group, instance_of, integer, leaf, marker, members, members_of, no_members, no_notations, notation, reference}
 use Rattle.asn_modules_notation.specs.declared.leaf.Leaf.TheVariants.{Boolean, Null, Text}
 use Rattle.asn_modules_notation.specs.declared.notation.Presence.TheVariants.{Default, Optional, Required}
 use Rattle.asn_modules_notation.specs.declared.number.Constant.TheVariants as constant
@@ -18,6 +18,7 @@ use Rattle.asn_modules_types.specs.Leaves.{integer_shape}
 use Rattle.asn_modules_types.specs.Linked.{no_roots}
 use Rattle.asn_modules_types.specs.Lists.{added_of, root_of}
 use Rattle.asn_modules_types.specs.Scopes.{Scope}
+use Rattle.asn_modules_types.specs.Templates.{Bindings, bound_find}
 use Rattle.asn_modules_types.specs.Types.{Roots, notation_shape}
 
 -- The text of these examples, in which each token is one character.
@@ -143,7 +144,10 @@ unsuited = refl
 
 -- SET { COMPONENTS OF T, a BOOLEAN }, where T has a component h.
 abbrev one_root : Roots
-one_root place home name = Some (record { name = codes "h"; presence = if place.grouped then Presence.optional else Presence.required; shape = Shape.null } ∷ [])
+one_root = record {
+  components = λ place home name. Some (record { name = codes "h"; presence = if place.grouped then Presence.optional else Presence.required; shape = Shape.null } ∷ []);
+  instance = λ home name ns. Shape.boolean;
+}
 
 abbrev named_root : Member
 named_root = components_of (plain (reference None (word 7)))
@@ -174,3 +178,26 @@ no_kind = refl
 
 unnamed : notation_shape no_roots (example false) (plain (members SeqKind.set (members_of (named_root ∷ [])))) ≡ no_values
 unnamed = refl
+
+-- SEQUENCE { a T {U} OPTIONAL }, where T {U} is BOOLEAN.
+instance : notation_shape one_root (example false) (plain (members SeqKind.sequence (members_of (component (word 0) (plain (instance_of None (word 7) no_notations)) Optional ∷ []))))
+    ≡ Shape.seq SeqKind.sequence (Fields.field (codes "a") (context_tag 0) Presence.optional Shape.boolean Fields.no_fields) FieldAdditions.closed_fields
+instance = refl
+
+-- In the text, c is a parameter with type 7 in its place, and d is none; names stand for type 2 elsewhere.
+abbrev one_bound : Bindings
+one_bound = (word 2, Some 7) ∷ []
+
+parameter : bound_find letters one_bound (λ home name. Some 2) None (word 2) ≡ Some 7
+parameter = refl
+
+no_parameter : bound_find letters one_bound (λ home name. Some 2) None (word 3) ≡ Some 2
+no_parameter = refl
+
+-- One without a known type in its place stands for none, even where its name is that of a type.
+no_type : bound_find letters ((word 2, None) ∷ []) (λ home name. Some 2) None (word 2) ≡ None
+no_type = refl
+
+-- Behind the name of a module stands no parameter.
+behind_module : bound_find letters one_bound (λ home name. Some 2) (Some (word 0)) (word 2) ≡ Some 2
+behind_module = refl

@@ -8,12 +8,12 @@ use Rattle.asn_modules_faults.specs.Slices.{text_of}
 use Rattle.asn_modules_lookup.specs.Homes.{Home}
 use Rattle.asn_modules_lookup.specs.declared.sort.Sort.TheVariants.{Types}
 use Rattle.asn_modules_names.specs.Mentions.{Source}
-use Rattle.asn_modules_notation.specs.Notation.{Notation, bit_string, choice, enumerated, integer, leaf, list_of, members, notation, reference}
+use Rattle.asn_modules_notation.specs.Notation.{Notation, bit_string, choice, enumerated, instance_of, integer, leaf, list_of, members, notation, reference}
 use Rattle.asn_modules_notation.specs.declared.number.Constant.{Constant}
 use Rattle.asn_modules_notation.specs.declared.number.Constant.TheVariants as constant
 use Rattle.asn_modules_notation.specs.declared.number.NamedNumber.{NamedNumber}
 use Rattle.asn_modules_types.specs.Assigned.{Assigned, assigned, notation_of}
-use Rattle.asn_modules_types.specs.Linked.{base_of, is_numbered, named_by, named_type, no_roots, number_by, number_word, numbered_shape, opened_type, roots_by, scope_in, scope_of, type_roots}
+use Rattle.asn_modules_types.specs.Linked.{base_of, is_numbered, named_by, named_type, no_roots, number_by, number_word, numbered_shape, opened_type, plain_scope, roots_by, scope_of, type_roots}
 use Rattle.asn_modules_types.specs.Numbers.{constant_in, named_number}
 use Rattle.asn_modules_types.specs.Types.{Place, notation_shape, number_in_type}
 
@@ -75,17 +75,17 @@ module _ (ss : List Source) (more less n : ℕ) (above : more ≡ less + 1) (lis
 
 -- What words name doesn't depend on the shapes of types.
 module _ (ss : List Source) (k : ℕ) (h : Home) (f g : ℕ → Shape) (numbers : ℕ → List ℕ → Option ℤ) where
-  constants_same : (c : Constant) → constant_in (scope_in ss k h f numbers) c ≡ constant_in (scope_in ss k h g numbers) c
+  constants_same : (c : Constant) → constant_in (plain_scope ss k h f numbers) c ≡ constant_in (plain_scope ss k h g numbers) c
   constants_same (constant.Number n) = refl
   constants_same (constant.Name t) = refl
 
-  words_same : (ns : List NamedNumber) (word : List ℕ) → named_number (scope_in ss k h f numbers) ns word ≡ named_number (scope_in ss k h g numbers) ns word
+  words_same : (ns : List NamedNumber) (word : List ℕ) → named_number (plain_scope ss k h f numbers) ns word ≡ named_number (plain_scope ss k h g numbers) ns word
   words_same [] word = refl
   words_same (n ∷ ns) word =
-      ap (λ o. if bytes_eq (text_of h.source.text n.name) word then o else named_number (scope_in ss k h f numbers) ns word) (constants_same n.number)
-      ∙ ap (λ o. if bytes_eq (text_of h.source.text n.name) word then constant_in (scope_in ss k h g numbers) n.number else o) (words_same ns word)
+      ap (λ o. if bytes_eq (text_of h.source.text n.name) word then o else named_number (plain_scope ss k h f numbers) ns word) (constants_same n.number)
+      ∙ ap (λ o. if bytes_eq (text_of h.source.text n.name) word then constant_in (plain_scope ss k h g numbers) n.number else o) (words_same ns word)
 
-  pub numbers_same : (n : Notation) (word : List ℕ) → number_in_type (scope_in ss k h f numbers) n word ≡ number_in_type (scope_in ss k h g numbers) n word
+  pub numbers_same : (n : Notation) (word : List ℕ) → number_in_type (plain_scope ss k h f numbers) n word ≡ number_in_type (plain_scope ss k h g numbers) n word
   numbers_same (notation tags (integer ns) sizes) word = words_same ns word
   numbers_same (notation tags (reference home name) sizes) word = refl
   numbers_same (notation tags (leaf l) sizes) word = refl
@@ -94,13 +94,14 @@ module _ (ss : List Source) (k : ℕ) (h : Home) (f g : ℕ → Shape) (numbers 
   numbers_same (notation tags (members kind ms) sizes) word = refl
   numbers_same (notation tags (list_of kind n) sizes) word = refl
   numbers_same (notation tags (choice ms) sizes) word = refl
+  numbers_same (notation tags (instance_of home name ns) sizes) word = refl
 
 -- The number that a word names in a type that is assigned.
 pub word_assigned : (ss : List Source) (more less n : ℕ) (list : List Assigned) (t : Assigned) (held : Notation) (word : List ℕ) → more ≡ less + 1 → list ≡ assigned Types ss → Some t ≡ slice_get list n → notation_of t.assignment ≡ held
     → number_in_type (scope_of ss less t.number t.home) held word ≡ number_word ss more n word
 word_assigned ss more less n list t held word above all there is =
     numbers_same ss t.number t.home (named_type ss less) (λ n. no_values) (number_word ss less) held word
-    ∙ ap (λ x. number_in_type (scope_in ss t.number t.home (λ n. no_values) (number_word ss less)) x word) (sym is)
+    ∙ ap (λ x. number_in_type (plain_scope ss t.number t.home (λ n. no_values) (number_word ss less)) x word) (sym is)
     ∙ follows_word ss more less n above list all word (Some t) there
 
 -- A number, opened.

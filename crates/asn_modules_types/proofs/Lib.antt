@@ -9,6 +9,7 @@ mod Sizing
 mod Following
 mod Copying
 mod Seen
+pub mod Bound
 mod Numbering
 mod Separated
 mod Linking

@@ -15,7 +15,7 @@ use Rattle.asn_modules_named_numbers.specs.declared.entries.StatedType as code_s
 use Rattle.asn_modules_named_numbers.specs.declared.numbers.NamedNumbers.{NamedNumbers}
 use Rattle.asn_modules_names.proofs.Founds.{drop_at, listed_more, pushed}
 use Rattle.asn_modules_names.specs.Mentions.{Source}
-use Rattle.asn_modules_notation.specs.Notation.{Base, Notation, bit_string, choice, enumerated, integer, leaf, list_of, members, notation, reference}
+use Rattle.asn_modules_notation.specs.Notation.{Base, Notation, bit_string, choice, enumerated, instance_of, integer, leaf, list_of, members, notation, reference}
 use Rattle.asn_modules_notation.specs.Notation as spec
 use Rattle.asn_modules_notation.specs.View.{base_step, component_step, extension_step, member_step, members_step, notation_step, notation_view}
 use Rattle.asn_modules_notation.specs.declared.notation.Base as code_base
@@ -75,6 +75,7 @@ no_name b other = by (out-Base b) (roll-out-Base b)
     by (layer.SequenceOf n) e = plain (layer.SequenceOf n) e (ap is_name (fold-roll-Base spec.Base spec.Member spec.Member (List spec.Member) (List spec.Member) spec.Notation base_step component_step member_step extension_step members_step notation_step (layer.SequenceOf n)))
     by (layer.SetOf n) e = plain (layer.SetOf n) e (ap is_name (fold-roll-Base spec.Base spec.Member spec.Member (List spec.Member) (List spec.Member) spec.Notation base_step component_step member_step extension_step members_step notation_step (layer.SetOf n)))
     by (layer.Choice ms) e = plain (layer.Choice ms) e (ap is_name (fold-roll-Base spec.Base spec.Member spec.Member (List spec.Member) (List spec.Member) spec.Notation base_step component_step member_step extension_step members_step notation_step (layer.Choice ms)))
+    by (layer.Instance home name ns) e = plain (layer.Instance home name ns) e (ap is_name (fold-roll-Base spec.Base spec.Member spec.Member (List spec.Member) (List spec.Member) spec.Notation base_step component_step member_step extension_step members_step notation_step (layer.Instance home name ns)))
 
 pub name_held : (n : code_notation.Notation) (home : Option Token) (name : Token) → (out-Notation n).base ≡ Reference home name → base_of (notation_view n) ≡ reference home name
 name_held n home name e = ap base_of (notation_out n) ∙ ap base_view e ∙ name_viewed home name
@@ -91,6 +92,7 @@ type_led s (notation tags (enumerated items) sizes) word e = refl
 type_led s (notation tags (members kind ms) sizes) word e = refl
 type_led s (notation tags (list_of kind n) sizes) word e = refl
 type_led s (notation tags (choice ms) sizes) word e = refl
+type_led s (notation tags (instance_of home name ns) sizes) word e = refl
 
 type_behind : (s : Scope) (n : Notation) (home : Option Token) (name : Token) (word : List ℕ) → base_of n ≡ reference home name → number_in_type s n word ≡ s.number_named home name word
 type_behind s (notation tags base sizes) home name word e = ap (λ b. number_in_type s (notation tags b sizes) word) e

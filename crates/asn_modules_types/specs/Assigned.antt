@@ -1,11 +1,12 @@
 -- The types and values that modules assign, by their numbers.
 use Rattle.std.specs.Prelude.{ℕ, suc, List, [], ◌∷◌, ◌++◌, filter_map, Option, Some, None, option_map}
+use Rattle.asn_lexer.specs.declared.token.Token.{Token}
 use Rattle.asn_modules_lookup.specs.Entries.{name_as}
 use Rattle.asn_modules_lookup.specs.Homes.{Home, homes}
 use Rattle.asn_modules_lookup.specs.declared.sort.Sort.{Sort}
 use Rattle.asn_modules_named_numbers.specs.Named.{StatedType}
 use Rattle.asn_modules_names.specs.Mentions.{Source}
-use Rattle.asn_modules_notation.specs.Modules.{Assignment, type_assignment, value_assignment}
+use Rattle.asn_modules_notation.specs.Modules.{Assignment, type_assignment, value_assignment, template_assignment}
 use Rattle.asn_modules_notation.specs.Notation.{Notation}
 use Rattle.asn_modules_notation.specs.declared.value.Value.{Value}
 
@@ -36,6 +37,12 @@ assigned sort ss = assigned_of sort 0 (homes ss)
 abbrev pub notation_of : Assignment → Notation
 notation_of (type_assignment name n) = n
 notation_of (value_assignment name n v) = n
+notation_of (template_assignment name ps n) = n
+
+-- The names of its parameters.
+abbrev pub parameters_of : Assignment → List Token
+parameters_of (template_assignment name ps n) = ps
+parameters_of a = []
 
 -- The type with the text that it stands in.
 abbrev pub stated_type : Assigned → StatedType
@@ -43,5 +50,5 @@ stated_type a = record { text = a.home.source.text; notation = notation_of a.ass
 
 -- The value that is assigned, if it is one.
 abbrev pub value_of : Assignment → Option Value
-value_of (type_assignment name n) = None
 value_of (value_assignment name n v) = Some v
+value_of a = None

@@ -1,12 +1,13 @@
 -- What contracts see of types and values and of where they stand.
-use Rattle.std.specs.Prelude.{◌≡◌, ◌<◌, ℕ, List, [], length, map, string_bytes, Option, Some, None}
+use Rattle.std.specs.Prelude.{◌≡◌, ◌<◌, ℕ, List, [], length, map, string_bytes, Bool, true, false, Option, Some, None}
 use Rattle.std.specs.Global.{Vec}
 use Rattle.std.specs.Option.{option_map}
+use Rattle.asn_lexer.specs.declared.token.Token.{Token}
 use Rattle.asn_linked_types.specs.declared.limits.TheConstants.{TYPE_LIMIT}
 use Rattle.asn_model.specs.ShapeView.{kind_view, presence_view, shape_view}
-use Rattle.asn_modules_lookup.specs.Homes.{home_view}
+use Rattle.asn_modules_lookup.specs.Homes.{Home, home_view}
 use Rattle.asn_modules_lookup.specs.Indexes.{IsIndexOf}
-use Rattle.asn_modules_lookup.specs.declared.sort.Sort.TheVariants.{Types, Values}
+use Rattle.asn_modules_lookup.specs.declared.sort.Sort.TheVariants.{Templates, Types, Values}
 use Rattle.asn_modules_named_numbers.specs.Numbers.{AreNumbersOf}
 use Rattle.asn_modules_names.specs.Mentions.{Source, source_view}
 use Rattle.asn_modules_notation.specs.Notation as notation
@@ -15,16 +16,19 @@ use Rattle.asn_modules_notation.specs.View.{assignment_view}
 use Rattle.asn_modules_notation.specs.declared.notation.Extension.{Extension, out-Extension}
 use Rattle.asn_modules_notation.specs.declared.notation.Member.{Member}
 use Rattle.asn_modules_types.specs.Assigned as spec
-use Rattle.asn_modules_types.specs.Linked.{roots_of, scope_of}
+use Rattle.asn_modules_types.specs.Linked.{named_type, no_roots, number_word, roots_of, scope_in}
 use Rattle.asn_modules_types.specs.Lists.{all_known, front}
 use Rattle.asn_modules_types.specs.Scopes as scopes
+use Rattle.asn_modules_types.specs.Templates.{Bindings, Finder, bound_find}
 use Rattle.asn_modules_types.specs.Types as types
 use Rattle.asn_modules_types.specs.Values as values
+use Rattle.asn_modules_types.specs.Values.{found_in}
 use Rattle.asn_modules_types.specs.declared.assigned.Assigned.{Assigned}
 use Rattle.asn_modules_types.specs.declared.names.Names.{Names}
 use Rattle.asn_modules_types.specs.declared.parts.Lists.{Lists}
 use Rattle.asn_modules_types.specs.declared.parts.Part.{Part}
 use Rattle.asn_modules_types.specs.declared.parts.Place.{Place}
+use Rattle.asn_modules_types.specs.declared.scope.Binding.{Binding}
 use Rattle.asn_modules_types.specs.declared.scope.Scope.{Scope}
 use Rattle.asn_modules_types.specs.declared.values.StatedValue.{StatedValue}
 
@@ -44,16 +48,38 @@ pub record KnowsNames (names : Names) : Type 0 where
   pub value_index : IsIndexOf Values (sources_of names) names.value_index.now
   pub types : map assigned_view names.types.now ≡ spec.assigned Types (sources_of names)
   pub values : map assigned_view names.values.now ≡ spec.assigned Values (sources_of names)
+  pub template_index : IsIndexOf Templates (sources_of names) names.template_index.now
+  pub templates : map assigned_view names.templates.now ≡ spec.assigned Templates (sources_of names)
   pub numbers : AreNumbersOf (map spec.stated_type (spec.assigned Types (sources_of names))) names.numbers.now
   pub few : length names.types.now < TYPE_LIMIT
 
+abbrev pub binding_view : Binding → Token × Option ℕ
+binding_view b = (b.name, b.number)
+
+-- The number of the type that a name stands for in the module of number k: within a type with parameters, these have those in their places.
+abbrev pub finder : List Source → ℕ → Home → Bool → Bindings → Finder
+finder ss k h false bs = found_in Types ss k h
+finder ss k h true bs = bound_find h.source.text bs (found_in Types ss k h)
+
 -- Where a type stands, with names of types followed past at most so many others.
 abbrev pub scope_view : ℕ → Scope → scopes.Scope
-scope_view limit s = scope_of (sources_of s.names.now) limit s.number (home_view s.home)
+scope_view limit s =
+    let ss = sources_of s.names.now in
+    scope_in ss s.number (home_view s.home) (finder ss s.number (home_view s.home) s.within (map binding_view s.bindings.now)) (named_type ss limit) (number_word ss limit)
 
--- The root components of types that names stand for there, past at most so many names.
+-- What is known of types that stand in others in the module of number k, within a type with parameters or outside.
+abbrev pub roots_where : List Source → ℕ → ℕ → Home → Bool → types.Roots
+roots_where ss limit k h false = roots_of ss limit k h
+roots_where ss limit k h true = no_roots
+
+-- The number of the type of a name behind COMPONENTS OF there, if it is understood.
+abbrev pub included_number : List Source → ℕ → Home → Bool → Option Token → Token → Option ℕ
+included_number ss k h false home name = found_in Types ss k h home name
+included_number ss k h true home name = None
+
+-- What is known of types that stand in others there, past at most so many names.
 abbrev pub roots_view : ℕ → Scope → types.Roots
-roots_view limit s = roots_of (sources_of s.names.now) limit s.number (home_view s.home)
+roots_view limit s = roots_where (sources_of s.names.now) limit s.number (home_view s.home) s.within
 
 abbrev pub place_view : Place → types.Place
 place_view p = record { kind = kind_view p.kind; grouped = p.grouped }

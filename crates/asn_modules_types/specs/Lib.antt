@@ -4,6 +4,7 @@ pub mod Sizes
 pub mod Lists
 pub mod Leaves
 pub mod Defaults
+pub mod Templates
 pub mod Types
 pub mod Assigned
 pub mod Values

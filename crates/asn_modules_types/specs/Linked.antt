@@ -1,19 +1,22 @@
 -- The types that modules assign, each as one shape, in which `back` of a number means the type of that number.
-use Rattle.std.specs.Prelude.{ℕ, ℤ, zero, suc, nat_le, List, [], ◌∷◌, length, Bool, true, false, if◌then◌else◌, Option, Some, None}
+use Rattle.std.specs.Prelude.{ℕ, ℤ, zero, suc, nat_eq, nat_le, List, [], ◌∷◌, length, Bool, true, false, not, ◌&&◌, if◌then◌else◌, Option, Some, None}
 use Rattle.std.specs.List.{slice_get}
 use Rattle.std.specs.Option.{option_and_then}
 use Rattle.asn_headers.specs.Headers.{Header}
 use Rattle.asn_linked_types.specs.Expansion.{no_values}
 use Rattle.asn_model.specs.Readable.{is_readable_in}
 use Rattle.asn_model.specs.Shape.{Shape}
+use Rattle.asn_lexer.specs.declared.token.Token.{Token}
+use Rattle.asn_modules_included.specs.TooLarge.{is_small}
 use Rattle.asn_modules_lookup.specs.Homes.{Home}
-use Rattle.asn_modules_lookup.specs.declared.sort.Sort.TheVariants.{Types}
+use Rattle.asn_modules_lookup.specs.declared.sort.Sort.TheVariants.{Templates, Types}
 use Rattle.asn_modules_names.specs.Mentions.{Source}
-use Rattle.asn_modules_notation.specs.Notation.{Base, Notation, choice, enumerated, list_of, members, notation}
+use Rattle.asn_modules_notation.specs.Notation.{Base, Notation, Notations, choice, enumerated, instance_of, list_of, members, notation}
 use Rattle.asn_modules_sizes.specs.Sizes.{items_size}
-use Rattle.asn_modules_types.specs.Assigned.{Assigned, assigned, notation_of}
+use Rattle.asn_modules_types.specs.Assigned.{Assigned, assigned, notation_of, parameters_of}
 use Rattle.asn_modules_types.specs.Leaves.{enumerated_shape}
 use Rattle.asn_modules_types.specs.Scopes.{Scope}
+use Rattle.asn_modules_types.specs.Templates.{Bindings, Finder, bindings, bound_find, is_named, listed}
 use Rattle.asn_modules_types.specs.Types.{Part, Place, Roots, notation_roots, notation_shape, number_in_type}
 use Rattle.asn_modules_types.specs.Values.{found_in, value_in, values_from}
 use Rattle.asn_modules_types.specs.declared.limits.TheConstants.{DEFAULT_ITEMS_LIMIT, NAME_LIMIT}
@@ -45,16 +48,20 @@ copied_by n (Some t) = copied_base n t.home (base_of (notation_of t.assignment))
 abbrev pub copied_type : List Source → ℕ → Shape
 copied_type ss n = copied_by n (slice_get (assigned Types ss) n)
 
--- The scope of a module in which types of these numbers have these shapes and named numbers.
-abbrev pub scope_in : List Source → ℕ → Home → (ℕ → Shape) → (ℕ → List ℕ → Option ℤ) → Scope
-scope_in ss k h shapes numbers = record {
+-- The scope of a module in which names of types stand for these numbers, and types of these numbers have these shapes and named numbers.
+abbrev pub scope_in : List Source → ℕ → Home → Finder → (ℕ → Shape) → (ℕ → List ℕ → Option ℤ) → Scope
+scope_in ss k h find shapes numbers = record {
   text = h.source.text;
   extensible = is_extensible h.parsed.header;
-  type_named = λ home name. shape_or shapes (found_in Types ss k h home name);
+  type_named = λ home name. shape_or shapes (find home name);
   copied = copied_type ss;
-  number_named = λ home name word. option_and_then (λ n. numbers n word) (found_in Types ss k h home name);
+  number_named = λ home name word. option_and_then (λ n. numbers n word) (find home name);
   values = λ v. values_from ss NAME_LIMIT (value_in k h v);
 }
+
+-- That of a module outside types with parameters.
+abbrev pub plain_scope : List Source → ℕ → Home → (ℕ → Shape) → (ℕ → List ℕ → Option ℤ) → Scope
+plain_scope ss k h shapes numbers = scope_in ss k h (found_in Types ss k h) shapes numbers
 
 -- The type has parts or items, and is named by its number.
 abbrev pub is_numbered : Base → Bool
@@ -62,25 +69,22 @@ is_numbered (enumerated items) = true
 is_numbered (members kind ms) = true
 is_numbered (list_of kind n) = true
 is_numbered (choice ms) = true
+is_numbered (instance_of home name ns) = true
 is_numbered b = false
-
--- The root components of types, where types of these numbers have these.
-abbrev pub roots_in : List Source → ℕ → Home → (ℕ → Place → Option (List Part)) → Roots
-roots_in ss k h roots = λ place home name. option_and_then (λ n. roots n place) (found_in Types ss k h home name)
 
 -- Names that stand for no type.
 abbrev pub no_roots : Roots
-no_roots = λ place home name. None
+no_roots = record { components = λ place home name. None; instance = λ home name ns. no_values }
 
 -- What the name of the type of number n stands for, by its assignment: the number, where it has parts or items; else its shape, where names in it have these shapes and numbers.
 abbrev pub named_by : List Source → (ℕ → Shape) → (ℕ → List ℕ → Option ℤ) → ℕ → Option Assigned → Shape
 named_by ss shapes numbers n None = no_values
 named_by ss shapes numbers n (Some t) =
-    if is_numbered (base_of (notation_of t.assignment)) then Shape.back n else notation_shape no_roots (scope_in ss t.number t.home shapes numbers) (notation_of t.assignment)
+    if is_numbered (base_of (notation_of t.assignment)) then Shape.back n else notation_shape no_roots (plain_scope ss t.number t.home shapes numbers) (notation_of t.assignment)
 
 abbrev pub number_by : List Source → (ℕ → List ℕ → Option ℤ) → Option Assigned → List ℕ → Option ℤ
 number_by ss numbers None word = None
-number_by ss numbers (Some t) word = number_in_type (scope_in ss t.number t.home (λ n. no_values) numbers) (notation_of t.assignment) word
+number_by ss numbers (Some t) word = number_in_type (plain_scope ss t.number t.home (λ n. no_values) numbers) (notation_of t.assignment) word
 
 -- The number that a word names in the type of number n, past at most so many names that stand for it.
 unfoldable pub number_word : List Source → ℕ → ℕ → List ℕ → Option ℤ
@@ -94,7 +98,33 @@ named_type ss (suc more) n = named_by ss (named_type ss more) (number_word ss mo
 
 -- The scope of a module, where names of types are followed past at most so many others.
 abbrev pub scope_of : List Source → ℕ → ℕ → Home → Scope
-scope_of ss limit k h = scope_in ss k h (named_type ss limit) (number_word ss limit)
+scope_of ss limit k h = plain_scope ss k h (named_type ss limit) (number_word ss limit)
+
+-- The scope of a type with parameters, which have these in their places.
+abbrev pub template_scope : List Source → Assigned → Bindings → Scope
+template_scope ss t bs = scope_in ss t.number t.home (bound_find t.home.source.text bs (found_in Types ss t.number t.home)) (named_type ss NAME_LIMIT) (number_word ss NAME_LIMIT)
+
+-- The type takes so many actual parameters: it has as many parameters, is no name, and counts as little as an actual type may.
+abbrev pub takes : List Source → ℕ → Assigned → Bool
+takes ss count t = nat_eq (length (parameters_of t.assignment)) count && (not (is_named (notation_of t.assignment)) && is_small ss t.number t.home (notation_of t.assignment))
+
+-- The shape of a type with parameters where these stand in their places, if it takes them. Neither one with actual parameters nor COMPONENTS OF a name is understood in it.
+abbrev pub instance_by : List Source → Finder → Notations → Option Assigned → Shape
+instance_by ss find ns None = no_values
+instance_by ss find ns (Some t) =
+    if takes ss (length (listed ns)) t then notation_shape no_roots (template_scope ss t (bindings find (parameters_of t.assignment) (listed ns))) (notation_of t.assignment) else no_values
+
+-- The type with parameters that a name stands for in the module of number k.
+abbrev pub template_named : List Source → ℕ → Home → Option Token → Token → Option Assigned
+template_named ss k h home name = option_and_then (slice_get (assigned Templates ss)) (found_in Templates ss k h home name)
+
+-- The shapes of types with actual parameters there.
+abbrev pub instance_in : List Source → ℕ → Home → Option Token → Token → Notations → Shape
+instance_in ss k h home name ns = instance_by ss (found_in Types ss k h) ns (template_named ss k h home name)
+
+-- What is known of types that stand in others there, where types of these numbers have these root components.
+abbrev pub roots_in : List Source → ℕ → Home → (ℕ → Place → Option (List Part)) → Roots
+roots_in ss k h roots = record { components = λ place home name. option_and_then (λ n. roots n place) (found_in Types ss k h home name); instance = instance_in ss k h }
 
 -- The root components of a type, by its assignment, where types of these numbers have these.
 abbrev pub roots_by : List Source → (ℕ → Place → Option (List Part)) → Place → Option Assigned → Option (List Part)
@@ -106,7 +136,7 @@ unfoldable pub type_roots : List Source → ℕ → ℕ → Place → Option (Li
 type_roots ss zero n place = None
 type_roots ss (suc more) n place = roots_by ss (type_roots ss more) place (slice_get (assigned Types ss) n)
 
--- The root components of the types that a module names, past at most so many names.
+-- What is known of the types that a module names, with root components past at most so many names.
 abbrev pub roots_of : List Source → ℕ → ℕ → Home → Roots
 roots_of ss limit k h = roots_in ss k h (type_roots ss limit)
 

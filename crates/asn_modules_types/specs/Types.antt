@@ -4,7 +4,7 @@ use Rattle.asn_expansion.specs.Expansion.{context_tag, list_shape, of_both}
 use Rattle.asn_lexer.specs.declared.token.Token.{Token}
 use Rattle.asn_linked_types.specs.Expansion.{no_values}
 use Rattle.asn_model.specs.Shape.{Alternatives, AlternativeAdditions, Fields, FieldAdditions, Presence, SeqKind, Shape}
-use Rattle.asn_modules_notation.specs.Notation.{Base, Member, Members, Notation, bit_string, choice, component, components_of, enumerated, group, integer, leaf, list_of, marker, member, members, no_members, notation, reference}
+use Rattle.asn_modules_notation.specs.Notation.{Base, Member, Members, Notation, Notations, bit_string, choice, component, components_of, enumerated, group, instance_of, integer, leaf, list_of, marker, member, members, no_members, notation, reference}
 use Rattle.asn_modules_notation.specs.declared.notation.Presence as stated
 use Rattle.asn_modules_notation.specs.declared.notation.Presence.TheVariants.{Default, Optional, Required}
 use Rattle.asn_modules_types.specs.Defaults.{default_of}
@@ -84,9 +84,12 @@ outside_brackets kind = record { kind = kind; grouped = false }
 abbrev pub between_brackets : Place → Place
 between_brackets place = record { kind = place.kind; grouped = true }
 
--- The components that COMPONENTS OF a name is there, behind that of its module where it is stated, if they are understood.
-abbrev pub Roots : Type 0
-Roots = Place → Option Token → Token → Option (List Part)
+-- What is known of types that stand in others, each by its name, behind that of its module where it is stated.
+pub record Roots : Type 0 where
+  -- The components that COMPONENTS OF the name is there, if they are understood.
+  pub components : Place → Option Token → Token → Option (List Part)
+  -- The shape of the type of the name with these actual parameters.
+  pub instance : Option Token → Token → Notations → Shape
 
 -- Those of a type of the second kind, where it is that of the type that they stand in.
 abbrev pub of_kind : SeqKind → SeqKind → Option (List Part) → Option (List Part)
@@ -100,7 +103,7 @@ included None = Some None ∷ []
 included (Some ps) = map (λ p. Some (Some p)) ps
 
 abbrev mutual
-  -- The shape of a type, where names behind COMPONENTS OF have these root components.
+  -- The shape of a type, where this is known of those that stand in it.
   pub notation_shape : Roots → Scope → Notation → Shape
   notation_shape roots s (notation tags base sizes) = sized s sizes (base_shape roots s base)
 
@@ -114,6 +117,7 @@ abbrev mutual
   base_shape roots s (list_of kind n) = list_shape kind (notation_shape roots s n)
   base_shape roots s (choice ms) = choice_shape (lists_of s.extensible (parts roots s (outside_brackets SeqKind.sequence) ms))
   base_shape roots s (reference home name) = s.type_named home name
+  base_shape roots s (instance_of home name ns) = roots.instance home name ns
 
   -- What entries between braces are: parts, of which `None` is one that isn't understood, and extension markers, which are `None` in their place.
   pub parts : Roots → Scope → Place → Members → List (Option (Option Part))
@@ -132,5 +136,5 @@ abbrev mutual
 
   pub base_roots : Roots → Scope → Place → Base → Option (List Part)
   base_roots roots s place (members kind ms) = of_kind place.kind kind (all_known (root_of (parts roots s place ms)))
-  base_roots roots s place (reference home name) = roots place home name
+  base_roots roots s place (reference home name) = roots.components place home name
   base_roots roots s place base = None

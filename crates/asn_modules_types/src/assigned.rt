@@ -5,12 +5,13 @@ ghost use Rattle.asn_modules_named_numbers.specs.Numbers.{AreNumbersOf};
 ghost use Rattle.asn_modules_named_numbers.specs.Views.{type_view};
 ghost use Rattle.asn_modules_notation.specs.View.{assignment_view, notation_view};
 ghost use Rattle.asn_modules_types.specs.Assigned.{assigned_in, assigned_of, notation_of};
-ghost use Rattle.asn_modules_types.specs.Assigned.{stated_type, value_of};
+ghost use Rattle.asn_modules_types.specs.Assigned.{parameters_of, stated_type, value_of};
 ghost use Rattle.asn_modules_types.specs.Known.{assigned_view};
 ghost use Rattle.std.specs.List.{slice_get};
 ghost use Rattle.std.specs.Prelude.{◌≡◌, ◌<◌, ◌++◌, IfOk, IfSome, OnOk, is_some, length, map};
 ghost use Rattle.std.specs.Prelude.{option_map};
 
+use asn_lexer::Token;
 use asn_modules_lookup::{Home, Sort};
 use asn_modules_named_numbers::{NamedNumbers, StatedType, named_numbers};
 use asn_modules_notation::{Assignment, Notation, Value};
@@ -32,14 +33,9 @@ fn is_of_sort(sort: Sort, assignment: &Assignment) -> bool
     ensures { result ≡ is_some (name_as sort (assignment_view assignment.now)) }
 {
     match sort {
-        Sort::Types => match assignment {
-            Assignment::Type { .. } => true,
-            Assignment::Value { .. } => false,
-        },
-        Sort::Values => match assignment {
-            Assignment::Type { .. } => false,
-            Assignment::Value { .. } => true,
-        },
+        Sort::Types => matches!(assignment, Assignment::Type { .. }),
+        Sort::Values => matches!(assignment, Assignment::Value { .. }),
+        Sort::Templates => matches!(assignment, Assignment::Template { .. }),
     }
 }
 
@@ -115,6 +111,17 @@ pub fn notation_of(assignment: &Assignment) -> &Notation
     match assignment {
         Assignment::Type { notation, .. } => notation,
         Assignment::Value { notation, .. } => notation,
+        Assignment::Template { notation, .. } => notation,
+    }
+}
+
+/// Returns the names of the parameters of what is assigned.
+pub fn parameters_of(assignment: &Assignment) -> &[Token]
+    ensures { result.now ≡ parameters_of (assignment_view assignment.now) }
+{
+    match assignment {
+        Assignment::Template { parameters, .. } => parameters.as_slice(),
+        _ => &[],
     }
 }
 
@@ -156,12 +163,12 @@ pub fn numbers_of<'t>(
     named_numbers(alloc, stated.as_slice())
 }
 
-/// Returns the value that is assigned, or `None` where it is a type.
+/// Returns the value that is assigned, or `None` where none is.
 pub fn value_of(assignment: &Assignment) -> Option<Value>
     ensures { result ≡ value_of (assignment_view assignment.now) }
 {
     match assignment {
-        Assignment::Type { .. } => None,
         Assignment::Value { value, .. } => Some(*value),
+        _ => None,
     }
 }

@@ -41,6 +41,7 @@ fn copied_base(scope: &Scope<'_, '_, '_>, number: u32, base: &Base) -> Result<Sh
         Base::SetOf(_) => Ok(Shape::Back(number)),
         Base::Choice(_) => Ok(Shape::Back(number)),
         Base::Reference { .. } => Ok(Shape::Back(number)),
+        Base::Instance { .. } => Ok(Shape::Back(number)),
     }
 }
 
@@ -59,6 +60,8 @@ fn copied_type(names: &Names<'_, '_>, number: u32) -> Result<Shape, LinkFault>
                 names: &*names,
                 number: assigned.number,
                 home: assigned.home,
+                within: false,
+                bindings: &[],
             };
             let notation = notation_of(assigned.assignment);
             copied_base(&scope, number, &notation.base)

@@ -71,6 +71,8 @@ fn number_word<'t>(
         names: &*names,
         number: assigned.number,
         home: assigned.home,
+        within: false,
+        bindings: &[],
     };
     let notation = notation_of(assigned.assignment);
     match &notation.base {
@@ -111,6 +113,7 @@ fn number_in_type<'t>(
         Base::SequenceOf(_) => None,
         Base::SetOf(_) => None,
         Base::Choice(_) => None,
+        Base::Instance { .. } => None,
     }
 }
 

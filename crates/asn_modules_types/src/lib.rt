@@ -17,6 +17,7 @@ mod parts;
 mod scope;
 mod shapes;
 mod sizes;
+mod templates;
 mod values;
 mod words;
 

@@ -20,6 +20,8 @@ pub const DEFAULT_STRING_LIMIT: usize = 1_024;
 pub const INCLUDED_LIMIT: usize = asn_modules_included::INCLUDED_SIZE_LIMIT
     / asn_modules_included::TYPE_SIZE;
 
-/// Limits the levels to which types, and names behind COMPONENTS OF, nest: those of a text, and
-/// below them those of what COMPONENTS OF includes.
-pub const LEVEL_LIMIT: usize = NESTING_LIMIT + asn_modules_included::INCLUDED_LEVEL_LIMIT;
+/// Limits the levels to which types, and names behind COMPONENTS OF, nest: those of a text, below
+/// them those of what COMPONENTS OF includes, and below them those of a type with parameters.
+pub const LEVEL_LIMIT: usize = NESTING_LIMIT
+    + asn_modules_included::INCLUDED_LEVEL_LIMIT
+    + NESTING_LIMIT;

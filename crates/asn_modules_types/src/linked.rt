@@ -44,6 +44,8 @@ fn opened_type(
                     names: &*names,
                     number: assigned.number,
                     home: assigned.home,
+                    within: false,
+                    bindings: &[],
                 };
                 let notation = notation_of(assigned.assignment);
                 let depth = Depth {
@@ -128,15 +130,19 @@ pub fn linked_types<'t>(
         return Err(LinkFault::TooMany);
     }
     let values = assigned_of(alloc, Sort::Values, homes.as_slice())?;
+    let templates = assigned_of(alloc, Sort::Templates, homes.as_slice())?;
     let value_index = index_of(alloc, Sort::Values, sources)?;
+    let template_index = index_of(alloc, Sort::Templates, sources)?;
     let numbers = numbers_of(alloc, types.as_slice())?;
     let names = Names {
         alloc,
         sources,
         type_index: index,
         value_index: &value_index,
+        template_index: &template_index,
         types: types.as_slice(),
         values: values.as_slice(),
+        templates: templates.as_slice(),
         numbers: &numbers,
     };
     all_types(&names)

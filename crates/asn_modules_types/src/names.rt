@@ -30,10 +30,14 @@ pub struct Names<'s, 't> {
     pub type_index: &'s Index<'t>,
     /// Holds the numbers of values beside their names.
     pub value_index: &'s Index<'t>,
+    /// Holds the numbers of types with parameters beside their names.
+    pub template_index: &'s Index<'t>,
     /// Lists the types that are assigned.
     pub types: &'s [Assigned<'s, 't>],
     /// Lists the values that are assigned.
     pub values: &'s [Assigned<'s, 't>],
+    /// Lists the types with parameters that are assigned.
+    pub templates: &'s [Assigned<'s, 't>],
     /// Holds the named numbers of the types that are assigned.
     pub numbers: &'s NamedNumbers<'t>,
 }
@@ -59,6 +63,8 @@ pub fn named_type(names: &Names<'_, '_>, more: usize, number: usize) -> Result<S
                 names: &*names,
                 number: assigned.number,
                 home: assigned.home,
+                within: false,
+                bindings: &[],
             };
             let notation = notation_of(assigned.assignment);
             match unit_shape(&scope, more - 1, &notation.base)? {
@@ -102,5 +108,6 @@ pub fn unit_shape(
         Base::SequenceOf(_) => Ok(None),
         Base::SetOf(_) => Ok(None),
         Base::Choice(_) => Ok(None),
+        Base::Instance { .. } => Ok(None),
     }
 }

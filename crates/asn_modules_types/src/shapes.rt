@@ -1,6 +1,6 @@
 //! Makes the shapes of types as modules state them.
 ghost use Rattle.asn_model.specs.ShapeView.{kind_view, shape_view};
-ghost use Rattle.asn_modules_notation.specs.Notation.{members_of};
+ghost use Rattle.asn_modules_notation.specs.Notation.{members_of, notations_of};
 ghost use Rattle.asn_modules_notation.specs.View.{component_view, members_view, notation_view};
 ghost use Rattle.asn_modules_notation.specs.declared.notation.Members.{out-Members};
 ghost use Rattle.asn_modules_reader.specs.Views.{base_view, member_view};
@@ -17,7 +17,7 @@ ghost use Rattle.std.specs.Prelude.{◌≡◌, ◌≤◌, ◌+◌, ◌∷◌, []
 ghost use Rattle.std.specs.Prelude.{true};
 
 use crate::allowance::{Allowance, Depth, take_type};
-use crate::assigned::{assigned_at, notation_of};
+use crate::assigned::{assigned_at, notation_of, parameters_of};
 use crate::copies::component_shape;
 use crate::defaults::presence_of;
 use crate::fault::LinkFault;
@@ -25,9 +25,11 @@ use crate::leaves::enumerated_shape;
 use crate::limits::NAME_LIMIT;
 use crate::names::{Names, unit_shape};
 use crate::parts::{Lists, Part, Place, alternatives_of, fields_of};
-use crate::scope::{Scope, find, is_extensible};
+use crate::scope::{Scope, included_number, is_extensible};
 use crate::sizes::sized;
+use crate::templates::{bindings_of, takes, template_named};
 use crate::words::name_in;
+use asn_lexer::Token;
 use asn_linked_types::no_values;
 use asn_model::{SeqKind, Shape};
 use asn_modules_notation::{Base, Component, Extension, Member, Members, Notation};
@@ -112,7 +114,55 @@ fn base_shape_of(
         Base::Integer(_) => unnumbered_shape(scope, base),
         Base::BitString(_) => unnumbered_shape(scope, base),
         Base::Reference { .. } => unnumbered_shape(scope, base),
+        Base::Instance {
+            module,
+            name,
+            arguments,
+        } => instance_shape(scope, depth, left, *module, *name, arguments.as_slice()),
     }
+}
+
+/// Returns the shape of the type of this name with these actual parameters: it has no values where
+/// it is missing or doesn't take them, or stands within a type with parameters itself.
+///
+/// # Errors
+///
+/// Those of `shape_of`.
+#[cycle(shapes)]
+fn instance_shape(
+    scope: &Scope<'_, '_, '_>,
+    depth: Depth,
+    left: &mut Allowance,
+    module_name: Option<Token>,
+    name: Token,
+    arguments: &[Notation],
+) -> Result<Shape, LinkFault>
+    requires known { KnowsNames scope.now.names.now }
+    ensures shape { IfOk result (λ s. shape_view s
+        ≡ (roots_view depth.names scope.now).instance module_name name
+        (notations_of (map notation_view arguments.now))) }
+    ensures fewer { OnOk result (left.new.types ≤ left.old.types) }
+{
+    let alloc = scope.names.alloc;
+    if scope.within {
+        return Ok(no_values(alloc));
+    }
+    let Some(template) = template_named(scope, module_name, name) else {
+        return Ok(no_values(alloc));
+    };
+    if !takes(scope.names, arguments.len(), template) {
+        return Ok(no_values(alloc));
+    }
+    let parameters = parameters_of(template.assignment);
+    let bound = bindings_of(alloc, scope, parameters, arguments)?;
+    let inner = Scope {
+        names: &*scope.names,
+        number: template.number,
+        home: template.home,
+        within: true,
+        bindings: bound.as_slice(),
+    };
+    shape_of(&inner, depth, left, notation_of(template.assignment))
 }
 
 /// Returns the shape of a type without parts and items.
@@ -463,7 +513,7 @@ fn base_roots_of(
             SeqKind::Sequence => Ok(None),
             SeqKind::Set => root_of(scope, depth, left, place, members),
         },
-        Base::Reference { module, name } => match find(scope, *module, *name) {
+        Base::Reference { module, name } => match included_number(scope, *module, *name) {
             Some(number) => type_roots(scope.names, depth, left, place, number),
             None => Ok(None),
         },
@@ -474,6 +524,7 @@ fn base_roots_of(
         Base::SequenceOf(_) => Ok(None),
         Base::SetOf(_) => Ok(None),
         Base::Choice(_) => Ok(None),
+        Base::Instance { .. } => Ok(None),
     }
 }
 
@@ -504,6 +555,8 @@ fn type_roots(
                 names: &*names,
                 number: assigned.number,
                 home: assigned.home,
+                within: false,
+                bindings: &[],
             };
             let past = Depth {
                 names: depth.names - 1,

@@ -1,14 +1,21 @@
 use Rattle.std.proofs.Common.{◌≡◌, ◌+◌, ◌-◌, ◌∙◌, ◌∷◌, [], None, Some, ap, arith, map, option_map, string_bytes, sym}
+use Rattle.std.proofs.lemmas.List.{length-map}
 use Rattle.std.proofs.lemmas.Result.{IfOk-weaker}
 use Rattle.asn_model.specs.ShapeView.{kind_view, presence_view, shape_view}
+use Rattle.asn_modules_lookup.specs.Homes.{home_view}
+use Rattle.asn_modules_lookup.specs.declared.sort.Sort.TheVariants.{Types}
+use Rattle.asn_modules_notation.specs.Notation.{notations_of}
 use Rattle.asn_modules_notation.specs.View.{component_view, notation_view}
-use Rattle.asn_modules_reader.proofs.Viewing.{components_of_viewed, group_viewed, named_viewed, one_viewed}
-use Rattle.asn_modules_reader.specs.Views.{member_view}
-use Rattle.asn_modules_types.specs.Known.{assigned_view, known_parts, parts_view, part_view, place_view, roots_view, scope_view, sources_of}
-use Rattle.asn_modules_types.specs.Linked.{roots_of, scope_of}
+use Rattle.asn_modules_reader.proofs.Viewing.{components_of_viewed, group_viewed, instance_viewed, named_viewed, one_viewed}
+use Rattle.asn_modules_reader.specs.Views.{base_view, member_view}
+use Rattle.asn_modules_types.specs.Known.{assigned_view, binding_view, known_parts, parts_view, part_view, place_view, roots_view, scope_view, sources_of}
+use Rattle.asn_modules_types.specs.Linked.{roots_of, scope_of, takes}
 use Rattle.asn_modules_types.specs.Sizes.{sized}
-use Rattle.asn_modules_types.specs.Types.{between_brackets, notation_roots, outside_brackets}
+use Rattle.asn_modules_types.specs.Templates.{bindings}
+use Rattle.asn_modules_types.specs.Types.{base_shape, between_brackets, notation_roots, outside_brackets}
+use Rattle.asn_modules_types.specs.Values.{found_in}
 use Rattle.asn_modules_types.specs.declared.limits.TheConstants.{NAME_LIMIT}
+use Rattle.asn_modules_types.proofs.Bound.{instance_bound, instance_missing, instance_refused, instance_taken}
 use Rattle.asn_modules_types.proofs.Following.{follows_roots, roots_none}
 use Rattle.asn_modules_types.proofs.Seen.{included_known, notation_made, part_made, part_missed, roots_made}
 use Rattle.asn_modules_types.proofs.Separated.{component_unmarked, group_known, lists_addless, lists_closed, lists_extended, lists_implied, lists_rootless, member_unmarked, parts_end, parts_missed, parts_more, root_frontless, root_made, root_tailless}
@@ -21,6 +28,47 @@ shape_of-returns-clause-shape t c =
     let inner = shape_view c.in_ok-shape.shape in
     notation_made (roots_view c.args.depth.names c.args.scope.now) s c.args.notation.now inner (shape_view c.sized.result) c.in_ok-shape.ensures.shape
     (c.sized.ensures NAME_LIMIT ∙ ap (λ l. sized s l inner) c.as_slice.ensures.value)
+
+pub base_shape_of-returns-in-Instance-clause-shape : goal.base_shape_of-returns-in-Instance-clause-shape
+base_shape_of-returns-in-Instance-clause-shape t c =
+    let s = scope_view NAME_LIMIT c.args.scope.now in
+    let roots = roots_view c.args.depth.names c.args.scope.now in
+    let i = c.in-Instance in
+    IfOk-weaker c.instance_shape.result _ _
+    (λ o e. e ∙ ap (λ l. roots.instance i.module i.name (notations_of (map notation_view l))) c.as_slice.ensures.value ∙ ap (base_shape roots s) (sym (ap base_view i.is ∙ instance_viewed i.module i.name i.arguments))) c.instance_shape.ensures.shape
+
+pub instance_shape-returns-then-scope-clause-shape : goal.instance_shape-returns-then-scope-clause-shape
+instance_shape-returns-then-scope-clause-shape t c =
+    let s = c.args.scope.now in
+    c.no_values.ensures.is ∙ instance_bound (sources_of s.names.now) c.args.depth.names s.number (home_view s.home) s.within c.args.module_name c.args.name (map notation_view c.args.arguments.now) c.if-scope.true
+
+pub instance_shape-returns-in_default-clause-shape : goal.instance_shape-returns-in_default-clause-shape
+instance_shape-returns-in_default-clause-shape t c =
+    let s = c.args.scope.now in
+    c.no_values-in_default.ensures.is ∙ instance_missing (sources_of s.names.now) c.args.depth.names s.number (home_view s.home) s.within c.args.module_name c.args.name (map notation_view c.args.arguments.now) c.if-scope.false c.in_default.ensures
+
+pub instance_shape-returns-then-not-takes-clause-shape : goal.instance_shape-returns-then-not-takes-clause-shape
+instance_shape-returns-then-not-takes-clause-shape t c =
+    let s = c.args.scope.now in
+    let a = assigned_view c.in-Some.template in
+    let ns = c.args.arguments.now in
+    c.no_values-then-not-takes.ensures.is
+    ∙ instance_refused (sources_of s.names.now) c.args.depth.names s.number (home_view s.home) s.within c.args.module_name c.args.name (map notation_view ns) a c.if-scope.false c.in-Some.ensures
+    (ap (λ n. takes (sources_of s.names.now) n a) (length-map ns notation_view ∙ sym c.len.ensures) ∙ sym c.takes.ensures ∙ c.if-not-takes.true)
+
+pub instance_shape-returns-clause-shape : goal.instance_shape-returns-clause-shape
+instance_shape-returns-clause-shape t c =
+    let s = c.args.scope.now in
+    let ss = sources_of s.names.now in
+    let h = home_view s.home in
+    let a = assigned_view c.in-Some.template in
+    let ns = c.args.arguments.now in
+    IfOk-weaker c.shape_of.result _ _
+    (λ o e. instance_taken ss c.args.depth.names s.number h s.within c.args.module_name c.args.name (map notation_view ns) a c.if-scope.false c.in-Some.ensures
+    (map binding_view c.as_slice.result.now) (notation_view c.notation_of.result.now) (shape_view o)
+    (ap (λ n. takes ss n a) (length-map ns notation_view ∙ sym c.len.ensures) ∙ sym c.takes.ensures ∙ c.if-not-takes.false)
+    (ap (map binding_view) c.as_slice.ensures.value ∙ c.in_ok-bound.ensures ∙ ap (λ l. bindings (found_in Types ss s.number h) l (map notation_view ns)) c.parameters_of-parameters.ensures)
+    c.notation_of.ensures e) c.shape_of.ensures.shape
 
 pub lists_of-returns-in_default-clause-lists : goal.lists_of-returns-in_default-clause-lists
 lists_of-returns-in_default-clause-lists t c =

@@ -12,6 +12,9 @@ decreases-shape_of l = 8 * l.left.now.types
 abbrev pub decreases-base_shape_of : goal.decreases-base_shape_of
 decreases-base_shape_of l = 8 * l.left.now.types + 7
 
+abbrev pub decreases-instance_shape : goal.decreases-instance_shape
+decreases-instance_shape l = 8 * l.left.now.types + 1
+
 abbrev pub decreases-lists_of : goal.decreases-lists_of
 decreases-lists_of l = 8 * l.left.now.types + 6
 

@@ -8,7 +8,7 @@ usage: tools/module_values.py [--count N] [--seed N] --trials TRIALS.asn FILE.as
 It prints lines, each a value in the JSON encoding rules (ITU-T X.697). The first form makes ten of
 each type of which it finds values, as alternatives of a CHOICE of all these types, Trials.Trial,
 which it writes to the file TRIALS.asn. Types that lead to nothing that is read (a name that isn't
-assigned, EXTERNAL and the like) are told on standard error. The second form makes values of one
+assigned, EXTERNAL, fields of object classes and the like) are told on standard error. The second form makes values of one
 type. It knows no constraint but the fixed size of a BIT STRING.
 
 The third form compares the lines that it made with the answers to them, each a line: it prints how
@@ -118,7 +118,9 @@ class Reader:
         imports, names = {}, []
         if self.past("IMPORTS"):
             while not self.past(";"):
-                if self.past("FROM"):
+                if self.past("{"):
+                    self.take("}")
+                elif self.past("FROM"):
                     home = self.take()
                     imports.update((imported, home) for imported in names)
                     names = []
@@ -126,21 +128,26 @@ class Reader:
                         self.balanced("{", "}")
                 elif not self.past(","):
                     names.append(self.take())
-        types, values = {}, {}
+        found = {"extensible": extensible, "imports": imports, "types": {}, "values": {}, "templates": {}}
         while not self.past("END"):
-            self.assignment(types, values)
-        return name, {"extensible": extensible, "imports": imports, "types": types, "values": values}
+            self.assignment(found)
+        return name, found
 
-    def assignment(self, types, values):
+    def assignment(self, found):
         name = self.take()
+        parameters = self.balanced("{", "}")[1:-1] if self.peek() == "{" else None
         if self.past("::="):
             read = self.type()
-            if name not in TEXTS:
-                types[name] = read
+            if parameters is not None:
+                found["templates"][name] = (parameters[::2], set(parameters[1::2]) <= {","}, read)
+            elif name not in TEXTS:
+                found["types"][name] = read
         else:
             self.type()
             self.take("::=")
-            values[name] = self.value()
+            value = self.value()
+            if parameters is None:
+                found["values"][name] = value
 
     def value(self):
         if self.peek() == "{":
@@ -150,7 +157,11 @@ class Reader:
             found.append(self.take())
         if self.peek() in (":", "."):
             self.take()
+            if self.past("&"):
+                return found + ["&"] + self.value()
             return found + ["."] + self.value()
+        if self.peek() == "{":
+            return found + self.balanced("{", "}")
         return found
 
     def type(self):
@@ -206,9 +217,40 @@ class Reader:
             if word in ("EMBEDDED", "CHARACTER"):
                 self.take()
             return {"kind": "CLOSED", "name": word}
-        if self.past("."):
-            return {"kind": "NAME", "home": word, "name": self.take()}
-        return {"kind": "NAME", "home": None, "name": word}
+        if word == "CLASS":
+            self.balanced("{", "}")
+            if self.past("WITH"):
+                self.take("SYNTAX")
+                self.balanced("{", "}")
+            return {"kind": "CLOSED", "name": word}
+        if word == "INSTANCE":
+            self.take("OF"), self.take()
+            return {"kind": "CLOSED", "name": word}
+        home = None
+        if self.peek() == "." and self.peek(1) != "&":
+            self.take()
+            home, word = word, self.take()
+        if self.peek() == ".":
+            while self.past("."):
+                self.take("&"), self.take()
+            return {"kind": "CLOSED", "name": f"a field of {word}"}
+        if self.peek() == "{":
+            return {"kind": "INSTANCE", "home": home, "name": word, "arguments": self.arguments()}
+        return {"kind": "NAME", "home": home, "name": word}
+
+    def arguments(self):
+        """Reads actual parameters: the types, or nothing where one isn't a type."""
+        inside = Reader([("", token) for token in self.balanced("{", "}")[1:-1]])
+        found = []
+        try:
+            while True:
+                if not (inside.peek()[:1].isalpha() or inside.peek() == "["):
+                    return None
+                found.append(inside.type())
+                if not inside.past(","):
+                    return found if inside.peek() == "" else None
+        except SyntaxError:
+            return None
 
     def named(self):
         """Reads named numbers, those by a value's name as that name."""
@@ -264,7 +306,7 @@ class Maker:
 
     def __init__(self, modules, rng):
         self.modules, self.rng = modules, rng
-        self.least = {}
+        self.least, self.put = {}, {}
 
     def find(self, home, wanted, sort="types"):
         """Returns the module and the type or value that a name stands for in a module."""
@@ -282,6 +324,46 @@ class Maker:
         if origin is not None and len(homes) == 1:
             return homes[0], self.modules[homes[0]][sort][name]
         raise Unusable(name)
+
+    def next(self, home, read):
+        """Returns the module and the type that a name, with actual parameters or not, stands for."""
+        if read["kind"] == "NAME":
+            return self.find(read.get("where", home), (read["home"], read["name"]))
+        if id(read) not in self.put:
+            self.put[id(read)] = self.instance(home, read)
+        return self.put[id(read)]
+
+    def instance(self, home, read):
+        """Puts the types in the places of parameters."""
+        where, (names, plain, body) = self.find(home, (read["home"], read["name"]), "templates")
+        given = read["arguments"]
+        if not plain or given is None or len(given) != len(names) or body["kind"] == "NAME":
+            raise Unusable(f"{read['name']}'s parameters")
+        bound = dict(reversed(list(zip(names, ((home, argument) for argument in given)))))
+        return where, self.replaced(body, bound)
+
+    def replaced(self, read, bound):
+        """Returns a copy of a type with these in the places of names."""
+        read = dict(read)
+        if read["kind"] == "INSTANCE":
+            raise Unusable("actual parameters in a type with parameters")
+        if read["kind"] == "NAME" and read["home"] is None and read["name"] in bound:
+            home, argument = bound[read["name"]]
+            if argument["kind"] != "NAME" or argument["sizes"]:
+                return {"kind": "CLOSED", "name": "a type in the place of a parameter", "sizes": []}
+            return {**read, "where": home, "home": argument["home"], "name": argument["name"]}
+        if "element" in read:
+            read["element"] = self.replaced(read["element"], bound)
+        if "members" in read:
+            read["members"] = [self.replaced_member(member, bound) for member in read["members"]]
+        return read
+
+    def replaced_member(self, member, bound):
+        if "components" in member:
+            if member["components"]["kind"] == "NAME":
+                raise Unusable("COMPONENTS OF in a type with parameters")
+            return {"components": self.replaced(member["components"], bound)}
+        return {**member, "type": self.replaced(member["type"], bound)}
 
     def number(self, home, token):
         if token.isdigit():
@@ -307,6 +389,8 @@ class Maker:
         """Returns the members with those of COMPONENTS OF in place."""
         for member in members:
             if "components" in member:
+                if member["components"]["kind"] == "INSTANCE":
+                    raise Unusable("COMPONENTS OF a type with actual parameters")
                 where, read = self.opened(home, member["components"])
                 yield from self.fields(where, read["members"])
             else:
@@ -314,8 +398,8 @@ class Maker:
 
     def opened(self, home, read):
         seen = 0
-        while read["kind"] == "NAME":
-            home, read = self.find(home, (read["home"], read["name"]))
+        while read["kind"] in ("NAME", "INSTANCE"):
+            home, read = self.next(home, read)
             seen += 1
             if seen > 100:
                 raise Unusable("a cycle")
@@ -326,8 +410,8 @@ class Maker:
         sizes = list(sizes) + read["sizes"]
         if depth > 60:
             raise Unusable("too deep")
-        if kind == "NAME":
-            where, found = self.find(home, (read["home"], read["name"]))
+        if kind in ("NAME", "INSTANCE"):
+            where, found = self.next(home, read)
             if sizes:
                 fixed = self.fixed(home, sizes)
                 sizes = [["SIZE", "(", str(fixed), ")"]] if fixed is not None else []
@@ -392,8 +476,8 @@ class Maker:
         self.least[key] = 99
         kind = read["kind"]
         try:
-            if kind == "NAME":
-                where, found = self.find(home, (read["home"], read["name"]))
+            if kind in ("NAME", "INSTANCE"):
+                where, found = self.next(home, read)
                 least = self.depth_of(where, found, seen + 1)
             elif kind in ("SEQUENCE", "SET"):
                 depths = [

@@ -17,7 +17,9 @@
 # lines have the counts. The status is 1 where one of them isn't as it is expected, and 2 where a
 # package can't be had. -u is for a program that isn't proved, which is slow and takes much memory:
 # one value is made of each type, and neither time nor memory counts. -w takes the protocols of
-# Debian's source package wireshark in place of these, each of which is a folder of modules.
+# Debian's source package wireshark in place of these, each of which is a folder of modules. Its
+# copies of RRC have a type with a parameter, SetupRelease, written out wherever 3GPP names it: it is
+# put back, and each value has to be the same text by both.
 set -u
 count=10 wide=
 [ "${1-}" = -u ] && count=1 && shift
@@ -129,6 +131,23 @@ sys.exit(child.returncode or seconds > float(sys.argv[1]) or memory > float(sys.
 ' "$@" || [ $count = 1 ] || bad=$((bad + 1))
 }
 
+# Puts the type SetupRelease back where its copy is written out, and compares the value notation of
+# the values that were made by the files as they are.
+restored() {
+    local file
+    modules=(-m "$room/trials.asn")
+    for file; do
+        sed -E -e '/^-- SetupRelease \{/,/^-- \}/s/^-- //' "$file" >"$room/${file##*/}"
+        grep -q '^SetupRelease {' "$room/${file##*/}" &&
+            sed -i -E 's/CHOICE \{release NULL, setup ([A-Za-z0-9-]+)\}/SetupRelease { \1 }/' "$room/${file##*/}"
+        modules+=(-m "$room/${file##*/}")
+    done
+    echo "  SetupRelease stands in $(cat "$room"/*.asn | grep -c 'SetupRelease { ') places"
+    convert jer avn made again
+    same notation again "value notation by SetupRelease"
+    rm -f "$room"/*.asn
+}
+
 # Prints what is said of each protocol of Wireshark, and converts values of those that are read.
 protocols() {
     local folder all=0 whole=0 types=0
@@ -141,6 +160,7 @@ protocols() {
             whole=$((whole + 1))
             types=$((types + $(head -n 1 "$room/out" | cut -d' ' -f1)))
             values "${files[@]}"
+            grep -q '^-- SetupRelease {' "${files[@]}" && restored "${files[@]}"
         else
             echo "$folder: $(head -n 1 "$room/err")"
         fi
@@ -182,8 +202,8 @@ values heimdal-*/lib/hx509/crmf.asn1 heimdal-*/lib/asn1/rfc2459.asn1
 for file in libtasn1-*/tests/*.asn asn1c-*/skeletons/*/*.asn1 asn1c-*/tests/*-NP.asn1 asn1c-*/tests/*-SW.asn1; do
     check "$file"
 done
-# Of asn1c's tests, those named OK are modules, and those named SE break a rule: these fourteen one
-# that means nothing for a text.
+# Of asn1c's tests, those named OK are modules, and those named SE break a rule: these seventeen one
+# that means nothing for a text, or isn't asked of types with parameters.
 ok=0 se=0
 for file in asn1c-*/tests/*-OK.asn1; do
     check "$file" && ok=$((ok + 1))
@@ -193,7 +213,7 @@ for file in asn1c-*/tests/*-SE.asn1; do
     refused=$?
     number=${file##*/}
     case ${number%%-*} in
-        09 | 26 | 27 | 28 | 36 | 40 | 51 | 52 | 53 | 54 | 61 | 63 | 71 | 78) expected=0 ;;
+        09 | 26 | 27 | 28 | 36 | 40 | 51 | 52 | 53 | 54 | 61 | 63 | 71 | 78 | 101 | 102 | 111) expected=0 ;;
         *) expected=1 se=$((se + refused)) ;;
     esac
     [ $refused = $expected ] || {
@@ -212,5 +232,5 @@ measure 0.3 64 "$asn" check "$file"
 echo "$(wc -c <"$room/values") bytes of values of DL-DCCH-Message are converted from JSON to value notation"
 measure 60 64 "$asn" convert -m "$file" -t DL-DCCH-Message --lines --from jer --to avn "$room/values"
 echo "RRC $rrc, PKIX $pkix, Heimdal $heimdal files read; tests OK $ok read, SE $se refused; $made values; $bad faults"
-echo "expected: RRC 1, PKIX 3, Heimdal 18 files read; tests OK 74 or more read, SE 20 refused; 0 faults"
-[ "$rrc $pkix $heimdal $se $bad" = "1 3 18 20 0" ] && [ "$ok" -ge 74 ] && [ "$made" -gt 0 ]
+echo "expected: RRC 1, PKIX 3, Heimdal 18 files read; tests OK 93 or more read, SE 17 refused; 0 faults"
+[ "$rrc $pkix $heimdal $se $bad" = "1 3 18 17 0" ] && [ "$ok" -ge 93 ] && [ "$made" -gt 0 ]

@@ -47,6 +47,7 @@ fn type_name_of(alloc: Global, assigned: &Assigned<'_, '_>) -> Result<TypeName, 
     let token = match assigned.assignment {
         Assignment::Type { name, .. } => *name,
         Assignment::Value { name, .. } => *name,
+        Assignment::Template { name, .. } => *name,
     };
     Ok(TypeName {
         module: home_name(alloc, assigned.home)?,

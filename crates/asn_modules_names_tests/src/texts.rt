@@ -6,7 +6,7 @@ use std::process::Abort;
 use std::test::Fail;
 
 /// Lists texts with what is told of them.
-const REFUSED: [(&str, &str); 19] = [
+const REFUSED: [(&str, &str); 20] = [
     ("A ::= ", "f:1:7: expected a type, met the end of the text"),
     ("-- é\nA ::= 5", "f:2:7: expected a type, met `5`"),
     ("/* é */ A ::= 5", "f:1:15: expected a type, met `5`"),
@@ -20,14 +20,24 @@ const REFUSED: [(&str, &str); 19] = [
         "f:1:9: these digits aren't closed by 'B or 'H",
     ),
     ("A ::= NULL\n/* /* */", "f:2:1: this comment isn't closed"),
-    ("A ::= B { C }", "f:1:9: parameters aren't read"),
     (
-        "A ::= SEQUENCE { a B {5} }",
-        "f:1:22: parameters aren't read",
+        "A ::= B { C",
+        "f:1:12: expected the bracket that closes, met the end of the text",
     ),
-    ("A ::= CLASS { &id B }", "f:1:7: object classes aren't read"),
-    ("A ::= B.&id", "f:1:9: object classes aren't read"),
-    ("A ::= INSTANCE OF B", "f:1:7: object classes aren't read"),
+    (
+        "A { B ::= C",
+        "f:1:12: expected the bracket that closes, met the end of the text",
+    ),
+    ("A ::= CLASS &id B", "f:1:13: expected `{`, met `&`"),
+    (
+        "A ::= CLASS { &id B } WITH { ID &id }",
+        "f:1:28: expected SYNTAX, met `{`",
+    ),
+    (
+        "A ::= B.&",
+        "f:1:10: expected a name, met the end of the text",
+    ),
+    ("A ::= INSTANCE OF 5", "f:1:19: expected a name, met `5`"),
     ("A MACRO ::= BEGIN END", "f:1:3: macros aren't read"),
     ("A ::= a < B", "f:1:9: selection types aren't read"),
     (

@@ -7,7 +7,7 @@ use std::test::Fail;
 
 /// Lists texts that are refused, with the places of the tokens that fit nothing, or 999 for the
 /// end.
-const REFUSED: [(&str, usize); 25] = [
+const REFUSED: [(&str, usize); 34] = [
     ("A ::= ", 999),
     ("A ::= [ ] NULL", 8),
     ("A ::= SEQUENCE { a }", 19),
@@ -28,7 +28,16 @@ const REFUSED: [(&str, usize); 25] = [
     ("A ::= ANY DEFINED a", 18),
     ("A ::= OCTET STRING (SIZE (1)", 999),
     ("A ::= NULL 5", 11),
-    ("A { B } ::= NULL", 8),
+    ("A { B ::= NULL", 999),
+    ("A { B } NULL", 8),
+    ("A ::= B { C", 999),
+    ("A ::= B { C, SEQUENCE }", 22),
+    ("A ::= CLASS &id", 12),
+    ("A ::= CLASS { } WITH { }", 21),
+    ("A ::= INSTANCE 5", 15),
+    ("A ::= INSTANCE OF 5", 18),
+    ("A ::= B.& 5", 10),
+    ("a B ::= c { d", 999),
     ("a INTEGER ::= -", 999),
     ("a INTEGER 5", 10),
     ("M DEFINITIONS ::= BEGIN A ::= NULL", 999),

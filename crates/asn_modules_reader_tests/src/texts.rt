@@ -29,7 +29,7 @@ fn reads_a_module(rt: HostRuntime) -> Result<(), Fail> {
                     assert_eq!(&rt; text_of(WHOLE, name), "max");
                     assert!(&rt; matches!(value, Value::Number(number) if number.negative));
                 }
-                Assignment::Type { .. } => assert!(&rt; false, "a type"),
+                _ => assert!(&rt; false, "no value"),
             }
             match &modules[0].assignments[3] {
                 Assignment::Value { value, .. } => {
@@ -37,7 +37,7 @@ fn reads_a_module(rt: HostRuntime) -> Result<(), Fail> {
                         matches!(value, Value::Other(first) if text_of(WHOLE, first) == "a")
                     );
                 }
-                Assignment::Type { .. } => assert!(&rt; false, "a type"),
+                _ => assert!(&rt; false, "no value"),
             }
         }
         Err(_fault) => assert!(&rt; false, "refused"),
@@ -46,7 +46,7 @@ fn reads_a_module(rt: HostRuntime) -> Result<(), Fail> {
 }
 
 /// Lists texts with the number of their modules, and of the assignments of the first.
-const TEXTS: [(&str, usize, usize); 5] = [
+const TEXTS: [(&str, usize, usize); 11] = [
     ("", 1, 0),
     ("A ::= NULL b A ::= NULL", 1, 2),
     ("M DEFINITIONS ::= BEGIN END", 1, 0),
@@ -56,6 +56,28 @@ const TEXTS: [(&str, usize, usize); 5] = [
         1,
     ),
     ("a B ::= M.c A ::= B", 1, 2),
+    // Object classes, objects and sets of them.
+    (
+        "E ::= CLASS { &id INTEGER UNIQUE, &Type OPTIONAL } WITH SYNTAX { [A &Type] ID &id } \
+e E ::= { ID 5 } Set E ::= { e | { ID 6 }, ... } F ::= E G ::= TYPE-IDENTIFIER",
+        1,
+        5,
+    ),
+    (
+        "A ::= SEQUENCE { a E.&id ({Set}), b M.E.&Type.&x, c TYPE-IDENTIFIER.&id } \
+B ::= INSTANCE OF E C ::= INSTANCE OF TYPE-IDENTIFIER (SIZE (5)) d A ::= e.&id f A ::= M.e.&id",
+        1,
+        5,
+    ),
+    // Parameters of types, values, classes, objects and sets.
+    (
+        "A { B } ::= SET OF B C { INTEGER : max, D } ::= D (0..max) e { F } A ::= 5 G { H } E ::= { h }",
+        1,
+        4,
+    ),
+    ("A ::= B { C, [5] D {E}, M.F { 5 } } g A ::= h { 5 }", 1, 2),
+    ("A { B } ::= NULL", 1, 1),
+    ("M { iso 5 } DEFINITIONS ::= BEGIN A ::= NULL END", 1, 1),
 ];
 
 /// A text is a list of modules, or assignments alone.

@@ -17,11 +17,12 @@ fn name_of(base: &Base) -> &'static str {
         Base::SetOf(_element) => "set of",
         Base::Choice(_alternatives) => "choice",
         Base::Reference { .. } => "reference",
+        Base::Instance { .. } => "instance",
     }
 }
 
 /// Lists types with their names, and the numbers of their tags and sizes.
-const TYPES: [(&str, &str, usize, usize); 18] = [
+const TYPES: [(&str, &str, usize, usize); 22] = [
     ("BOOLEAN", "leaf", 0, 0),
     ("[1] EXPLICIT [APPLICATION 2] NULL", "leaf", 2, 0),
     ("OCTET STRING (SIZE (1..4)) (a | b)", "leaf", 0, 1),
@@ -55,6 +56,10 @@ const TYPES: [(&str, &str, usize, usize); 18] = [
     ("CHOICE { a NULL, ..., [[ b NULL ]] }", "choice", 0, 0),
     ("T", "reference", 0, 0),
     ("[PRIVATE 3] M.T (5)", "reference", 1, 0),
+    ("T { A, SEQUENCE OF B }", "instance", 0, 0),
+    ("[1] M.T { [2] A } (SIZE (5))", "instance", 1, 1),
+    ("T { A, 5 }", "leaf", 0, 0),
+    ("CLASS { &a } WITH SYNTAX { a }", "leaf", 0, 0),
 ];
 
 /// Each type is read to its end.

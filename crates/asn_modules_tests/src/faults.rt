@@ -4,7 +4,7 @@ use std::alloc::Global;
 use std::test::Fail;
 
 /// Lists texts with what is told of them where each is the file `m.asn1`.
-const ROWS: [(&str, &str); 41] = [
+const ROWS: [(&str, &str); 44] = [
     // What begins no token.
     (
         "A ::= NULL ?",
@@ -43,23 +43,23 @@ const ROWS: [(&str, &str); 41] = [
         "M DEFINITIONS ::= BEGIN A ::= NULL",
         "m.asn1:1:35: expected an assignment or END, met the end of the text",
     ),
+    (
+        "A ::= SEQUENCE { list Of { INTEGER }",
+        "m.asn1:1:37: expected `,` or `}`, met the end of the text",
+    ),
+    (
+        "ERROR ::= CLASS { &code INTEGER",
+        "m.asn1:1:32: expected the bracket that closes, met the end of the text",
+    ),
+    (
+        "A ::= SEQUENCE { code ERROR.& }",
+        "m.asn1:1:31: expected a name, met `}`",
+    ),
+    (
+        "A ::= INSTANCE OF 5",
+        "m.asn1:1:19: expected a name, met `5`",
+    ),
     // Parts of ASN.1 that aren't read.
-    (
-        "A ::= SEQUENCE { list Of { INTEGER } }",
-        "m.asn1:1:26: parameters aren't read",
-    ),
-    (
-        "ERROR ::= CLASS { &code INTEGER }",
-        "m.asn1:1:11: object classes aren't read",
-    ),
-    (
-        "A ::= SEQUENCE { code ERROR.&code }",
-        "m.asn1:1:29: object classes aren't read",
-    ),
-    (
-        "A ::= INSTANCE OF B",
-        "m.asn1:1:7: object classes aren't read",
-    ),
     (
         "ERROR MACRO ::= BEGIN END",
         "m.asn1:1:7: macros aren't read",
@@ -167,6 +167,16 @@ K DEFINITIONS ::= BEGIN IMPORTS A FROM M; C ::= A END",
     ),
     ("A ::= INTEGER { one(1), uno(1) }", ""),
     ("A ::= CHOICE { a [0] NULL, b [0] NULL }", ""),
+    ("A ::= SEQUENCE { list Of { INTEGER } }", ""),
+    (
+        "ERROR ::= CLASS { &code INTEGER UNIQUE } WITH SYNTAX { CODE &code } \
+late ERROR ::= { CODE 5 } A ::= SEQUENCE { code ERROR.&code }",
+        "",
+    ),
+    (
+        "T { INTEGER : n } ::= SEQUENCE (SIZE (n)) OF NULL A ::= T { 5 }",
+        "",
+    ),
 ];
 
 /// Returns what is told of the texts, or nothing where they are modules.

@@ -5,7 +5,7 @@ use std::test::Fail;
 
 /// Lists texts of modules, the name of a type, a text in JSON, and the canonical texts of its value
 /// in JSON and in AVN.
-const ROWS: [(&str, &str, &str, &str, &str); 13] = [
+const ROWS: [(&str, &str, &str, &str, &str); 14] = [
     // A type that names itself.
     (
         "Chain ::= SEQUENCE { head BOOLEAN, next Chain OPTIONAL }",
@@ -103,6 +103,16 @@ Head ::= SEQUENCE { id INTEGER, ..., note NULL }",
         r#"{"text":"none","id":7}"#,
         r#"{"id":7}"#,
         "{\n  id 7\n}",
+    ),
+    // A type with a parameter.
+    (
+        "Setting ::= SetupRelease { Level }\n\
+SetupRelease { Type } ::= CHOICE { release NULL, setup Type }\n\
+Level ::= INTEGER",
+        "Setting",
+        r#"{"setup":7}"#,
+        r#"{"setup":7}"#,
+        "setup : 7",
     ),
     // Components between version brackets, and a later version's that isn't known here.
     (

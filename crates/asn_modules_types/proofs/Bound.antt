@@ -36,7 +36,7 @@ pub binding_more : (find : Finder) (all : Bindings) (old new : List Binding) (ps
 binding_more find all old new ps qs p ns ms n number was e f is more =
     listed_more all (map binding_view old) (map binding_view new) ((p, argument_number find (notation_view n)) ∷ []) (bindings find ps (map notation_view ns)) (bindings find qs (map notation_view ms)) was
     (ap (λ l. bindings find l (map notation_view ns)) e ∙ ap (λ l. bindings find (p ∷ qs) (map notation_view l)) f)
-    (pushed binding_view old new (record { name = p; number = number }) (p, argument_number find (notation_view n)) (ap (λ o. (p, o)) is) more)
+    (pushed binding_view old new (record { name = p; number = number }) (p, argument_number find (notation_view n)) more (ap (λ o. (p, o)) is))
 
 pub bindings_end : (find : Finder) (all : Bindings) (old : List Binding) (ps : List Token) (ns : List Notation) → all ≡ map binding_view old ++ bindings find ps (map notation_view ns) → ps ≡ [] → map binding_view old ≡ all
 bindings_end find all old ps ns was e = sym (listed_all all (map binding_view old) (bindings find ps (map notation_view ns)) was (ap (λ l. bindings find l (map notation_view ns)) e))

@@ -4,7 +4,7 @@ use asn_core::Codec;
 use std::test::Fail;
 
 /// Lists texts of modules with a JSON text and the canonical text of its value by the type `T`.
-const ROWS: [(&str, &str, &str); 55] = [
+const ROWS: [(&str, &str, &str); 75] = [
     // Tags mean nothing for a text.
     (
         "T ::= [APPLICATION 5] IMPLICIT SEQUENCE { a [7] BOOLEAN }",
@@ -262,6 +262,120 @@ N DEFINITIONS ::= BEGIN n INTEGER ::= 8 END",
         "T ::= SEQUENCE OF U U ::= SEQUENCE { a NULL, a NULL }",
         "[]",
         "[]",
+    ),
+    // A type with a parameter, where a type stands in its place.
+    (
+        "T ::= S { U } S { X } ::= CHOICE { release NULL, setup X } U ::= INTEGER",
+        r#"{"setup":5}"#,
+        r#"{"setup":5}"#,
+    ),
+    (
+        "T ::= SEQUENCE { a S { U } OPTIONAL } S { X } ::= CHOICE { release NULL, setup X } \
+U ::= SEQUENCE { b BOOLEAN }",
+        r#"{"a":{"setup":{"b":true}}}"#,
+        r#"{"a":{"setup":{"b":true}}}"#,
+    ),
+    // Two, in their order.
+    (
+        "T ::= P { U, V } P { X, Y } ::= SEQUENCE { a X, b Y, c Y } U ::= BOOLEAN V ::= NULL",
+        r#"{"a":true,"b":null,"c":null}"#,
+        r#"{"a":true,"b":null,"c":null}"#,
+    ),
+    // The name of a parameter goes before that of a type, but behind the name of a module.
+    (
+        "T ::= P { U } P { X } ::= SEQUENCE { a X } U ::= NULL X ::= BOOLEAN",
+        r#"{"a":null}"#,
+        r#"{"a":null}"#,
+    ),
+    (
+        "M DEFINITIONS ::= BEGIN T ::= P { U } P { X } ::= SEQUENCE { a M.X } U ::= NULL \
+X ::= BOOLEAN END",
+        r#"{"a":true}"#,
+        r#"{"a":true}"#,
+    ),
+    // Other names are those of the module that it is assigned in, and those in the places of
+    // parameters those of the one that they stand in.
+    (
+        "M DEFINITIONS ::= BEGIN IMPORTS P{} FROM N; T ::= P { U } U ::= BOOLEAN V ::= NULL END \
+N DEFINITIONS ::= BEGIN P { X } ::= SEQUENCE { a X, b V } V ::= INTEGER U ::= NULL END",
+        r#"{"a":true,"b":7}"#,
+        r#"{"a":true,"b":7}"#,
+    ),
+    (
+        "M DEFINITIONS ::= BEGIN T ::= N.P { U } U ::= BOOLEAN END \
+N DEFINITIONS ::= BEGIN P { X } ::= SET { a X } END",
+        r#"{"a":true}"#,
+        r#"{"a":true}"#,
+    ),
+    // Sizes and DEFAULT there, by values and by named numbers of what stands in a place.
+    (
+        "T ::= P { U } P { X } ::= SEQUENCE { a BIT STRING (SIZE (n)), b X DEFAULT five, \
+c X DEFAULT six } n INTEGER ::= 8 five INTEGER ::= 5 U ::= INTEGER { six(6) }",
+        r#"{"a":"A0","b":5,"c":6}"#,
+        r#"{"a":"A0"}"#,
+    ),
+    // A type that names itself in a place, and one with actual parameters that stands by its name.
+    (
+        "T ::= SEQUENCE { a BOOLEAN, next L { T } OPTIONAL } L { X } ::= SEQUENCE OF X",
+        r#"{"a":true,"next":[{"a":false}]}"#,
+        r#"{"a":true,"next":[{"a":false}]}"#,
+    ),
+    (
+        "T ::= S { U } U ::= S { V } V ::= NULL S { X } ::= CHOICE { none NULL, some X }",
+        r#"{"some":{"some":null}}"#,
+        r#"{"some":{"some":null}}"#,
+    ),
+    // A type that is written out in a place has no values.
+    (
+        "T ::= P { INTEGER } P { X } ::= SEQUENCE { a X OPTIONAL, b NULL }",
+        r#"{"b":null}"#,
+        r#"{"b":null}"#,
+    ),
+    (
+        "T ::= P { INTEGER } P { X } ::= SEQUENCE { a X OPTIONAL, b NULL }",
+        r#"{"a":5,"b":null}"#,
+        "refused",
+    ),
+    // Neither has a type with another number of parameters, one that is missing, or a name alone.
+    (
+        "T ::= SEQUENCE { a P { U, U } OPTIONAL } P { X } ::= SEQUENCE { b X } U ::= NULL",
+        r#"{"a":{"b":null}}"#,
+        "refused",
+    ),
+    (
+        "T ::= SEQUENCE { a P { U } OPTIONAL } U ::= NULL",
+        "{}",
+        "{}",
+    ),
+    ("T ::= P { U } P { X } ::= X U ::= NULL", "null", "refused"),
+    // Nor one in which another one stands, or COMPONENTS OF a name.
+    (
+        "T ::= P { U } P { X } ::= SEQUENCE { a Q { X } OPTIONAL } Q { Y } ::= SET { b Y } U ::= NULL",
+        "{}",
+        "refused",
+    ),
+    (
+        "T ::= P { U } P { X } ::= SEQUENCE { COMPONENTS OF V, a X } V ::= SEQUENCE { b NULL } \
+U ::= NULL",
+        r#"{"a":null,"b":null}"#,
+        "refused",
+    ),
+    // Nor one with parameters that aren't all types.
+    (
+        "T ::= SEQUENCE { a P { 5 } OPTIONAL } P { INTEGER : n } ::= SEQUENCE { b NULL }",
+        r#"{"a":{"b":null}}"#,
+        "refused",
+    ),
+    // Nor what an object class gives.
+    (
+        "T ::= SEQUENCE { a E.&code OPTIONAL } E ::= CLASS { &code INTEGER }",
+        "{}",
+        "{}",
+    ),
+    (
+        "T ::= SEQUENCE { a E.&code OPTIONAL } E ::= CLASS { &code INTEGER }",
+        r#"{"a":5}"#,
+        "refused",
     ),
     // The other leaves.
     ("T ::= ANY", r#""0500""#, r#""0500""#),

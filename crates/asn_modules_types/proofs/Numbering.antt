@@ -2,6 +2,7 @@
 use Rattle.std.proofs.Common.{◌≡◌, ◌≤◌, ◌<◌, ℕ, ℤ, ◌+◌, List, [], ◌∷◌, ◌++◌, map, drop, get_or, length, Bool, true, false, if◌then◌else◌, Option, Some, refl, sym, ap, subst, ◌∙◌}
 use Rattle.std.proofs.lemmas.List.{drop_all}
 use Rattle.std.proofs.lemmas.Option.{slice_get-map}
+use Rattle.std.specs.Global.{Vec}
 use Rattle.std.specs.List.{slice_get}
 use Rattle.std.specs.Option.{option_and_then, option_map}
 use Rattle.std.specs.Str.{bytes_eq}
@@ -22,11 +23,12 @@ use Rattle.asn_modules_notation.specs.declared.notation.Base as code_base
 use Rattle.asn_modules_notation.specs.declared.notation.Base.{out-Base, roll-Base, roll-out-Base}
 use Rattle.asn_modules_notation.specs.declared.notation.Base.TheFolds.{fold-roll-Base}
 use Rattle.asn_modules_notation.specs.declared.notation.Base.TheOpen as layer
-use Rattle.asn_modules_notation.specs.declared.notation.Base.TheVariants.{Reference, rolls-Reference}
+use Rattle.asn_modules_notation.specs.declared.notation.Base.TheVariants.{Integer, Reference, rolls-Reference}
 use Rattle.asn_modules_notation.specs.declared.notation.Notation as code_notation
 use Rattle.asn_modules_notation.specs.declared.notation.Notation.{out-Notation}
 use Rattle.asn_modules_notation.specs.declared.number.Constant.{Constant}
 use Rattle.asn_modules_notation.specs.declared.number.NamedNumber.{NamedNumber}
+use Rattle.asn_modules_reader.proofs.Viewing.{integer_viewed}
 use Rattle.asn_modules_reader.specs.Views.{base_view}
 use Rattle.asn_modules_types.specs.Assigned.{Assigned, assigned, notation_of, stated_type}
 use Rattle.asn_modules_types.specs.Known.{assigned_view}
@@ -96,6 +98,11 @@ type_led s (notation tags (instance_of home name ns) sizes) word e = refl
 
 type_behind : (s : Scope) (n : Notation) (home : Option Token) (name : Token) (word : List ℕ) → base_of n ≡ reference home name → number_in_type s n word ≡ s.number_named home name word
 type_behind s (notation tags base sizes) home name word e = ap (λ b. number_in_type s (notation tags b sizes) word) e
+
+-- An INTEGER, by its named numbers.
+pub integer_named : (s : Scope) (n : code_notation.Notation) (named : Vec NamedNumber) (word : List ℕ) → (out-Notation n).base ≡ Integer named → number_in_type s (notation_view n) word ≡ named_number s named.items word
+integer_named s n named word e =
+    ap (λ x. number_in_type s x word) (notation_out n ∙ ap (λ b. notation (out-Notation n).tags.items b (out-Notation n).sizes.items) (ap base_view e ∙ integer_viewed named))
 
 -- The number that a word names in the type of number n, which is assigned.
 module _ (ss : List Source) (more less n : ℕ) (list : List Assigned) (t : Assigned) (held : Notation) (word : List ℕ) (above : more ≡ less + 1) (all : list ≡ assigned Types ss) (there : Some t ≡ slice_get list n) (is : notation_of t.assignment ≡ held) where

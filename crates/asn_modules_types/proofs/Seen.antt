@@ -41,7 +41,7 @@ unit_same roots s (spec.enumerated items) e = cc e
 unit_same roots s (spec.members kind ms) e = cc e
 unit_same roots s (spec.list_of kind n) e = cc e
 unit_same roots s (spec.choice ms) e = cc e
-unit_same roots s (spec.instance_of home name ns) e = cc e
+unit_same roots s (spec.instance_of home name ns) e = cc
 unit_same roots s (spec.reference home name) e = refl
 
 -- What COMPONENTS OF a type is, by what the type holds.

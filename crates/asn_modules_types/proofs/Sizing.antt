@@ -1,8 +1,8 @@
 -- Sizes of types.
-use Rattle.std.proofs.Common.{◌≡◌, ◌<◌, ◌+◌, ◌^◌, ℕ, ℤ, pos, negsuc, List, true, false, Bool, if◌then◌else◌, nat_lt, Some, None, Result, Ok, Err, refl, sym, ap, ◌∙◌, arith, drop, get_or, length, w64}
-use Rattle.std.proofs.lemmas.Bool.{lt-ltb, ltb-true}
+use Rattle.std.proofs.Common.{◌≡◌, ◌≤◌, ◌<◌, ◌+◌, ◌^◌, ℕ, ℤ, pos, negsuc, List, true, false, Bool, if◌then◌else◌, nat_eq, nat_lt, Option, Some, None, Result, Ok, Err, refl, sym, ap, ◌∙◌, arith, drop, get_or, length, w64}
+use Rattle.std.proofs.lemmas.Bool.{eq-eqb, eqb-true, lt-ltb, ltb-true}
 use Rattle.std.proofs.lemmas.Int.{ints}
-use Rattle.std.proofs.lemmas.List.{drop_more}
+use Rattle.std.proofs.lemmas.List.{drop_all, drop_more}
 use Rattle.std.specs.Int.{FitsUnsigned}
 use Rattle.std.specs.Option.{option_and_then}
 use Rattle.std.specs.Prelude.{unsigned_abs}
@@ -11,6 +11,7 @@ use Rattle.asn_lexer.specs.declared.kind.Kind.{Kind}
 use Rattle.asn_lexer.specs.declared.kind.Kind.TheVariants as kind
 use Rattle.asn_lexer.specs.declared.token.Token.{Token}
 use Rattle.asn_model.specs.Shape.{Shape}
+use Rattle.asn_modules_lookup.specs.Lookup.{if_same}
 use Rattle.asn_modules_notation.specs.declared.size.Size.{Size}
 use Rattle.asn_modules_notation.specs.declared.value.Value.TheVariants as value
 use Rattle.asn_modules_types.specs.Numbers.{number_at}
@@ -38,3 +39,26 @@ size_named s k t h = refl
 -- One size more.
 pub sized_more : (s : Scope) (zs : List Size) (i : ℕ) (d : Size) (shape : Shape) → i < length zs → sized s (drop i zs) shape ≡ sized s (drop (i + 1) zs) (shape_fixed (fixed_by s (get_or zs i d)) shape)
 sized_more s zs i d shape h = ap (λ l. sized s l shape) (drop_more zs i d h)
+
+pub sized_end : (s : Scope) (zs : List Size) (i : ℕ) (shape : Shape) → length zs ≤ i → sized s (drop i zs) shape ≡ shape
+sized_end s zs i shape h = ap (λ l. sized s l shape) (drop_all i zs h)
+
+-- A size that admits one number, by its ends.
+pub fixed_low : (s : Scope) (z : Size) → None ≡ size_end s z.low.kind z.low → None ≡ fixed_by s z
+fixed_low s z e = ap (λ o. if_same o (size_end s z.high.kind z.high)) e
+
+fixed_ends : (s : Scope) (z : Size) (low : ℕ) (high : Option ℕ) → Some low ≡ size_end s z.low.kind z.low → high ≡ size_end s z.high.kind z.high → if_same (Some low) high ≡ fixed_by s z
+fixed_ends s z low high e f = ap (if_same (Some low)) f ∙ ap (λ o. if_same o (size_end s z.high.kind z.high)) e
+
+pub fixed_high : (s : Scope) (z : Size) (low : ℕ) → Some low ≡ size_end s z.low.kind z.low → None ≡ size_end s z.high.kind z.high → None ≡ fixed_by s z
+fixed_high s z low e f = fixed_ends s z low None e f
+
+pub fixed_same : (s : Scope) (z : Size) (low high : ℕ) → Some low ≡ size_end s z.low.kind z.low → Some high ≡ size_end s z.high.kind z.high → low ≡ high → Some low ≡ fixed_by s z
+fixed_same s z low high e f is = sym (ap (λ b. if b then Some low else None) (eq-eqb low high is)) ∙ fixed_ends s z low (Some high) e f
+
+pub fixed_other : (s : Scope) (z : Size) (low high : ℕ) → Some low ≡ size_end s z.low.kind z.low → Some high ≡ size_end s z.high.kind z.high → (low ≡ high → ⊥) → None ≡ fixed_by s z
+fixed_other s z low high e f other = by (nat_eq low high) refl ∙ fixed_ends s z low (Some high) e f
+  where
+    by : (b : Bool) → nat_eq low high ≡ b → None ≡ (if nat_eq low high then Some low else None)
+    by true is = absurd (other (eqb-true low high is))
+    by false is = sym (ap (λ b. if b then Some low else None) is)

@@ -64,8 +64,7 @@ finder ss k h true bs = bound_find h.source.text bs (found_in Types ss k h)
 -- Where a type stands, with names of types followed past at most so many others.
 abbrev pub scope_view : ℕ → Scope → scopes.Scope
 scope_view limit s =
-    let ss = sources_of s.names.now in
-    scope_in ss s.number (home_view s.home) (finder ss s.number (home_view s.home) s.within (map binding_view s.bindings.now)) (named_type ss limit) (number_word ss limit)
+    scope_in (sources_of s.names.now) s.number (home_view s.home) (finder (sources_of s.names.now) s.number (home_view s.home) s.within (map binding_view s.bindings.now)) (named_type (sources_of s.names.now) limit) (number_word (sources_of s.names.now) limit)
 
 -- What is known of types that stand in others in the module of number k, within a type with parameters or outside.
 abbrev pub roots_where : List Source → ℕ → ℕ → Home → Bool → types.Roots

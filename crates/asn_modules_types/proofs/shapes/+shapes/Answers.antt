@@ -54,7 +54,7 @@ instance_shape-returns-then-not-takes-clause-shape t c =
     let ns = c.args.arguments.now in
     c.no_values-then-not-takes.ensures.is
     ∙ instance_refused (sources_of s.names.now) c.args.depth.names s.number (home_view s.home) s.within c.args.module_name c.args.name (map notation_view ns) a c.if-scope.false c.in-Some.ensures
-    (ap (λ n. takes (sources_of s.names.now) n a) (length-map ns notation_view ∙ sym c.len.ensures) ∙ sym c.takes.ensures ∙ c.if-not-takes.true)
+    (ap (λ n. takes (sources_of s.names.now) n a) (length-map ns notation_view) ∙ sym c.takes.ensures ∙ c.if-not-takes.true)
 
 pub instance_shape-returns-clause-shape : goal.instance_shape-returns-clause-shape
 instance_shape-returns-clause-shape t c =
@@ -66,7 +66,7 @@ instance_shape-returns-clause-shape t c =
     IfOk-weaker c.shape_of.result _ _
     (λ o e. instance_taken ss c.args.depth.names s.number h s.within c.args.module_name c.args.name (map notation_view ns) a c.if-scope.false c.in-Some.ensures
     (map binding_view c.as_slice.result.now) (notation_view c.notation_of.result.now) (shape_view o)
-    (ap (λ n. takes ss n a) (length-map ns notation_view ∙ sym c.len.ensures) ∙ sym c.takes.ensures ∙ c.if-not-takes.false)
+    (ap (λ n. takes ss n a) (length-map ns notation_view) ∙ sym c.takes.ensures ∙ c.if-not-takes.false)
     (ap (map binding_view) c.as_slice.ensures.value ∙ c.in_ok-bound.ensures ∙ ap (λ l. bindings (found_in Types ss s.number h) l (map notation_view ns)) c.parameters_of-parameters.ensures)
     c.notation_of.ensures e) c.shape_of.ensures.shape
 

@@ -7,8 +7,8 @@ pub const NAME_LIMIT: usize = 64;
 /// Is what a type counts besides what stands in it, in bytes. So does a name behind COMPONENTS OF.
 pub const TYPE_SIZE: usize = 64;
 
-/// Is what a type with actual parameters counts besides: no less than the type with parameters whose
-/// name it states, which stands in its place.
+/// Is what a type with actual parameters counts besides: no less than the type with parameters that
+/// it names, which stands in its place.
 pub const INSTANCE_SIZE: usize = 16_384;
 
 /// Limits the bytes that COMPONENTS OF includes in the types of all texts: about what is gone over

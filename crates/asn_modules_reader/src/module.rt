@@ -97,8 +97,8 @@ fn read_bare(alloc: Global, tokens: &[Token]) -> Result<Vec<Module>, SyntaxFault
     Ok(modules)
 }
 
-/// Returns whether a module goes on here behind a name: with `DEFINITIONS`, or braces that nothing is
-/// assigned behind.
+/// Returns whether a module goes on here behind a name: with `DEFINITIONS`, or braces behind which
+/// nothing is assigned.
 ///
 /// # Errors
 ///

@@ -270,7 +270,7 @@ fn read_enumerated(alloc: Global, tokens: &[Token]) -> Result<(Base, &[Token]), 
 ///
 /// # Errors
 ///
-/// `Unexpected` where a type doesn't go on as it begins, or a group isn't closed, and `OutOfMemory`.
+/// `Unexpected` where a type doesn't go on as it begins or a group isn't closed, and `OutOfMemory`.
 #[cycle(read)]
 fn read_arguments(
     alloc: Global,

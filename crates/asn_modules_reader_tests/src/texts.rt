@@ -71,7 +71,8 @@ B ::= INSTANCE OF E C ::= INSTANCE OF TYPE-IDENTIFIER (SIZE (5)) d A ::= e.&id f
     ),
     // Parameters of types, values, classes, objects and sets.
     (
-        "A { B } ::= SET OF B C { INTEGER : max, D } ::= D (0..max) e { F } A ::= 5 G { H } E ::= { h }",
+        "A { B } ::= SET OF B C { INTEGER : max, D } ::= D (0..max) \
+e { F } A ::= 5 G { H } E ::= { h }",
         1,
         4,
     ),

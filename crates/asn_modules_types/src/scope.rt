@@ -56,8 +56,8 @@ fn bound_in(text: &str, bindings: &[Binding], name: Token) -> Option<Binding>
     None
 }
 
-/// Returns the number of the type of the name that the module assigns or imports, or `None` where it
-/// is missing.
+/// Returns the number of the type of the name that the module assigns or imports, or `None` where
+/// it is missing.
 pub fn assigned_number(
     scope: &Scope<'_, '_, '_>,
     module_name: Option<Token>,

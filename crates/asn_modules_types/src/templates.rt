@@ -108,7 +108,7 @@ fn argument_number(scope: &Scope<'_, '_, '_>, argument: &Notation) -> Option<usi
     }
 }
 
-/// Returns what stands in the places of these parameters, where a type with actual ones stands here.
+/// Returns what stands in the places of these parameters where a type with actual ones stands here.
 ///
 /// # Errors
 ///

@@ -350,7 +350,8 @@ c X DEFAULT six } n INTEGER ::= 8 five INTEGER ::= 5 U ::= INTEGER { six(6) }",
     ("T ::= P { U } P { X } ::= X U ::= NULL", "null", "refused"),
     // Nor one in which another one stands, or COMPONENTS OF a name.
     (
-        "T ::= P { U } P { X } ::= SEQUENCE { a Q { X } OPTIONAL } Q { Y } ::= SET { b Y } U ::= NULL",
+        "T ::= P { U } P { X } ::= SEQUENCE { a Q { X } OPTIONAL } Q { Y } ::= SET { b Y } \
+U ::= NULL",
         "{}",
         "refused",
     ),

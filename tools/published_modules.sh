@@ -139,7 +139,7 @@ restored() {
     for file; do
         sed -E -e '/^-- SetupRelease \{/,/^-- \}/s/^-- //' "$file" >"$room/${file##*/}"
         grep -q '^SetupRelease {' "$room/${file##*/}" &&
-            sed -i -E 's/CHOICE \{release NULL, setup ([A-Za-z0-9-]+)\}/SetupRelease { \1 }/' "$room/${file##*/}"
+            sed -i -E 's/CHOICE *\{ *release +NULL *, *setup +([A-Za-z0-9-]+) *\}/SetupRelease { \1 }/' "$room/${file##*/}"
         modules+=(-m "$room/${file##*/}")
     done
     echo "  SetupRelease stands in $(cat "$room"/*.asn | grep -c 'SetupRelease { ') places"

@@ -17,8 +17,8 @@ the input takes.
 With -p, the inputs are the files *.in in DIR, each a request line and a text, and the peer is PROGRAM, which takes the
 same requests: seconds and peak memory of both, and ours by its.
 
-With -s, the table is of asn_by_shape, which converts by a shape that it holds as data, beside the program: seconds and
-peak memory of both, the first by the second, and how many times as long by a shape twice the input takes.
+With -s, the table is of the command `asn`, which converts by a shape that it holds as data, beside the program: seconds
+and peak memory of both, the first by the second, and how many times as long by a shape twice the input takes.
 
 The third table is of the string types, from and to either notation: seconds of each on one ASCII text, by those of
 UTF8String on the same text. The fourth is of a SET OF a million numbers, from and to either notation: seconds for
@@ -73,7 +73,7 @@ INPUTS = {
     ),
 }
 
-BY_SHAPE = os.path.join(TOP, "crates", "asn_by_shape", "out", "asn_by_shape")
+COMMAND = os.path.join(TOP, "crates", "asn_command_main", "out", "asn_command_main")
 PART_JSON, PART_AVN = '{"text":"b"},{"code":7}', 'text : "b", code : 7'
 SHAPED = {
     "numbers, JSON": lambda size: "jer jer SequenceOf<u8>\n[" + "7,213," * (1_000_000 * size) + "1]",
@@ -152,9 +152,9 @@ def measure(command, path):
     return seconds, usage.ru_maxrss / 1024, os.waitstatus_to_exitcode(status), digest.hexdigest()
 
 
-def least_runs(name, peer, path, runs):
-    """The least of the program's runs on the file and of the peer's, which take turns."""
-    pairs = [(measure(PROGRAM, path), measure(peer, path)) for _ in range(runs)]
+def least_runs(name, first, second, runs):
+    """The least of the runs of two commands, each on a file, which take turns."""
+    pairs = [(measure(*first), measure(*second)) for _ in range(runs)]
     ours, theirs = (min(run[side] for run in pairs) for side in (0, 1))
     if ours[2:] != theirs[2:]:
         sys.exit(f"{name}: the outputs differ")
@@ -165,7 +165,7 @@ def compare_program(name, make, peer, runs):
     """Prints the row of one input of the program."""
     path = os.path.join(OUT, "input")
     size = write_input(make, path)
-    ours, theirs = least_runs(name, peer, path, runs)
+    ours, theirs = least_runs(name, (PROGRAM, path), (peer, path), runs)
     print(
         f"{name:32} {size:5.1f} {ours[0]:7.3f} {theirs[0]:7.3f} {theirs[0] / ours[0]:6.2f}"
         f" {ours[1]:8.1f} {theirs[1]:8.1f}  {os.path.basename(peer[0])}",
@@ -175,7 +175,7 @@ def compare_program(name, make, peer, runs):
 
 def compare_peer(program, path, runs):
     """Prints the row of one input file, beside a program that takes the same requests."""
-    ours, theirs = least_runs(path, [program], path, runs)
+    ours, theirs = least_runs(path, (PROGRAM, path), ([program], path), runs)
     print(
         f"{os.path.basename(path)[:-3]:24} {os.path.getsize(path) / 1e6:5.1f}  | {ours[0]:7.2f} {theirs[0]:7.2f}"
         f" {ours[0] / theirs[0]:6.2f}  | {ours[1]:7.0f} {theirs[1]:7.0f} {ours[1] / theirs[1]:6.2f}",
@@ -185,11 +185,14 @@ def compare_peer(program, path, runs):
 
 def compare_shape(name, runs):
     """Prints the row of one input by a shape, beside the program."""
-    path = os.path.join(OUT, "input")
-    write_input(lambda: SHAPED[name](2).encode(), path)
-    twice = min(measure([BY_SHAPE], path)[0] for _ in range(runs))
-    size = write_input(lambda: SHAPED[name](1).encode(), path)
-    typed, shaped = least_runs(name, [BY_SHAPE], path, runs)
+    request, text = os.path.join(OUT, "input"), os.path.join(OUT, "text")
+    source, target, type_name = SHAPED[name](1).partition("\n")[0].split()
+    command = [COMMAND, "convert", "-t", type_name, "--from", source, "--to", target]
+    write_input(lambda: SHAPED[name](2).partition("\n")[2].encode(), text)
+    twice = min(measure(command, text)[0] for _ in range(runs))
+    size = write_input(lambda: SHAPED[name](1).encode(), request)
+    write_input(lambda: SHAPED[name](1).partition("\n")[2].encode(), text)
+    typed, shaped = least_runs(name, (PROGRAM, request), (command, text), runs)
     print(
         f"{name:24} {size:5.1f}  | {shaped[0]:7.2f} {typed[0]:7.2f} {shaped[0] / typed[0]:6.2f}"
         f"  | {shaped[1]:7.0f} {typed[1]:7.0f} {shaped[1] / typed[1]:6.2f}  | {twice / shaped[0]:5.2f}",
@@ -284,7 +287,7 @@ def run_peer(program, folder, part, runs):
 def run_shapes(part, runs):
     """The table of conversions by a shape."""
     os.makedirs(OUT, exist_ok=True)
-    for program in ("asn_convert_main", "asn_by_shape"):
+    for program in ("asn_convert_main", "asn_command_main"):
         subprocess.run([os.path.join(TOP, ".ci", "prove"), program], stdout=subprocess.DEVNULL, check=True)
     columns = f"{'shape':>7} {'typed':>7} {'ratio':>6}"
     print(f"{'by a shape':24} {'MB':>5}  | {'seconds':^22}  | {'peak MB':^22}  | twice")

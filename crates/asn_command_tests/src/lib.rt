@@ -1,10 +1,11 @@
-//! Tests what the command `asn` comes to, by direct calls: what is told of texts that are refused,
-//! and where, streams and whole files of which a read or a write fails, and reports on modules.
+//! Tests by direct calls what the command `asn` stands on, where no text that is given to it shows
+//! it: streams and whole files of which a read or a write fails, the calls on published modules that
+//! their page shows, and what is shown of types that name each other by number.
 #![tactic(auto)]
 
 #[cfg(test)]
-mod refusals;
+mod example;
 #[cfg(test)]
-mod reports;
+mod linked;
 #[cfg(test)]
 mod streams;

@@ -1,7 +1,6 @@
 //! Tests types that name each other by number, by direct calls, and shows what no contract states:
-//! that types which are meant to be read are told so, and that texts are converted by them.
+//! that types which are meant to be read are told so.
 
 mod kinds;
 mod lists;
 mod samples;
-mod texts;

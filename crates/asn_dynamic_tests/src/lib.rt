@@ -8,8 +8,6 @@ mod checks;
 #[cfg(test)]
 mod example;
 #[cfg(test)]
-mod kept_reports;
-#[cfg(test)]
 mod kept_texts;
 #[cfg(test)]
 mod nested;

@@ -1,7 +1,11 @@
 #!/usr/bin/env python3
 """Runs `rt ci` over what it proved of the same files on this machine before.
 
-usage: tools/kept_ci.py [STORE]      STORE: ~/.cache/kept-ci unless given, or a folder of your own
+usage: tools/kept_ci.py [-s STORE] [NAME..]
+
+STORE is ~/.cache/kept-ci unless given, or a folder of your own. With names it proves, tests and
+tries the wrong bodies of these crates alone, and proves what they stand on; a kit whose own `rt ci`
+takes names does that by itself.
 
 What a crate, its tests or its wrong bodies were proved to be is kept in STORE under a sum of the
 crate's files, its line of crates.txt, the toolchain and the same of all crates below, and isn't
@@ -10,6 +14,7 @@ proved again. Programs and tests are run each time. This is for the way to the g
 removed at any time, and a crate that was proved anew has those above it proved anew. Two runs over
 one store at a time may prove a crate twice.
 """
+import argparse
 import hashlib
 import importlib.machinery
 import importlib.util
@@ -27,9 +32,16 @@ rt = importlib.util.module_from_spec(importlib.util.spec_from_loader("rt", LOADE
 LOADER.exec_module(rt)
 import rtlib  # noqa: E402: beside rt
 
-STORE = sys.argv[1] if len(sys.argv) > 1 else os.path.expanduser("~/.cache/kept-ci")
+OPTIONS = argparse.ArgumentParser(usage="tools/kept_ci.py [-s STORE] [NAME..]")
+OPTIONS.add_argument("-s", dest="store", default=os.path.expanduser("~/.cache/kept-ci"))
+OPTIONS.add_argument("names", nargs="*")
+GIVEN = OPTIONS.parse_args()
+STORE = os.path.abspath(GIVEN.store)
+REFUSED = "refused, as it must be, in a run before"
 sums, lock = {}, threading.RLock()
 stamp_of, prove, try_edits = rtlib.Crate.stamp, rt.Crate.ci, rt.must_fail_all
+crates_of, edits_of, has_tests = rt.crates_of, rt.edits_of, rtlib.Crate.has_tests
+stop_on_unread = rtlib.stop_on_unread
 
 
 def stamp(crate):
@@ -90,7 +102,7 @@ def must_fail_all(crate, edits, flags):
             found.update(file.read())
     key = f"{STORE}/{crate.name}-edits-{found.hexdigest()}"
     if edits and os.path.isfile(key):
-        return [(True, f"must-fail {crate.name}/{os.path.basename(it)}: kept") for it in edits]
+        return [(True, f"must-fail {crate.name}/{os.path.basename(it)}: {REFUSED}") for it in edits]
     tried = try_edits(crate, edits, flags)
     if edits and all(refused for refused, _ in tried):
         with open(key, "w"):
@@ -98,8 +110,28 @@ def must_fail_all(crate, edits, flags):
     return tried
 
 
+def is_asked(crate):
+    """Whether the crate's tests and wrong bodies are asked for."""
+    return not GIVEN.names or os.path.basename(crate.folder) in GIVEN.names
+
+
+def asked_crates(root, aside):
+    """The crates that are asked for, and those that they stand on, lowest first."""
+    crates = crates_of(root, aside)
+    unknown = {*GIVEN.names} - {it.name for it in crates}
+    if unknown:
+        rtlib.stop(f"crates.txt has no crate {', '.join(sorted(unknown))}")
+    needed = {it.name for crate in filter(is_asked, crates) for it in (crate, *crate.below())}
+    # A file of any crate may stand there.
+    rtlib.stop_on_unread = lambda folder, _asked: stop_on_unread(folder, crates)
+    return [it for it in crates if it.name in needed]
+
+
 os.makedirs(STORE, exist_ok=True)
 top = subprocess.run(["git", "rev-parse", "--show-toplevel"], capture_output=True, text=True)
 os.chdir(top.stdout.strip() or ".")
 rtlib.Crate.stamp, rt.Crate.ci, rt.must_fail_all = stamp, ci, must_fail_all
+rt.crates_of = asked_crates
+rt.edits_of = lambda crate: edits_of(crate) if is_asked(crate) else ([], [])
+rtlib.Crate.has_tests = lambda crate: is_asked(crate) and has_tests(crate)
 sys.exit(rt.ci())

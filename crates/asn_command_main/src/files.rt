@@ -2,7 +2,7 @@
 use asn_command::types_of;
 use asn_core::OutOfMemory;
 use asn_modules::Modules;
-use asn_replies::{Reply, Unread, read_text, unread_reply};
+use asn_replies::{Reply, Unread, read_module_text, unread_reply};
 use asn_streams::StdSource;
 use std::alloc::{AllocError, Global};
 use std::fs;
@@ -10,17 +10,17 @@ use std::fs;
 /// Is what a command comes to: its reply, or that memory ran out.
 pub type Ended = Result<Reply, OutOfMemory>;
 
-/// Returns the text of the file, or that of standard input where its name is `-`.
+/// Returns the text of the file of modules, or that of standard input where its name is `-`.
 ///
 /// # Errors
 ///
 /// Why it isn't read.
 fn text_of(rt: &HostRuntime, name: &str) -> Result<String, Unread> {
     if name == "-" {
-        return read_text(rt.alloc(), &mut StdSource::new(rt.stdin()));
+        return read_module_text(rt.alloc(), &mut StdSource::new(rt.stdin()));
     }
     match fs::open(rt, name) {
-        Ok(file) => read_text(rt.alloc(), &mut StdSource::new(file)),
+        Ok(file) => read_module_text(rt.alloc(), &mut StdSource::new(file)),
         Err(_fault) => Err(Unread::Fault),
     }
 }
@@ -44,6 +44,11 @@ pub fn texts_of(rt: &HostRuntime, names: &[&str]) -> Result<Vec<String>, Ended> 
     Ok(texts)
 }
 
+/// Returns the text behind the byte order mark that some editors put first.
+fn past_mark(text: &str) -> &str {
+    text.strip_prefix('\u{feff}').unwrap_or(text)
+}
+
 /// Returns each text behind the name of its file.
 ///
 /// # Errors
@@ -56,7 +61,7 @@ pub fn named<'a>(
 ) -> Result<Vec<(&'a str, &'a str)>, AllocError> {
     let mut pairs = Vec::new(alloc);
     for (name, text) in names.iter().zip(texts) {
-        pairs.push((*name, text.as_str()))?;
+        pairs.push((*name, past_mark(text)))?;
     }
     Ok(pairs)
 }

@@ -1,5 +1,6 @@
 -- What is told of a file that isn't read.
-use Rattle.std.specs.Prelude.{◌≡◌, ℕ, List, ◌++◌, codes, string_bytes}
+use Rattle.std.specs.Prelude.{◌≡◌, ℕ, List, ◌++◌, codes, IsUtf8, string_bytes}
+use Rattle.std.specs.Str.{encode_utf8_all}
 use Rattle.asn_replies.specs.declared.read.Unread.{Unread}
 use Rattle.asn_replies.specs.declared.read.Unread.TheVariants.{Fault, TooLong, NotText, OutOfMemory}
 use Rattle.asn_replies.specs.declared.reply.Reply.{Reply}
@@ -18,3 +19,8 @@ IsUnreadReply file Fault = IsRefusal status.ReadFault (file ++ codes ": can't be
 IsUnreadReply file TooLong = IsRefusal status.TooLong (file ++ codes ": has more than 16777216 bytes\n")
 IsUnreadReply file NotText = IsRefusal status.NotText (file ++ codes ": isn't UTF-8\n")
 IsUnreadReply file OutOfMemory = λ r. ⊥
+
+-- The text that a file of modules has by its bytes: these where they are UTF-8, else the characters whose numbers they are (ISO/IEC 8859-1).
+pub data IsModuleText (input text : List ℕ) : Type 0 where
+  as_utf8 : text ≡ input → IsModuleText input text
+  as_latin : ¬ IsUtf8 input → text ≡ encode_utf8_all input → IsModuleText input text

@@ -13,6 +13,6 @@ mod status;
 pub use delivery::deliver;
 pub use feed::with_feed;
 pub use naming::missing_reply;
-pub use read::{Unread, read_text, unread_reply};
+pub use read::{Unread, read_module_text, read_text, unread_reply};
 pub use reply::Reply;
 pub use status::Status;

@@ -287,8 +287,8 @@ def run_peer(program, folder, part, runs):
 def run_shapes(part, runs):
     """The table of conversions by a shape."""
     os.makedirs(OUT, exist_ok=True)
-    for program in ("asn_convert_main", "asn_command_main"):
-        subprocess.run([os.path.join(TOP, ".ci", "prove"), program], stdout=subprocess.DEVNULL, check=True)
+    for launcher in ("asn_convert", "asn"):
+        subprocess.run([os.path.join(TOP, launcher), "--prove"], stdout=subprocess.DEVNULL, check=True)
     columns = f"{'shape':>7} {'typed':>7} {'ratio':>6}"
     print(f"{'by a shape':24} {'MB':>5}  | {'seconds':^22}  | {'peak MB':^22}  | twice")
     print(f"{'':30}  | {columns}  | {columns}  |")

@@ -1,6 +1,6 @@
 //! Tests by direct calls what the command `asn` stands on, where no text that is given to it shows
-//! it: streams and whole files of which a read or a write fails, the calls on published modules that
-//! their page shows, and what is shown of types that name each other by number.
+//! it: streams and whole files of which a read or a write fails, the calls on published modules
+//! that their page shows, and what is shown of types that name each other by number.
 #![tactic(auto)]
 
 #[cfg(test)]

@@ -23,6 +23,7 @@ import shutil
 import subprocess
 import sys
 import threading
+import time
 
 BIN = os.path.dirname(os.path.realpath(shutil.which("rt") or sys.exit("there is no rt")))
 sys.path.insert(0, BIN)
@@ -38,6 +39,7 @@ OPTIONS.add_argument("names", nargs="*")
 GIVEN = OPTIONS.parse_args()
 STORE = os.path.abspath(GIVEN.store)
 REFUSED = "refused, as it must be, in a run before"
+BEGUN = time.time()
 sums, lock = {}, threading.RLock()
 stamp_of, prove, try_edits = rtlib.Crate.stamp, rt.Crate.ci, rt.must_fail_all
 crates_of, edits_of, has_tests = rt.crates_of, rt.edits_of, rtlib.Crate.has_tests
@@ -86,6 +88,8 @@ def ci(crate, flags, tests):
     if os.path.isdir(key):
         for name in os.listdir(key):
             copy(f"{key}/{name}", f"{crate.folder}/out/{name}")
+            # The launchers take a program that is newer than its sources, as these were here.
+            os.utime(f"{crate.folder}/out/{name}", (BEGUN, BEGUN))
         print("kept of an earlier run", file=crate.out)
         return 0
     status = prove(crate, flags, tests)

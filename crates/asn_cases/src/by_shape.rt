@@ -1,7 +1,7 @@
 //! Runs the conversion that a row asks for by a shape of its type that is held as data.
+use crate::answer::answer_by_shape;
 use crate::outcome::Outcome;
 use crate::row::Row;
-use asn_shape_requests::answer_by_shape;
 use std::alloc::{AllocError, Global};
 
 /// Stands in a refusal before the name of a type that is a choice, between backticks.

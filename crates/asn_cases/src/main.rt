@@ -5,6 +5,7 @@
 //! begin with `#` are none.
 #![tactic(auto)]
 
+mod answer;
 mod by_shape;
 mod error;
 mod escape;

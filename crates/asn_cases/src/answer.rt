@@ -1,4 +1,5 @@
-//! Answers a request to convert.
+//! Answers a request to convert by a shape of the sample type that is held as data: what is written
+//! is what the program writes, but that a CHOICE has no name.
 use asn_core::{Codec, OutOfMemory};
 use asn_dynamic::convert;
 use asn_samples::shape_of;

@@ -7,3 +7,4 @@ pub mod MadeTexts
 pub mod Answering
 pub mod Places
 pub mod Words
+pub mod Reporting

@@ -8,7 +8,7 @@ use Rattle.asn_streams.specs.Faults.{Increased, AppendsFront}
 use Rattle.asn_convert.specs.Made.{report}
 use Rattle.asn_streams.specs.Transfer.{Transfer}
 use Rattle.asn_convert.specs.Requests.{Request}
-use Rattle.asn_filter_reports.specs.Reports.{IsKeeping, IsKeepingRefusal}
+use Rattle.asn_convert.specs.Reports.{IsKeeping, IsKeepingRefusal}
 use Rattle.asn_module_reports.specs.Replies.{IsReply}
 use Rattle.asn_module_reports.specs.Reports.{IsGrowthRefusal, IsGrowthReport, IsPrinting, IsPrintingRefusal}
 use Rattle.asn_module_reports.specs.declared.reply.Reply.{Reply}

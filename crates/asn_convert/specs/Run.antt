@@ -5,7 +5,7 @@ use Rattle.asn_streams.specs.Input.{input_limit}
 use Rattle.asn_convert.specs.Lines.{text_part}
 use Rattle.asn_samples.specs.Samples.{sample_shape}
 use Rattle.asn_convert.specs.Requests.{Request, request_of}
-use Rattle.asn_filter_reports.specs.Reports.{CanKeepAll}
+use Rattle.asn_convert.specs.Reports.{CanKeepAll}
 use Rattle.asn_module_reports.specs.Reports.{AreTypesOf, IsModuleText}
 use Rattle.asn_codec.specs.Conversion.{IsConvertible}
 use Rattle.asn_convert.specs.ExpectedOutput.{Wrote, WroteFront, IsOutputTo}

@@ -1,11 +1,11 @@
 //! Replies with what is kept of a stream of values that is cut to what an older type knows.
-ghost use Rattle.asn_filter_reports.specs.Reports.{CanKeepAll, IsKeeping, IsKeepingRefusal};
+ghost use Rattle.asn_convert.specs.Reports.{CanKeepAll, IsKeeping, IsKeepingRefusal};
 ghost use Rattle.asn_module_reports.specs.Replies.{IsAnswered, IsReply};
 ghost use Rattle.asn_samples.specs.Samples.{sample_shape};
 ghost use Rattle.std.specs.Prelude.{IfOk};
 
+use crate::report::keeping_report;
 use asn_core::{Codec, OutOfMemory};
-use asn_filter_reports::keeping_report;
 use asn_module_reports::Reply;
 use asn_samples::Sample;
 use std::alloc::Global;

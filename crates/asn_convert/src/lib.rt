@@ -10,6 +10,7 @@ mod limits;
 mod lines;
 mod made;
 mod program;
+mod report;
 mod request;
 mod status;
 

@@ -1,5 +1,6 @@
-//! Makes the report.
-ghost use Rattle.asn_filter_reports.specs.Reports.{CanKeepAll, IsReport, refusal_line};
+//! Reports what a text of messages of a newer type is cut to for an older one: the lines that are
+//! kept, and why the others are not.
+ghost use Rattle.asn_convert.specs.Reports.{CanKeepAll, IsReport, refusal_line};
 ghost use Rattle.asn_growth.specs.Parts.{node_count};
 ghost use Rattle.asn_model.specs.Readable.{is_readable};
 ghost use Rattle.asn_model.specs.ShapeView.{shape_view};

@@ -11,8 +11,8 @@ use Rattle.asn_filter.specs.Lines.{text_lines}
 use Rattle.asn_filter.specs.declared.fault.FilterFault.{FilterFault}
 use Rattle.asn_filter.specs.declared.fault.FilterFault.TheVariants.{NotGrown}
 use Rattle.asn_filter.proofs.OneCut.{not_both}
-use Rattle.asn_filter_reports.specs.Reports.{AreKept, CanKeepAll, IsKeepingRefusal, IsReport, refusal_line}
-use Rattle.asn_filter_reports.specs.declared.report.Report.{Report}
+use Rattle.asn_convert.specs.Reports.{AreKept, CanKeepAll, IsKeepingRefusal, IsReport, refusal_line}
+use Rattle.asn_convert.specs.declared.report.Report.{Report}
 use Rattle.asn_growth.specs.Differences.{differences_of, growth_of}
 use Rattle.asn_growth.specs.Grows as growth
 use Rattle.asn_growth.specs.declared.reasons.Growth.TheVariants.{Differs, Grows}

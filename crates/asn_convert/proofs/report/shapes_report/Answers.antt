@@ -1,8 +1,8 @@
 use Rattle.std.proofs.Common.{sym, subst, string_bytes}
-use Rattle.asn_filter_reports.specs.Reports.{IsKeepingRefusal}
-use Rattle.asn_filter_reports.proofs.Reporting.{all_kept, first_difference, kept_reported, not_grown}
+use Rattle.asn_convert.specs.Reports.{IsKeepingRefusal}
+use Rattle.asn_convert.proofs.Reporting.{all_kept, first_difference, kept_reported, not_grown}
 use Rattle.asn_model.specs.ShapeView.{shape_view}
-use Rattle.asn_filter_reports.proofs.report.shapes_report.Goals as goal
+use Rattle.asn_convert.proofs.report.shapes_report.Goals as goal
 
 pub returns-in-Ok-clause-report : goal.returns-in-Ok-clause-report
 returns-in-Ok-clause-report c =

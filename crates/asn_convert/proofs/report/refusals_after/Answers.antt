@@ -1,9 +1,9 @@
 use Rattle.std.proofs.Common.{◌++◌, sym, ap, ◌∙◌, append-nil, arith, string_bytes}
 use Rattle.std.specs.List.{flat_map}
 use Rattle.std.proofs.lemmas.List.{take_all}
-use Rattle.asn_filter_reports.specs.Reports.{refusal_line}
-use Rattle.asn_filter_reports.proofs.Reporting.{lines_more}
-use Rattle.asn_filter_reports.proofs.report.refusals_after.Goals as goal
+use Rattle.asn_convert.specs.Reports.{refusal_line}
+use Rattle.asn_convert.proofs.Reporting.{lines_more}
+use Rattle.asn_convert.proofs.report.refusals_after.Goals as goal
 
 pub loop-refusal-init : goal.loop-refusal-init
 loop-refusal-init c = sym (append-nil _)

@@ -1,9 +1,9 @@
 use Rattle.std.proofs.Common.{sym, subst, string_bytes}
 use Rattle.std.specs.Prelude.{IfOk}
-use Rattle.asn_filter_reports.specs.Reports.{CanKeepAll, IsReport}
+use Rattle.asn_convert.specs.Reports.{CanKeepAll, IsReport}
 use Rattle.asn_model.specs.ShapeView.{shape_view}
 use Rattle.asn_samples.specs.Samples.{sample_shape}
-use Rattle.asn_filter_reports.proofs.report.keeping_report.Goals as goal
+use Rattle.asn_convert.proofs.report.keeping_report.Goals as goal
 
 pub returns-clause-report : goal.returns-clause-report
 returns-clause-report c =

@@ -36,7 +36,7 @@ trap 'rm -rf "$room"' EXIT
 fetch() {
     ls -d "$1"-*/ >/dev/null 2>&1 && return
     apt-get source --download-only "$2" >"$room/fetched" 2>&1
-    for archive in "$2"_*.orig.tar.*z; do
+    for archive in "$2"_*.orig.tar.[bgx]z*; do
         tar xf "$archive" 2>/dev/null || {
             tail -n 2 "$room/fetched"
             echo "can't be had: the source package $2 (is deb-src switched on, and apt-get update done?)"

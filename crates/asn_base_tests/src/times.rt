@@ -1,6 +1,7 @@
 //! Tests texts as they are read and written again, days and moments by direct calls, and the texts
 //! of faults. The expected values follow from the forms of X.680 and the calendar.
 use crate::checks::{assert_of, assert_printed, assert_same, assert_text, assert_true};
+use asn_civil::{CivilDate, CivilGeneralizedTime, CivilUtcTime};
 use asn_times::{
     Date, GeneralizedTime, TimeFault, UtcTime, read_date, read_generalized, read_utc, write_date,
     write_generalized, write_utc,

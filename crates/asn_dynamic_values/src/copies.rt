@@ -1,11 +1,10 @@
 //! Makes values of a SET OF, and copies of values.
 ghost use Rattle.asn_dynamic_values.specs.DynView.{dyn_value, members_named, named_value};
 ghost use Rattle.asn_model.specs.Value.{bag_of, values};
-ghost use Rattle.std.specs.Prelude.{◌≡◌, map, IfOk, IfSome};
+ghost use Rattle.std.specs.Prelude.{◌≡◌, map, IfOk};
 
 use crate::DynValue;
 use asn_core::{Bits, OutOfMemory};
-use asn_times::{Date, GeneralizedTime, UtcTime};
 use std::alloc::Global;
 
 /// Returns the value of a SET OF with these elements, whose order is of no account.
@@ -43,9 +42,9 @@ impl DynValue {
             DynValue::Arcs(arcs) => Ok(DynValue::Arcs(arcs.to_vec(alloc)?)),
             DynValue::Text(text) => Ok(DynValue::Text(text.to_vec(alloc)?)),
             DynValue::Units(units) => Ok(DynValue::Units(units.to_vec(alloc)?)),
-            DynValue::Utc(time) => Ok(DynValue::Utc(copy_of_utc(time))),
-            DynValue::Gen(time) => Ok(DynValue::Gen(GeneralizedTime::new(time.moment()))),
-            DynValue::Day(day) => Ok(DynValue::Day(Date::new(day.day()))),
+            DynValue::Utc(time) => Ok(DynValue::Utc(*time)),
+            DynValue::Gen(time) => Ok(DynValue::Gen(*time)),
+            DynValue::Day(day) => Ok(DynValue::Day(*day)),
             DynValue::Item(item) => Ok(DynValue::Item(item.clone()?)),
             DynValue::Members(members) => Ok(DynValue::Members(copies_of_members(alloc, members)?)),
             DynValue::List(elements) => Ok(DynValue::List(copies(alloc, elements)?)),
@@ -68,14 +67,6 @@ fn copy_of_bits(alloc: Global, bits: &Bits) -> Result<Bits, OutOfMemory>
 {
     let octets = bits.octets().to_vec(alloc)?;
     Ok(Bits::from_first_bits(octets, bits.len()))
-}
-
-/// Returns the same time.
-fn copy_of_utc(time: &UtcTime) -> UtcTime
-    ensures { result ≡ time.now }
-{
-    // The moment of a time has no fraction of a second.
-    UtcTime::new(time.moment()).unwrap()
 }
 
 /// Returns copies of these values, in their order.

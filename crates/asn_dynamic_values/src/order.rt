@@ -68,9 +68,11 @@ impl DynValue {
             (DynValue::Arcs(left), DynValue::Arcs(right)) => left.cmp(right),
             (DynValue::Text(left), DynValue::Text(right)) => left.cmp(right),
             (DynValue::Units(left), DynValue::Units(right)) => left.cmp(right),
-            (DynValue::Utc(left), DynValue::Utc(right)) => left.moment().cmp(&right.moment()),
-            (DynValue::Gen(left), DynValue::Gen(right)) => left.moment().cmp(&right.moment()),
-            (DynValue::Day(left), DynValue::Day(right)) => left.day().cmp(&right.day()),
+            (DynValue::Utc(left), DynValue::Utc(right)) => left.seconds().cmp(&right.seconds()),
+            (DynValue::Gen(left), DynValue::Gen(right)) => {
+                left.nanoseconds().cmp(&right.nanoseconds())
+            }
+            (DynValue::Day(left), DynValue::Day(right)) => left.days().cmp(&right.days()),
             (DynValue::Item(left), DynValue::Item(right)) => left.cmp(right),
             (DynValue::Members(left), DynValue::Members(right)) => compare_members(left, right),
             (DynValue::List(left), DynValue::List(right)) => compare_elements(left, right),

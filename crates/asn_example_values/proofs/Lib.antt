@@ -1,4 +1,3 @@
-pub mod Epochs
 pub mod Fitting
 pub mod Lacking
 pub mod Making

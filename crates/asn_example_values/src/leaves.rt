@@ -6,7 +6,6 @@ ghost use Rattle.asn_model.specs.ShapeView.{shape_view};
 ghost use Rattle.std.specs.Prelude.{◌≡◌, ◌<◌, ◌^◌, ◌∷◌, [], IfOk, if◌then◌else◌, map};
 ghost use Rattle.std.specs.Prelude.{option_map, pos, string_bytes};
 
-use crate::epoch::epoch;
 use asn_core::{Bits, OutOfMemory, WholeNumber};
 use asn_dynamic_values::DynValue;
 use asn_integers::IntegerType;
@@ -149,10 +148,10 @@ pub fn leaf_value(alloc: Global, other: bool, leaf: &Shape) -> Result<Option<Dyn
         Shape::Oid => DynValue::Arcs(Vec::from_array(alloc, [0, 0])?),
         Shape::Str { .. } => DynValue::Text(text(alloc, other)?),
         Shape::Bmp => DynValue::Units(Vec::new(alloc)),
-        // The moment has no fraction of a second.
-        Shape::Utc => DynValue::Utc(UtcTime::new(epoch()).unwrap()),
-        Shape::Gen => DynValue::Gen(GeneralizedTime::new(epoch())),
-        Shape::Day => DynValue::Day(Date::new(epoch().date())),
+        // The moment from which times are counted.
+        Shape::Utc => DynValue::Utc(UtcTime::from_seconds(0).unwrap()),
+        Shape::Gen => DynValue::Gen(GeneralizedTime::from_nanoseconds(0).unwrap()),
+        Shape::Day => DynValue::Day(Date::from_days(0).unwrap()),
         Shape::Decimal => DynValue::Text(LEAST_DECIMAL.as_bytes().to_vec(alloc)?),
         Shape::Enum { items, added } => match item_at(items, added, place_of(other))? {
             Some(item) => DynValue::Item(item),

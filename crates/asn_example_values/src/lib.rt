@@ -2,7 +2,6 @@
 //! definitions are in `specs/`.
 #![tactic(auto)]
 
-mod epoch;
 mod leaves;
 mod parts;
 

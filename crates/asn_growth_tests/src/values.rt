@@ -5,7 +5,6 @@ use crate::checks::{assert_same, assert_true, let_go};
 use asn_core::WholeNumber;
 use asn_dynamic_values::{DynValue, bag};
 use asn_times::Date;
-use jiff::civil::DateTime;
 use std::alloc::Global;
 use std::cmp::Ordering;
 use std::process::Abort;
@@ -83,7 +82,7 @@ fn copies_are_equal(rt: HostRuntime) {
     assert_copied(&rt, alloc, DynValue::Null);
     assert_copied(&rt, alloc, number(7));
     assert_copied(&rt, alloc, octets(&rt, alloc));
-    let day = Date::new(DateTime::ZERO.date());
+    let day = Date::from_days(0).expect(&rt, "no day");
     assert_copied(&rt, alloc, DynValue::Day(day));
     assert_copied(&rt, alloc, members(&rt, alloc));
 }

@@ -6,11 +6,15 @@ use Rattle.std.specs.Int.{is_in_range}
 use Rattle.std.specs.Option.{option_map}
 use Rattle.std.proofs.lemmas.Bool.Decides.{nat_tests}
 use Rattle.std.proofs.lemmas.Int.{ints}
-use Rattle.jiff.specs.Types.{Date, DateTime, Time}
-use Rattle.jiff.specs.Words.{IsBetween, civil_nanos, epoch_day, time_nanos}
-use Rattle.jiff.proofs.SpanFacts.{signed_arith}
-use Rattle.jiff.proofs.Family.{civil_nanos-parts, time_nanos_bound}
-use Rattle.jiff_core.specs.Calendar.{day_count, days_from_civil, days_in_month}
+use Rattle.jiff_core.specs.declared.civil.date.Date.{Date}
+use Rattle.jiff_core.specs.declared.civil.datetime.DateTime.{DateTime}
+use Rattle.jiff_core.specs.declared.civil.time.Time.{Time}
+use Rattle.jiff_core.specs.Calendar.{IsBetween, day_count, days_from_civil, days_in_month}
+use Rattle.jiff_core.specs.DateTime.{civil_nanos}
+use Rattle.jiff_core.specs.Date.{epoch_day}
+use Rattle.jiff_core.specs.Time.{time_nanos}
+use Rattle.jiff_core.proofs.SignedLemmas.{signed_arith}
+use Rattle.jiff_core.proofs.DateTimeLemmas.{civil_nanos-parts, time_nanos_bound}
 use Rattle.jiff_core.proofs.CalendarLemmas.{day_count-day_of_year, day_count-later_year, day_count-lt_year, days_from_civil-day_count, days_in_month_bounds, day_count-end}
 use Rattle.jiff_core.proofs.DateLemmas.{civil}
 use Rattle.asn_times.specs.Days.{DayReads, HasDay, fields_of_date}

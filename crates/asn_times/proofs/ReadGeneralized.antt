@@ -1,7 +1,7 @@
 -- Reading a text of GeneralizedTime gives exactly what its grammar says.
 use Rattle.std.proofs.Common.{◌≡◌, ℕ, inl, inr, List, [], ◌∷◌, ◌++◌, Option, Some, refl, sym, ap, subst, ◌∙◌, arith, ℤ, pos}
 use Rattle.std.specs.Option.{option_map}
-use Rattle.jiff.proofs.SpanFacts.{signed_arith}
+use Rattle.jiff_core.proofs.SignedLemmas.{signed_arith}
 use Rattle.asn_times.specs.declared.moments.MomentFields.{MomentFields}
 use Rattle.asn_times.specs.Digits.{two_digits, four_digits}
 use Rattle.asn_times.specs.Reading.{bind, two, four, zone_or_utc, minute_fields, minute_of, fraction, generalized_fields, with_end}

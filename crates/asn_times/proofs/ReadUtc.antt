@@ -3,8 +3,8 @@ use Rattle.std.proofs.Common.{◌≡◌, ℕ, ◌+◌, ◌%◌, ◌<◌, ◌≤�
 use Rattle.std.specs.Prelude.{unsigned_abs}
 use Rattle.std.specs.Option.{option_map}
 use Rattle.std.proofs.lemmas.Bool.Decides.{nat_tests}
-use Rattle.jiff.proofs.SpanFacts.{signed_arith}
-use Rattle.jiff.proofs.Family.{civil_nanos-civil_seconds}
+use Rattle.jiff_core.proofs.SignedLemmas.{signed_arith}
+use Rattle.jiff_core.proofs.DateTimeLemmas.{civil_nanos-civil_seconds}
 use Rattle.asn_times.specs.declared.moments.MomentFields.{MomentFields}
 use Rattle.asn_times.specs.Digits.{two_digits}
 use Rattle.asn_times.specs.Reading.{bind, two, zone, minute_fields, minute_of, seconds_and_rest, utc_fields, with_end}

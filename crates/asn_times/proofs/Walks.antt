@@ -2,13 +2,16 @@
 use Rattle.std.proofs.Common.{◌≡◌, ℕ, zero, suc, ◌+◌, ◌-◌, ◌*◌, ◌/◌, ◌%◌, ◌<◌, ◌≤◌, ◌⊎◌, inl, inr, Bool, true, false, nat_lt, List, refl, sym, ap, ◌∙◌, arith, ℤ, pos, ◌+ℤ◌, ◌-ℤ◌, ◌*ℤ◌, ◌≤ℤ◌, ◌<ℤ◌}
 use Rattle.std.specs.Prelude.{unsigned_abs}
 use Rattle.std.proofs.lemmas.Bool.Decides.{nat_tests}
-use Rattle.jiff.specs.Types.{Date, DateTime}
-use Rattle.jiff.specs.Words.{civil_nanos, epoch_day, time_nanos}
-use Rattle.jiff.proofs.SpanFacts.{signed_arith}
-use Rattle.jiff.proofs.Family.{civil_nanos-parts, epoch_day_injective, time_nanos_bound}
+use Rattle.jiff_core.specs.declared.civil.date.Date.{Date}
+use Rattle.jiff_core.specs.declared.civil.datetime.DateTime.{DateTime}
+use Rattle.jiff_core.specs.DateTime.{civil_nanos}
+use Rattle.jiff_core.specs.Date.{epoch_day}
+use Rattle.jiff_core.specs.Time.{time_nanos}
+use Rattle.jiff_core.proofs.SignedLemmas.{signed_arith}
+use Rattle.jiff_core.proofs.DateTimeLemmas.{civil_nanos-parts, time_nanos_bound}
+use Rattle.jiff_core.proofs.DateLemmas.{epoch_day_injective, civil}
 use Rattle.jiff_core.specs.Calendar.{days_from_civil, day_count, days_in_year, days_in_month, days_of_months, day_of_year}
 use Rattle.jiff_core.proofs.CalendarLemmas.{day_count_bounds, day_count-end, day_count-later_year, day_count-next_year, day_count-day_of_year, day_count-lt_year, days_of_months_more, days_of_months_all, days_of_months-zero, days_in_year_bounds, days_in_month_bounds, days_from_civil-day_count}
-use Rattle.jiff_core.proofs.DateLemmas.{civil}
 use Rattle.asn_times.specs.Days.{DayReads, IsInDayYears, day_digits, fields_of_date}
 use Rattle.asn_times.specs.Moments.{IsInYears, IsMomentText, fields_of_moment}
 use Rattle.asn_times.specs.Utc.{IsInUtcYears, UtcReads, UtcWritten, utc_digits}

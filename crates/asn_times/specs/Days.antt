@@ -1,7 +1,8 @@
 -- DATE: `YYYY-MM-DD` in the years 0000 to 9999.
 use Rattle.std.specs.Prelude.{◌≡◌, ℕ, ◌<◌, List, ◌∷◌, ◌++◌, ℤ, pos, unsigned_abs}
-use Rattle.jiff.specs.Types.{Date}
-use Rattle.jiff.specs.Words.{IsBetween, IsDate, epoch_day}
+use Rattle.jiff_core.specs.declared.civil.date.Date.{Date}
+use Rattle.jiff_core.specs.Calendar.{IsBetween, IsDate}
+use Rattle.jiff_core.specs.Date.{epoch_day}
 use Rattle.asn_times.specs.Digits.{two_digits, four_digits}
 use Rattle.asn_times.specs.declared.dates.DayFields.{DayFields}
 use Rattle.asn_times.specs.declared.faults.TimeFault.{TimeFault}

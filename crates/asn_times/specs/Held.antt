@@ -1,5 +1,6 @@
 -- The times that the types hold: those of the years -9999 to 9999.
 use Rattle.std.specs.Prelude.{Bool, not, ◌&&◌, int_lt, ℤ, pos, neg_ℤ}
+use Rattle.jiff_core.specs.Calendar.{IsBetween}
 
 -- The number lies from low to high.
 abbrev pub is_from_to : ℤ → ℤ → ℤ → Bool
@@ -17,3 +18,7 @@ is_held_second n = is_from_to (neg_ℤ (pos 377_705_116_800)) (pos 253_402_300_7
 abbrev pub is_held_nanosecond : ℤ → Bool
 is_held_nanosecond n =
     is_from_to (neg_ℤ (pos 377_705_116_800_000_000_000)) (pos 253_402_300_799_999_999_999) n
+
+-- The second, as a fact.
+abbrev pub IsCivilSecond : ℤ → Type 0
+IsCivilSecond n = IsBetween (neg_ℤ (pos 377_705_116_800)) (pos 253_402_300_799) n

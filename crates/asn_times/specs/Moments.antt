@@ -1,7 +1,9 @@
 -- What the texts of moments share: their numbers, the zone, and the moment in UTC that they mean.
 use Rattle.std.specs.Prelude.{◌≡◌, ℕ, ◌+◌, ◌*◌, ◌<◌, ◌⊎◌, List, [], ◌∷◌, ◌++◌, ℤ, pos, neg_ℤ, ◌-ℤ◌, ◌*ℤ◌}
-use Rattle.jiff.specs.Types.{DateTime, Time}
-use Rattle.jiff.specs.Words.{IsBetween, civil_nanos}
+use Rattle.jiff_core.specs.declared.civil.datetime.DateTime.{DateTime}
+use Rattle.jiff_core.specs.declared.civil.time.Time.{Time}
+use Rattle.jiff_core.specs.Calendar.{IsBetween}
+use Rattle.jiff_core.specs.DateTime.{civil_nanos}
 use Rattle.asn_times.specs.Days.{HasDay, IsSmallDay, fields_of_date}
 use Rattle.asn_times.specs.Digits.{two_digits}
 use Rattle.asn_times.specs.declared.faults.TimeFault.{TimeFault}

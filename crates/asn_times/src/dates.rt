@@ -1,53 +1,74 @@
 //! Defines DATE (X.680, section 38): a day, and its text `YYYY-MM-DD`. Years go from 0000 to 9999.
 //! The readers of moments use its fields and its calendar too.
-ghost use Rattle.std.specs.Prelude.{◌≡◌, pos, ◌≤ℤ◌, IfOk, IfErr, IfSome, MatchOption, IsTrue, ◌↔◌};
+ghost use Rattle.std.specs.Prelude.{◌≡◌, pos, ◌≤ℤ◌, IfOk, IfErr, IfSome, IsSome, MatchOption};
+ghost use Rattle.std.specs.Prelude.{IsTrue, ◌↔◌, true};
 ghost use Rattle.std.specs.Option.{option_map};
 ghost use Rattle.std.specs.String.{string_bytes};
-ghost use Rattle.jiff.specs.Words.{epoch_day};
+ghost use Rattle.jiff_core.specs.Calendar.{IsEpochDay};
+ghost use Rattle.jiff_core.specs.Date.{epoch_day};
 ghost use Rattle.asn_times.specs.declared.faults.TimeFault.TheVariants.{InvalidDate, OutOfMemory};
 ghost use Rattle.asn_times.specs.Days.{day_digits, DayReads, StatesNoDay, IsSmallDay, IsRealDay};
 ghost use Rattle.asn_times.specs.Days.{HasDay, IsUnwrittenDay};
+ghost use Rattle.asn_times.specs.Held.{is_held_day};
 ghost use Rattle.asn_times.specs.Reading.{dash, day_fields};
 ghost use Rattle.asn_times.specs.Written.{day_text};
 
 use crate::digits::{push_char, push_four, push_two, read_four, read_two};
 use crate::faults::TimeFault;
-use jiff::civil;
+use jiff_core::civil;
 use std::alloc::Global;
 use std::marker::Model;
 
 /// Holds a day. Contracts see the number of days since 1970-01-01.
-#[derive(Debug, Drop)]
+#[derive(Clone, Copy, Debug)]
 pub struct Date {
-    /// Holds the day as the calendar has it.
-    day: civil::Date,
+    /// Counts the days since 1970-01-01.
+    days: i32,
 }
 
-/// Lets contracts see the number of the day.
+/// Lets contracts see the number of the day. The invariant is that the calendar has it.
 impl Model for Date {
     ghost use Rattle.std.specs.Prelude.{ℤ};
-    ghost use Rattle.jiff.specs.Words.{epoch_day};
+    ghost use Rattle.jiff_core.specs.Calendar.{IsEpochDay};
 
     ghost Value = { ℤ };
 
-    ghost view = { λ a. epoch_day a.day };
+    ghost view = { λ a. a.days };
+
+    ghost invariant = { λ a. IsEpochDay a.days };
+
+    ghost inverse = { λ n. record { days = n } };
 }
 
-/// Makes a date of a day of the calendar, and gives it back.
+/// Makes a date of the number of a day, and gives it back.
 impl Date {
-    /// Returns the date of the day, which may lie in any year of the calendar.
-    pub fn new(day: civil::Date) -> Date
-        ensures { result ≡ epoch_day day }
+    /// Returns the date of the day that many days after 1970-01-01, or `None` where it lies outside
+    /// the years -9999 to 9999.
+    pub fn from_days(days: i32) -> Option<Date>
+        ensures some { IsSome result ↔ (is_held_day days ≡ true) }
+        ensures value { IfSome result (λ date. date ≡ days) }
     {
-        Date { day }
+        match civil::Date::from_unix_epoch_day(days as i64) {
+            Ok(_) => Some(Date { days }),
+            Err(_) => None,
+        }
     }
 
-    /// Returns the day.
-    pub fn day(&self) -> civil::Date
-        ensures { epoch_day result ≡ self.now }
+    /// Returns the number of days since 1970-01-01.
+    pub fn days(&self) -> i32
+        ensures value { result ≡ self.now }
+        ensures held { is_held_day result ≡ true }
     {
-        self.day
+        self.days
     }
+}
+
+/// Returns the day as the calendar has it.
+fn civil_of(date: &Date) -> civil::Date
+    ensures { epoch_day result ≡ date.now }
+{
+    // The calendar has the day of a date.
+    civil::Date::from_unix_epoch_day(date.days as i64).unwrap()
 }
 
 /// Compares two dates: they are equal where they are the same day.
@@ -63,7 +84,7 @@ impl PartialEq for Date {
     fn eq(&self, other: &Date) -> bool
         ensures { IsTrue result ↔ (self.now ≡ other.now) }
     {
-        self.day == other.day
+        self.days == other.days
     }
 }
 
@@ -139,7 +160,9 @@ pub fn read_date(text: &str) -> Result<Date, TimeFault>
         None => return Err(TimeFault::InvalidDate),
     };
     match day_of(fields) {
-        Some(day) => Ok(Date { day }),
+        Some(day) => Ok(Date {
+            days: day.to_unix_epoch_day(),
+        }),
         None => Err(TimeFault::InvalidDate),
     }
 }
@@ -164,7 +187,7 @@ fn text_of(alloc: Global, fields: DayFields) -> Result<String, TimeFault>
     Ok(text)
 }
 
-/// Returns the fields of a day in a year from 0000 on. `jiff` has no year above 9999, so the
+/// Returns the fields of a day in a year from 0000 on. The calendar has no year above 9999, so the
 /// year fits its digits.
 pub(crate) fn fields_of(day: civil::Date) -> DayFields
     requires { pos 0 ≤ℤ day.year }
@@ -172,9 +195,9 @@ pub(crate) fn fields_of(day: civil::Date) -> DayFields
     ensures small { IsSmallDay result }
 {
     DayFields {
-        year: day.year() as u16,
-        month: day.month() as u8,
-        day: day.day() as u8,
+        year: day.year as u16,
+        month: day.month,
+        day: day.day,
     }
 }
 
@@ -188,10 +211,11 @@ pub fn write_date(alloc: Global, day: &Date) -> Result<String, TimeFault>
     ensures text { IfOk result (λ text. string_bytes text ≡ day_text day.now) }
     ensures refuses { IfErr result (IsUnwrittenDay day.now) }
 {
-    if day.day.year() < 0 {
+    let day = civil_of(day);
+    if day.year < 0 {
         return Err(TimeFault::OutOfYears);
     }
-    match text_of(alloc, fields_of(day.day)) {
+    match text_of(alloc, fields_of(day)) {
         Ok(text) => Ok(text),
         Err(_) => Err(TimeFault::OutOfMemory),
     }

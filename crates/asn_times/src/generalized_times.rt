@@ -2,14 +2,16 @@
 //! a zone that may be left out, and written in UTC with `Z` and without trailing zeros of the
 //! fraction. Years go from 0000 to 9999.
 ghost use Rattle.std.specs.Prelude.{◌≡◌, ◌<◌, ◌≤◌, ◌++◌, IfSome, IfOk, IfErr, OnOk, pos, neg_ℤ};
-ghost use Rattle.std.specs.Prelude.{IsTrue, ◌↔◌};
+ghost use Rattle.std.specs.Prelude.{IsTrue, ◌↔◌, IsSome, true};
 ghost use Rattle.std.specs.Option.{option_map};
 ghost use Rattle.std.specs.String.{string_bytes};
-ghost use Rattle.jiff.specs.Words.{civil_nanos, IsBetween};
+ghost use Rattle.jiff_core.specs.DateTime.{civil_nanos};
+ghost use Rattle.jiff_core.specs.Calendar.{IsBetween};
 ghost use Rattle.asn_times.specs.declared.faults.TimeFault.TheVariants.{InvalidDate, OutOfMemory};
 ghost use Rattle.asn_times.specs.Generalized.{fraction_digits, fraction_text, generalized_digits};
 ghost use Rattle.asn_times.specs.Generalized.{GeneralizedReads, GeneralizedWritten};
 ghost use Rattle.asn_times.specs.Generalized.{IsUnwrittenGeneralized, StatesNoGeneralized};
+ghost use Rattle.asn_times.specs.Held.{is_held_nanosecond};
 ghost use Rattle.asn_times.specs.Moments.{IsSmallMoment};
 ghost use Rattle.asn_times.specs.Reading.{digits, fraction, generalized_fields, some_digits};
 ghost use Rattle.asn_times.specs.Reading.{zone_or_utc};
@@ -21,42 +23,59 @@ use crate::moments::{
     ClockFields, MomentFields, fields_of_moment, is_within, moment_of, push_minute, read_minute,
     read_zone,
 };
-use jiff::civil::DateTime;
+use jiff_core::civil::DateTime;
 use std::alloc::Global;
 use std::marker::Model;
 
 /// Holds a moment. Contracts see the nanoseconds since 1970-01-01T00:00:00 in UTC.
-#[derive(Debug, Drop)]
+#[derive(Clone, Copy, Debug)]
 pub struct GeneralizedTime {
-    /// Holds the date and the time of day in UTC.
-    moment: DateTime,
+    /// Counts the nanoseconds since 1970-01-01T00:00:00 in UTC.
+    nanoseconds: i128,
 }
 
-/// Lets contracts see the nanoseconds.
+/// Lets contracts see the nanoseconds. The invariant is that the calendar has the moment.
 impl Model for GeneralizedTime {
     ghost use Rattle.std.specs.Prelude.{ℤ};
-    ghost use Rattle.jiff.specs.Words.{civil_nanos};
+    ghost use Rattle.jiff_core.specs.DateTime.{IsCivilNanos};
 
     ghost Value = { ℤ };
 
-    ghost view = { λ a. civil_nanos a.moment };
+    ghost view = { λ a. a.nanoseconds };
+
+    ghost invariant = { λ a. IsCivilNanos a.nanoseconds };
+
+    ghost inverse = { λ n. record { nanoseconds = n } };
 }
 
-/// Makes a time of a moment, and gives it back.
+/// Makes a time of the number of a nanosecond, and gives it back.
 impl GeneralizedTime {
-    /// Returns the time of the moment, which is taken as one in UTC.
-    pub fn new(moment: DateTime) -> GeneralizedTime
-        ensures { result ≡ civil_nanos moment }
+    /// Returns the time that many nanoseconds after 1970-01-01T00:00:00 in UTC, or `None` where it
+    /// lies outside the years -9999 to 9999.
+    pub fn from_nanoseconds(nanoseconds: i128) -> Option<GeneralizedTime>
+        ensures some { IsSome result ↔ (is_held_nanosecond nanoseconds ≡ true) }
+        ensures value { IfSome result (λ time. time ≡ nanoseconds) }
     {
-        GeneralizedTime { moment }
+        match DateTime::from_nanosecond(nanoseconds) {
+            Ok(_) => Some(GeneralizedTime { nanoseconds }),
+            Err(_) => None,
+        }
     }
 
-    /// Returns the moment as a date and a time of day in UTC.
-    pub fn moment(&self) -> DateTime
-        ensures { civil_nanos result ≡ self.now }
+    /// Returns the number of nanoseconds since 1970-01-01T00:00:00 in UTC.
+    pub fn nanoseconds(&self) -> i128
+        ensures value { result ≡ self.now }
+        ensures held { is_held_nanosecond result ≡ true }
     {
-        self.moment
+        self.nanoseconds
     }
+}
+
+/// Returns the date and the time of day in UTC.
+fn moment_of_time(time: &GeneralizedTime) -> DateTime
+    ensures { civil_nanos result ≡ time.now }
+{
+    DateTime::from_nanosecond_in_range(time.nanoseconds)
 }
 
 /// Compares two times: they are equal where they are the same moment.
@@ -72,7 +91,7 @@ impl PartialEq for GeneralizedTime {
     fn eq(&self, other: &GeneralizedTime) -> bool
         ensures { IsTrue result ↔ (self.now ≡ other.now) }
     {
-        self.moment == other.moment
+        self.nanoseconds == other.nanoseconds
     }
 }
 
@@ -190,7 +209,9 @@ pub fn read_generalized(text: &str) -> Result<GeneralizedTime, TimeFault>
         None => return Err(TimeFault::InvalidDate),
     };
     match moment_of(fields, FIRST, LAST) {
-        Some(moment) => Ok(GeneralizedTime { moment }),
+        Some(moment) => Ok(GeneralizedTime {
+            nanoseconds: moment.to_nanosecond(),
+        }),
         None => Err(TimeFault::InvalidDate),
     }
 }
@@ -262,10 +283,11 @@ pub fn write_generalized(alloc: Global, time: &GeneralizedTime) -> Result<String
     ensures text { IfOk result (λ text. string_bytes text ≡ generalized_text time.now) }
     ensures refuses { IfErr result (IsUnwrittenGeneralized time.now) }
 {
-    if !is_within(time.moment, FIRST, LAST) {
+    let moment = moment_of_time(time);
+    if !is_within(moment, FIRST, LAST) {
         return Err(TimeFault::OutOfYears);
     }
-    match text_of(alloc, fields_of_moment(time.moment)) {
+    match text_of(alloc, fields_of_moment(moment)) {
         Ok(text) => Ok(text),
         Err(_) => Err(TimeFault::OutOfMemory),
     }

@@ -81,19 +81,19 @@ pub fn written_texts_are_utf8()
 pub fn day_is_held(day: &Date)
     ensures { is_held_day day.now ≡ true }
 {
-    let _day = day.day();
+    let _days = day.days();
 }
 
 /// A UTCTime lies in the years -9999 to 9999.
 pub fn utc_is_held(time: &UtcTime)
     ensures { is_held_second time.now ≡ true }
 {
-    let _moment = time.moment();
+    let _seconds = time.seconds();
 }
 
 /// A GeneralizedTime lies in the years -9999 to 9999.
 pub fn generalized_is_held(time: &GeneralizedTime)
     ensures { is_held_nanosecond time.now ≡ true }
 {
-    let _moment = time.moment();
+    let _nanoseconds = time.nanoseconds();
 }

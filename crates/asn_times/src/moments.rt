@@ -4,7 +4,7 @@ ghost use Rattle.std.specs.Prelude.{◌≡◌, ◌<◌, ◌++◌, ◌↔◌, IsT
 ghost use Rattle.std.specs.Prelude.{IfErr, OnOk, MatchOption};
 ghost use Rattle.std.specs.Option.{option_map};
 ghost use Rattle.std.specs.String.{string_bytes};
-ghost use Rattle.jiff.specs.Words.{IsBetween};
+ghost use Rattle.jiff_core.specs.Calendar.{IsBetween};
 ghost use Rattle.asn_times.specs.declared.faults.TimeFault.TheVariants.{OutOfMemory};
 ghost use Rattle.asn_times.specs.Days.{HasDay, IsSmallDay};
 ghost use Rattle.asn_times.specs.Moments.{minute_digits, HasClock, HasMoment, HasNoMoment};
@@ -14,8 +14,7 @@ ghost use Rattle.asn_times.specs.Reading.{length_of_offset, minute_fields, zone}
 use crate::dates::{DayFields, day_of, fields_of};
 use crate::digits::{push_two, read_two};
 use crate::faults::TimeFault;
-use jiff::SignedDuration;
-use jiff::civil::{DateTime, Time};
+use jiff_core::civil::{DateTime, Time};
 
 /// Holds a time of day, as a text states it.
 #[derive(Clone, Copy)]
@@ -118,7 +117,7 @@ fn time_of(fields: ClockFields) -> Option<Time>
 pub(crate) fn is_within(moment: DateTime, first: i16, last: i16) -> bool
     ensures { IsTrue result ↔ IsBetween first last moment.date.year }
 {
-    first <= moment.year() && moment.year() <= last
+    first <= moment.date.year && moment.date.year <= last
 }
 
 /// Returns the moment of the fields in UTC, or `None` where there is none with a year from `first`
@@ -130,9 +129,8 @@ pub(crate) fn moment_of(fields: MomentFields, first: i16, last: i16) -> Option<D
     let date = day_of(fields.day)?;
     let time = time_of(fields.clock)?;
     // UTC is local time minus what it is ahead. At an end of the calendar there may be no such day.
-    let local = DateTime::from_parts(date, time);
-    let offset = SignedDuration::from_secs(fields.offset as i64);
-    match local.checked_sub(offset) {
+    let local = DateTime { date, time };
+    match local.checked_add_nanos(fields.offset as i128 * -1_000_000_000) {
         Ok(utc) => {
             if is_within(utc, first, last) {
                 Some(utc)
@@ -150,10 +148,10 @@ fn clock_of(time: Time) -> ClockFields
     ensures small { IsSmallClock result }
 {
     ClockFields {
-        hour: time.hour() as u8,
-        minute: time.minute() as u8,
-        second: time.second() as u8,
-        nanosecond: time.subsec_nanosecond() as u32,
+        hour: time.hour,
+        minute: time.minute,
+        second: time.second,
+        nanosecond: time.subsec_nanosecond,
     }
 }
 
@@ -166,8 +164,8 @@ pub(crate) fn fields_of_moment(moment: DateTime) -> MomentFields
     ensures small { IsSmallMoment result }
 {
     MomentFields {
-        day: fields_of(moment.date()),
-        clock: clock_of(moment.time()),
+        day: fields_of(moment.date),
+        clock: clock_of(moment.time),
         offset: 0,
     }
 }

@@ -1,10 +1,12 @@
 //! Defines UTCTime (X.680, section 47): a moment of whole seconds, read as `YYMMDDhhmm`, seconds
 //! that may be left out and a zone, and written as `YYMMDDhhmmssZ`. Two digits state a year of
 //! 1950 to 2049.
-ghost use Rattle.std.specs.Prelude.{◌≡◌, ◌≢◌, ◌↔◌, ◌<◌, pos, ◌≤ℤ◌, IfSome, IsNone, IfOk, IfErr};
-ghost use Rattle.std.specs.Prelude.{IsTrue};
+ghost use Rattle.std.specs.Prelude.{◌≡◌, ◌↔◌, ◌<◌, pos, ◌*ℤ◌, IfSome, IsSome, IfOk, IfErr, IsTrue};
+ghost use Rattle.std.specs.Prelude.{true};
 ghost use Rattle.std.specs.String.{string_bytes};
-ghost use Rattle.jiff.specs.Words.{civil_seconds, IsBetween};
+ghost use Rattle.jiff_core.specs.DateTime.{civil_nanos};
+ghost use Rattle.jiff_core.specs.Calendar.{IsBetween};
+ghost use Rattle.asn_times.specs.Held.{is_held_second};
 ghost use Rattle.asn_times.specs.declared.faults.TimeFault.TheVariants.{InvalidDate, OutOfMemory};
 ghost use Rattle.asn_times.specs.Moments.{IsSmallMoment};
 ghost use Rattle.asn_times.specs.Reading.{seconds_and_rest, utc_fields};
@@ -18,51 +20,59 @@ use crate::moments::{
     ClockFields, MomentFields, fields_of_moment, is_within, moment_of, push_minute, read_minute,
     read_zone,
 };
-use jiff::civil::DateTime;
+use jiff_core::civil::DateTime;
 use std::alloc::Global;
 use std::marker::Model;
 
 /// Holds a moment of whole seconds. Contracts see the seconds since 1970-01-01T00:00:00 in UTC.
-#[derive(Debug, Drop)]
+#[derive(Clone, Copy, Debug)]
 pub struct UtcTime {
-    /// Holds the date and the time of day in UTC, without a fraction of a second.
-    moment: DateTime,
+    /// Counts the seconds since 1970-01-01T00:00:00 in UTC.
+    seconds: i64,
 }
 
-/// Lets contracts see the seconds. The invariant is that there is no fraction.
+/// Lets contracts see the seconds. The invariant is that the calendar has the moment.
 impl Model for UtcTime {
-    ghost use Rattle.std.specs.Prelude.{◌≡◌, ℤ};
-    ghost use Rattle.jiff.specs.Words.{civil_seconds};
+    ghost use Rattle.std.specs.Prelude.{ℤ};
+    ghost use Rattle.asn_times.specs.Held.{IsCivilSecond};
 
     ghost Value = { ℤ };
 
-    ghost view = { λ a. civil_seconds a.moment };
+    ghost view = { λ a. a.seconds };
 
-    ghost invariant = { λ a. a.moment.time.subsec_nanosecond ≡ 0 };
+    ghost invariant = { λ a. IsCivilSecond a.seconds };
+
+    ghost inverse = { λ n. record { seconds = n } };
 }
 
-/// Makes a time of a moment, and gives it back.
+/// Makes a time of the number of a second, and gives it back.
 impl UtcTime {
-    /// Returns the time of the moment, which is taken as one in UTC, or `None` where it has a
-    /// fraction of a second.
-    pub fn new(moment: DateTime) -> Option<UtcTime>
-        ensures none { IsNone result ↔ (moment.time.subsec_nanosecond ≢ 0) }
-        ensures value { IfSome result (λ time. time ≡ civil_seconds moment) }
+    /// Returns the time that many seconds after 1970-01-01T00:00:00 in UTC, or `None` where it lies
+    /// outside the years -9999 to 9999.
+    pub fn from_seconds(seconds: i64) -> Option<UtcTime>
+        ensures some { IsSome result ↔ (is_held_second seconds ≡ true) }
+        ensures value { IfSome result (λ time. time ≡ seconds) }
     {
-        if moment.subsec_nanosecond() == 0 {
-            Some(UtcTime { moment })
-        } else {
-            None
+        match DateTime::from_nanosecond(seconds as i128 * 1_000_000_000) {
+            Ok(_) => Some(UtcTime { seconds }),
+            Err(_) => None,
         }
     }
 
-    /// Returns the moment as a date and a time of day in UTC, without a fraction of a second.
-    pub fn moment(&self) -> DateTime
-        ensures value { civil_seconds result ≡ self.now }
-        ensures whole { result.time.subsec_nanosecond ≡ 0 }
+    /// Returns the number of seconds since 1970-01-01T00:00:00 in UTC.
+    pub fn seconds(&self) -> i64
+        ensures value { result ≡ self.now }
+        ensures held { is_held_second result ≡ true }
     {
-        self.moment
+        self.seconds
     }
+}
+
+/// Returns the date and the time of day in UTC.
+fn moment_of_time(time: &UtcTime) -> DateTime
+    ensures { civil_nanos result ≡ time.now *ℤ pos 1_000_000_000 }
+{
+    DateTime::from_nanosecond_in_range(time.seconds as i128 * 1_000_000_000)
 }
 
 /// Compares two times: they are equal where they are the same moment.
@@ -78,7 +88,7 @@ impl PartialEq for UtcTime {
     fn eq(&self, other: &UtcTime) -> bool
         ensures { IsTrue result ↔ (self.now ≡ other.now) }
     {
-        self.moment == other.moment
+        self.seconds == other.seconds
     }
 }
 
@@ -158,7 +168,9 @@ pub fn read_utc(text: &str) -> Result<UtcTime, TimeFault>
         None => return Err(TimeFault::InvalidDate),
     };
     match moment_of(fields, FIRST, LAST) {
-        Some(moment) => Ok(UtcTime { moment }),
+        Some(moment) => Ok(UtcTime {
+            seconds: moment.to_second(),
+        }),
         None => Err(TimeFault::InvalidDate),
     }
 }
@@ -192,10 +204,11 @@ pub fn write_utc(alloc: Global, time: &UtcTime) -> Result<String, TimeFault>
     ensures text { IfOk result (λ text. string_bytes text ≡ utc_text time.now) }
     ensures refuses { IfErr result (IsUnwrittenUtc time.now) }
 {
-    if !is_within(time.moment, FIRST, LAST) {
+    let moment = moment_of_time(time);
+    if !is_within(moment, FIRST, LAST) {
         return Err(TimeFault::OutOfYears);
     }
-    match text_of(alloc, fields_of_moment(time.moment)) {
+    match text_of(alloc, fields_of_moment(moment)) {
         Ok(text) => Ok(text),
         Err(_) => Err(TimeFault::OutOfMemory),
     }

@@ -1,9 +1,8 @@
-use Rattle.std.proofs.Common.{◌≡◌, ap, sym, ◌∙◌, nat_cmp}
+use Rattle.std.proofs.Common.{◌≡◌, ap, sym, ◌∙◌, nat_cmp, rules, to_z-of_z, SFits, w64}
 use Rattle.std.specs.Ordering.{int_cmp, ordering_then}
 use Rattle.std.specs.declared.cmp.Ordering.TheVariants.{Equal}
 use Rattle.asn_dynamic_values.specs.DynView.{dyn_value}
 use Rattle.asn_dynamic_values.specs.Order.{contents_cmp, kind_number}
-use Rattle.asn_dynamic_values.proofs.Moments.{seconds_cmp}
 use Rattle.asn_dynamic_values.proofs.Rows.{cmp_parts, then_unequal}
 use Rattle.asn_dynamic_values.proofs.Views.{view-Bag, view-List, view-Members, view-Utc}
 use Rattle.asn_dynamic_values.proofs.+compare.Goals as goal
@@ -44,7 +43,8 @@ value::DynValue::compare_contents-returns-in-Bag-Bag t c =
 pub value::DynValue::compare_contents-returns-in-Utc-Utc : goal.value::DynValue::compare_contents-returns-in-Utc-Utc
 value::DynValue::compare_contents-returns-in-Utc-Utc t c =
     let m = c.in-Utc-Utc in
+    let fits : SFits w64 c.seconds.result = search rules in
+    let other_fits : SFits w64 c.seconds-in-Utc-Utc.result = search rules in
     c.cmp-in-Utc-Utc.ensures
-    ∙ seconds_cmp c.moment.result c.moment-in-Utc-Utc.result c.moment.ensures.whole c.moment-in-Utc-Utc.ensures.whole
-    ∙ (λ i. int_cmp (c.moment.ensures.value i) (c.moment-in-Utc-Utc.ensures.value i))
+    ∙ (λ i. int_cmp ((to_z-of_z fits ∙ c.seconds.ensures.value) i) ((to_z-of_z other_fits ∙ c.seconds-in-Utc-Utc.ensures.value) i))
     ∙ (λ i. contents_cmp (sym (ap dyn_value m.is-0 ∙ view-Utc m.left) i) (sym (ap dyn_value m.is-1 ∙ view-Utc m.right) i))

@@ -1,4 +1,5 @@
-use Rattle.std.proofs.Common.{refl, sym, ap, ◌∙◌, pos}
+use Rattle.std.proofs.Common.{refl, sym, ap, ◌∙◌, arith, pos}
+use Rattle.jiff_core.proofs.SignedLemmas.{signed_arith}
 use Rattle.asn_times.specs.Reading.{generalized_fields}
 use Rattle.asn_times.specs.Generalized.{GeneralizedStates}
 use Rattle.asn_times.proofs.MomentFacts.{no_fields, no_moment}
@@ -24,5 +25,5 @@ returns-in-Some-moment_of-clause-reads c =
       utc = c.in-Some-moment_of.moment;
       moment = c.in-Some-moment_of.ensures.0;
       years = c.in-Some-moment_of.ensures.1;
-      number = refl;
+      number = omega (arith, signed_arith, c.to_nanosecond.ensures.value, c.to_nanosecond.ensures.bound);
     }

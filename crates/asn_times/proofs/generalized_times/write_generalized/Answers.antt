@@ -6,21 +6,21 @@ use Rattle.asn_times.proofs.generalized_times.write_generalized.Goals as goal
 
 pub returns-then-not-is_within-clause-refuses : goal.returns-then-not-is_within-clause-refuses
 returns-then-not-is_within-clause-refuses c = λ r.
-    true≢false (sym (c.if-not-is_within.ensures.1 (same_years (pos 0) (pos 9999) r.utc c.time.inside.moment (r.number ∙ sym c.time.view_is) r.years)))
+    true≢false (sym (c.if-not-is_within.ensures.1 (same_years (pos 0) (pos 9999) r.utc c.moment_of_time-moment.result (r.number ∙ sym c.moment_of_time-moment.ensures) r.years)))
 
 pub returns-in-Ok-clause-writes : goal.returns-in-Ok-clause-writes
 returns-in-Ok-clause-writes c =
-    let moment = c.time.inside.moment in
+    let moment = c.moment_of_time-moment.result in
     let made = c.fields_of_moment.ensures in
     record {
       utc = moment;
       years = c.if-not-is_within.ensures.0 refl;
-      number = c.time.view_is;
+      number = c.moment_of_time-moment.ensures;
       is = c.in-Ok.ensures.text ∙ ap generalized_digits (moment_fields c.fields_of_moment.result moment made.day made.clock made.offset);
     }
 
 pub returns-in-Err-clause-refuses : goal.returns-in-Err-clause-refuses
-returns-in-Err-clause-refuses c = record { utc = c.time.inside.moment; years = c.if-not-is_within.ensures.0 refl; number = c.time.view_is }
+returns-in-Err-clause-refuses c = record { utc = c.moment_of_time-moment.result; years = c.if-not-is_within.ensures.0 refl; number = c.moment_of_time-moment.ensures }
 
 pub returns-in-Ok-clause-text : goal.returns-in-Ok-clause-text
 returns-in-Ok-clause-text c = is_generalized_text c.args.time.now _ (returns-in-Ok-clause-writes c)

@@ -1,7 +1,6 @@
 use Rattle.std.proofs.Common.{◌≡◌, subst, true}
 use Rattle.asn_times.specs.Held.{is_held_second}
-use Rattle.asn_times.proofs.HeldTimes.{held_second}
 use Rattle.asn_times.proofs.laws.utc_is_held.Goals as goal
 
 pub returns : goal.returns
-returns c = subst (λ n. is_held_second n ≡ true) c.moment-moment.ensures.value (held_second c.moment-moment.result)
+returns c = subst (λ n. is_held_second n ≡ true) c.seconds-seconds.ensures.value c.seconds-seconds.ensures.held

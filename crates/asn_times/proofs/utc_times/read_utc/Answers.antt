@@ -1,5 +1,6 @@
-use Rattle.std.proofs.Common.{refl, sym, ap, ◌∙◌, pos}
-use Rattle.jiff.specs.Words.{civil_seconds}
+use Rattle.std.proofs.Common.{refl, sym, ap, ◌∙◌, arith, pos}
+use Rattle.jiff_core.specs.DateTime.{civil_seconds}
+use Rattle.jiff_core.proofs.SignedLemmas.{signed_arith}
 use Rattle.asn_times.specs.Reading.{utc_fields}
 use Rattle.asn_times.specs.Utc.{UtcStates}
 use Rattle.asn_times.proofs.MomentFacts.{no_fields, no_moment, whole_moment, whole_nanos}
@@ -16,23 +17,18 @@ returns-in-None-moment_of-clause-refuses c =
     let read = c.in-Some.ensures.is ∙ ap utc_fields c.as_bytes.ensures.value in
     (refl, λ n. no_moment UtcStates utc_fields (pos 1950) (pos 2049) utc-finds c.args.text.now c.in-Some.fields read c.in-None-moment_of.ensures _)
 
-pub invariant_of-result : goal.invariant_of-result
-invariant_of-result c =
-    let read = c.in-Some.ensures.is ∙ ap utc_fields c.as_bytes.ensures.value in
-    let states = utc-states c.args.text.now c.in-Some.fields (sym read) in
-    whole_moment c.in-Some.fields c.in-Some-moment_of.moment states.whole c.in-Some-moment_of.ensures.0
-
 pub returns-in-Some-moment_of-clause-reads : goal.returns-in-Some-moment_of-clause-reads
 returns-in-Some-moment_of-clause-reads c =
     let read = c.in-Some.ensures.is ∙ ap utc_fields c.as_bytes.ensures.value in
     let states = utc-states c.args.text.now c.in-Some.fields (sym read) in
     let moment = c.in-Some-moment_of.moment in
     let whole = whole_moment c.in-Some.fields moment states.whole c.in-Some-moment_of.ensures.0 in
+    let seconds = whole_nanos moment (civil_seconds moment) whole refl in
     record {
       fields = c.in-Some.fields;
       states = states;
       utc = moment;
       moment = c.in-Some-moment_of.ensures.0;
       years = c.in-Some-moment_of.ensures.1;
-      number = whole_nanos moment (civil_seconds moment) whole refl;
+      number = omega (arith, signed_arith, seconds, c.to_second.ensures.value, c.to_second.ensures.bound);
     }

@@ -2,10 +2,10 @@
 use Rattle.std.specs.Prelude.{◌≡◌, ◌≢◌, ◌⊎◌, ℕ, List, ◌++◌, codes, string_bytes}
 use Rattle.asn_modules.specs.Modules.{Modules}
 use Rattle.asn_modules.specs.Reading.{AreModules, IsModulesRefusal}
-use Rattle.asn_modules_faults.specs.Errors.{error_text}
-use Rattle.asn_modules_faults.specs.declared.error.ModuleError.{ModuleError}
-use Rattle.asn_modules_faults.specs.declared.error.ModuleError.TheVariants.{OutOfMemory}
-use Rattle.asn_modules_sources.specs.Reading.{Named}
+use Rattle.asn_modules_errors.specs.Errors.{error_text}
+use Rattle.asn_modules_errors.specs.declared.error.ModuleError.{ModuleError}
+use Rattle.asn_modules_errors.specs.declared.error.ModuleError.TheVariants.{OutOfMemory}
+use Rattle.asn_modules_names.specs.sources.Reading.{Named}
 use Rattle.asn_replies.specs.declared.reply.Reply.{Reply}
 use Rattle.asn_replies.specs.declared.reply.Reply.TheVariants.{Answer, Refusal}
 use Rattle.asn_replies.specs.declared.status.Status.TheVariants.{Refused}

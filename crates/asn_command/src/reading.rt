@@ -2,7 +2,7 @@
 ghost use Rattle.asn_command.specs.Readings.{IsModulesReply, IsReplyTo};
 ghost use Rattle.asn_modules.specs.Modules.{modules_view};
 ghost use Rattle.asn_modules.specs.Reading.{AreModules};
-ghost use Rattle.asn_modules_sources.specs.Reading.{named_view};
+ghost use Rattle.asn_modules_names.specs.sources.Reading.{named_view};
 ghost use Rattle.std.specs.Prelude.{IfErr, IfOk, map};
 
 use asn_core::OutOfMemory;

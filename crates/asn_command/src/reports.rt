@@ -1,7 +1,7 @@
 //! Checks modules, and lists their types.
 ghost use Rattle.asn_command.specs.Listings.{check_text, types_text};
 ghost use Rattle.asn_command.specs.Readings.{IsReport};
-ghost use Rattle.asn_modules_sources.specs.Reading.{named_view};
+ghost use Rattle.asn_modules_names.specs.sources.Reading.{named_view};
 ghost use Rattle.std.specs.Prelude.{IfOk, map};
 
 use crate::checking::check_text;

@@ -14,7 +14,7 @@ ghost use Rattle.std.specs.Prelude.{◌≡◌, IfOk, true};
 use asn_core::{Codec, OutOfMemory};
 use asn_dynamic::{DynValue, write};
 use asn_example_values::{Extent, example};
-use asn_linked_expansion::{ExpansionFault, expand};
+use asn_linked::expansion::{ExpansionFault, expand};
 use asn_model::Shape;
 use asn_modules::Modules;
 use asn_replies::{Reply, with_feed};

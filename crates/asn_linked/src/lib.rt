@@ -2,6 +2,8 @@
 //! type is opened where a value reaches its name, and what it means is never built.
 #![tactic(auto)]
 
+pub mod expansion;
+pub mod types;
 mod place;
 
 pub use place::Place;

@@ -8,7 +8,7 @@ use Rattle.asn_model.specs.ShapeView.{shape_view}
 use Rattle.asn_model.specs.declared.shape_type.Shape.{Shape}
 use Rattle.asn_modules.specs.Names.{TypeName, numbers_named, type_name_of, type_name_view, type_names}
 use Rattle.asn_modules.specs.declared.names.TypeName as code
-use Rattle.asn_modules_lookup.specs.declared.sort.Sort.TheVariants.{Types}
+use Rattle.asn_modules_names.specs.declared.lookup.sort.Sort.TheVariants.{Types}
 use Rattle.asn_modules_names.specs.Mentions.{Source}
 use Rattle.asn_modules_names.proofs.Founds.{pushed}
 use Rattle.asn_modules_types.specs.Assigned as spec

@@ -2,14 +2,14 @@
 use Rattle.std.proofs.Common.{◌≡◌, List, None, ap, subst, ◌∙◌}
 use Rattle.asn_modules.specs.Modules.{Modules}
 use Rattle.asn_modules.specs.Reading.{AreModules}
-use Rattle.asn_modules_checks.specs.Checks.{first_broken}
-use Rattle.asn_modules_faults.specs.declared.error.ModuleError.{ModuleError}
-use Rattle.asn_modules_faults.specs.declared.error.ModuleError.TheVariants as error
+use Rattle.asn_modules_rules.specs.checks.Checks.{first_broken}
+use Rattle.asn_modules_errors.specs.declared.error.ModuleError.{ModuleError}
+use Rattle.asn_modules_errors.specs.declared.error.ModuleError.TheVariants as error
 use Rattle.asn_modules_names.specs.Faults.{Tells}
 use Rattle.asn_modules_names.specs.Mentions.{Source}
-use Rattle.asn_modules_sources.specs.Reading.{AreRead, Named}
-use Rattle.asn_modules_sources.proofs.Same.{same_sources}
-use Rattle.asn_modules_text.specs.Texts.{IsRefused}
+use Rattle.asn_modules_names.specs.sources.Reading.{AreRead, Named}
+use Rattle.asn_modules_names.proofs.sources.Same.{same_sources}
+use Rattle.asn_modules_reader.specs.text.Texts.{IsRefused}
 
 -- Where nothing is told, nothing is refused.
 nothing_told : (e : ModuleError) → Tells None e → IsRefused e → ⊥

@@ -1,10 +1,10 @@
 -- The names of types that modules assign.
 use Rattle.std.specs.Prelude.{ℕ, suc, List, [], ◌∷◌, ◌++◌, map, string_bytes, Bool, ◌||◌, if◌then◌else◌, Option, Some, None}
 use Rattle.std.specs.Str.{bytes_eq}
-use Rattle.asn_headers.specs.Headers.{Header}
+use Rattle.asn_modules_grammar.specs.headers.Headers.{Header}
 use Rattle.asn_modules.specs.declared.names.TypeName as code
-use Rattle.asn_modules_lookup.specs.Homes.{Home}
-use Rattle.asn_modules_lookup.specs.declared.sort.Sort.TheVariants.{Types}
+use Rattle.asn_modules_names.specs.lookup.Homes.{Home}
+use Rattle.asn_modules_names.specs.declared.lookup.sort.Sort.TheVariants.{Types}
 use Rattle.asn_modules_names.specs.Assigned.{assigned_name}
 use Rattle.asn_modules_names.specs.Mentions.{Source}
 use Rattle.asn_modules_types.specs.Assigned.{Assigned, assigned}

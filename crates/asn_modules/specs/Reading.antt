@@ -2,11 +2,11 @@
 use Rattle.std.specs.Prelude.{◌≡◌, ◌⊎◌, List, None}
 use Rattle.asn_modules.specs.Modules.{Modules}
 use Rattle.asn_modules.specs.Names.{type_names}
-use Rattle.asn_modules_checks.specs.Checks.{first_broken}
-use Rattle.asn_modules_faults.specs.declared.error.ModuleError.{ModuleError}
+use Rattle.asn_modules_rules.specs.checks.Checks.{first_broken}
+use Rattle.asn_modules_errors.specs.declared.error.ModuleError.{ModuleError}
 use Rattle.asn_modules_names.specs.Faults.{Tells}
 use Rattle.asn_modules_names.specs.Mentions.{Source}
-use Rattle.asn_modules_sources.specs.Reading.{AreRead, IsFirstRefused, Named}
+use Rattle.asn_modules_names.specs.sources.Reading.{AreRead, IsFirstRefused, Named}
 use Rattle.asn_modules_types.specs.Linked.{linked_types}
 
 -- The texts are these types: they are read, no name or number in them breaks a rule, and the types are those that they assign.

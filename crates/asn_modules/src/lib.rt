@@ -9,7 +9,7 @@ mod names;
 mod read;
 
 pub use asn_linked::Place;
-pub use asn_modules_text::ModuleError;
+pub use asn_modules_reader::text::ModuleError;
 pub use empty::is_without_values;
 pub use modules::Modules;
 pub use names::TypeName;

@@ -1,15 +1,15 @@
 //! Lists the names of the types that modules assign.
 ghost use Rattle.asn_modules.specs.Names.{home_name, is_named, number_named};
 ghost use Rattle.asn_modules.specs.Names.{type_name_of, type_name_view, type_names};
-ghost use Rattle.asn_modules_lookup.specs.Homes.{home_view};
+ghost use Rattle.asn_modules_names.specs.lookup.Homes.{home_view};
 ghost use Rattle.asn_modules_names.specs.Mentions.{source_view};
 ghost use Rattle.asn_modules_types.specs.Known.{assigned_view};
 ghost use Rattle.std.specs.Prelude.{◌≡◌, ◌<◌, ◌++◌, ◌∷◌, IfOk, IfSome, length, map, string_bytes};
 ghost use Rattle.std.specs.Str.{bytes_eq};
 
-use asn_modules_lookup::{Home, Sort, homes_of};
-use asn_modules_notation::Assignment;
-use asn_modules_text::Source;
+use asn_modules_names::lookup::{Home, Sort, homes_of};
+use asn_modules_grammar::notation::Assignment;
+use asn_modules_reader::text::Source;
 use asn_modules_types::{Assigned, assigned_of, name_in};
 use std::alloc::{AllocError, Global};
 

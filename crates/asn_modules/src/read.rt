@@ -1,16 +1,16 @@
 //! Reads modules.
 ghost use Rattle.asn_modules.specs.Modules.{Modules as ModulesView, modules_view};
 ghost use Rattle.asn_modules.specs.Reading.{AreModules, IsModulesRefusal};
-ghost use Rattle.asn_modules_sources.specs.Reading.{named_view};
-ghost use Rattle.asn_modules_text.specs.Texts.{IsRefused};
+ghost use Rattle.asn_modules_names.specs.sources.Reading.{named_view};
+ghost use Rattle.asn_modules_reader.specs.text.Texts.{IsRefused};
 ghost use Rattle.std.specs.Prelude.{IfErr, IfOk, map};
 
 use crate::modules::Modules;
 use crate::names::type_names;
-use asn_modules_checks::check_all;
-use asn_modules_lookup::{Sort, index_of};
-use asn_modules_sources::read_sources;
-use asn_modules_text::ModuleError;
+use asn_modules_rules::checks::check_all;
+use asn_modules_names::lookup::{Sort, index_of};
+use asn_modules_names::sources::read_sources;
+use asn_modules_reader::text::ModuleError;
 use asn_modules_types::linked_types;
 use std::alloc::Global;
 

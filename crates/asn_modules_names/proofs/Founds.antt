@@ -3,8 +3,8 @@ use Rattle.std.proofs.Common.{◌≡◌, ◌≤◌, ℕ, ◌+◌, ◌<◌, List,
 use Rattle.std.proofs.lemmas.List.{drop_more, drop_all, map-append}
 use Rattle.std.specs.Option.{option_or}
 use Rattle.std.specs.Prelude.{Result, Ok, Err}
-use Rattle.asn_modules_faults.specs.declared.error.ModuleError.{ModuleError}
-use Rattle.asn_modules_faults.specs.declared.error.ModuleError.TheVariants as error
+use Rattle.asn_modules_errors.specs.declared.error.ModuleError.{ModuleError}
+use Rattle.asn_modules_errors.specs.declared.error.ModuleError.TheVariants as error
 use Rattle.asn_modules_names.specs.Assigned.{first_found}
 use Rattle.asn_modules_names.specs.Faults.{Checks, Fault, Tells}
 

@@ -8,10 +8,10 @@ use Rattle.asn_modules_names.specs.Assigned.{all_module_names, assigned_name, as
 use Rattle.asn_modules_names.specs.Mentions.{Mention, Source, mention_in, mention_view, source_view}
 use Rattle.asn_modules_names.specs.declared.mention.Mention as code
 use Rattle.asn_modules_names.proofs.Founds.{drop_at, listed_more, pushed}
-use Rattle.asn_modules_notation.specs.View.{assignment_view, module_view}
-use Rattle.asn_modules_notation.specs.declared.module.Assignment as code_assignment
-use Rattle.asn_modules_notation.specs.declared.module.Module as code_module
-use Rattle.asn_modules_text.specs.declared.source.Source as code_source
+use Rattle.asn_modules_grammar.specs.notation.View.{assignment_view, module_view}
+use Rattle.asn_modules_grammar.specs.declared.notation.module.Assignment as code_assignment
+use Rattle.asn_modules_grammar.specs.declared.notation.module.Module as code_module
+use Rattle.asn_modules_reader.specs.declared.text.source.Source as code_source
 
 -- The name of a module of this text.
 abbrev pub heading : Source → code_module.Module → Option Mention

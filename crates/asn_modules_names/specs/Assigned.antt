@@ -2,11 +2,11 @@
 use Rattle.std.specs.Prelude.{ℕ, List, [], ◌∷◌, ◌++◌, map, filter_map, Option, Some, None}
 use Rattle.std.specs.Option.{option_map, option_or}
 use Rattle.asn_lexer.specs.declared.token.Token.{Token}
-use Rattle.asn_modules_faults.specs.declared.cause.NameRule.TheVariants.{AssignedTwice, ModuleTwice}
+use Rattle.asn_modules_errors.specs.declared.cause.NameRule.TheVariants.{AssignedTwice, ModuleTwice}
 use Rattle.asn_modules_names.specs.Faults.{Fault}
 use Rattle.asn_modules_names.specs.Mentions.{Mention, Source, mention_in}
 use Rattle.asn_modules_names.specs.Repeats.{repeated}
-use Rattle.asn_modules_notation.specs.Modules.{Assignment, Module, type_assignment, value_assignment, template_assignment}
+use Rattle.asn_modules_grammar.specs.notation.Modules.{Assignment, Module, type_assignment, value_assignment, template_assignment}
 
 -- The first that f finds in the list.
 abbrev pub first_found : {A B : Type 0} → (A → Option B) → List A → Option B

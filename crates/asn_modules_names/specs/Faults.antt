@@ -2,12 +2,12 @@
 use Rattle.std.specs.Prelude.{◌≡◌, ℕ, List, Option, Some, None, Result, Ok, Err, string_bytes}
 use Rattle.std.specs.Str.{IsUtf8}
 use Rattle.asn_lexer.specs.declared.place.Place.{Place}
-use Rattle.asn_modules_faults.specs.Errors.{Refuses, place_at}
-use Rattle.asn_modules_faults.specs.declared.cause.Cause.{Cause}
-use Rattle.asn_modules_faults.specs.declared.cause.Cause.TheVariants as cause
-use Rattle.asn_modules_faults.specs.declared.cause.NameRule.{NameRule}
-use Rattle.asn_modules_faults.specs.declared.error.ModuleError.{ModuleError}
-use Rattle.asn_modules_faults.specs.declared.error.ModuleError.TheVariants as error
+use Rattle.asn_modules_errors.specs.Errors.{Refuses, place_at}
+use Rattle.asn_modules_errors.specs.declared.cause.Cause.{Cause}
+use Rattle.asn_modules_errors.specs.declared.cause.Cause.TheVariants as cause
+use Rattle.asn_modules_errors.specs.declared.cause.NameRule.{NameRule}
+use Rattle.asn_modules_errors.specs.declared.error.ModuleError.{ModuleError}
+use Rattle.asn_modules_errors.specs.declared.error.ModuleError.TheVariants as error
 use Rattle.asn_modules_names.specs.Mentions.{Mention, name_of}
 
 -- A name that breaks the rule.

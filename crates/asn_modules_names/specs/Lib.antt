@@ -3,3 +3,7 @@ pub mod Faults
 pub mod Repeats
 pub mod Assigned
 pub mod Names
+pub mod lookup
+pub mod imports
+pub mod references
+pub mod sources

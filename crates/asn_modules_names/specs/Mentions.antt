@@ -1,11 +1,11 @@
 -- Names as they stand in texts.
 use Rattle.std.specs.Prelude.{ℕ, List, map}
 use Rattle.asn_lexer.specs.declared.token.Token.{Token}
-use Rattle.asn_modules_faults.specs.Slices.{text_of}
+use Rattle.asn_modules_errors.specs.Slices.{text_of}
 use Rattle.asn_modules_names.specs.declared.mention.Mention as code
-use Rattle.asn_modules_notation.specs.Modules.{Module}
-use Rattle.asn_modules_notation.specs.View.{module_view}
-use Rattle.asn_modules_text.specs.declared.source.Source as code_source
+use Rattle.asn_modules_grammar.specs.notation.Modules.{Module}
+use Rattle.asn_modules_grammar.specs.notation.View.{module_view}
+use Rattle.asn_modules_reader.specs.declared.text.source.Source as code_source
 
 -- A text with its name and its modules.
 pub record Source : Type 0 where

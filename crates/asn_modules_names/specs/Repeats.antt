@@ -2,7 +2,7 @@
 use Rattle.std.specs.Prelude.{ℕ, List, [], ◌∷◌, ◌++◌, map, if◌then◌else◌, Option, Some, None}
 use Rattle.std.specs.Option.{option_map}
 use Rattle.asn_model.specs.Shape.{is_item}
-use Rattle.asn_modules_faults.specs.declared.cause.NameRule.{NameRule}
+use Rattle.asn_modules_errors.specs.declared.cause.NameRule.{NameRule}
 use Rattle.asn_modules_names.specs.Faults.{Fault, fault_of}
 use Rattle.asn_modules_names.specs.Mentions.{Mention, name_of}
 

@@ -3,15 +3,15 @@ ghost use Rattle.asn_modules_names.specs.Assigned.{assigned_again, assigned_name
 ghost use Rattle.asn_modules_names.specs.Assigned.{assigned_twice, first_found};
 ghost use Rattle.asn_modules_names.specs.Faults.{Checks};
 ghost use Rattle.asn_modules_names.specs.Mentions.{mention_view, source_view};
-ghost use Rattle.asn_modules_notation.specs.View.{assignment_view, module_view};
+ghost use Rattle.asn_modules_grammar.specs.notation.View.{assignment_view, module_view};
 ghost use Rattle.std.specs.Prelude.{◌≡◌, IfOk, map};
 
 use crate::distinct::check_distinct;
 use crate::mention::{Mention, mention_of};
 use asn_lexer::Token;
-use asn_modules_faults::{ModuleError, NameRule};
-use asn_modules_notation::{Assignment, Module};
-use asn_modules_text::Source;
+use asn_modules_errors::{ModuleError, NameRule};
+use asn_modules_grammar::notation::{Assignment, Module};
+use asn_modules_reader::text::Source;
 use std::alloc::{AllocError, Global};
 
 /// Returns the name that is assigned.

@@ -6,8 +6,8 @@ ghost use Rattle.std.specs.Prelude.{map};
 
 use crate::assigned::check_assigned;
 use crate::headed::check_modules;
-use asn_modules_faults::ModuleError;
-use asn_modules_text::Source;
+use asn_modules_errors::ModuleError;
+use asn_modules_reader::text::Source;
 use std::alloc::Global;
 
 /// Checks the names of modules, and those that they assign, over all texts.

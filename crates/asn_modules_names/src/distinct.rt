@@ -6,7 +6,7 @@ ghost use Rattle.std.specs.Prelude.{map};
 
 use crate::errors::broken;
 use crate::mention::Mention;
-use asn_modules_faults::{ModuleError, NameRule, text_of};
+use asn_modules_errors::{ModuleError, NameRule, text_of};
 use std::alloc::Global;
 use std::collections::HashSet;
 

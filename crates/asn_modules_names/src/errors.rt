@@ -4,7 +4,7 @@ ghost use Rattle.asn_modules_names.specs.Mentions.{mention_view};
 ghost use Rattle.std.specs.Prelude.{Some};
 
 use crate::mention::Mention;
-use asn_modules_faults::{Cause, ModuleError, NameRule, place_at, refused, shown};
+use asn_modules_errors::{Cause, ModuleError, NameRule, place_at, refused, shown};
 use std::alloc::Global;
 
 /// Returns the error that the name breaks the rule.

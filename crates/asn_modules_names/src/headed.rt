@@ -3,15 +3,15 @@ ghost use Rattle.asn_modules_names.specs.Assigned.{all_module_names, module_name
 ghost use Rattle.asn_modules_names.specs.Assigned.{named_again};
 ghost use Rattle.asn_modules_names.specs.Faults.{Checks};
 ghost use Rattle.asn_modules_names.specs.Mentions.{mention_view, source_view};
-ghost use Rattle.asn_modules_notation.specs.View.{module_view};
+ghost use Rattle.asn_modules_grammar.specs.notation.View.{module_view};
 ghost use Rattle.std.specs.Prelude.{◌≡◌, ◌++◌, IfOk, OnOk, map};
 
 use crate::distinct::check_distinct;
 use crate::mention::{Mention, mention_of};
 use asn_lexer::Token;
-use asn_modules_faults::{ModuleError, NameRule};
-use asn_modules_notation::Module;
-use asn_modules_text::Source;
+use asn_modules_errors::{ModuleError, NameRule};
+use asn_modules_grammar::notation::Module;
+use asn_modules_reader::text::Source;
 use std::alloc::{AllocError, Global};
 
 /// Returns the name of the module, if it has one.

@@ -2,6 +2,10 @@
 //! token. Each check has the first name that breaks a rule as a definition, and tells that one.
 #![tactic(auto)]
 
+pub mod sources;
+pub mod references;
+pub mod imports;
+pub mod lookup;
 mod assigned;
 mod check;
 mod distinct;

@@ -3,7 +3,7 @@ ghost use Rattle.asn_modules_names.specs.Mentions.{mention_in, mention_view, sou
 ghost use Rattle.std.specs.Prelude.{◌≡◌};
 
 use asn_lexer::Token;
-use asn_modules_text::Source;
+use asn_modules_reader::text::Source;
 
 /// Is a name that stands in a text.
 #[derive(Clone, Copy, Drop)]

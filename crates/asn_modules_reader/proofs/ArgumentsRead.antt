@@ -1,18 +1,18 @@
 -- The actual parameters that a reader goes over, one at a time.
 use Rattle.std.proofs.Common.{◌≡◌, ◌≢◌, ◌++◌, ℕ, suc, List, [], ◌∷◌, map, drop, true, false, Option, Some, None, refl, sym, ap, subst, ◌∙◌}
 use Rattle.std.specs.Option.{option_map}
-use Rattle.asn_headers.specs.Groups.{past_groups}
-use Rattle.asn_headers.specs.declared.group.Group.TheVariants.{Braces}
+use Rattle.asn_modules_grammar.specs.headers.Groups.{past_groups}
+use Rattle.asn_modules_grammar.specs.declared.headers.group.Group.TheVariants.{Braces}
 use Rattle.asn_lexer.specs.declared.kind.Kind.{Kind}
 use Rattle.asn_lexer.specs.declared.kind.Kind.TheVariants as kind
 use Rattle.asn_lexer.specs.declared.token.Token.{Token}
-use Rattle.asn_modules_notation.specs.Grammar.{NotationParses, BaseParses, reference_parses, instance_parses, ArgumentsParse, other_arguments, last_argument, next_argument, unlike_argument}
-use Rattle.asn_modules_notation.specs.Kinds.{first_kind}
-use Rattle.asn_modules_notation.specs.Notation.{Notation, Base, reference, all_types, instance_or}
-use Rattle.asn_modules_notation.specs.Starts.{Start, begins_type}
-use Rattle.asn_modules_notation.proofs.OneText.{same_notation}
-use Rattle.asn_modules_parts.proofs.Repeats.{true_false, some_same, none_some}
-use Rattle.asn_modules_parts.proofs.Runs.{Going, Step, going_none}
+use Rattle.asn_modules_grammar.specs.notation.Grammar.{NotationParses, BaseParses, reference_parses, instance_parses, ArgumentsParse, other_arguments, last_argument, next_argument, unlike_argument}
+use Rattle.asn_modules_grammar.specs.notation.Kinds.{first_kind}
+use Rattle.asn_modules_grammar.specs.notation.Notation.{Notation, Base, reference, all_types, instance_or}
+use Rattle.asn_modules_grammar.specs.notation.Starts.{Start, begins_type}
+use Rattle.asn_modules_grammar.proofs.notation.OneText.{same_notation}
+use Rattle.asn_modules_reader.proofs.parts.Repeats.{true_false, some_same, none_some}
+use Rattle.asn_modules_reader.proofs.parts.Runs.{Going, Step, going_none}
 use Rattle.asn_modules_reader.specs.Arguments.{AreArguments}
 
 -- Types that were read.

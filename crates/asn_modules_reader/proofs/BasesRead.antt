@@ -4,21 +4,21 @@ use Rattle.std.specs.Prelude.{Result}
 use Rattle.std.specs.Borrow.{Bor}
 use Rattle.std.specs.Global.{Vec}
 use Rattle.std.specs.List.{count_by}
-use Rattle.asn_headers.specs.declared.fault.SyntaxFault.{SyntaxFault}
+use Rattle.asn_modules_grammar.specs.declared.headers.fault.SyntaxFault.{SyntaxFault}
 use Rattle.asn_lexer.specs.declared.token.Token.{Token}
-use Rattle.asn_modules_notation.specs.Grammar.{BaseParses, leaf_parses}
-use Rattle.asn_modules_notation.specs.Notation as spec
-use Rattle.asn_modules_notation.specs.Numbers.{ItemsParse, no_items, some_items, is_item_marker}
-use Rattle.asn_modules_notation.specs.Starts.{Start}
-use Rattle.asn_modules_notation.specs.View.{items_view}
-use Rattle.asn_modules_notation.specs.declared.leaf.Leaf.{Leaf}
-use Rattle.asn_modules_notation.specs.declared.notation.Base.{Base}
-use Rattle.asn_modules_notation.specs.declared.number.Item.{Item}
-use Rattle.asn_modules_parts.specs.EntryLists.{behind_first}
-use Rattle.asn_modules_parts.specs.Reading.{Reads}
-use Rattle.asn_modules_parts.proofs.EntriesSeen.{two_markers}
-use Rattle.asn_modules_parts.proofs.ItemsRead.{counted_alike}
-use Rattle.asn_modules_parts.proofs.Repeats.{true_false}
+use Rattle.asn_modules_grammar.specs.notation.Grammar.{BaseParses, leaf_parses}
+use Rattle.asn_modules_grammar.specs.notation.Notation as spec
+use Rattle.asn_modules_grammar.specs.notation.Numbers.{ItemsParse, no_items, some_items, is_item_marker}
+use Rattle.asn_modules_grammar.specs.notation.Starts.{Start}
+use Rattle.asn_modules_grammar.specs.notation.View.{items_view}
+use Rattle.asn_modules_grammar.specs.declared.notation.leaf.Leaf.{Leaf}
+use Rattle.asn_modules_grammar.specs.declared.notation.notation.Base.{Base}
+use Rattle.asn_modules_grammar.specs.declared.notation.number.Item.{Item}
+use Rattle.asn_modules_reader.specs.parts.EntryLists.{behind_first}
+use Rattle.asn_modules_reader.specs.parts.Reading.{Reads}
+use Rattle.asn_modules_reader.proofs.parts.EntriesSeen.{two_markers}
+use Rattle.asn_modules_reader.proofs.parts.ItemsRead.{counted_alike}
+use Rattle.asn_modules_reader.proofs.parts.Repeats.{true_false}
 use Rattle.asn_modules_reader.specs.Views.{base_view}
 use Rattle.asn_modules_reader.proofs.Notations.{enumerated_at}
 

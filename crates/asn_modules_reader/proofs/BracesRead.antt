@@ -5,12 +5,12 @@ use Rattle.std.proofs.lemmas.List.Sums.{sum_by-append, sum_by-cons}
 use Rattle.std.specs.List.{count_by}
 use Rattle.asn_lexer.specs.declared.kind.Kind.TheVariants as kind
 use Rattle.asn_lexer.specs.declared.token.Token.{Token}
-use Rattle.asn_modules_notation.specs.Grammar.{MemberParses, MembersParse, BracesParse, no_members_parse, some_members_parse}
-use Rattle.asn_modules_notation.specs.Kinds.{first_kind}
-use Rattle.asn_modules_notation.specs.Notation as spec
-use Rattle.asn_modules_notation.specs.declared.notation.Member.{Member}
-use Rattle.asn_modules_parts.specs.EntryLists.{is_marker}
-use Rattle.asn_modules_parts.proofs.Runs.{Going, going_none}
+use Rattle.asn_modules_grammar.specs.notation.Grammar.{MemberParses, MembersParse, BracesParse, no_members_parse, some_members_parse}
+use Rattle.asn_modules_grammar.specs.notation.Kinds.{first_kind}
+use Rattle.asn_modules_grammar.specs.notation.Notation as spec
+use Rattle.asn_modules_grammar.specs.declared.notation.notation.Member.{Member}
+use Rattle.asn_modules_reader.specs.parts.EntryLists.{is_marker}
+use Rattle.asn_modules_reader.proofs.parts.Runs.{Going, going_none}
 use Rattle.asn_modules_reader.specs.Views.{member_seen}
 use Rattle.asn_modules_reader.proofs.MembersRead.{members_first}
 use Rattle.asn_modules_reader.proofs.Viewing.{member_unmarked}

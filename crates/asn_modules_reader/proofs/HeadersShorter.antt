@@ -3,13 +3,13 @@ use Rattle.std.proofs.Common.{◌≡◌, ◌≤◌, ◌<◌, ℕ, suc, List, [],
 use Rattle.std.specs.Prelude.{IfSome}
 use Rattle.std.specs.Option.{option_and_then}
 use Rattle.asn_lexer.specs.declared.token.Token.{Token}
-use Rattle.asn_headers.specs.Fronts.{is_name}
-use Rattle.asn_headers.specs.Groups.{past_optional_braces}
-use Rattle.asn_headers.specs.Headers.{Header, HeaderParses, ImportsReach, reaches_here, reaches_next, ImportsParse, no_imports, imports_parse, begun_at, defined_at, definitions_at, ended, exported_at, exports_at, implied_at, implied_behind, is_extensibility, is_implied, is_tags, names_at, names_ended, opening_at, tags_at, tags_behind, tagging_of}
-use Rattle.asn_headers.specs.declared.opening.Opening.{Opening}
-use Rattle.asn_headers.specs.declared.tagging.Tagging.{Tagging}
-use Rattle.asn_headers.proofs.Imports.{Below, names_lt, import_lt}
-use Rattle.asn_modules_parts.proofs.Groups.{chosen, optional_le}
+use Rattle.asn_modules_grammar.specs.headers.Fronts.{is_name}
+use Rattle.asn_modules_grammar.specs.headers.Groups.{past_optional_braces}
+use Rattle.asn_modules_grammar.specs.headers.Headers.{Header, HeaderParses, ImportsReach, reaches_here, reaches_next, ImportsParse, no_imports, imports_parse, begun_at, defined_at, definitions_at, ended, exported_at, exports_at, implied_at, implied_behind, is_extensibility, is_implied, is_tags, names_at, names_ended, opening_at, tags_at, tags_behind, tagging_of}
+use Rattle.asn_modules_grammar.specs.declared.headers.opening.Opening.{Opening}
+use Rattle.asn_modules_grammar.specs.declared.headers.tagging.Tagging.{Tagging}
+use Rattle.asn_modules_grammar.proofs.headers.Imports.{Below, names_lt, import_lt}
+use Rattle.asn_modules_reader.proofs.parts.Groups.{chosen, optional_le}
 
 -- What is found leaves at most so many tokens.
 abbrev Within : {A : Type 0} → ℕ → Option (A × List Token) → Type 0

@@ -4,15 +4,15 @@ use Rattle.asn_lexer.specs.declared.keyword.Keyword.TheVariants as keyword
 use Rattle.asn_lexer.specs.declared.kind.Kind.{Kind}
 use Rattle.asn_lexer.specs.declared.kind.Kind.TheVariants as kind
 use Rattle.asn_lexer.specs.declared.token.Token.{Token}
-use Rattle.asn_headers.specs.Fronts.{first_is}
-use Rattle.asn_modules_notation.specs.Grammar.{NotationParses, MemberParses, component_parses, components_of_parses, marker_parses, group_parses, MembersParse, last_member, next_member, past_version}
-use Rattle.asn_modules_notation.specs.Kinds.{first_kind, token_at, is_component_word}
-use Rattle.asn_modules_notation.specs.Notation.{Notation, Member, component, components_of, group, marker, members_of, may_have_components}
-use Rattle.asn_modules_notation.specs.Values.{presence_at}
-use Rattle.asn_modules_notation.specs.declared.notation.Presence.{Presence}
-use Rattle.asn_modules_notation.proofs.OneText.{same_notation, same_member}
-use Rattle.asn_modules_parts.proofs.Repeats.{true_false, some_same, none_some}
-use Rattle.asn_modules_parts.proofs.Runs.{Step}
+use Rattle.asn_modules_grammar.specs.headers.Fronts.{first_is}
+use Rattle.asn_modules_grammar.specs.notation.Grammar.{NotationParses, MemberParses, component_parses, components_of_parses, marker_parses, group_parses, MembersParse, last_member, next_member, past_version}
+use Rattle.asn_modules_grammar.specs.notation.Kinds.{first_kind, token_at, is_component_word}
+use Rattle.asn_modules_grammar.specs.notation.Notation.{Notation, Member, component, components_of, group, marker, members_of, may_have_components}
+use Rattle.asn_modules_grammar.specs.notation.Values.{presence_at}
+use Rattle.asn_modules_grammar.specs.declared.notation.notation.Presence.{Presence}
+use Rattle.asn_modules_grammar.proofs.notation.OneText.{same_notation, same_member}
+use Rattle.asn_modules_reader.proofs.parts.Repeats.{true_false, some_same, none_some}
+use Rattle.asn_modules_reader.proofs.parts.Runs.{Step}
 
 word_here : (u v : List Token) (t : Token) → u ≡ t ∷ v → is_component_word t.kind ≡ true → token_at is_component_word u ≡ Some (t, v)
 word_here u v t e h = ap (token_at is_component_word) e ∙ ap (λ b. if b then Some (t, v) else None) h

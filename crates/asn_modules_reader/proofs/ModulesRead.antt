@@ -4,19 +4,19 @@ use Rattle.asn_lexer.specs.declared.keyword.Keyword.TheVariants as keyword
 use Rattle.asn_lexer.specs.declared.kind.Kind.TheVariants as kind
 use Rattle.asn_lexer.specs.declared.token.Token.{Token}
 use Rattle.std.specs.Option.{option_and_then}
-use Rattle.asn_headers.specs.Fronts.{first_is, is_name}
-use Rattle.asn_headers.specs.Groups.{past_optional_braces}
-use Rattle.asn_headers.specs.Headers.{Header, HeaderParses, definitions_at}
-use Rattle.asn_headers.proofs.HeadersRead.{same_header}
-use Rattle.asn_modules_notation.specs.Grammar.{NotationParses}
-use Rattle.asn_modules_notation.specs.Kinds.{assigned_at, assigns_universal, first_kind, is_open_brace, is_string_type}
-use Rattle.asn_modules_notation.specs.Modules.{Assignment, type_assignment, value_assignment, Module, BodyParses, type_parses, value_parses, parameters_at, with_parameters, assigned_by, AssignmentParses, assignment_parses, AssignmentsParse, no_assignments, next_assignment, ModulesParse, no_modules, next_module, TextParses, modules_parse, assignments_parse, begins_module}
-use Rattle.asn_modules_notation.specs.Notation.{Notation}
-use Rattle.asn_modules_notation.specs.Values.{value_at}
-use Rattle.asn_modules_notation.specs.declared.value.Value.{Value}
-use Rattle.asn_modules_notation.proofs.OneText.{same_notation, same_assignment, same_assignments}
-use Rattle.asn_modules_parts.proofs.Repeats.{true_false, some_same, none_some}
-use Rattle.asn_modules_parts.proofs.Runs.{Step}
+use Rattle.asn_modules_grammar.specs.headers.Fronts.{first_is, is_name}
+use Rattle.asn_modules_grammar.specs.headers.Groups.{past_optional_braces}
+use Rattle.asn_modules_grammar.specs.headers.Headers.{Header, HeaderParses, definitions_at}
+use Rattle.asn_modules_grammar.proofs.headers.HeadersRead.{same_header}
+use Rattle.asn_modules_grammar.specs.notation.Grammar.{NotationParses}
+use Rattle.asn_modules_grammar.specs.notation.Kinds.{assigned_at, assigns_universal, first_kind, is_open_brace, is_string_type}
+use Rattle.asn_modules_grammar.specs.notation.Modules.{Assignment, type_assignment, value_assignment, Module, BodyParses, type_parses, value_parses, parameters_at, with_parameters, assigned_by, AssignmentParses, assignment_parses, AssignmentsParse, no_assignments, next_assignment, ModulesParse, no_modules, next_module, TextParses, modules_parse, assignments_parse, begins_module}
+use Rattle.asn_modules_grammar.specs.notation.Notation.{Notation}
+use Rattle.asn_modules_grammar.specs.notation.Values.{value_at}
+use Rattle.asn_modules_grammar.specs.declared.notation.value.Value.{Value}
+use Rattle.asn_modules_grammar.proofs.notation.OneText.{same_notation, same_assignment, same_assignments}
+use Rattle.asn_modules_reader.proofs.parts.Repeats.{true_false, some_same, none_some}
+use Rattle.asn_modules_reader.proofs.parts.Runs.{Step}
 use Rattle.asn_modules_reader.specs.Modules.{ModuleParses, module_parses}
 
 pub unnamed : (limit : ℕ) (u : List Token) → assigned_at u ≡ None → (a : Assignment) (rest : List Token) → AssignmentParses limit u a rest → ⊥

@@ -3,20 +3,20 @@ use Rattle.std.proofs.Common.{◌≡◌, ◌≢◌, ◌≤◌, ◌<◌, ℕ, suc
 use Rattle.asn_lexer.specs.declared.kind.Kind.TheVariants as kind
 use Rattle.asn_lexer.specs.declared.token.Token.{Token}
 use Rattle.asn_model.specs.Shape.{SeqKind}
-use Rattle.asn_modules_notation.specs.Grammar.{NotationParses, notation_parses, BaseParses, integer_parses, bit_string_parses, enumerated_parses, members_parse, list_parses, choice_parses, BracesParse, sizes_of}
-use Rattle.asn_modules_notation.specs.Kinds.{first_kind}
-use Rattle.asn_modules_notation.specs.Notation.{Notation, Base, Member, notation, integer, bit_string, enumerated, members, list_of, choice, members_of}
-use Rattle.asn_modules_notation.specs.Numbers.{NamedNumbersParse, ItemsParse}
-use Rattle.asn_modules_notation.specs.Sizes.{of_at, of_by}
-use Rattle.asn_modules_notation.specs.Starts.{Start, start_at}
-use Rattle.asn_modules_notation.specs.Tags.{TagsParse}
-use Rattle.asn_modules_notation.specs.declared.number.Item.{Item}
-use Rattle.asn_modules_notation.specs.declared.number.NamedNumber.{NamedNumber}
-use Rattle.asn_modules_notation.specs.declared.size.Size.{Size}
-use Rattle.asn_modules_notation.specs.declared.tag.TagNotation.{TagNotation}
-use Rattle.asn_modules_notation.proofs.OneText.{same_repeated, same_base}
-use Rattle.asn_modules_parts.specs.Sizes.{SizesParse}
-use Rattle.asn_modules_parts.proofs.Repeats.{some_same, none_some}
+use Rattle.asn_modules_grammar.specs.notation.Grammar.{NotationParses, notation_parses, BaseParses, integer_parses, bit_string_parses, enumerated_parses, members_parse, list_parses, choice_parses, BracesParse, sizes_of}
+use Rattle.asn_modules_grammar.specs.notation.Kinds.{first_kind}
+use Rattle.asn_modules_grammar.specs.notation.Notation.{Notation, Base, Member, notation, integer, bit_string, enumerated, members, list_of, choice, members_of}
+use Rattle.asn_modules_grammar.specs.notation.Numbers.{NamedNumbersParse, ItemsParse}
+use Rattle.asn_modules_grammar.specs.notation.Sizes.{of_at, of_by}
+use Rattle.asn_modules_grammar.specs.notation.Starts.{Start, start_at}
+use Rattle.asn_modules_grammar.specs.notation.Tags.{TagsParse}
+use Rattle.asn_modules_grammar.specs.declared.notation.number.Item.{Item}
+use Rattle.asn_modules_grammar.specs.declared.notation.number.NamedNumber.{NamedNumber}
+use Rattle.asn_modules_grammar.specs.declared.notation.size.Size.{Size}
+use Rattle.asn_modules_grammar.specs.declared.notation.tag.TagNotation.{TagNotation}
+use Rattle.asn_modules_grammar.proofs.notation.OneText.{same_repeated, same_base}
+use Rattle.asn_modules_reader.specs.parts.Sizes.{SizesParse}
+use Rattle.asn_modules_reader.proofs.parts.Repeats.{some_same, none_some}
 
 -- A type by its parts.
 pub notation_read : (limit level : ℕ) (u v w x rest : List Token) (tags : List TagNotation) (start : Start) (base : Base) (sizes : List Size) → level ≤ limit → TagsParse u tags v → start_at v ≡ Some (start, w)

@@ -3,28 +3,28 @@ use Rattle.std.proofs.Common.{◌≡◌, refl, ap, sym, ◌∙◌, List, [], ◌
 use Rattle.std.specs.Global.{Box, Vec}
 use Rattle.asn_lexer.specs.declared.token.Token.{Token}
 use Rattle.asn_model.specs.Shape.{SeqKind}
-use Rattle.asn_modules_notation.specs.Notation as spec
-use Rattle.asn_modules_notation.specs.View.{items_view, base_step, component_step, member_step, extension_step, members_step, notation_step, notation_view, component_view, members_view}
-use Rattle.asn_modules_notation.specs.declared.leaf.Leaf as declared_leaf
-use Rattle.asn_modules_notation.specs.declared.notation.Base.{Base}
-use Rattle.asn_modules_notation.specs.declared.notation.Base.TheOpen as layer
-use Rattle.asn_modules_notation.specs.declared.notation.Base.TheOpen.{Component-F, Member-F}
-use Rattle.asn_modules_notation.specs.declared.notation.Base.TheViews.{out-Component, out-Member, roll-Component, roll-Member}
-use Rattle.asn_modules_notation.specs.declared.notation.Base.TheVariants.{Leaf, Integer, BitString, Enumerated, Sequence, Set, SequenceOf, SetOf, Choice, Reference, Instance, rolls-Leaf, rolls-Integer, rolls-BitString, rolls-Enumerated, rolls-Sequence, rolls-Set, rolls-SequenceOf, rolls-SetOf, rolls-Choice, rolls-Reference, rolls-Instance}
-use Rattle.asn_modules_notation.specs.declared.notation.Base.TheFolds.{fold-Extension, fold_out-Component, fold_out-Member, fold-roll-Base, fold-roll-Component, fold-roll-Member, fold-roll-Extension, fold-roll-Members, fold-roll-Notation}
-use Rattle.asn_modules_notation.specs.declared.notation.Component.{Component}
-use Rattle.asn_modules_notation.specs.declared.notation.Component.TheVariants.{Named, ComponentsOf, rolls-Named, rolls-ComponentsOf}
-use Rattle.asn_modules_notation.specs.declared.notation.Extension.{Extension, roll-Extension}
-use Rattle.asn_modules_notation.specs.declared.notation.Member.{Member}
-use Rattle.asn_modules_notation.specs.declared.notation.Member.TheVariants.{One, Group, rolls-One, rolls-Group}
-use Rattle.asn_modules_notation.specs.declared.notation.Members.{Members, roll-Members}
-use Rattle.asn_modules_notation.specs.declared.notation.Notation.{Notation, roll-Notation}
-use Rattle.asn_modules_notation.specs.declared.notation.Presence.{Presence}
-use Rattle.asn_modules_notation.specs.declared.number.Item.{Item}
-use Rattle.asn_modules_notation.specs.declared.number.NamedNumber.{NamedNumber}
-use Rattle.asn_modules_notation.specs.declared.size.Size.{Size}
-use Rattle.asn_modules_notation.specs.declared.tag.TagNotation.{TagNotation}
-use Rattle.asn_modules_parts.specs.EntryLists.{behind_first, behind_second}
+use Rattle.asn_modules_grammar.specs.notation.Notation as spec
+use Rattle.asn_modules_grammar.specs.notation.View.{items_view, base_step, component_step, member_step, extension_step, members_step, notation_step, notation_view, component_view, members_view}
+use Rattle.asn_modules_grammar.specs.declared.notation.leaf.Leaf as declared_leaf
+use Rattle.asn_modules_grammar.specs.declared.notation.notation.Base.{Base}
+use Rattle.asn_modules_grammar.specs.declared.notation.notation.Base.TheOpen as layer
+use Rattle.asn_modules_grammar.specs.declared.notation.notation.Base.TheOpen.{Component-F, Member-F}
+use Rattle.asn_modules_grammar.specs.declared.notation.notation.Base.TheViews.{out-Component, out-Member, roll-Component, roll-Member}
+use Rattle.asn_modules_grammar.specs.declared.notation.notation.Base.TheVariants.{Leaf, Integer, BitString, Enumerated, Sequence, Set, SequenceOf, SetOf, Choice, Reference, Instance, rolls-Leaf, rolls-Integer, rolls-BitString, rolls-Enumerated, rolls-Sequence, rolls-Set, rolls-SequenceOf, rolls-SetOf, rolls-Choice, rolls-Reference, rolls-Instance}
+use Rattle.asn_modules_grammar.specs.declared.notation.notation.Base.TheFolds.{fold-Extension, fold_out-Component, fold_out-Member, fold-roll-Base, fold-roll-Component, fold-roll-Member, fold-roll-Extension, fold-roll-Members, fold-roll-Notation}
+use Rattle.asn_modules_grammar.specs.declared.notation.notation.Component.{Component}
+use Rattle.asn_modules_grammar.specs.declared.notation.notation.Component.TheVariants.{Named, ComponentsOf, rolls-Named, rolls-ComponentsOf}
+use Rattle.asn_modules_grammar.specs.declared.notation.notation.Extension.{Extension, roll-Extension}
+use Rattle.asn_modules_grammar.specs.declared.notation.notation.Member.{Member}
+use Rattle.asn_modules_grammar.specs.declared.notation.notation.Member.TheVariants.{One, Group, rolls-One, rolls-Group}
+use Rattle.asn_modules_grammar.specs.declared.notation.notation.Members.{Members, roll-Members}
+use Rattle.asn_modules_grammar.specs.declared.notation.notation.Notation.{Notation, roll-Notation}
+use Rattle.asn_modules_grammar.specs.declared.notation.notation.Presence.{Presence}
+use Rattle.asn_modules_grammar.specs.declared.notation.number.Item.{Item}
+use Rattle.asn_modules_grammar.specs.declared.notation.number.NamedNumber.{NamedNumber}
+use Rattle.asn_modules_grammar.specs.declared.notation.size.Size.{Size}
+use Rattle.asn_modules_grammar.specs.declared.notation.tag.TagNotation.{TagNotation}
+use Rattle.asn_modules_reader.specs.parts.EntryLists.{behind_first, behind_second}
 use Rattle.asn_modules_reader.specs.Views.{base_view, member_view, member_seen}
 
 pub leaf_viewed : (l : declared_leaf.Leaf) → base_view (Leaf l) ≡ spec.leaf l

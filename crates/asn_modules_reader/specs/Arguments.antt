@@ -3,10 +3,10 @@ use Rattle.std.specs.Prelude.{ℕ, ◌≡◌, List, map, Option}
 use Rattle.std.specs.Global.{Vec}
 use Rattle.std.specs.Option.{option_map}
 use Rattle.asn_lexer.specs.declared.token.Token.{Token}
-use Rattle.asn_modules_notation.specs.Grammar.{ArgumentsParse}
-use Rattle.asn_modules_notation.specs.Notation as spec
-use Rattle.asn_modules_notation.specs.View.{notation_view}
-use Rattle.asn_modules_notation.specs.declared.notation.Notation.{Notation}
+use Rattle.asn_modules_grammar.specs.notation.Grammar.{ArgumentsParse}
+use Rattle.asn_modules_grammar.specs.notation.Notation as spec
+use Rattle.asn_modules_grammar.specs.notation.View.{notation_view}
+use Rattle.asn_modules_grammar.specs.declared.notation.notation.Notation.{Notation}
 
 -- The types that were read, if all are types.
 abbrev pub arguments_view : Option (Vec Notation) → Option (List spec.Notation)

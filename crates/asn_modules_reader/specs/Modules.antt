@@ -3,9 +3,9 @@ use Rattle.std.specs.Prelude.{ℕ, ◌≡◌, List, drop, Some}
 use Rattle.asn_lexer.specs.declared.keyword.Keyword.TheVariants as keyword
 use Rattle.asn_lexer.specs.declared.kind.Kind.TheVariants as kind
 use Rattle.asn_lexer.specs.declared.token.Token.{Token}
-use Rattle.asn_headers.specs.Headers.{Header, HeaderParses}
-use Rattle.asn_modules_notation.specs.Kinds.{first_kind}
-use Rattle.asn_modules_notation.specs.Modules.{Assignment, AssignmentsParse, Module}
+use Rattle.asn_modules_grammar.specs.headers.Headers.{Header, HeaderParses}
+use Rattle.asn_modules_grammar.specs.notation.Kinds.{first_kind}
+use Rattle.asn_modules_grammar.specs.notation.Modules.{Assignment, AssignmentsParse, Module}
 
 -- The module stands at the front of the tokens, and the rest follows it: a header, assignments and END.
 pub data ModuleParses (limit : ℕ) : List Token → Module → List Token → Type 0 where

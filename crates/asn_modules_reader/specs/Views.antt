@@ -1,10 +1,10 @@
 -- What contracts see of the parts of types.
 use Rattle.std.specs.Prelude.{List, Option, Some, None}
-use Rattle.asn_modules_notation.specs.Notation as spec
-use Rattle.asn_modules_notation.specs.View.{base_step, component_step, member_step, extension_step, members_step, notation_step}
-use Rattle.asn_modules_notation.specs.declared.notation.Base.{Base}
-use Rattle.asn_modules_notation.specs.declared.notation.Base.TheFolds.{fold-Base, fold-Member}
-use Rattle.asn_modules_notation.specs.declared.notation.Member.{Member}
+use Rattle.asn_modules_grammar.specs.notation.Notation as spec
+use Rattle.asn_modules_grammar.specs.notation.View.{base_step, component_step, member_step, extension_step, members_step, notation_step}
+use Rattle.asn_modules_grammar.specs.declared.notation.notation.Base.{Base}
+use Rattle.asn_modules_grammar.specs.declared.notation.notation.Base.TheFolds.{fold-Base, fold-Member}
+use Rattle.asn_modules_grammar.specs.declared.notation.notation.Member.{Member}
 
 -- The type without tags and constraints that a `Base` is.
 abbrev pub base_view : Base → spec.Base

@@ -1,12 +1,12 @@
 //! Reads assignments.
-ghost use Rattle.asn_headers.specs.Fronts.{IsSyntax, first_is};
-ghost use Rattle.asn_modules_notation.specs.Kinds.{assigned_at, assigns_universal, is_open_brace};
-ghost use Rattle.asn_modules_notation.specs.Kinds.{is_string_type};
-ghost use Rattle.asn_modules_notation.specs.Modules.{AssignmentParses, AssignmentsParse};
-ghost use Rattle.asn_modules_notation.specs.Modules.{BodyParses, parameterized, parameters_at};
-ghost use Rattle.asn_modules_notation.specs.Modules.{with_parameters};
-ghost use Rattle.asn_modules_notation.specs.View.{assignment_view, notation_view};
-ghost use Rattle.asn_modules_parts.specs.Reading.{Reads};
+ghost use Rattle.asn_modules_grammar.specs.headers.Fronts.{IsSyntax, first_is};
+ghost use Rattle.asn_modules_grammar.specs.notation.Kinds.{assigned_at, assigns_universal, is_open_brace};
+ghost use Rattle.asn_modules_grammar.specs.notation.Kinds.{is_string_type};
+ghost use Rattle.asn_modules_grammar.specs.notation.Modules.{AssignmentParses, AssignmentsParse};
+ghost use Rattle.asn_modules_grammar.specs.notation.Modules.{BodyParses, parameterized, parameters_at};
+ghost use Rattle.asn_modules_grammar.specs.notation.Modules.{with_parameters};
+ghost use Rattle.asn_modules_grammar.specs.notation.View.{assignment_view, notation_view};
+ghost use Rattle.asn_modules_reader.specs.parts.Reading.{Reads};
 ghost use Rattle.std.specs.Global.{Vec};
 ghost use Rattle.std.specs.Option.{option_map};
 ghost use Rattle.std.specs.Prelude.{◌≡◌, ◌<◌, ◌≤◌, IfErr, IfOk, MatchOption, None, Some, length};
@@ -14,10 +14,10 @@ ghost use Rattle.std.specs.Prelude.{map};
 
 use crate::limits::NESTING_LIMIT;
 use crate::notation::read_notation;
-use asn_headers::{Expected, SyntaxFault, read_names, unexpected};
+use asn_modules_grammar::headers::{Expected, SyntaxFault, read_names, unexpected};
 use asn_lexer::{Keyword, Kind, Token};
-use asn_modules_notation::{Assignment, Base, Closed, Leaf, Notation, Value};
-use asn_modules_parts::{Mark, Sign, past_parameters, read_value, take, take_sign};
+use asn_modules_grammar::notation::{Assignment, Base, Closed, Leaf, Notation, Value};
+use crate::parts::{Mark, Sign, past_parameters, read_value, take, take_sign};
 use std::alloc::Global;
 
 /// Returns whether the word is that of a type of character strings.

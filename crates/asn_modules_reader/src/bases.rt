@@ -1,15 +1,15 @@
 //! Makes types without tags of what they hold.
 ghost use Rattle.asn_model.specs.ShapeView.{kind_view};
-ghost use Rattle.asn_modules_notation.specs.Notation as spec;
-ghost use Rattle.asn_modules_notation.specs.Notation.{may_have_components};
-ghost use Rattle.asn_modules_notation.specs.View.{members_view, notation_view};
+ghost use Rattle.asn_modules_grammar.specs.notation.Notation as spec;
+ghost use Rattle.asn_modules_grammar.specs.notation.Notation.{may_have_components};
+ghost use Rattle.asn_modules_grammar.specs.notation.View.{members_view, notation_view};
 ghost use Rattle.asn_modules_reader.specs.Arguments.{arguments_view};
 ghost use Rattle.asn_modules_reader.specs.Views.{base_view};
 ghost use Rattle.std.specs.Prelude.{◌≡◌, IfOk};
 
 use asn_lexer::Token;
 use asn_model::SeqKind;
-use asn_modules_notation::{Base, Closed, Leaf, Members, Notation};
+use asn_modules_grammar::notation::{Base, Closed, Leaf, Members, Notation};
 use std::alloc::{AllocError, Global};
 
 /// Returns the SEQUENCE or SET of the members.

@@ -3,6 +3,8 @@
 //! what stands at a place.
 #![tactic(auto)]
 
+pub mod text;
+pub mod parts;
 mod assignment;
 mod bases;
 pub mod limits;

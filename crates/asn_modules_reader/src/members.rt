@@ -1,11 +1,11 @@
 //! Makes members of the entries between braces.
-ghost use Rattle.asn_modules_notation.specs.View.{members_view};
-ghost use Rattle.asn_modules_parts.specs.EntryLists.{entries_of};
+ghost use Rattle.asn_modules_grammar.specs.notation.View.{members_view};
+ghost use Rattle.asn_modules_reader.specs.parts.EntryLists.{entries_of};
 ghost use Rattle.asn_modules_reader.specs.Views.{member_seen};
 ghost use Rattle.std.specs.Prelude.{◌≡◌, map};
 
-use asn_modules_notation::{Extension, Member, Members};
-use asn_modules_parts::Entries;
+use asn_modules_grammar::notation::{Extension, Member, Members};
+use crate::parts::Entries;
 
 /// Returns the members that the entries are.
 pub(crate) fn members_of(entries: Entries<Member>) -> Members

@@ -1,21 +1,21 @@
 //! Reads modules, and whole texts.
-ghost use Rattle.asn_headers.specs.Fronts.{IsSyntax};
-ghost use Rattle.asn_headers.specs.Groups.{past_optional_braces};
-ghost use Rattle.asn_modules_notation.specs.Modules as spec;
-ghost use Rattle.asn_modules_notation.specs.Modules.{ModulesParse, TextParses, begins_module};
-ghost use Rattle.asn_modules_notation.specs.Modules.{names_module};
-ghost use Rattle.asn_modules_notation.specs.View.{module_view};
-ghost use Rattle.asn_modules_parts.specs.Reading.{Reads};
+ghost use Rattle.asn_modules_grammar.specs.headers.Fronts.{IsSyntax};
+ghost use Rattle.asn_modules_grammar.specs.headers.Groups.{past_optional_braces};
+ghost use Rattle.asn_modules_grammar.specs.notation.Modules as spec;
+ghost use Rattle.asn_modules_grammar.specs.notation.Modules.{ModulesParse, TextParses, begins_module};
+ghost use Rattle.asn_modules_grammar.specs.notation.Modules.{names_module};
+ghost use Rattle.asn_modules_grammar.specs.notation.View.{module_view};
+ghost use Rattle.asn_modules_reader.specs.parts.Reading.{Reads};
 ghost use Rattle.asn_modules_reader.specs.Modules.{ModuleParses};
 ghost use Rattle.std.specs.Prelude.{◌≡◌, ◌<◌, [], IfErr, IfOk, List, MatchOption, None, false, length};
 ghost use Rattle.std.specs.Prelude.{map};
 
 use crate::assignment::read_assignments;
 use crate::limits::NESTING_LIMIT;
-use asn_headers::{Expected, SyntaxFault, read_header, unexpected};
+use asn_modules_grammar::headers::{Expected, SyntaxFault, read_header, unexpected};
 use asn_lexer::{Keyword, Kind, Token};
-use asn_modules_notation::Module;
-use asn_modules_parts::{Mark, Sign, past_parameters, take, take_sign};
+use asn_modules_grammar::notation::Module;
+use crate::parts::{Mark, Sign, past_parameters, take, take_sign};
 use std::alloc::Global;
 
 /// Returns a module, and what follows it.

@@ -1,14 +1,14 @@
 //! Reads types.
 ghost use Rattle.asn_lexer.specs.declared.kind.Kind.TheVariants as token_kind;
 ghost use Rattle.asn_model.specs.ShapeView.{kind_view};
-ghost use Rattle.asn_headers.specs.Fronts.{first_is};
-ghost use Rattle.asn_modules_notation.specs.Grammar.{BaseParses, BracesParse, MemberParses};
-ghost use Rattle.asn_modules_notation.specs.Grammar.{MembersParse, NotationParses};
-ghost use Rattle.asn_modules_notation.specs.Kinds.{is_component_word};
-ghost use Rattle.asn_modules_notation.specs.Starts as starts;
-ghost use Rattle.asn_modules_notation.specs.View.{component_view, members_view, notation_view};
-ghost use Rattle.asn_modules_parts.specs.Reading.{Reads};
-ghost use Rattle.asn_modules_parts.specs.Starts.{start_view};
+ghost use Rattle.asn_modules_grammar.specs.headers.Fronts.{first_is};
+ghost use Rattle.asn_modules_grammar.specs.notation.Grammar.{BaseParses, BracesParse, MemberParses};
+ghost use Rattle.asn_modules_grammar.specs.notation.Grammar.{MembersParse, NotationParses};
+ghost use Rattle.asn_modules_grammar.specs.notation.Kinds.{is_component_word};
+ghost use Rattle.asn_modules_grammar.specs.notation.Starts as starts;
+ghost use Rattle.asn_modules_grammar.specs.notation.View.{component_view, members_view, notation_view};
+ghost use Rattle.asn_modules_reader.specs.parts.Reading.{Reads};
+ghost use Rattle.asn_modules_reader.specs.parts.Starts.{start_view};
 ghost use Rattle.asn_modules_reader.specs.Arguments.{AreArguments, arguments_view};
 ghost use Rattle.asn_modules_reader.specs.Views.{base_view, member_seen};
 ghost use Rattle.std.specs.Prelude.{◌≡◌, ◌<◌, ◌≤◌, ◌^◌, IfOk, false, length, map};
@@ -17,11 +17,11 @@ use crate::bases::{fields_of, instance_or, list_of, may_have_components};
 use crate::limits::NESTING_LIMIT;
 use crate::members::members_of;
 use crate::version::past_version;
-use asn_headers::{Expected, Group, SyntaxFault, unexpected};
+use asn_modules_grammar::headers::{Expected, Group, SyntaxFault, unexpected};
 use asn_lexer::Token;
 use asn_model::SeqKind;
-use asn_modules_notation::{Base, Component, Member, Members, Notation};
-use asn_modules_parts::{
+use asn_modules_grammar::notation::{Base, Component, Member, Members, Notation};
+use crate::parts::{
     Entries, Mark, Sign, Start, begins_type, past, read_items, read_named_numbers, read_of,
     read_presence, read_sizes, read_start, read_tags, take, take_sign,
 };

@@ -1,9 +1,9 @@
 //! Passes over the numbers of versions.
-ghost use Rattle.asn_modules_notation.specs.Grammar.{past_version};
+ghost use Rattle.asn_modules_grammar.specs.notation.Grammar.{past_version};
 ghost use Rattle.std.specs.Prelude.{◌≡◌, ◌≤◌, length};
 
 use asn_lexer::Token;
-use asn_modules_parts::{Mark, take};
+use crate::parts::{Mark, take};
 
 /// Returns what follows the number of a version and its colon, if they stand here.
 pub(crate) fn past_version(tokens: &[Token]) -> &[Token]

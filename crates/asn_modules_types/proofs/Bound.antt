@@ -5,17 +5,17 @@ use Rattle.std.specs.List.{slice_get}
 use Rattle.std.specs.Option.{option_and_then}
 use Rattle.std.specs.Str.{bytes_eq}
 use Rattle.asn_lexer.specs.declared.token.Token.{Token}
-use Rattle.asn_linked_types.specs.Expansion.{no_values}
+use Rattle.asn_linked.specs.types.Expansion.{no_values}
 use Rattle.asn_model.specs.Shape.{Shape}
-use Rattle.asn_modules_faults.specs.Slices.{text_of}
-use Rattle.asn_modules_lookup.specs.Homes.{Home}
-use Rattle.asn_modules_lookup.specs.declared.sort.Sort.TheVariants.{Templates, Types}
+use Rattle.asn_modules_errors.specs.Slices.{text_of}
+use Rattle.asn_modules_names.specs.lookup.Homes.{Home}
+use Rattle.asn_modules_names.specs.declared.lookup.sort.Sort.TheVariants.{Templates, Types}
 use Rattle.asn_modules_names.proofs.Founds.{listed_all, listed_more, pushed}
 use Rattle.asn_modules_names.specs.Mentions.{Source}
-use Rattle.asn_modules_notation.specs.Notation as spec
-use Rattle.asn_modules_notation.specs.Notation.{notations_of}
-use Rattle.asn_modules_notation.specs.View.{notation_view}
-use Rattle.asn_modules_notation.specs.declared.notation.Notation.{Notation}
+use Rattle.asn_modules_grammar.specs.notation.Notation as spec
+use Rattle.asn_modules_grammar.specs.notation.Notation.{notations_of}
+use Rattle.asn_modules_grammar.specs.notation.View.{notation_view}
+use Rattle.asn_modules_grammar.specs.declared.notation.notation.Notation.{Notation}
 use Rattle.asn_modules_types.specs.Assigned.{Assigned, assigned, notation_of, parameters_of}
 use Rattle.asn_modules_types.specs.Known.{binding_view, included_number, roots_where}
 use Rattle.asn_modules_types.specs.Linked.{instance_by, instance_in, no_roots, takes, template_named, template_scope, type_roots}

@@ -2,12 +2,12 @@
 use Rattle.std.proofs.Common.{◌≡◌, ◌-◌, ℕ, List, Bool, true, false, if◌then◌else◌, nat_le, Option, Some, None, refl, ap, ◌∙◌}
 use Rattle.std.specs.List.{slice_get}
 use Rattle.asn_model.specs.Shape.{Shape}
-use Rattle.asn_modules_lookup.specs.Homes.{Home}
-use Rattle.asn_modules_lookup.specs.declared.sort.Sort.TheVariants.{Types}
+use Rattle.asn_modules_names.specs.lookup.Homes.{Home}
+use Rattle.asn_modules_names.specs.declared.lookup.sort.Sort.TheVariants.{Types}
 use Rattle.asn_modules_names.specs.Mentions.{Source}
-use Rattle.asn_modules_notation.specs.Notation.{Notation, enumerated}
-use Rattle.asn_modules_notation.specs.declared.number.Item.{Item}
-use Rattle.asn_modules_sizes.specs.Sizes.{items_size, past}
+use Rattle.asn_modules_grammar.specs.notation.Notation.{Notation, enumerated}
+use Rattle.asn_modules_grammar.specs.declared.notation.number.Item.{Item}
+use Rattle.asn_modules_rules.specs.sizes.Sizes.{items_size, past}
 use Rattle.asn_modules_types.specs.Assigned.{Assigned, assigned, notation_of}
 use Rattle.asn_modules_types.specs.Leaves.{enumerated_shape}
 use Rattle.asn_modules_types.specs.Linked.{base_of, copied_base, copied_by, copied_type, is_extensible}

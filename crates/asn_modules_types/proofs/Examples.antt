@@ -5,15 +5,15 @@ use Rattle.asn_expansion.specs.Expansion.{context_tag}
 use Rattle.asn_lexer.specs.declared.kind.Kind.{Kind}
 use Rattle.asn_lexer.specs.declared.kind.Kind.TheVariants as kind
 use Rattle.asn_lexer.specs.declared.token.Token.{Token}
-use Rattle.asn_linked_types.specs.Expansion.{no_values}
+use Rattle.asn_linked.specs.types.Expansion.{no_values}
 use Rattle.asn_model.specs.Shape.{Alphabet, Alternatives, AlternativeAdditions, Fields, FieldAdditions, Plain, Presence, SeqKind, Shape}
 use Rattle.asn_model.specs.declared.shape_type.Alphabet.TheVariants as alphabet
-use Rattle.asn_modules_notation.specs.Notation.{Base, Member, Notation, bit_string, choice, component, components_of, enumerated, group, instance_of, integer, leaf, marker, members, members_of, no_members, no_notations, notation, reference}
-use Rattle.asn_modules_notation.specs.declared.leaf.Leaf.TheVariants.{Boolean, Null, Text}
-use Rattle.asn_modules_notation.specs.declared.notation.Presence.TheVariants.{Default, Optional, Required}
-use Rattle.asn_modules_notation.specs.declared.number.Constant.TheVariants as constant
-use Rattle.asn_modules_notation.specs.declared.value.Value.{Value}
-use Rattle.asn_modules_notation.specs.declared.value.Value.TheVariants as value
+use Rattle.asn_modules_grammar.specs.notation.Notation.{Base, Member, Notation, bit_string, choice, component, components_of, enumerated, group, instance_of, integer, leaf, marker, members, members_of, no_members, no_notations, notation, reference}
+use Rattle.asn_modules_grammar.specs.declared.notation.leaf.Leaf.TheVariants.{Boolean, Null, Text}
+use Rattle.asn_modules_grammar.specs.declared.notation.notation.Presence.TheVariants.{Default, Optional, Required}
+use Rattle.asn_modules_grammar.specs.declared.notation.number.Constant.TheVariants as constant
+use Rattle.asn_modules_grammar.specs.declared.notation.value.Value.{Value}
+use Rattle.asn_modules_grammar.specs.declared.notation.value.Value.TheVariants as value
 use Rattle.asn_modules_types.specs.Leaves.{integer_shape}
 use Rattle.asn_modules_types.specs.Linked.{no_roots}
 use Rattle.asn_modules_types.specs.Lists.{added_of, root_of}

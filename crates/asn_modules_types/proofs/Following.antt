@@ -2,16 +2,16 @@
 use Rattle.std.proofs.Common.{◌≡◌, ℕ, ℤ, zero, suc, ◌+◌, List, [], ◌∷◌, Bool, true, false, if◌then◌else◌, Option, Some, None, refl, sym, ap, ◌∙◌, arith}
 use Rattle.std.specs.List.{slice_get}
 use Rattle.std.specs.Str.{bytes_eq}
-use Rattle.asn_linked_types.specs.Expansion.{no_values}
+use Rattle.asn_linked.specs.types.Expansion.{no_values}
 use Rattle.asn_model.specs.Shape.{Shape}
-use Rattle.asn_modules_faults.specs.Slices.{text_of}
-use Rattle.asn_modules_lookup.specs.Homes.{Home}
-use Rattle.asn_modules_lookup.specs.declared.sort.Sort.TheVariants.{Types}
+use Rattle.asn_modules_errors.specs.Slices.{text_of}
+use Rattle.asn_modules_names.specs.lookup.Homes.{Home}
+use Rattle.asn_modules_names.specs.declared.lookup.sort.Sort.TheVariants.{Types}
 use Rattle.asn_modules_names.specs.Mentions.{Source}
-use Rattle.asn_modules_notation.specs.Notation.{Notation, bit_string, choice, enumerated, instance_of, integer, leaf, list_of, members, notation, reference}
-use Rattle.asn_modules_notation.specs.declared.number.Constant.{Constant}
-use Rattle.asn_modules_notation.specs.declared.number.Constant.TheVariants as constant
-use Rattle.asn_modules_notation.specs.declared.number.NamedNumber.{NamedNumber}
+use Rattle.asn_modules_grammar.specs.notation.Notation.{Notation, bit_string, choice, enumerated, instance_of, integer, leaf, list_of, members, notation, reference}
+use Rattle.asn_modules_grammar.specs.declared.notation.number.Constant.{Constant}
+use Rattle.asn_modules_grammar.specs.declared.notation.number.Constant.TheVariants as constant
+use Rattle.asn_modules_grammar.specs.declared.notation.number.NamedNumber.{NamedNumber}
 use Rattle.asn_modules_types.specs.Assigned.{Assigned, assigned, notation_of}
 use Rattle.asn_modules_types.specs.Linked.{base_of, is_numbered, named_by, named_type, no_roots, number_by, number_word, numbered_shape, opened_type, plain_scope, roots_by, scope_of, type_roots}
 use Rattle.asn_modules_types.specs.Numbers.{constant_in, named_number}

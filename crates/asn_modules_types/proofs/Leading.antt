@@ -2,10 +2,10 @@
 use Rattle.std.proofs.Common.{◌≡◌, ℕ, zero, suc, ◌+◌, List, [], ◌∷◌, true, false, Option, Some, None, is_some, refl, sym, ap, ◌∙◌, arith}
 use Rattle.std.specs.List.{slice_get}
 use Rattle.std.specs.Option.{option_and_then, option_map, option_or}
-use Rattle.asn_modules_lookup.specs.declared.sort.Sort.TheVariants.{Values}
+use Rattle.asn_modules_names.specs.declared.lookup.sort.Sort.TheVariants.{Values}
 use Rattle.asn_modules_names.specs.Assigned.{first_found}
 use Rattle.asn_modules_names.specs.Mentions.{Source}
-use Rattle.asn_modules_notation.specs.declared.value.Value.{Value}
+use Rattle.asn_modules_grammar.specs.declared.notation.value.Value.{Value}
 use Rattle.asn_modules_types.specs.Assigned.{Assigned, assigned, value_of}
 use Rattle.asn_modules_types.specs.Values.{StatedValue, if_stated, in_text, next_value, number_named, stated, value_in, values_from}
 

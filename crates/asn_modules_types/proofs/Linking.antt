@@ -1,16 +1,16 @@
 -- The shapes of types that were linked so far.
 use Rattle.std.proofs.Common.{◌≡◌, ◌≤◌, ◌<◌, ◌+◌, ℕ, suc, List, [], ◌∷◌, ◌++◌, map, Bool, true, false, if◌then◌else◌, length, drop, get_or, refl, sym, ap, ◌∙◌, add-one, arith}
 use Rattle.std.proofs.lemmas.List.{drop_all, drop_more, length-map}
-use Rattle.asn_linked_types.specs.Expansion.{no_values}
-use Rattle.asn_linked_types.specs.Linked.{are_linked, are_readable_among}
-use Rattle.asn_linked_types.specs.declared.limits.TheConstants.{TYPE_LIMIT}
-use Rattle.asn_linked_types.proofs.Within.{linked-is}
+use Rattle.asn_linked.specs.types.Expansion.{no_values}
+use Rattle.asn_linked.specs.types.Linked.{are_linked, are_readable_among}
+use Rattle.asn_linked.specs.declared.types.limits.TheConstants.{TYPE_LIMIT}
+use Rattle.asn_linked.proofs.types.Within.{linked-is}
 use Rattle.asn_model.proofs.Readables.{and-both}
 use Rattle.asn_model.specs.Readable.{is_readable_in}
 use Rattle.asn_model.specs.Shape.{Shape}
 use Rattle.asn_model.specs.ShapeView.{shape_view}
 use Rattle.asn_model.specs.declared.shape_type.Shape as code
-use Rattle.asn_modules_lookup.specs.declared.sort.Sort.TheVariants.{Types}
+use Rattle.asn_modules_names.specs.declared.lookup.sort.Sort.TheVariants.{Types}
 use Rattle.asn_modules_names.proofs.Founds.{listed_all, listed_more, pushed}
 use Rattle.asn_modules_names.specs.Mentions.{Source}
 use Rattle.asn_modules_types.specs.Assigned as spec

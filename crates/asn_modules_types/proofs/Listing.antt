@@ -4,15 +4,15 @@ use Rattle.std.proofs.lemmas.List.{drop_all}
 use Rattle.std.specs.List.{cons_option}
 use Rattle.std.specs.Option.{option_map}
 use Rattle.asn_lexer.specs.declared.token.Token.{Token}
-use Rattle.asn_modules_lookup.proofs.Listing.{some_of}
-use Rattle.asn_modules_lookup.specs.Entries.{name_as}
-use Rattle.asn_modules_lookup.specs.Homes.{Home, home_view}
-use Rattle.asn_modules_lookup.specs.declared.home.Home as code
-use Rattle.asn_modules_lookup.specs.declared.sort.Sort.{Sort}
+use Rattle.asn_modules_names.proofs.lookup.Listing.{some_of}
+use Rattle.asn_modules_names.specs.lookup.Entries.{name_as}
+use Rattle.asn_modules_names.specs.lookup.Homes.{Home, home_view}
+use Rattle.asn_modules_names.specs.declared.lookup.home.Home as code
+use Rattle.asn_modules_names.specs.declared.lookup.sort.Sort.{Sort}
 use Rattle.asn_modules_names.proofs.Founds.{drop_at, listed_more, pushed}
-use Rattle.asn_modules_notation.specs.Modules.{Assignment}
-use Rattle.asn_modules_notation.specs.View.{assignment_view}
-use Rattle.asn_modules_notation.specs.declared.module.Assignment as code_assignment
+use Rattle.asn_modules_grammar.specs.notation.Modules.{Assignment}
+use Rattle.asn_modules_grammar.specs.notation.View.{assignment_view}
+use Rattle.asn_modules_grammar.specs.declared.notation.module.Assignment as code_assignment
 use Rattle.asn_modules_types.specs.Assigned as spec
 use Rattle.asn_modules_types.specs.Assigned.{assigned_as, assigned_in, assigned_of}
 use Rattle.asn_modules_types.specs.Known.{assigned_view}

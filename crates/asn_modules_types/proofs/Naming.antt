@@ -4,10 +4,10 @@ use Rattle.std.proofs.lemmas.List.{drop_all, drop_more}
 use Rattle.std.specs.Global.{Global, Vec}
 use Rattle.std.specs.Option.{option_map}
 use Rattle.std.specs.Str.{bytes_eq}
-use Rattle.asn_modules_faults.specs.Slices.{text_of}
-use Rattle.asn_modules_notation.specs.View.{items_view}
-use Rattle.asn_modules_notation.specs.declared.number.Item.{Item}
-use Rattle.asn_modules_notation.specs.declared.number.NamedNumber.{NamedNumber}
+use Rattle.asn_modules_errors.specs.Slices.{text_of}
+use Rattle.asn_modules_grammar.specs.notation.View.{items_view}
+use Rattle.asn_modules_grammar.specs.declared.notation.number.Item.{Item}
+use Rattle.asn_modules_grammar.specs.declared.notation.number.NamedNumber.{NamedNumber}
 use Rattle.asn_modules_types.specs.Leaves.{item_names}
 use Rattle.asn_modules_types.specs.Lists.{added_of, implied}
 use Rattle.asn_modules_types.specs.Numbers.{constant_in, named_number}

@@ -7,27 +7,27 @@ use Rattle.std.specs.List.{slice_get}
 use Rattle.std.specs.Option.{option_and_then, option_map}
 use Rattle.std.specs.Str.{bytes_eq}
 use Rattle.asn_lexer.specs.declared.token.Token.{Token}
-use Rattle.asn_modules_faults.specs.Slices.{text_of}
-use Rattle.asn_modules_lookup.specs.declared.sort.Sort.TheVariants.{Types}
-use Rattle.asn_modules_named_numbers.specs.Named.{StatedType, constant_named, first_named, numbers_in}
-use Rattle.asn_modules_named_numbers.specs.Numbers.{AreNumbersOf}
-use Rattle.asn_modules_named_numbers.specs.Views.{type_view}
-use Rattle.asn_modules_named_numbers.specs.declared.entries.StatedType as code_stated
-use Rattle.asn_modules_named_numbers.specs.declared.numbers.NamedNumbers.{NamedNumbers}
+use Rattle.asn_modules_errors.specs.Slices.{text_of}
+use Rattle.asn_modules_names.specs.declared.lookup.sort.Sort.TheVariants.{Types}
+use Rattle.asn_modules_types.specs.named_numbers.Named.{StatedType, constant_named, first_named, numbers_in}
+use Rattle.asn_modules_types.specs.named_numbers.Numbers.{AreNumbersOf}
+use Rattle.asn_modules_types.specs.named_numbers.Views.{type_view}
+use Rattle.asn_modules_types.specs.declared.named_numbers.entries.StatedType as code_stated
+use Rattle.asn_modules_types.specs.declared.named_numbers.numbers.NamedNumbers.{NamedNumbers}
 use Rattle.asn_modules_names.proofs.Founds.{drop_at, listed_more, pushed}
 use Rattle.asn_modules_names.specs.Mentions.{Source}
-use Rattle.asn_modules_notation.specs.Notation.{Base, Notation, bit_string, choice, enumerated, instance_of, integer, leaf, list_of, members, notation, reference}
-use Rattle.asn_modules_notation.specs.Notation as spec
-use Rattle.asn_modules_notation.specs.View.{base_step, component_step, extension_step, member_step, members_step, notation_step, notation_view}
-use Rattle.asn_modules_notation.specs.declared.notation.Base as code_base
-use Rattle.asn_modules_notation.specs.declared.notation.Base.{out-Base, roll-Base, roll-out-Base}
-use Rattle.asn_modules_notation.specs.declared.notation.Base.TheFolds.{fold-roll-Base}
-use Rattle.asn_modules_notation.specs.declared.notation.Base.TheOpen as layer
-use Rattle.asn_modules_notation.specs.declared.notation.Base.TheVariants.{Integer, Reference, rolls-Reference}
-use Rattle.asn_modules_notation.specs.declared.notation.Notation as code_notation
-use Rattle.asn_modules_notation.specs.declared.notation.Notation.{out-Notation}
-use Rattle.asn_modules_notation.specs.declared.number.Constant.{Constant}
-use Rattle.asn_modules_notation.specs.declared.number.NamedNumber.{NamedNumber}
+use Rattle.asn_modules_grammar.specs.notation.Notation.{Base, Notation, bit_string, choice, enumerated, instance_of, integer, leaf, list_of, members, notation, reference}
+use Rattle.asn_modules_grammar.specs.notation.Notation as spec
+use Rattle.asn_modules_grammar.specs.notation.View.{base_step, component_step, extension_step, member_step, members_step, notation_step, notation_view}
+use Rattle.asn_modules_grammar.specs.declared.notation.notation.Base as code_base
+use Rattle.asn_modules_grammar.specs.declared.notation.notation.Base.{out-Base, roll-Base, roll-out-Base}
+use Rattle.asn_modules_grammar.specs.declared.notation.notation.Base.TheFolds.{fold-roll-Base}
+use Rattle.asn_modules_grammar.specs.declared.notation.notation.Base.TheOpen as layer
+use Rattle.asn_modules_grammar.specs.declared.notation.notation.Base.TheVariants.{Integer, Reference, rolls-Reference}
+use Rattle.asn_modules_grammar.specs.declared.notation.notation.Notation as code_notation
+use Rattle.asn_modules_grammar.specs.declared.notation.notation.Notation.{out-Notation}
+use Rattle.asn_modules_grammar.specs.declared.notation.number.Constant.{Constant}
+use Rattle.asn_modules_grammar.specs.declared.notation.number.NamedNumber.{NamedNumber}
 use Rattle.asn_modules_reader.proofs.Viewing.{integer_viewed}
 use Rattle.asn_modules_reader.specs.Views.{base_view}
 use Rattle.asn_modules_types.specs.Assigned.{Assigned, assigned, notation_of, stated_type}

@@ -7,11 +7,11 @@ use Rattle.asn_model.specs.ShapeView.{alternative_step, field_step, shape_step, 
 use Rattle.asn_model.specs.declared.shape_type.Shape.TheFolds.{fold-roll-Shape}
 use Rattle.asn_model.specs.declared.shape_type.Shape.TheOpen as layer
 use Rattle.asn_model.specs.declared.shape_type.Shape.TheVariants.{Back, rolls-Back}
-use Rattle.asn_modules_notation.specs.Notation as spec
-use Rattle.asn_modules_notation.specs.View.{base_step, component_step, extension_step, member_step, members_step, notation_step, notation_view}
-use Rattle.asn_modules_notation.specs.declared.notation.Base.TheFolds.{fold_out-Notation}
-use Rattle.asn_modules_notation.specs.declared.notation.Notation.{Notation, out-Notation}
-use Rattle.asn_modules_notation.specs.declared.notation.Presence as stated
+use Rattle.asn_modules_grammar.specs.notation.Notation as spec
+use Rattle.asn_modules_grammar.specs.notation.View.{base_step, component_step, extension_step, member_step, members_step, notation_step, notation_view}
+use Rattle.asn_modules_grammar.specs.declared.notation.notation.Base.TheFolds.{fold_out-Notation}
+use Rattle.asn_modules_grammar.specs.declared.notation.notation.Notation.{Notation, out-Notation}
+use Rattle.asn_modules_grammar.specs.declared.notation.notation.Presence as stated
 use Rattle.asn_modules_reader.specs.Views.{base_view}
 use Rattle.asn_modules_types.specs.Scopes.{Scope, name_in}
 use Rattle.asn_modules_types.specs.Sizes.{sized}

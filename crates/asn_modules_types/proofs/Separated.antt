@@ -5,22 +5,22 @@ use Rattle.std.specs.Global.{Vec}
 use Rattle.std.specs.Option.{option_and_then, option_map}
 use Rattle.asn_expansion.specs.Expansion.{of_both}
 use Rattle.asn_modules_names.proofs.Founds.{drop_at}
-use Rattle.asn_modules_notation.specs.Notation as spec
-use Rattle.asn_modules_notation.specs.Notation.{Member, marker, members_of}
-use Rattle.asn_modules_notation.specs.View.{items_view, base_step, component_step, component_view, extension_step, member_step, members_step, members_view, notation_step, notation_view}
-use Rattle.asn_modules_notation.specs.declared.notation.Base.{Base}
-use Rattle.asn_modules_notation.specs.declared.notation.Base.TheFolds.{fold_out-Component, fold_out-Member, fold-roll-Component, fold-roll-Member}
-use Rattle.asn_modules_notation.specs.declared.notation.Base.TheOpen as layer
-use Rattle.asn_modules_notation.specs.declared.notation.Base.TheOpen.{Component-F, Member-F}
-use Rattle.asn_modules_notation.specs.declared.notation.Base.TheViews.{out-Component, out-Member, roll-Component, roll-Member}
-use Rattle.asn_modules_notation.specs.declared.notation.Component.{Component}
-use Rattle.asn_modules_notation.specs.declared.notation.Extension.{Extension, out-Extension}
-use Rattle.asn_modules_notation.specs.declared.notation.Member as code_member
-use Rattle.asn_modules_notation.specs.declared.notation.Members.{Members, out-Members}
-use Rattle.asn_modules_notation.specs.declared.notation.Notation.{Notation}
-use Rattle.asn_modules_notation.specs.declared.number.Item.{Item}
+use Rattle.asn_modules_grammar.specs.notation.Notation as spec
+use Rattle.asn_modules_grammar.specs.notation.Notation.{Member, marker, members_of}
+use Rattle.asn_modules_grammar.specs.notation.View.{items_view, base_step, component_step, component_view, extension_step, member_step, members_step, members_view, notation_step, notation_view}
+use Rattle.asn_modules_grammar.specs.declared.notation.notation.Base.{Base}
+use Rattle.asn_modules_grammar.specs.declared.notation.notation.Base.TheFolds.{fold_out-Component, fold_out-Member, fold-roll-Component, fold-roll-Member}
+use Rattle.asn_modules_grammar.specs.declared.notation.notation.Base.TheOpen as layer
+use Rattle.asn_modules_grammar.specs.declared.notation.notation.Base.TheOpen.{Component-F, Member-F}
+use Rattle.asn_modules_grammar.specs.declared.notation.notation.Base.TheViews.{out-Component, out-Member, roll-Component, roll-Member}
+use Rattle.asn_modules_grammar.specs.declared.notation.notation.Component.{Component}
+use Rattle.asn_modules_grammar.specs.declared.notation.notation.Extension.{Extension, out-Extension}
+use Rattle.asn_modules_grammar.specs.declared.notation.notation.Member as code_member
+use Rattle.asn_modules_grammar.specs.declared.notation.notation.Members.{Members, out-Members}
+use Rattle.asn_modules_grammar.specs.declared.notation.notation.Notation.{Notation}
+use Rattle.asn_modules_grammar.specs.declared.notation.number.Item.{Item}
 use Rattle.asn_modules_reader.specs.Views.{member_view}
-use Rattle.asn_modules_references.proofs.Outs.{extension_seen, members_out, tail_seen}
+use Rattle.asn_modules_names.proofs.references.Outs.{extension_seen, members_out, tail_seen}
 use Rattle.asn_modules_types.specs.Known.{items_of, known_parts, part_view, tail_of}
 use Rattle.asn_modules_types.specs.Lists.{added_of, all_known, behind, front, front_of, if_marked, implied, root_of}
 use Rattle.asn_modules_types.specs.Scopes.{Scope}

@@ -1,14 +1,14 @@
 -- The types and values that modules assign, by their numbers.
 use Rattle.std.specs.Prelude.{ℕ, suc, List, [], ◌∷◌, ◌++◌, filter_map, Option, Some, None, option_map}
 use Rattle.asn_lexer.specs.declared.token.Token.{Token}
-use Rattle.asn_modules_lookup.specs.Entries.{name_as}
-use Rattle.asn_modules_lookup.specs.Homes.{Home, homes}
-use Rattle.asn_modules_lookup.specs.declared.sort.Sort.{Sort}
-use Rattle.asn_modules_named_numbers.specs.Named.{StatedType}
+use Rattle.asn_modules_names.specs.lookup.Entries.{name_as}
+use Rattle.asn_modules_names.specs.lookup.Homes.{Home, homes}
+use Rattle.asn_modules_names.specs.declared.lookup.sort.Sort.{Sort}
+use Rattle.asn_modules_types.specs.named_numbers.Named.{StatedType}
 use Rattle.asn_modules_names.specs.Mentions.{Source}
-use Rattle.asn_modules_notation.specs.Modules.{Assignment, type_assignment, value_assignment, template_assignment}
-use Rattle.asn_modules_notation.specs.Notation.{Notation}
-use Rattle.asn_modules_notation.specs.declared.value.Value.{Value}
+use Rattle.asn_modules_grammar.specs.notation.Modules.{Assignment, type_assignment, value_assignment, template_assignment}
+use Rattle.asn_modules_grammar.specs.notation.Notation.{Notation}
+use Rattle.asn_modules_grammar.specs.declared.notation.value.Value.{Value}
 
 -- An assignment, with its module and the number of that.
 pub record Assigned : Type 0 where

@@ -6,10 +6,10 @@ use Rattle.std.specs.Str.{bytes_eq, is_utf8}
 use Rattle.asn_lexer.specs.declared.token.Token.{Token}
 use Rattle.asn_model.specs.Readable.{is_of_shape}
 use Rattle.asn_model.specs.Shape.{Plain, Shape}
-use Rattle.asn_modules_faults.specs.Slices.{text_of}
+use Rattle.asn_modules_errors.specs.Slices.{text_of}
 use Rattle.asn_modules_names.specs.Assigned.{first_found}
-use Rattle.asn_modules_notation.specs.declared.value.Value.{Value}
-use Rattle.asn_modules_notation.specs.declared.value.Value.TheVariants as value
+use Rattle.asn_modules_grammar.specs.declared.notation.value.Value.{Value}
+use Rattle.asn_modules_grammar.specs.declared.notation.value.Value.TheVariants as value
 use Rattle.asn_modules_types.specs.Numbers.{signed_in}
 use Rattle.asn_modules_types.specs.Scopes.{Scope, ascii_of, name_in}
 use Rattle.asn_modules_types.specs.declared.limits.TheConstants.{DEFAULT_STRING_LIMIT}

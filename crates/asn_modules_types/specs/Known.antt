@@ -3,18 +3,18 @@ use Rattle.std.specs.Prelude.{◌≡◌, ◌<◌, ℕ, List, [], length, map, st
 use Rattle.std.specs.Global.{Vec}
 use Rattle.std.specs.Option.{option_map}
 use Rattle.asn_lexer.specs.declared.token.Token.{Token}
-use Rattle.asn_linked_types.specs.declared.limits.TheConstants.{TYPE_LIMIT}
+use Rattle.asn_linked.specs.declared.types.limits.TheConstants.{TYPE_LIMIT}
 use Rattle.asn_model.specs.ShapeView.{kind_view, presence_view, shape_view}
-use Rattle.asn_modules_lookup.specs.Homes.{Home, home_view}
-use Rattle.asn_modules_lookup.specs.Indexes.{IsIndexOf}
-use Rattle.asn_modules_lookup.specs.declared.sort.Sort.TheVariants.{Templates, Types, Values}
-use Rattle.asn_modules_named_numbers.specs.Numbers.{AreNumbersOf}
+use Rattle.asn_modules_names.specs.lookup.Homes.{Home, home_view}
+use Rattle.asn_modules_names.specs.lookup.Indexes.{IsIndexOf}
+use Rattle.asn_modules_names.specs.declared.lookup.sort.Sort.TheVariants.{Templates, Types, Values}
+use Rattle.asn_modules_types.specs.named_numbers.Numbers.{AreNumbersOf}
 use Rattle.asn_modules_names.specs.Mentions.{Source, source_view}
-use Rattle.asn_modules_notation.specs.Notation as notation
-use Rattle.asn_modules_notation.specs.Notation.{members_of}
-use Rattle.asn_modules_notation.specs.View.{assignment_view}
-use Rattle.asn_modules_notation.specs.declared.notation.Extension.{Extension, out-Extension}
-use Rattle.asn_modules_notation.specs.declared.notation.Member.{Member}
+use Rattle.asn_modules_grammar.specs.notation.Notation as notation
+use Rattle.asn_modules_grammar.specs.notation.Notation.{members_of}
+use Rattle.asn_modules_grammar.specs.notation.View.{assignment_view}
+use Rattle.asn_modules_grammar.specs.declared.notation.notation.Extension.{Extension, out-Extension}
+use Rattle.asn_modules_grammar.specs.declared.notation.notation.Member.{Member}
 use Rattle.asn_modules_types.specs.Assigned as spec
 use Rattle.asn_modules_types.specs.Linked.{named_type, no_roots, number_word, roots_of, scope_in}
 use Rattle.asn_modules_types.specs.Lists.{all_known, front}

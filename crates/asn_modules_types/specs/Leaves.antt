@@ -1,14 +1,14 @@
 -- The shapes of types without parts.
 use Rattle.std.specs.Prelude.{ℕ, pos, negsuc, ◌-◌, ◌^◌, List, map, Bool, Option}
 use Rattle.std.specs.Option.{option_map}
-use Rattle.asn_linked_types.specs.Expansion.{no_values}
+use Rattle.asn_linked.specs.types.Expansion.{no_values}
 use Rattle.asn_model.specs.Shape.{Alphabet, Shape}
 use Rattle.asn_model.specs.ShapeView.{alphabet_view}
-use Rattle.asn_modules_notation.specs.declared.leaf.Closed.{Closed}
-use Rattle.asn_modules_notation.specs.declared.leaf.Closed.TheVariants as closed
-use Rattle.asn_modules_notation.specs.declared.leaf.Leaf.{Leaf}
-use Rattle.asn_modules_notation.specs.declared.leaf.Leaf.TheVariants as leaf
-use Rattle.asn_modules_notation.specs.declared.number.Item.{Item}
+use Rattle.asn_modules_grammar.specs.declared.notation.leaf.Closed.{Closed}
+use Rattle.asn_modules_grammar.specs.declared.notation.leaf.Closed.TheVariants as closed
+use Rattle.asn_modules_grammar.specs.declared.notation.leaf.Leaf.{Leaf}
+use Rattle.asn_modules_grammar.specs.declared.notation.leaf.Leaf.TheVariants as leaf
+use Rattle.asn_modules_grammar.specs.declared.notation.number.Item.{Item}
 use Rattle.asn_modules_types.specs.Lists.{added_of, implied, root_of}
 use Rattle.asn_modules_types.specs.Scopes.{name_in}
 

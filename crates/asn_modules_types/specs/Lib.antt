@@ -10,3 +10,4 @@ pub mod Assigned
 pub mod Values
 pub mod Linked
 pub mod Known
+pub mod named_numbers

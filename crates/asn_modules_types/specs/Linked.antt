@@ -2,17 +2,17 @@
 use Rattle.std.specs.Prelude.{ℕ, ℤ, zero, suc, nat_eq, nat_le, List, [], ◌∷◌, length, Bool, true, false, not, ◌&&◌, if◌then◌else◌, Option, Some, None}
 use Rattle.std.specs.List.{slice_get}
 use Rattle.std.specs.Option.{option_and_then}
-use Rattle.asn_headers.specs.Headers.{Header}
-use Rattle.asn_linked_types.specs.Expansion.{no_values}
+use Rattle.asn_modules_grammar.specs.headers.Headers.{Header}
+use Rattle.asn_linked.specs.types.Expansion.{no_values}
 use Rattle.asn_model.specs.Readable.{is_readable_in}
 use Rattle.asn_model.specs.Shape.{Shape}
 use Rattle.asn_lexer.specs.declared.token.Token.{Token}
-use Rattle.asn_modules_included.specs.TooLarge.{is_small}
-use Rattle.asn_modules_lookup.specs.Homes.{Home}
-use Rattle.asn_modules_lookup.specs.declared.sort.Sort.TheVariants.{Templates, Types}
+use Rattle.asn_modules_rules.specs.included.TooLarge.{is_small}
+use Rattle.asn_modules_names.specs.lookup.Homes.{Home}
+use Rattle.asn_modules_names.specs.declared.lookup.sort.Sort.TheVariants.{Templates, Types}
 use Rattle.asn_modules_names.specs.Mentions.{Source}
-use Rattle.asn_modules_notation.specs.Notation.{Base, Notation, Notations, choice, enumerated, instance_of, list_of, members, notation}
-use Rattle.asn_modules_sizes.specs.Sizes.{items_size}
+use Rattle.asn_modules_grammar.specs.notation.Notation.{Base, Notation, Notations, choice, enumerated, instance_of, list_of, members, notation}
+use Rattle.asn_modules_rules.specs.sizes.Sizes.{items_size}
 use Rattle.asn_modules_types.specs.Assigned.{Assigned, assigned, notation_of, parameters_of}
 use Rattle.asn_modules_types.specs.Leaves.{enumerated_shape}
 use Rattle.asn_modules_types.specs.Scopes.{Scope}

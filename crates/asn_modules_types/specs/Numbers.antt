@@ -4,15 +4,15 @@ use Rattle.std.specs.Option.{option_map}
 use Rattle.std.specs.Str.{bytes_eq}
 use Rattle.asn_lexer.specs.declared.token.Token.{Token}
 use Rattle.asn_model.specs.Digits.{digits}
-use Rattle.asn_modules_faults.specs.Slices.{text_of}
+use Rattle.asn_modules_errors.specs.Slices.{text_of}
 use Rattle.asn_modules_names.specs.Assigned.{first_found}
-use Rattle.asn_modules_notation.specs.declared.number.Constant.{Constant}
-use Rattle.asn_modules_notation.specs.declared.number.Constant.TheVariants as constant
-use Rattle.asn_modules_notation.specs.declared.number.NamedNumber.{NamedNumber}
-use Rattle.asn_modules_notation.specs.declared.number.SignedNumber.{SignedNumber}
-use Rattle.asn_modules_notation.specs.declared.value.Value.{Value}
-use Rattle.asn_modules_notation.specs.declared.value.Value.TheVariants as value
-use Rattle.asn_modules_numbers.specs.Stated.{signed, within_bits}
+use Rattle.asn_modules_grammar.specs.declared.notation.number.Constant.{Constant}
+use Rattle.asn_modules_grammar.specs.declared.notation.number.Constant.TheVariants as constant
+use Rattle.asn_modules_grammar.specs.declared.notation.number.NamedNumber.{NamedNumber}
+use Rattle.asn_modules_grammar.specs.declared.notation.number.SignedNumber.{SignedNumber}
+use Rattle.asn_modules_grammar.specs.declared.notation.value.Value.{Value}
+use Rattle.asn_modules_grammar.specs.declared.notation.value.Value.TheVariants as value
+use Rattle.asn_modules_rules.specs.numbers.Stated.{signed, within_bits}
 use Rattle.asn_modules_types.specs.Scopes.{Scope}
 
 -- The number of decimal digits, if it has at most so many bits.

@@ -3,8 +3,8 @@ use Rattle.std.specs.Prelude.{ℕ, ℤ, nat_lt, List, [], Bool, if◌then◌else
 use Rattle.std.specs.List.{list_all}
 use Rattle.asn_lexer.specs.declared.token.Token.{Token}
 use Rattle.asn_model.specs.Shape.{Shape}
-use Rattle.asn_modules_faults.specs.Slices.{text_of}
-use Rattle.asn_modules_notation.specs.declared.value.Value.{Value}
+use Rattle.asn_modules_errors.specs.Slices.{text_of}
+use Rattle.asn_modules_grammar.specs.declared.notation.value.Value.{Value}
 
 -- What is known where a type stands in a module.
 pub record Scope : Type 0 where

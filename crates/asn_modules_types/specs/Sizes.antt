@@ -5,10 +5,10 @@ use Rattle.asn_lexer.specs.declared.kind.Kind.{Kind}
 use Rattle.asn_lexer.specs.declared.kind.Kind.TheVariants as kind
 use Rattle.asn_lexer.specs.declared.token.Token.{Token}
 use Rattle.asn_model.specs.Shape.{Shape, shape_under}
-use Rattle.asn_modules_lookup.specs.Lookup.{if_same}
-use Rattle.asn_modules_notation.specs.declared.size.Size.{Size}
-use Rattle.asn_modules_notation.specs.declared.value.Value.TheVariants as value
-use Rattle.asn_modules_numbers.specs.Stated.{within_bits}
+use Rattle.asn_modules_names.specs.lookup.Lookup.{if_same}
+use Rattle.asn_modules_grammar.specs.declared.notation.size.Size.{Size}
+use Rattle.asn_modules_grammar.specs.declared.notation.value.Value.TheVariants as value
+use Rattle.asn_modules_rules.specs.numbers.Stated.{within_bits}
 use Rattle.asn_modules_types.specs.Numbers.{number_at, number_in}
 use Rattle.asn_modules_types.specs.Scopes.{Scope}
 

@@ -2,9 +2,9 @@
 use Rattle.std.specs.Prelude.{ℕ, List, [], ◌∷◌, Bool, true, false, if◌then◌else◌, Option, Some, None}
 use Rattle.std.specs.Str.{bytes_eq}
 use Rattle.asn_lexer.specs.declared.token.Token.{Token}
-use Rattle.asn_modules_faults.specs.Slices.{text_of}
-use Rattle.asn_modules_notation.specs.Notation.{Base, Notation, Notations, another_notation, no_notations, notation, reference}
-use Rattle.asn_modules_notation.specs.declared.size.Size.{Size}
+use Rattle.asn_modules_errors.specs.Slices.{text_of}
+use Rattle.asn_modules_grammar.specs.notation.Notation.{Base, Notation, Notations, another_notation, no_notations, notation, reference}
+use Rattle.asn_modules_grammar.specs.declared.notation.size.Size.{Size}
 
 -- The number of the type that a name stands for, behind that of its module where it is stated.
 abbrev pub Finder : Type 0

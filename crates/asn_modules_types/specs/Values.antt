@@ -3,13 +3,13 @@ use Rattle.std.specs.Prelude.{ℕ, zero, suc, List, [], ◌∷◌, Option, Some,
 use Rattle.std.specs.List.{slice_get}
 use Rattle.std.specs.Option.{option_and_then, option_map}
 use Rattle.asn_lexer.specs.declared.token.Token.{Token}
-use Rattle.asn_modules_lookup.specs.Homes.{Home, bytes_in}
-use Rattle.asn_modules_lookup.specs.Lookup.{found}
-use Rattle.asn_modules_lookup.specs.declared.sort.Sort.{Sort}
-use Rattle.asn_modules_lookup.specs.declared.sort.Sort.TheVariants.{Values}
+use Rattle.asn_modules_names.specs.lookup.Homes.{Home, bytes_in}
+use Rattle.asn_modules_names.specs.lookup.Lookup.{found}
+use Rattle.asn_modules_names.specs.declared.lookup.sort.Sort.{Sort}
+use Rattle.asn_modules_names.specs.declared.lookup.sort.Sort.TheVariants.{Values}
 use Rattle.asn_modules_names.specs.Mentions.{Source}
-use Rattle.asn_modules_notation.specs.declared.value.Value.{Value}
-use Rattle.asn_modules_notation.specs.declared.value.Value.TheVariants as value
+use Rattle.asn_modules_grammar.specs.declared.notation.value.Value.{Value}
+use Rattle.asn_modules_grammar.specs.declared.notation.value.Value.TheVariants as value
 use Rattle.asn_modules_types.specs.Assigned.{Assigned, assigned, value_of}
 
 -- The number of the type or value that a name stands for in the module of number k, behind the name of its module where that is stated.

@@ -1,9 +1,9 @@
 //! Lists the types and values that modules assign.
-ghost use Rattle.asn_modules_lookup.specs.Entries.{name_as};
-ghost use Rattle.asn_modules_lookup.specs.Homes.{home_view};
-ghost use Rattle.asn_modules_named_numbers.specs.Numbers.{AreNumbersOf};
-ghost use Rattle.asn_modules_named_numbers.specs.Views.{type_view};
-ghost use Rattle.asn_modules_notation.specs.View.{assignment_view, notation_view};
+ghost use Rattle.asn_modules_names.specs.lookup.Entries.{name_as};
+ghost use Rattle.asn_modules_names.specs.lookup.Homes.{home_view};
+ghost use Rattle.asn_modules_types.specs.named_numbers.Numbers.{AreNumbersOf};
+ghost use Rattle.asn_modules_types.specs.named_numbers.Views.{type_view};
+ghost use Rattle.asn_modules_grammar.specs.notation.View.{assignment_view, notation_view};
 ghost use Rattle.asn_modules_types.specs.Assigned.{assigned_in, assigned_of, notation_of};
 ghost use Rattle.asn_modules_types.specs.Assigned.{parameters_of, stated_type, value_of};
 ghost use Rattle.asn_modules_types.specs.Known.{assigned_view};
@@ -12,9 +12,9 @@ ghost use Rattle.std.specs.Prelude.{◌≡◌, ◌<◌, ◌++◌, IfOk, IfSome, 
 ghost use Rattle.std.specs.Prelude.{option_map};
 
 use asn_lexer::Token;
-use asn_modules_lookup::{Home, Sort};
-use asn_modules_named_numbers::{NamedNumbers, StatedType, named_numbers};
-use asn_modules_notation::{Assignment, Notation, Value};
+use asn_modules_names::lookup::{Home, Sort};
+use crate::named_numbers::{NamedNumbers, StatedType, named_numbers};
+use asn_modules_grammar::notation::{Assignment, Notation, Value};
 use std::alloc::{AllocError, Global};
 
 /// Is a type or value that a module assigns.

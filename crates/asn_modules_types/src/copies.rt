@@ -1,6 +1,6 @@
 //! Copies types to components with DEFAULT: the value of a DEFAULT is one of a shape.
 ghost use Rattle.asn_model.specs.ShapeView.{shape_view};
-ghost use Rattle.asn_modules_lookup.specs.Homes.{home_view};
+ghost use Rattle.asn_modules_names.specs.lookup.Homes.{home_view};
 ghost use Rattle.asn_modules_reader.specs.Views.{base_view};
 ghost use Rattle.asn_modules_types.specs.Known.{KnowsNames, sources_of};
 ghost use Rattle.asn_modules_types.specs.Linked.{copied_base, copied_type};
@@ -14,8 +14,8 @@ use crate::limits::DEFAULT_ITEMS_LIMIT;
 use crate::names::Names;
 use crate::scope::Scope;
 use asn_model::Shape;
-use asn_modules_notation::{Base, Presence};
-use asn_modules_sizes::past_items;
+use asn_modules_grammar::notation::{Base, Presence};
+use asn_modules_rules::sizes::past_items;
 
 /// Returns a copy of the type of the number, by what it is without tags and sizes, if it is an
 /// ENUMERATED whose items take few bytes, else the number.

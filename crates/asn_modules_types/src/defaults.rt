@@ -2,7 +2,7 @@
 ghost use Rattle.asn_model.specs.Readable.{is_of_shape};
 ghost use Rattle.asn_model.specs.ShapeView.{plain_view, presence_view, shape_view};
 ghost use Rattle.asn_modules_names.specs.Assigned.{first_found};
-ghost use Rattle.asn_modules_notation.specs.View.{notation_view};
+ghost use Rattle.asn_modules_grammar.specs.notation.View.{notation_view};
 ghost use Rattle.asn_modules_types.specs.Defaults.{boolean_named, default_of, plain_in, suited};
 ghost use Rattle.asn_modules_types.specs.Defaults.{string_in, string_plain, word_plain};
 ghost use Rattle.asn_modules_types.specs.Known.{KnowsNames, scope_view, sources_of, stated_view};
@@ -22,8 +22,8 @@ use crate::values::{StatedValue, next_value};
 use crate::words::{string_in, string_of, word_in};
 use asn_lexer::Token;
 use asn_model::{Plain, PresenceShape, Shape, is_of_shape};
-use asn_modules_faults::text_of;
-use asn_modules_notation::{Base, Constant, NamedNumber, Notation, Presence, Value};
+use asn_modules_errors::text_of;
+use asn_modules_grammar::notation::{Base, Constant, NamedNumber, Notation, Presence, Value};
 use std::alloc::Global;
 
 /// Returns the number that a constant is, or `None` where it is the name of a value that leads to

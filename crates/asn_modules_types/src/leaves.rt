@@ -1,7 +1,7 @@
 //! Makes the shapes of types without parts.
 ghost use Rattle.asn_model.specs.ShapeView.{shape_view};
-ghost use Rattle.asn_modules_lookup.specs.Homes.{home_view};
-ghost use Rattle.asn_modules_notation.specs.View.{items_view};
+ghost use Rattle.asn_modules_names.specs.lookup.Homes.{home_view};
+ghost use Rattle.asn_modules_grammar.specs.notation.View.{items_view};
 ghost use Rattle.asn_modules_types.specs.Leaves.{enumerated_shape, integer_shape, item_names};
 ghost use Rattle.asn_modules_types.specs.Leaves.{leaf_shape};
 ghost use Rattle.asn_modules_types.specs.Linked.{is_extensible};
@@ -10,9 +10,9 @@ ghost use Rattle.std.specs.Prelude.{◌≡◌, IfOk, map, string_bytes};
 use crate::fault::LinkFault;
 use crate::scope::{Scope, is_extensible};
 use crate::words::name_in;
-use asn_linked_types::no_values;
+use asn_linked::types::no_values;
 use asn_model::{Alphabet, Shape};
-use asn_modules_notation::{Closed, Item, Leaf};
+use asn_modules_grammar::notation::{Closed, Item, Leaf};
 use std::alloc::{AllocError, Global};
 
 /// Returns the shape of INTEGER.

@@ -3,6 +3,7 @@
 //! expansion, which is never built.
 #![tactic(auto)]
 
+pub mod named_numbers;
 mod allowance;
 mod assigned;
 mod copies;

@@ -4,7 +4,7 @@ use asn_modules_reader::limits::NESTING_LIMIT;
 /// Limits the names of types or of values that stand for one another in a row, as `A ::= B`, and
 /// those behind COMPONENTS OF. A name of a type that leads past more of them has no values, and so
 /// has one that leads to itself.
-pub const NAME_LIMIT: usize = asn_modules_included::NAME_LIMIT;
+pub const NAME_LIMIT: usize = asn_modules_rules::included::NAME_LIMIT;
 
 /// Limits the bytes that the items of an ENUMERATED take (`asn_modules_sizes`) which a component
 /// with DEFAULT names: the shape of that component holds a copy of it. A DEFAULT of one with more
@@ -17,11 +17,11 @@ pub const DEFAULT_STRING_LIMIT: usize = 1_024;
 
 /// Limits the types that COMPONENTS OF includes in those of all texts, with what stands within: no
 /// more than these are let through by `asn_modules_included`.
-pub const INCLUDED_LIMIT: usize = asn_modules_included::INCLUDED_SIZE_LIMIT
-    / asn_modules_included::TYPE_SIZE;
+pub const INCLUDED_LIMIT: usize = asn_modules_rules::included::INCLUDED_SIZE_LIMIT
+    / asn_modules_rules::included::TYPE_SIZE;
 
 /// Limits the levels to which types, and names behind COMPONENTS OF, nest: those of a text, below
 /// them those of what COMPONENTS OF includes, and below them those of a type with parameters.
 pub const LEVEL_LIMIT: usize = NESTING_LIMIT
-    + asn_modules_included::INCLUDED_LEVEL_LIMIT
+    + asn_modules_rules::included::INCLUDED_LEVEL_LIMIT
     + NESTING_LIMIT;

@@ -1,8 +1,8 @@
 //! Links the types that modules assign.
-ghost use Rattle.asn_linked_types.specs.Linked.{are_linked};
+ghost use Rattle.asn_linked.specs.types.Linked.{are_linked};
 ghost use Rattle.asn_model.specs.ShapeView.{shape_view};
-ghost use Rattle.asn_modules_lookup.specs.Indexes.{IsIndexOf};
-ghost use Rattle.asn_modules_lookup.specs.declared.sort.Sort.TheVariants.{Types};
+ghost use Rattle.asn_modules_names.specs.lookup.Indexes.{IsIndexOf};
+ghost use Rattle.asn_modules_names.specs.declared.lookup.sort.Sort.TheVariants.{Types};
 ghost use Rattle.asn_modules_names.specs.Mentions.{source_view};
 ghost use Rattle.asn_modules_types.specs.Known.{KnowsNames, sources_of};
 ghost use Rattle.asn_modules_types.specs.Linked.{linked_type, linked_types, named_type};
@@ -16,10 +16,10 @@ use crate::limits::{INCLUDED_LIMIT, LEVEL_LIMIT, NAME_LIMIT};
 use crate::names::{Names, named_type};
 use crate::scope::Scope;
 use crate::shapes::shape_of;
-use asn_linked_types::{TYPE_LIMIT, no_values};
+use asn_linked::types::{TYPE_LIMIT, no_values};
 use asn_model::{Shape, is_readable_within_with};
-use asn_modules_lookup::{Index, Sort, homes_of, index_of};
-use asn_modules_text::Source;
+use asn_modules_names::lookup::{Index, Sort, homes_of, index_of};
+use asn_modules_reader::text::Source;
 use std::alloc::Global;
 
 /// Returns what the name of the type of the number stands for, opened. It takes the types that it

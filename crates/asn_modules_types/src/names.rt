@@ -11,12 +11,12 @@ use crate::fault::LinkFault;
 use crate::leaves::{integer_shape, leaf_shape};
 use crate::scope::{Scope, find};
 use crate::sizes::sized;
-use asn_linked_types::no_values;
+use asn_linked::types::no_values;
 use asn_model::Shape;
-use asn_modules_lookup::Index;
-use asn_modules_named_numbers::NamedNumbers;
-use asn_modules_notation::Base;
-use asn_modules_text::Source;
+use asn_modules_names::lookup::Index;
+use crate::named_numbers::NamedNumbers;
+use asn_modules_grammar::notation::Base;
+use asn_modules_reader::text::Source;
 use std::alloc::Global;
 
 /// Holds the types and values that names stand for.

@@ -1,12 +1,12 @@
 //! Reads numbers.
 ghost use Rattle.asn_model.specs.Digits.{digits};
-ghost use Rattle.asn_modules_numbers.specs.Stated.{within_bits};
+ghost use Rattle.asn_modules_rules.specs.numbers.Stated.{within_bits};
 ghost use Rattle.asn_modules_types.specs.Numbers.{number_in, signed_in};
 ghost use Rattle.std.specs.Prelude.{◌≡◌};
 
 use asn_lexer::Token;
-use asn_modules_faults::text_of;
-use asn_modules_notation::SignedNumber;
+use asn_modules_errors::text_of;
+use asn_modules_grammar::notation::SignedNumber;
 
 /// Returns the number of decimal digits, if it has at most 128 bits.
 fn number_of(bytes: &[u8]) -> Option<u128>

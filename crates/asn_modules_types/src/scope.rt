@@ -1,6 +1,6 @@
 //! Says where a type stands.
-ghost use Rattle.asn_modules_lookup.specs.Homes.{home_view};
-ghost use Rattle.asn_modules_lookup.specs.declared.sort.Sort.TheVariants.{Types};
+ghost use Rattle.asn_modules_names.specs.lookup.Homes.{home_view};
+ghost use Rattle.asn_modules_names.specs.declared.lookup.sort.Sort.TheVariants.{Types};
 ghost use Rattle.asn_modules_types.specs.Known.{KnowsNames, binding_view, finder};
 ghost use Rattle.asn_modules_types.specs.Known.{included_number, scope_view, sources_of};
 ghost use Rattle.asn_modules_types.specs.Known.{stated_view};
@@ -14,9 +14,9 @@ use crate::limits::NAME_LIMIT;
 use crate::names::Names;
 use crate::values::{StatedValue, found_in, number_from};
 use asn_lexer::Token;
-use asn_modules_faults::text_of;
-use asn_modules_lookup::Home;
-use asn_modules_notation::Value;
+use asn_modules_errors::text_of;
+use asn_modules_names::lookup::Home;
+use asn_modules_grammar::notation::Value;
 
 /// Is the name of a parameter, with what stands in its place.
 #[derive(Clone, Copy, Drop)]

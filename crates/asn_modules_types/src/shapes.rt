@@ -1,8 +1,8 @@
 //! Makes the shapes of types as modules state them.
 ghost use Rattle.asn_model.specs.ShapeView.{kind_view, shape_view};
-ghost use Rattle.asn_modules_notation.specs.Notation.{members_of, notations_of};
-ghost use Rattle.asn_modules_notation.specs.View.{component_view, members_view, notation_view};
-ghost use Rattle.asn_modules_notation.specs.declared.notation.Members.{out-Members};
+ghost use Rattle.asn_modules_grammar.specs.notation.Notation.{members_of, notations_of};
+ghost use Rattle.asn_modules_grammar.specs.notation.View.{component_view, members_view, notation_view};
+ghost use Rattle.asn_modules_grammar.specs.declared.notation.notation.Members.{out-Members};
 ghost use Rattle.asn_modules_reader.specs.Views.{base_view, member_view};
 ghost use Rattle.asn_modules_types.specs.Known.{KnowsNames, known_parts, lists_view};
 ghost use Rattle.asn_modules_types.specs.Known.{parts_view, place_view, roots_view, scope_view};
@@ -30,9 +30,9 @@ use crate::sizes::sized;
 use crate::templates::{bindings_of, takes, template_named};
 use crate::words::name_in;
 use asn_lexer::Token;
-use asn_linked_types::no_values;
+use asn_linked::types::no_values;
 use asn_model::{SeqKind, Shape};
-use asn_modules_notation::{Base, Component, Extension, Member, Members, Notation};
+use asn_modules_grammar::notation::{Base, Component, Extension, Member, Members, Notation};
 use std::alloc::Global;
 
 /// Returns the shape of the type, at most so deep. It takes the types that it makes off those that

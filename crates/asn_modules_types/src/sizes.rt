@@ -8,7 +8,7 @@ use crate::numbers::size_in;
 use crate::scope::{Scope, number_at};
 use asn_lexer::{Kind, Token};
 use asn_model::Shape;
-use asn_modules_notation::{Size, Value};
+use asn_modules_grammar::notation::{Size, Value};
 
 /// Returns the number as a size, if it isn't negative and has at most 64 bits.
 fn size_of(number: i128) -> Option<usize>

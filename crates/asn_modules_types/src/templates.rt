@@ -1,7 +1,7 @@
 //! Finds types with parameters, and what stands in the places of those.
-ghost use Rattle.asn_modules_lookup.specs.Homes.{home_view};
-ghost use Rattle.asn_modules_lookup.specs.declared.sort.Sort.TheVariants.{Templates, Types};
-ghost use Rattle.asn_modules_notation.specs.View.{notation_view};
+ghost use Rattle.asn_modules_names.specs.lookup.Homes.{home_view};
+ghost use Rattle.asn_modules_names.specs.declared.lookup.sort.Sort.TheVariants.{Templates, Types};
+ghost use Rattle.asn_modules_grammar.specs.notation.View.{notation_view};
 ghost use Rattle.asn_modules_reader.specs.Views.{base_view};
 ghost use Rattle.asn_modules_types.specs.Known.{KnowsNames, assigned_view, binding_view};
 ghost use Rattle.asn_modules_types.specs.Known.{sources_of};
@@ -16,8 +16,8 @@ use crate::names::Names;
 use crate::scope::{Binding, Scope, assigned_number};
 use crate::values::found_in;
 use asn_lexer::Token;
-use asn_modules_included::is_small;
-use asn_modules_notation::{Base, Notation};
+use asn_modules_rules::included::is_small;
+use asn_modules_grammar::notation::{Base, Notation};
 use std::alloc::{AllocError, Global};
 
 /// Returns the number of the type with parameters of the name, or `None` where it is missing.

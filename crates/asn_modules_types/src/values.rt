@@ -1,8 +1,8 @@
 //! Follows the names of values.
 ghost use Rattle.asn_modules_names.specs.Assigned.{first_found};
-ghost use Rattle.asn_modules_lookup.specs.Homes.{home_view};
-ghost use Rattle.asn_modules_lookup.specs.Indexes.{IsIndexOf};
-ghost use Rattle.asn_modules_lookup.specs.declared.sort.Sort.{Sort};
+ghost use Rattle.asn_modules_names.specs.lookup.Homes.{home_view};
+ghost use Rattle.asn_modules_names.specs.lookup.Indexes.{IsIndexOf};
+ghost use Rattle.asn_modules_names.specs.declared.lookup.sort.Sort.{Sort};
 ghost use Rattle.asn_modules_names.specs.Mentions.{Source};
 ghost use Rattle.asn_modules_types.specs.Known.{KnowsNames, sources_of, stated_view};
 ghost use Rattle.asn_modules_types.specs.Numbers.{number_of_value};
@@ -14,9 +14,9 @@ use crate::assigned::{assigned_at, value_of};
 use crate::names::Names;
 use crate::numbers::signed_in;
 use asn_lexer::Token;
-use asn_modules_faults::text_of;
-use asn_modules_lookup::{Home, Index};
-use asn_modules_notation::Value;
+use asn_modules_errors::text_of;
+use asn_modules_names::lookup::{Home, Index};
+use asn_modules_grammar::notation::Value;
 
 /// Is a value as it stands in a module.
 #[derive(Clone, Copy, Drop)]

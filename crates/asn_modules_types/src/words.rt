@@ -6,7 +6,7 @@ ghost use Rattle.std.specs.Prelude.{◌≡◌, ◌-◌, IfOk, length, nat_le, na
 
 use crate::limits::DEFAULT_STRING_LIMIT;
 use asn_lexer::Token;
-use asn_modules_faults::text_of;
+use asn_modules_errors::text_of;
 use std::alloc::{AllocError, Global};
 
 /// Returns whether the bytes are ASCII.

@@ -3,10 +3,10 @@ use Rattle.std.proofs.lemmas.Result.{err_from_is_err_and}
 use Rattle.asn_modules.specs.Names.{type_names}
 use Rattle.asn_modules.proofs.Naming.{named-counted}
 use Rattle.asn_modules.proofs.Reading.{none_unbroken}
-use Rattle.asn_modules_checks.specs.Checks.{first_broken}
+use Rattle.asn_modules_rules.specs.checks.Checks.{first_broken}
 use Rattle.asn_modules_names.specs.Mentions.{source_view}
 use Rattle.asn_modules_names.proofs.Founds.{tells_at}
-use Rattle.asn_modules_sources.specs.Reading.{named_view}
+use Rattle.asn_modules_names.specs.sources.Reading.{named_view}
 use Rattle.asn_modules_types.specs.Linked.{linked_types}
 use Rattle.asn_modules.proofs.read.read_modules.Goals as goal
 

@@ -4,7 +4,7 @@ use Rattle.asn_modules_names.specs.Assigned.{assigned_again, assigned_twice, fir
 use Rattle.asn_modules_names.specs.Faults.{Tells}
 use Rattle.asn_modules_names.specs.Mentions.{source_view}
 use Rattle.asn_modules_names.proofs.Founds.{found_behind, found_here, found_nowhere, tells_at}
-use Rattle.asn_modules_notation.specs.View.{module_view}
+use Rattle.asn_modules_grammar.specs.notation.View.{module_view}
 use Rattle.asn_modules_names.proofs.assigned.check_assigned.Goals as goal
 
 pub loop-source-init : goal.loop-source-init

@@ -3,7 +3,7 @@ use Rattle.std.proofs.lemmas.Result.{err_from_is_err_and}
 use Rattle.asn_modules_names.specs.Assigned.{assigned_twice, first_found}
 use Rattle.asn_modules_names.specs.Mentions.{source_view}
 use Rattle.asn_modules_names.proofs.Founds.{found_behind, found_here, found_nowhere}
-use Rattle.asn_modules_notation.specs.View.{module_view}
+use Rattle.asn_modules_grammar.specs.notation.View.{module_view}
 use Rattle.asn_modules_names.proofs.assigned.check_each.Goals as goal
 
 pub loop-parsed-init : goal.loop-parsed-init

@@ -1,6 +1,6 @@
 use Rattle.std.proofs.Common.{◌≡◌, refl}
-use Rattle.asn_modules_faults.proofs.Refusals.{refused_so}
-use Rattle.asn_modules_faults.specs.Errors.{place_at}
+use Rattle.asn_modules_errors.proofs.Refusals.{refused_so}
+use Rattle.asn_modules_errors.specs.Errors.{place_at}
 use Rattle.asn_modules_names.specs.Faults.{IsNameCause, fault_of}
 use Rattle.asn_modules_names.specs.Mentions.{mention_view}
 use Rattle.asn_modules_names.proofs.errors.broken.Goals as goal

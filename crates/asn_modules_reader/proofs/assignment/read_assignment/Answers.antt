@@ -1,6 +1,6 @@
 use Rattle.std.proofs.Common.{sym, ◌∙◌}
 use Rattle.std.proofs.lemmas.Result.{err_from_is_err_and}
-use Rattle.asn_modules_notation.specs.View.{assignment_view}
+use Rattle.asn_modules_grammar.specs.notation.View.{assignment_view}
 use Rattle.asn_modules_reader.proofs.ModulesRead.{unnamed, unclosed_parameters, bodiless, with_them, without_them}
 use Rattle.asn_modules_reader.proofs.assignment.read_assignment.Goals as goal
 

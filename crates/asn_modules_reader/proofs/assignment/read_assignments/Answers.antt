@@ -1,10 +1,10 @@
 use Rattle.std.proofs.Common.{refl, ap, ◌∙◌, map, arith}
 use Rattle.std.proofs.lemmas.Result.{err_from_is_err_and}
-use Rattle.asn_modules_notation.specs.Modules.{AssignmentsParse, no_assignments}
-use Rattle.asn_modules_notation.specs.View.{assignment_view}
-use Rattle.asn_modules_parts.proofs.EntriesSeen.{map_join}
-use Rattle.asn_modules_parts.proofs.Repeats.{none_some}
-use Rattle.asn_modules_parts.proofs.Runs.{going_start, going_next, going_end, going_none}
+use Rattle.asn_modules_grammar.specs.notation.Modules.{AssignmentsParse, no_assignments}
+use Rattle.asn_modules_grammar.specs.notation.View.{assignment_view}
+use Rattle.asn_modules_reader.proofs.parts.EntriesSeen.{map_join}
+use Rattle.asn_modules_reader.proofs.parts.Repeats.{none_some}
+use Rattle.asn_modules_reader.proofs.parts.Runs.{going_start, going_next, going_end, going_none}
 use Rattle.asn_modules_reader.proofs.ModulesRead.{assignments_step, assignments_none}
 use Rattle.asn_modules_reader.proofs.assignment.read_assignments.Goals as goal
 

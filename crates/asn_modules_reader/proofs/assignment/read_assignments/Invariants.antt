@@ -1,7 +1,7 @@
 use Rattle.std.proofs.Common.{◌≤◌, length, map}
-use Rattle.asn_modules_notation.specs.Modules.{AssignmentsParse}
-use Rattle.asn_modules_notation.specs.View.{assignment_view}
-use Rattle.asn_modules_parts.proofs.Runs.{Going}
+use Rattle.asn_modules_grammar.specs.notation.Modules.{AssignmentsParse}
+use Rattle.asn_modules_grammar.specs.notation.View.{assignment_view}
+use Rattle.asn_modules_reader.proofs.parts.Runs.{Going}
 use Rattle.asn_modules_reader.proofs.assignment.read_assignments.Given as goal
 
 abbrev pub invariant-assignments : goal.invariant-assignments

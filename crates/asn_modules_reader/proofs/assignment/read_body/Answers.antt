@@ -1,5 +1,5 @@
 use Rattle.std.proofs.lemmas.Result.{err_from_is_err_and}
-use Rattle.asn_modules_notation.specs.View.{notation_view}
+use Rattle.asn_modules_grammar.specs.notation.View.{notation_view}
 use Rattle.asn_modules_reader.proofs.ModulesRead.{type_read, type_none, value_read, value_untyped, value_unassigned, value_none}
 use Rattle.asn_modules_reader.proofs.assignment.read_body.Goals as goal
 

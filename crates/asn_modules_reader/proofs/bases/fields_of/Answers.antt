@@ -1,7 +1,7 @@
 use Rattle.std.proofs.Common.{sym, ap, ◌∙◌}
 use Rattle.asn_model.specs.ShapeView.{kind_view}
-use Rattle.asn_modules_notation.specs.Notation as spec
-use Rattle.asn_modules_notation.specs.View.{members_view}
+use Rattle.asn_modules_grammar.specs.notation.Notation as spec
+use Rattle.asn_modules_grammar.specs.notation.View.{members_view}
 use Rattle.asn_modules_reader.proofs.Viewing.{sequence_viewed, set_viewed}
 use Rattle.asn_modules_reader.proofs.bases.fields_of.Goals as goal
 

@@ -1,7 +1,7 @@
 use Rattle.std.proofs.Common.{sym, ap, ◌∙◌}
-use Rattle.asn_modules_notation.specs.Notation as spec
-use Rattle.asn_modules_notation.specs.declared.leaf.Closed.TheVariants.{Parameterized}
-use Rattle.asn_modules_notation.specs.declared.leaf.Leaf.TheVariants.{Closed}
+use Rattle.asn_modules_grammar.specs.notation.Notation as spec
+use Rattle.asn_modules_grammar.specs.declared.notation.leaf.Closed.TheVariants.{Parameterized}
+use Rattle.asn_modules_grammar.specs.declared.notation.leaf.Leaf.TheVariants.{Closed}
 use Rattle.asn_modules_reader.specs.Arguments.{arguments_view}
 use Rattle.asn_modules_reader.proofs.Viewing.{instance_viewed, leaf_viewed}
 use Rattle.asn_modules_reader.proofs.bases.instance_or.Goals as goal

@@ -1,8 +1,8 @@
 use Rattle.std.proofs.Common.{sym, ap, ◌∙◌}
 use Rattle.asn_model.specs.Shape.{SeqKind}
 use Rattle.asn_model.specs.ShapeView.{kind_view}
-use Rattle.asn_modules_notation.specs.Notation as spec
-use Rattle.asn_modules_notation.specs.View.{notation_view}
+use Rattle.asn_modules_grammar.specs.notation.Notation as spec
+use Rattle.asn_modules_grammar.specs.notation.View.{notation_view}
 use Rattle.asn_modules_reader.proofs.Viewing.{sequence_of_viewed, set_of_viewed}
 use Rattle.asn_modules_reader.proofs.bases.list_of.Goals as goal
 

@@ -1,8 +1,8 @@
 use Rattle.std.proofs.Common.{◌≡◌, [], ◌∷◌, ◌++◌, List, sym, ap, subst, ◌∙◌, map, None}
 use Rattle.std.proofs.lemmas.Result.{err_from_is_err_and}
-use Rattle.asn_modules_notation.specs.Modules.{TextParses}
-use Rattle.asn_modules_notation.specs.View.{assignment_view, module_view}
-use Rattle.asn_modules_notation.specs.declared.module.Module.{Module}
+use Rattle.asn_modules_grammar.specs.notation.Modules.{TextParses}
+use Rattle.asn_modules_grammar.specs.notation.View.{assignment_view, module_view}
+use Rattle.asn_modules_grammar.specs.declared.notation.module.Module.{Module}
 use Rattle.asn_modules_reader.proofs.ModulesRead.{bare_read, bare_none, bare_unended}
 use Rattle.asn_modules_reader.proofs.module.read_bare.Goals as goal
 

@@ -1,7 +1,7 @@
 use Rattle.std.proofs.Common.{map, arith}
 use Rattle.std.proofs.lemmas.Result.{err_from_is_err_and}
-use Rattle.asn_headers.specs.Views.{header_view}
-use Rattle.asn_modules_notation.specs.View.{assignment_view}
+use Rattle.asn_modules_grammar.specs.headers.Views.{header_view}
+use Rattle.asn_modules_grammar.specs.notation.View.{assignment_view}
 use Rattle.asn_modules_reader.proofs.HeadersShorter.{header_lt}
 use Rattle.asn_modules_reader.proofs.ModulesRead.{module_read, module_headless, module_unassigned, module_unended}
 use Rattle.asn_modules_reader.proofs.module.read_module.Goals as goal

@@ -1,7 +1,7 @@
 use Rattle.std.proofs.Common.{ap, ◌∙◌, map}
 use Rattle.std.proofs.lemmas.Result.{err_from_is_err_and}
-use Rattle.asn_modules_notation.specs.View.{module_view}
-use Rattle.asn_modules_parts.proofs.EntriesSeen.{map_join}
+use Rattle.asn_modules_grammar.specs.notation.View.{module_view}
+use Rattle.asn_modules_reader.proofs.parts.EntriesSeen.{map_join}
 use Rattle.asn_modules_reader.proofs.ModulesRead.{modules_start, modules_next, modules_end, modules_none}
 use Rattle.asn_modules_reader.proofs.module.read_modules.Goals as goal
 

@@ -1,5 +1,5 @@
 use Rattle.std.proofs.Common.{length, map}
-use Rattle.asn_modules_notation.specs.View.{module_view}
+use Rattle.asn_modules_grammar.specs.notation.View.{module_view}
 use Rattle.asn_modules_reader.proofs.ModulesRead.{GoingOn}
 use Rattle.asn_modules_reader.proofs.module.read_modules.Given as goal
 

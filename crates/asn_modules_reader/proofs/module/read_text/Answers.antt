@@ -1,13 +1,13 @@
 use Rattle.std.proofs.Common.{◌≡◌, List, true, map, Ok, Err, sym, ◌∙◌}
 use Rattle.std.specs.Prelude.{IfErr, IfOk, Result}
 use Rattle.std.specs.Global.{Vec}
-use Rattle.asn_headers.specs.Fronts.{IsSyntax}
-use Rattle.asn_headers.specs.declared.fault.SyntaxFault.{SyntaxFault}
+use Rattle.asn_modules_grammar.specs.headers.Fronts.{IsSyntax}
+use Rattle.asn_modules_grammar.specs.declared.headers.fault.SyntaxFault.{SyntaxFault}
 use Rattle.asn_lexer.specs.declared.token.Token.{Token}
-use Rattle.asn_modules_notation.specs.Modules as spec
-use Rattle.asn_modules_notation.specs.Modules.{ModulesParse, TextParses, modules_parse, begins_module}
-use Rattle.asn_modules_notation.specs.View.{module_view}
-use Rattle.asn_modules_notation.specs.declared.module.Module.{Module}
+use Rattle.asn_modules_grammar.specs.notation.Modules as spec
+use Rattle.asn_modules_grammar.specs.notation.Modules.{ModulesParse, TextParses, modules_parse, begins_module}
+use Rattle.asn_modules_grammar.specs.notation.View.{module_view}
+use Rattle.asn_modules_grammar.specs.declared.notation.module.Module.{Module}
 use Rattle.asn_modules_reader.proofs.ModulesRead.{text_of_modules}
 use Rattle.asn_modules_reader.proofs.module.read_text.Goals as goal
 

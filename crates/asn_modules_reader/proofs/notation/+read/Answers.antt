@@ -3,13 +3,13 @@ use Rattle.std.proofs.lemmas.Result.{err_from_is_err_and}
 use Rattle.std.specs.List.{count_by}
 use Rattle.asn_lexer.specs.declared.kind.Kind.TheVariants as kind
 use Rattle.asn_model.specs.ShapeView.{kind_view}
-use Rattle.asn_modules_notation.specs.Grammar.{NotationParses, ArgumentsParse, BaseParses, MemberParses, MembersParse}
-use Rattle.asn_modules_notation.specs.Starts as starts
-use Rattle.asn_modules_notation.specs.View.{component_view, members_view, notation_view}
-use Rattle.asn_modules_parts.specs.EntryLists.{entries_of, is_marker}
-use Rattle.asn_modules_parts.specs.Starts.{start_view}
-use Rattle.asn_modules_parts.proofs.EntriesSeen.{map_join}
-use Rattle.asn_modules_parts.proofs.Runs.{going_start, going_next, going_last, going_none}
+use Rattle.asn_modules_grammar.specs.notation.Grammar.{NotationParses, ArgumentsParse, BaseParses, MemberParses, MembersParse}
+use Rattle.asn_modules_grammar.specs.notation.Starts as starts
+use Rattle.asn_modules_grammar.specs.notation.View.{component_view, members_view, notation_view}
+use Rattle.asn_modules_reader.specs.parts.EntryLists.{entries_of, is_marker}
+use Rattle.asn_modules_reader.specs.parts.Starts.{start_view}
+use Rattle.asn_modules_reader.proofs.parts.EntriesSeen.{map_join}
+use Rattle.asn_modules_reader.proofs.parts.Runs.{going_start, going_next, going_last, going_none}
 use Rattle.asn_modules_reader.specs.Views.{base_view, member_seen}
 use Rattle.asn_modules_reader.proofs.ArgumentsRead.{given, more_given, arguments_step, arguments_untyped, arguments_open, unlike_open, none_are, all_are, others_are, unlike_are, reference_read, instance_read, instance_none}
 use Rattle.asn_modules_reader.proofs.BasesRead.{leaf_base, base_as, none_as, reads_as, enumerated_reads}

@@ -1,10 +1,10 @@
 use Rattle.std.proofs.Common.{◌≡◌, ◌≤◌, ◌+◌, ◌*◌, length, map, nat_le, true}
 use Rattle.std.specs.List.{count_by}
 use Rattle.asn_lexer.specs.declared.kind.Kind.TheVariants as kind
-use Rattle.asn_modules_notation.specs.Grammar.{ArgumentsParse, MembersParse}
-use Rattle.asn_modules_notation.specs.View.{component_view, notation_view}
-use Rattle.asn_modules_parts.specs.EntryLists.{entries_of, is_marker}
-use Rattle.asn_modules_parts.proofs.Runs.{Going}
+use Rattle.asn_modules_grammar.specs.notation.Grammar.{ArgumentsParse, MembersParse}
+use Rattle.asn_modules_grammar.specs.notation.View.{component_view, notation_view}
+use Rattle.asn_modules_reader.specs.parts.EntryLists.{entries_of, is_marker}
+use Rattle.asn_modules_reader.proofs.parts.Runs.{Going}
 use Rattle.asn_modules_reader.specs.Views.{member_seen}
 use Rattle.asn_modules_reader.proofs.ArgumentsRead.{given}
 use Rattle.asn_modules_reader.proofs.notation.+read.Given as goal

@@ -1,9 +1,9 @@
 use Rattle.std.proofs.Common.{sym, ap, subst, ◌∙◌}
 use Rattle.std.proofs.lemmas.Result.{err_from_is_err_and}
-use Rattle.asn_modules_notation.specs.Grammar.{BaseParses}
-use Rattle.asn_modules_notation.specs.Notation as spec
-use Rattle.asn_modules_notation.specs.Starts as starts
-use Rattle.asn_modules_parts.specs.EntryLists.{entries_of}
+use Rattle.asn_modules_grammar.specs.notation.Grammar.{BaseParses}
+use Rattle.asn_modules_grammar.specs.notation.Notation as spec
+use Rattle.asn_modules_grammar.specs.notation.Starts as starts
+use Rattle.asn_modules_reader.specs.parts.EntryLists.{entries_of}
 use Rattle.asn_modules_reader.proofs.BasesRead.{few_items, items_seen}
 use Rattle.asn_modules_reader.proofs.Notations.{enumerated_read, enumerated_unopened, enumerated_none}
 use Rattle.asn_modules_reader.proofs.Viewing.{enumerated_viewed}

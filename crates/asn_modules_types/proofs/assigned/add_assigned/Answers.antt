@@ -1,5 +1,5 @@
 use Rattle.std.proofs.Common.{refl, ap, sym, ◌∙◌, ◌++◌, map, drop, arith}
-use Rattle.asn_modules_lookup.specs.Homes.{home_view}
+use Rattle.asn_modules_names.specs.lookup.Homes.{home_view}
 use Rattle.asn_modules_names.proofs.Founds.{listed_all}
 use Rattle.asn_modules_types.specs.Known.{assigned_view}
 use Rattle.asn_modules_types.proofs.Listing.{listed, listed_added, listed_end, listed_passed}

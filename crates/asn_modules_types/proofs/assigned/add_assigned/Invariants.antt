@@ -1,5 +1,5 @@
 use Rattle.std.proofs.Common.{◌≡◌, ◌++◌, map, drop}
-use Rattle.asn_modules_lookup.specs.Homes.{home_view}
+use Rattle.asn_modules_names.specs.lookup.Homes.{home_view}
 use Rattle.asn_modules_types.specs.Known.{assigned_view}
 use Rattle.asn_modules_types.proofs.Listing.{listed}
 use Rattle.asn_modules_types.proofs.assigned.add_assigned.Given as goal

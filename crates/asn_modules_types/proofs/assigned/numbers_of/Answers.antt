@@ -1,6 +1,6 @@
 use Rattle.std.proofs.Common.{ap, map, ◌∙◌}
 use Rattle.std.proofs.lemmas.Result.{IfOk-weaker}
-use Rattle.asn_modules_named_numbers.specs.Views.{type_view}
+use Rattle.asn_modules_types.specs.named_numbers.Views.{type_view}
 use Rattle.asn_modules_types.proofs.Numbering.{numbers_known}
 use Rattle.asn_modules_types.proofs.assigned.numbers_of.Goals as goal
 

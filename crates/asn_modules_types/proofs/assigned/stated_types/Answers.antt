@@ -1,9 +1,9 @@
 use Rattle.std.proofs.Common.{ap, sym, ◌++◌, map, arith}
-use Rattle.asn_modules_lookup.specs.Homes.{home_view}
-use Rattle.asn_modules_named_numbers.specs.Named.{StatedType}
-use Rattle.asn_modules_named_numbers.specs.Views.{type_view}
+use Rattle.asn_modules_names.specs.lookup.Homes.{home_view}
+use Rattle.asn_modules_types.specs.named_numbers.Named.{StatedType}
+use Rattle.asn_modules_types.specs.named_numbers.Views.{type_view}
 use Rattle.asn_modules_names.proofs.Founds.{listed_all}
-use Rattle.asn_modules_notation.specs.Notation.{Notation}
+use Rattle.asn_modules_grammar.specs.notation.Notation.{Notation}
 use Rattle.asn_modules_types.proofs.Numbering.{stated_added, stated_end, stated_from}
 use Rattle.asn_modules_types.proofs.assigned.stated_types.Goals as goal
 

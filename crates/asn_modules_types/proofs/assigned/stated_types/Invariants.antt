@@ -1,5 +1,5 @@
 use Rattle.std.proofs.Common.{◌≡◌, ◌++◌, map}
-use Rattle.asn_modules_named_numbers.specs.Views.{type_view}
+use Rattle.asn_modules_types.specs.named_numbers.Views.{type_view}
 use Rattle.asn_modules_types.proofs.Numbering.{stated_from}
 use Rattle.asn_modules_types.proofs.assigned.stated_types.Given as goal
 

@@ -1,6 +1,6 @@
 use Rattle.std.proofs.Common.{◌∙◌, ap, sym}
-use Rattle.asn_modules_lookup.specs.Homes.{home_view}
-use Rattle.asn_modules_notation.specs.View.{items_view}
+use Rattle.asn_modules_names.specs.lookup.Homes.{home_view}
+use Rattle.asn_modules_grammar.specs.notation.View.{items_view}
 use Rattle.asn_modules_reader.proofs.Viewing.{enumerated_viewed}
 use Rattle.asn_modules_reader.specs.Views.{base_view}
 use Rattle.asn_modules_types.specs.Linked.{copied_base}

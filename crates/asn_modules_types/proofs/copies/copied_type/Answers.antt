@@ -1,6 +1,6 @@
 use Rattle.std.proofs.Common.{◌∙◌, ap, map, sym}
 use Rattle.std.proofs.lemmas.Result.{IfOk-weaker}
-use Rattle.asn_modules_notation.specs.View.{notation_view}
+use Rattle.asn_modules_grammar.specs.notation.View.{notation_view}
 use Rattle.asn_modules_types.specs.Known.{assigned_view, sources_of}
 use Rattle.asn_modules_types.specs.Linked.{base_of, copied_base}
 use Rattle.asn_modules_types.proofs.Copying.{copied_assigned, copied_missing}

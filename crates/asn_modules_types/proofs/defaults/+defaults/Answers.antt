@@ -2,7 +2,7 @@ use Rattle.std.proofs.Common.{◌≡◌, ◌+◌, ◌-◌, ◌∙◌, ap, arith,
 use Rattle.std.proofs.lemmas.Result.{IfOk-weaker}
 use Rattle.std.specs.Option.{option_map}
 use Rattle.asn_model.specs.ShapeView.{plain_view, shape_view}
-use Rattle.asn_modules_notation.specs.View.{notation_view}
+use Rattle.asn_modules_grammar.specs.notation.View.{notation_view}
 use Rattle.asn_modules_types.specs.Defaults.{plain_in, suited}
 use Rattle.asn_modules_types.specs.Known.{scope_view, sources_of, stated_view}
 use Rattle.asn_modules_types.specs.Types.{number_in_type}

@@ -1,6 +1,6 @@
 use Rattle.std.proofs.Common.{◌≡◌, ◌+◌, ◌-◌, ◌∙◌, None, Some, arith, map, sym}
-use Rattle.asn_modules_lookup.specs.declared.sort.Sort.TheVariants.{Types}
-use Rattle.asn_modules_notation.specs.View.{notation_view}
+use Rattle.asn_modules_names.specs.declared.lookup.sort.Sort.TheVariants.{Types}
+use Rattle.asn_modules_grammar.specs.notation.View.{notation_view}
 use Rattle.asn_modules_types.specs.Assigned.{assigned, stated_type}
 use Rattle.asn_modules_types.specs.Known.{assigned_view, sources_of}
 use Rattle.asn_modules_types.proofs.Following.{follows_word, follows_word_none}

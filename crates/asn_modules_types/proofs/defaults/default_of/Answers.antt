@@ -2,7 +2,7 @@ use Rattle.std.proofs.Common.{ap, ◌∙◌}
 use Rattle.std.proofs.lemmas.Result.{IfOk-weaker}
 use Rattle.asn_model.specs.ShapeView.{shape_view}
 use Rattle.asn_modules_names.specs.Assigned.{first_found}
-use Rattle.asn_modules_notation.specs.View.{notation_view}
+use Rattle.asn_modules_grammar.specs.notation.View.{notation_view}
 use Rattle.asn_modules_types.specs.Defaults.{plain_in, suited}
 use Rattle.asn_modules_types.specs.Known.{scope_view, sources_of}
 use Rattle.asn_modules_types.specs.Types.{number_in_type}

@@ -1,6 +1,6 @@
 use Rattle.std.proofs.Common.{◌≡◌, ◌+◌, ◌-◌, ◌∙◌, None, ap, arith, map, sym}
 use Rattle.asn_model.specs.ShapeView.{shape_view}
-use Rattle.asn_modules_notation.specs.View.{notation_view}
+use Rattle.asn_modules_grammar.specs.notation.View.{notation_view}
 use Rattle.asn_modules_types.specs.Known.{assigned_view, sources_of}
 use Rattle.asn_modules_types.specs.Linked.{base_of, is_numbered, no_roots, scope_of}
 use Rattle.asn_modules_types.specs.Sizes.{sized}

@@ -1,7 +1,7 @@
 use Rattle.std.proofs.Common.{ap, ◌∙◌}
 use Rattle.asn_model.specs.Digits.{digits}
-use Rattle.asn_modules_numbers.specs.Stated.{within_bits}
-use Rattle.asn_modules_numbers.proofs.Digits.{no-plus, other-number, parsed-number}
+use Rattle.asn_modules_rules.specs.numbers.Stated.{within_bits}
+use Rattle.asn_modules_rules.proofs.numbers.Digits.{no-plus, other-number, parsed-number}
 use Rattle.asn_modules_types.proofs.numbers.number_of.Goals as goal
 
 pub returns-else-starts_with : goal.returns-else-starts_with

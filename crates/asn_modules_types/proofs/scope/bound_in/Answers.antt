@@ -1,6 +1,6 @@
 use Rattle.std.proofs.Common.{ap, sym, ◌∙◌}
 use Rattle.std.specs.Str.{bytes_eq}
-use Rattle.asn_modules_faults.specs.Slices.{text_of}
+use Rattle.asn_modules_errors.specs.Slices.{text_of}
 use Rattle.asn_modules_types.proofs.Bound.{bound_here}
 use Rattle.asn_modules_types.proofs.scope.bound_in.Goals as goal
 

@@ -2,10 +2,10 @@ use Rattle.std.proofs.Common.{◌≡◌, ◌+◌, ◌-◌, ◌∙◌, ◌∷◌,
 use Rattle.std.proofs.lemmas.List.{length-map}
 use Rattle.std.proofs.lemmas.Result.{IfOk-weaker}
 use Rattle.asn_model.specs.ShapeView.{kind_view, presence_view, shape_view}
-use Rattle.asn_modules_lookup.specs.Homes.{home_view}
-use Rattle.asn_modules_lookup.specs.declared.sort.Sort.TheVariants.{Types}
-use Rattle.asn_modules_notation.specs.Notation.{notations_of}
-use Rattle.asn_modules_notation.specs.View.{component_view, notation_view}
+use Rattle.asn_modules_names.specs.lookup.Homes.{home_view}
+use Rattle.asn_modules_names.specs.declared.lookup.sort.Sort.TheVariants.{Types}
+use Rattle.asn_modules_grammar.specs.notation.Notation.{notations_of}
+use Rattle.asn_modules_grammar.specs.notation.View.{component_view, notation_view}
 use Rattle.asn_modules_reader.proofs.Viewing.{components_of_viewed, group_viewed, instance_viewed, named_viewed, one_viewed}
 use Rattle.asn_modules_reader.specs.Views.{base_view, member_view}
 use Rattle.asn_modules_types.specs.Known.{assigned_view, binding_view, known_parts, parts_view, part_view, place_view, roots_view, scope_view, sources_of}

@@ -1,5 +1,5 @@
 use Rattle.std.proofs.Common.{◌≡◌, ◌≤◌, ◌+◌, ◌*◌, ◌++◌, drop, map, option_map}
-use Rattle.asn_modules_notation.specs.View.{component_view}
+use Rattle.asn_modules_grammar.specs.notation.View.{component_view}
 use Rattle.asn_modules_reader.specs.Views.{member_view}
 use Rattle.asn_modules_types.specs.Known.{known_parts, parts_view, place_view, roots_view, scope_view}
 use Rattle.asn_modules_types.specs.declared.limits.TheConstants.{NAME_LIMIT}

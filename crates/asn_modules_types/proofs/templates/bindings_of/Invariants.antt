@@ -1,7 +1,7 @@
 use Rattle.std.proofs.Common.{◌≡◌, ◌++◌, length, map}
-use Rattle.asn_modules_lookup.specs.Homes.{home_view}
-use Rattle.asn_modules_lookup.specs.declared.sort.Sort.TheVariants.{Types}
-use Rattle.asn_modules_notation.specs.View.{notation_view}
+use Rattle.asn_modules_names.specs.lookup.Homes.{home_view}
+use Rattle.asn_modules_names.specs.declared.lookup.sort.Sort.TheVariants.{Types}
+use Rattle.asn_modules_grammar.specs.notation.View.{notation_view}
 use Rattle.asn_modules_types.specs.Known.{binding_view, sources_of}
 use Rattle.asn_modules_types.specs.Templates.{bindings}
 use Rattle.asn_modules_types.specs.Values.{found_in}

@@ -1,0 +1,2 @@
+pub mod headers
+pub mod notation

@@ -1,9 +1,0 @@
-//! Checks what modules import from each other.
-#![tactic(auto)]
-
-mod check;
-mod entries;
-mod index;
-mod rule;
-
-pub use check::check_imports;

@@ -1,4 +1,0 @@
-use Rattle.asn_modules_included.proofs.types.+follow.Given as goal
-
-abbrev pub decreases-stands_for : goal.decreases-stands_for
-decreases-stands_for l = l.more

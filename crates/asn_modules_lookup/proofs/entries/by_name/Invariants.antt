@@ -1,5 +1,0 @@
-use Rattle.std.proofs.Common.{◌≡◌, map, take}
-use Rattle.asn_modules_lookup.proofs.entries.by_name.Given as goal
-
-abbrev pub invariant-loop-entry : goal.invariant-loop-entry
-invariant-loop-entry l = l.entries.items ≡ map (λ e. (e.0.1, e.1)) (take l.entry-index l.keys)

@@ -1,7 +1,0 @@
-use Rattle.std.proofs.Common.{◌≡◌, ◌++◌, map}
-use Rattle.asn_modules_lookup.specs.Views.{import_view}
-use Rattle.asn_modules_lookup.proofs.Listing.{entries_from}
-use Rattle.asn_modules_lookup.proofs.imports.import_entries.Given as goal
-
-abbrev pub invariant-loop-number : goal.invariant-loop-number
-invariant-loop-number l = entries_from l.homes 0 ≡ map import_view l.entries.items ++ entries_from l.homes l.number

@@ -1,6 +1,0 @@
-use Rattle.std.proofs.Common.{ap, ◌∙◌}
-use Rattle.std.specs.Option.{option_map}
-use Rattle.asn_modules_lookup.proofs.index.Index.origin.Goals as goal
-
-pub returns : goal.returns
-returns c = λ sort ss is. ap (option_map (λ n. n.now)) (c.copied.ensures ∙ c.get.ensures.value) ∙ is.imports c.args.key

@@ -1,5 +1,0 @@
-use Rattle.asn_modules_notation.proofs.OneText.{same_notation}
-use Rattle.asn_modules_notation.proofs.laws.one_notation_and_rest.Goals as goal
-
-pub returns : goal.returns
-returns c = λ limit level tokens rest other_rest notation other p q. same_notation p q

@@ -1,6 +1,0 @@
-use Rattle.std.proofs.Common.{◌≡◌, ◌++◌, drop}
-use Rattle.asn_modules_numbers.specs.Numbered.{numbered_bits}
-use Rattle.asn_modules_numbers.proofs.numbered.numbered_bits.Given as goal
-
-abbrev pub invariant-loop-bit : goal.invariant-loop-bit
-invariant-loop-bit l = numbered_bits l.text l.bits ≡ l.found.items ++ numbered_bits l.text (drop l.bit-index l.bits)

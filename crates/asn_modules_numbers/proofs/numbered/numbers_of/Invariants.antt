@@ -1,6 +1,0 @@
-use Rattle.std.proofs.Common.{◌≡◌, take}
-use Rattle.asn_modules_numbers.specs.Numbered.{numbers_of}
-use Rattle.asn_modules_numbers.proofs.numbered.numbers_of.Given as goal
-
-abbrev pub invariant-loop-entry : goal.invariant-loop-entry
-invariant-loop-entry l = l.numbers.items ≡ numbers_of (take l.entry-index l.numbered)

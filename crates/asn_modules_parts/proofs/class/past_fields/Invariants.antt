@@ -1,9 +1,0 @@
-use Rattle.std.proofs.Common.{◌≡◌, ◌≤◌, length}
-use Rattle.asn_modules_notation.specs.Classes.{past_fields}
-use Rattle.asn_modules_parts.proofs.class.past_fields.Given as goal
-
-abbrev pub invariant-fields : goal.invariant-fields
-invariant-fields l = (past_fields l.tokens ≡ past_fields l.rest) × (length l.rest ≤ length l.tokens)
-
-abbrev pub decreases-fields : goal.decreases-fields
-decreases-fields l = length l.rest

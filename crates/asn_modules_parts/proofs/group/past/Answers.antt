@@ -1,6 +1,0 @@
-use Rattle.std.proofs.Common.{[], ◌∷◌}
-use Rattle.asn_modules_parts.proofs.Groups.{past_shorter}
-use Rattle.asn_modules_parts.proofs.group.past.Goals as goal
-
-pub returns-clause-shorter : goal.returns-clause-shorter
-returns-clause-shorter c = past_shorter (c.args.group ∷ []) c.args.tokens.now c.past_group.result c.past_group.ensures

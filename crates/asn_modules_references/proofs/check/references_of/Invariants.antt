@@ -1,6 +1,0 @@
-use Rattle.std.proofs.Common.{◌≡◌, ◌++◌, drop}
-use Rattle.asn_modules_references.proofs.Referring.{assignments_references}
-use Rattle.asn_modules_references.proofs.check.references_of.Given as goal
-
-abbrev pub invariant-loop-assignment : goal.invariant-loop-assignment
-invariant-loop-assignment l = assignments_references l.sort l.assignments ≡ l.names.items ++ assignments_references l.sort (drop l.assignment-index l.assignments)

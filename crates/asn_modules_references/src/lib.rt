@@ -1,9 +1,0 @@
-//! Checks the names of types and values that modules refer to.
-#![tactic(auto)]
-
-mod check;
-mod value_names;
-mod walk;
-
-pub use check::check_references;
-pub use value_names::value_name;

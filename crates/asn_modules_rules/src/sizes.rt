@@ -1,0 +1,5 @@
+//! Measures what stands in the types of modules, in bytes: about what a copy of it takes.
+
+mod sizes;
+
+pub use sizes::{ENTRY_SIZE, past_items, past_name, past_numbers};

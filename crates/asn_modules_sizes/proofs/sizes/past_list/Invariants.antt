@@ -1,8 +1,0 @@
-use Rattle.std.proofs.Common.{◌≡◌, drop}
-use Rattle.asn_modules_sizes.specs.Sizes.{entry_size}
-use Rattle.asn_modules_sizes.proofs.Past.{past_all}
-use Rattle.asn_modules_sizes.proofs.sizes.past_list.Given as goal
-
--- The items that are left leave of the rest what all leave.
-abbrev pub invariant-loop-item : goal.invariant-loop-item
-invariant-loop-item l = past_all (λ i. entry_size i.name) l.items l.left ≡ past_all (λ i. entry_size i.name) (drop l.item-index l.items) l.rest

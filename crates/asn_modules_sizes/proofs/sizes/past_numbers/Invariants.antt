@@ -1,8 +1,0 @@
-use Rattle.std.proofs.Common.{◌≡◌, drop}
-use Rattle.asn_modules_sizes.specs.Sizes.{entry_size}
-use Rattle.asn_modules_sizes.proofs.Past.{past_all}
-use Rattle.asn_modules_sizes.proofs.sizes.past_numbers.Given as goal
-
--- The named numbers that are left leave of the rest what all leave.
-abbrev pub invariant-loop-entry : goal.invariant-loop-entry
-invariant-loop-entry l = past_all (λ n. entry_size n.name) l.named l.left ≡ past_all (λ n. entry_size n.name) (drop l.entry-index l.named) l.rest

@@ -1,6 +1,0 @@
-//! Measures what stands in the types of modules, in bytes: about what a copy of it takes.
-#![tactic(auto)]
-
-mod sizes;
-
-pub use sizes::{ENTRY_SIZE, past_items, past_name, past_numbers};

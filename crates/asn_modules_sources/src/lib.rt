@@ -1,8 +1,0 @@
-//! Reads texts of modules together, each by its name: what comes of all of them, or the first that
-//! is refused.
-#![tactic(auto)]
-
-pub mod laws;
-mod sources;
-
-pub use sources::read_sources;

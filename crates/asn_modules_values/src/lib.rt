@@ -1,9 +1,0 @@
-//! Checks that the names of values lead to values. Values are numbered as `asn_modules_lookup`
-//! does.
-#![tactic(auto)]
-
-mod check;
-mod leads;
-mod links;
-
-pub use check::check_values;

@@ -4,3 +4,5 @@ pub mod Whole
 pub mod Readings
 pub mod Listings
 pub mod Streams
+pub mod show
+pub mod versions

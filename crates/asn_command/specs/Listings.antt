@@ -5,7 +5,7 @@ use Rattle.asn_model.specs.Shape.{Shape}
 use Rattle.asn_modules.specs.Empty.{is_without_values}
 use Rattle.asn_modules.specs.Modules.{Modules}
 use Rattle.asn_modules.specs.Names.{TypeName}
-use Rattle.asn_type_words.specs.Words.{kind_word}
+use Rattle.asn_type_printing.specs.words.Words.{kind_word}
 use Rattle.asn_version_reports.specs.Paths.{path_text}
 use Rattle.asn_version_reports.specs.Valueless.{valueless_paths}
 

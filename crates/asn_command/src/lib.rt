@@ -11,7 +11,9 @@ mod one_line;
 mod reading;
 mod reports;
 mod running;
+pub mod show;
 mod types;
+pub mod versions;
 mod whole;
 
 pub use conversion::{Conversion, conversion_reply};

@@ -8,7 +8,7 @@ use crate::listing::{TypeText, texts_on};
 use asn_core::OutOfMemory;
 use asn_model::Shape;
 use asn_modules::{Modules, TypeName, is_without_values};
-use asn_type_words::kind_word;
+use asn_type_printing::words::kind_word;
 use std::alloc::Global;
 
 /// Returns the name of the type behind that of its module and a point, or alone where it is in no

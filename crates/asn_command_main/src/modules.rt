@@ -1,7 +1,7 @@
 //! Does the commands that read modules alone.
 use crate::files::{Ended, modules_of, named, texts_of};
+use asn_command::versions::growth_reply;
 use asn_command::{check_reply, types_reply};
-use asn_command_versions::growth_reply;
 
 /// Returns what checking the files comes to.
 pub fn checked(rt: &HostRuntime, files: &[&str]) -> Ended {

@@ -1,6 +1,6 @@
 //! Does the command that shows a type, or a value of it.
 use crate::files::{Ended, modules_of};
-use asn_command_show::{Extent, example_reply, show_reply};
+use asn_command::show::{Extent, example_reply, show_reply};
 use asn_core::Codec;
 use asn_replies::missing_reply;
 

@@ -2,7 +2,7 @@
 use crate::files::{Ended, modules_of};
 use crate::streams::{Stream, convert, work_through, write};
 use asn_command::Conversion;
-use asn_command_versions::{KeepLines, Versions, versions_of};
+use asn_command::versions::{KeepLines, Versions, versions_of};
 use asn_core::{Codec, OutOfMemory};
 use asn_replies::{Status, missing_reply};
 use asn_samples::shape_of;

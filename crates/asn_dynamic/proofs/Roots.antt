@@ -9,7 +9,7 @@ use Rattle.asn_coding.specs.Root.{RootAnswerBy}
 use Rattle.asn_coding.proofs.Whole.{root_answer}
 use Rattle.asn_core.specs.declared.codec.Codec.{Codec}
 use Rattle.asn_core.specs.declared.codec.Codec.TheVariants.{Avn, Jer}
-use Rattle.asn_decoded.specs.HeldValue.{IsHeldValue}
+use Rattle.asn_dynamic_reading.specs.fitting.HeldValue.{IsHeldValue}
 use Rattle.asn_dynamic_faults.specs.DynFailure.{IsTold, dyn_failure, recoded}
 use Rattle.asn_dynamic_faults.specs.declared.errors.DynError.{DynError}
 use Rattle.asn_dynamic_values.specs.DynView.{dyn_value}
@@ -24,8 +24,8 @@ use Rattle.asn_model.specs.Value.{Fits, Value}
 use Rattle.asn_parts.specs.Chain.{bodies_of}
 use Rattle.asn_parts.specs.declared.loops.Loops.TheVariants.{Outermost}
 use Rattle.asn_parts.proofs.Chains.{bodies-outermost}
-use Rattle.asn_within.specs.Bodies.{IsReadablePart, meant}
-use Rattle.asn_within.proofs.Closing.{closed-none}
+use Rattle.asn_parts.specs.Bodies.{IsReadablePart, meant}
+use Rattle.asn_parts.proofs.Closing.{closed-none}
 use Rattle.avn_value.specs.Answer.{Explains}
 use Rattle.jer_rules.specs.Text as jer
 

@@ -4,6 +4,7 @@
 #![tactic(auto)]
 
 mod conversion;
+pub mod encoding;
 mod reading;
 mod writing;
 

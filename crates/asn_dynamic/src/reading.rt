@@ -2,7 +2,7 @@
 ghost use Rattle.asn_codec.specs.Texts.{IsDecodeFailure, TextDecodesTo};
 ghost use Rattle.asn_coding.specs.Root.{ReadsBy};
 ghost use Rattle.asn_core.specs.declared.codec.Codec.TheVariants.{Avn, Jer};
-ghost use Rattle.asn_decoded.specs.HeldValue.{IsHeldValue};
+ghost use Rattle.asn_dynamic_reading.specs.fitting.HeldValue.{IsHeldValue};
 ghost use Rattle.asn_dynamic_faults.specs.DynFailure.{dyn_failure};
 ghost use Rattle.asn_dynamic_values.specs.DynView.{dyn_value};
 ghost use Rattle.asn_fault.specs.Failure.{Cause, at_root};
@@ -15,8 +15,8 @@ ghost use Rattle.std.specs.Prelude.{◌≡◌, ◌⊎◌, [], IfErr, IfOk, true}
 
 use asn_codec::{LEVEL_LIMIT, no_text_decoded};
 use asn_core::Codec;
-use asn_decoded::decoded_values_fit;
 use asn_dynamic_faults::DynError;
+use asn_dynamic_reading::fitting::decoded_values_fit;
 use asn_dynamic_reading::read_value;
 use asn_dynamic_values::DynValue;
 use asn_model::Shape;

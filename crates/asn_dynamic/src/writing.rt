@@ -13,10 +13,10 @@ ghost use Rattle.asn_model.specs.Value.{Fits};
 ghost use Rattle.asn_model.specs.Writable.{Writable};
 ghost use Rattle.std.specs.Prelude.{◌≡◌, ◌⊎◌, [], ℕ, IfErr, IfOk, OnOk, string_bytes, true};
 
+use crate::encoding::write_value;
 use asn_codec::no_text_encoded;
 use asn_core::Codec;
 use asn_dynamic_values::DynValue;
-use asn_dynamic_writing::write_value;
 use asn_fault::EncodeError;
 use asn_model::Shape;
 use asn_parts::Part;

@@ -8,11 +8,11 @@ use Rattle.asn_model.specs.Shape.{AlternativeAdditions, Alternatives, Shape, all
 use Rattle.asn_model.specs.Value.{Fits, FitsAlternative, Value}
 use Rattle.asn_parts.specs.Parts.{alternative_of}
 use Rattle.asn_parts.specs.declared.part.PartAlternative.{PartAlternative}
-use Rattle.asn_within.specs.Bodies.{IsReadablePart, loops_of, meant}
-use Rattle.asn_within.specs.Closed.{IsPart, closed, closed_added_alternatives, closed_alternatives}
-use Rattle.asn_within.specs.Listed.{alternatives_in}
-use Rattle.asn_within.proofs.Choices.{all-closed, closed-at, names-closed, payload-costs, payload-part}
-use Rattle.asn_within.proofs.Costs.{cost}
+use Rattle.asn_parts.specs.Bodies.{IsReadablePart, loops_of, meant}
+use Rattle.asn_parts.specs.Closed.{IsPart, closed, closed_added_alternatives, closed_alternatives}
+use Rattle.asn_parts.specs.Listed.{alternatives_in}
+use Rattle.asn_parts.proofs.Choices.{all-closed, closed-at, names-closed, payload-costs, payload-part}
+use Rattle.asn_parts.proofs.Costs.{cost}
 
 -- The alternatives of a part, within the loops of these bodies.
 abbrev pub alternatives_meant : {P : Type 0} → (List P → P → Shape) → List P → P → Alternatives

@@ -5,7 +5,7 @@ use Rattle.asn_dynamic_fits.proofs.Having.{bag-is, choice-is, list-is, members-i
 use Rattle.asn_dynamic_values.specs.DynView.{members_named}
 use Rattle.asn_model.specs.Shape.{Shape}
 use Rattle.asn_model.specs.Value.{Slots, Value, Values, nodes, nodes_slots, nodes_values, values}
-use Rattle.asn_within.proofs.Costs.{cost}
+use Rattle.asn_parts.proofs.Costs.{cost}
 
 -- The nodes of what is in a slot.
 abbrev pub nodes_in : Option Value → ℕ

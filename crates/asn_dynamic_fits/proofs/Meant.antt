@@ -16,13 +16,13 @@ use Rattle.asn_parts.proofs.Chains.{bodies-outermost, bodies-within}
 use Rattle.asn_parts.specs.declared.part.LeafPart.{LeafPart}
 use Rattle.asn_parts.specs.declared.part.LeafPart.TheVariants.{Null, Bool, Int, Bits, Octets, Any, Oid, Str, Bmp, Utc, Gen, Day, Decimal}
 use Rattle.asn_parts.specs.declared.part.PartField.{PartField}
-use Rattle.asn_within.specs.Bodies.{IsReadablePart, loops_of, meant}
-use Rattle.asn_within.specs.Closed.{closed, closed_added_fields, closed_fields, closed_in}
-use Rattle.asn_within.specs.Listed.{closed_component, fields_in}
-use Rattle.asn_within.proofs.Closing.{back-is, body-closed, closed-none, head-drop}
-use Rattle.asn_within.proofs.Costs.{cost}
-use Rattle.asn_within.proofs.Fields.{component-closed, field-costs, field-readable, listed-closed}
-use Rattle.asn_within.proofs.Opened.{back-inside, back-less, back-part, within-less, within-part}
+use Rattle.asn_parts.specs.Bodies.{IsReadablePart, loops_of, meant}
+use Rattle.asn_parts.specs.Closed.{closed, closed_added_fields, closed_fields, closed_in}
+use Rattle.asn_parts.specs.Listed.{closed_component, fields_in}
+use Rattle.asn_parts.proofs.Closing.{back-is, body-closed, closed-none, head-drop}
+use Rattle.asn_parts.proofs.Costs.{cost}
+use Rattle.asn_parts.proofs.Fields.{component-closed, field-costs, field-readable, listed-closed}
+use Rattle.asn_parts.proofs.Opened.{back-inside, back-less, back-part, within-less, within-part}
 
 leaf-closed : (env : List Shape) (leaf : LeafPart) → closed env (leaf_shape leaf) ≡ leaf_shape leaf
 leaf-closed env Null = refl

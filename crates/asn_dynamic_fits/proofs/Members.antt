@@ -9,7 +9,7 @@ use Rattle.asn_dynamic_values.specs.DynView.{members_named}
 use Rattle.asn_model.specs.Components.{Component}
 use Rattle.asn_model.specs.Shape.{FieldAdditions, Fields, Presence, SeqKind, Shape}
 use Rattle.asn_model.specs.Value.{Fits, FitsFields, Slots, Value, is_kept, may_lack}
-use Rattle.asn_within.proofs.Fields.{fields-listed}
+use Rattle.asn_parts.proofs.Fields.{fields-listed}
 
 abbrev pub Named : Type 0
 Named = List ℕ × Option Value

@@ -10,8 +10,8 @@ use Rattle.asn_dynamic_values.specs.DynView.{members_named}
 use Rattle.asn_model.specs.Components.{Component}
 use Rattle.asn_model.specs.Shape.{FieldAdditions, Fields, SeqKind, Shape}
 use Rattle.asn_model.specs.Value.{Fits, Value}
-use Rattle.asn_within.specs.Bodies.{loops_of, meant}
-use Rattle.asn_within.specs.Closed.{closed_added_fields, closed_fields}
+use Rattle.asn_parts.specs.Bodies.{loops_of, meant}
+use Rattle.asn_parts.specs.Closed.{closed_added_fields, closed_fields}
 
 -- An entry is seen at its place.
 pub seen-at : {A B : Type 0} (f : A → B) (xs : List A) (k : ℕ) (x : A) → k < length xs → x ≡ get_or xs k x → f x ≡ get_or (map f xs) k (f x)

@@ -11,7 +11,7 @@ ghost use Rattle.std.specs.Prelude.{◌≡◌, ◌&&◌};
 
 use crate::texts::{is_decimal, is_octets, is_string_of};
 use asn_core::{Oid, WholeNumber};
-use asn_dynamic_leaves::is_between;
+use asn_dynamic_reading::is_between;
 use asn_dynamic_values::DynValue;
 use asn_model::are_arcs;
 use asn_parts::LeafPart;

@@ -7,7 +7,7 @@ ghost use Rattle.asn_model.specs.Shape.{Fields, SeqKind, Shape as AbstractShape}
 ghost use Rattle.asn_model.specs.ShapeView.{presence_view, shape_view};
 ghost use Rattle.asn_model.specs.Value.{Fits, FitsEach, Value, values};
 ghost use Rattle.asn_parts.specs.Chain.{bodies_of};
-ghost use Rattle.asn_within.specs.Bodies.{IsReadablePart, meant};
+ghost use Rattle.asn_parts.specs.Bodies.{IsReadablePart, meant};
 ghost use Rattle.std.specs.Prelude.{◌≡◌, ℕ, List, Option, Decides, map, option_map, true};
 
 use crate::contents::{Chosen, bag_of, choice_of, item_of, list_of, members_of};

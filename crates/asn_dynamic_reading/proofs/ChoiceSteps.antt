@@ -15,11 +15,11 @@ use Rattle.asn_coding.specs.Tables.{numbered}
 use Rattle.asn_coding.proofs.NameRows.{names-numbered}
 use Rattle.asn_parts.specs.Parts.{alternative_of}
 use Rattle.asn_parts.specs.declared.part.PartAlternative.{PartAlternative}
-use Rattle.asn_within.specs.Bodies.{IsReadablePart, loops_of, meant}
-use Rattle.asn_within.specs.Closed.{IsPart, closed, closed_added_alternatives, closed_alternatives}
-use Rattle.asn_within.specs.Listed.{PayloadBy, alternatives_in}
-use Rattle.asn_within.proofs.Choices.{choice-less, chosen-answer, payload-part, placed-answer, unnamed-answer}
-use Rattle.asn_within.proofs.Costs.{cost}
+use Rattle.asn_parts.specs.Bodies.{IsReadablePart, loops_of, meant}
+use Rattle.asn_parts.specs.Closed.{IsPart, closed, closed_added_alternatives, closed_alternatives}
+use Rattle.asn_parts.specs.Listed.{PayloadBy, alternatives_in}
+use Rattle.asn_parts.proofs.Choices.{choice-less, chosen-answer, payload-part, placed-answer, unnamed-answer}
+use Rattle.asn_parts.proofs.Costs.{cost}
 
 module _ {P : Type 0} (shape : List P → P → Shape) (bodies : List P) (part : P) (names : identifiers (alternatives_in (shape bodies part)) ≡ identifiers (alternatives_in (shape [] part))) (alts : Alternatives) (added : AlternativeAdditions) (is : shape bodies part ≡ Shape.choice alts added) (n : Notation) where
   abbrev env : List Shape

@@ -23,9 +23,9 @@ use Rattle.asn_model.specs.Notation.{Notation, notation_of}
 use Rattle.asn_model.specs.Shape.{Fields, FieldAdditions, Presence, SeqKind, Shape, all_fields, field_names}
 use Rattle.asn_model.specs.Tree.{Slot, Tree, head_slot}
 use Rattle.asn_model.specs.Value.{Slots, Value, may_lack}
-use Rattle.asn_within.specs.Listed.{Place, TakesComponent, place_rows, places_in}
+use Rattle.asn_parts.specs.Listed.{Place, TakesComponent, place_rows, places_in}
 use Rattle.asn_coding.specs.Opening.{PutsMembers}
-use Rattle.asn_within.proofs.Fields.{FieldsRead, IsNext, Kept, field-step, fields-finish, fields-start, parts-in}
+use Rattle.asn_parts.proofs.Fields.{FieldsRead, IsNext, Kept, field-step, fields-finish, fields-start, parts-in}
 
 may-lack-taken : (p : Presence) → may_lack p ≡ true → may_take p None ≡ true
 may-lack-taken Presence.required e = e

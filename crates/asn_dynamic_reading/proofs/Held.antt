@@ -4,8 +4,8 @@ use Rattle.std.specs.Prelude.{option_map}
 use Rattle.std.specs.List.{AllByRecursion}
 use Rattle.std.proofs.lemmas.List.Elements.{recursion_from_All}
 use Rattle.asn_coding.specs.SetFields.{kept_slot}
-use Rattle.asn_decoded.specs.HeldValue.{AreHeldSlots, AreHeldValues, IsHeldValue}
-use Rattle.asn_decoded.proofs.Elements.{held_sorted, held_table}
+use Rattle.asn_dynamic_reading.specs.fitting.HeldValue.{AreHeldSlots, AreHeldValues, IsHeldValue}
+use Rattle.asn_dynamic_reading.proofs.fitting.Elements.{held_sorted, held_table}
 use Rattle.asn_dynamic_values.specs.DynView.{dyn_value, members_named, named_value}
 use Rattle.asn_dynamic_values.specs.declared.value.DynValue.{DynValue}
 use Rattle.asn_model.specs.Shape.{Presence}

@@ -9,3 +9,6 @@ pub mod Sequences
 pub mod SetSteps
 pub mod ChoiceSteps
 pub mod Payloads
+pub mod IntLeaves
+pub mod Viewed
+pub mod Outside

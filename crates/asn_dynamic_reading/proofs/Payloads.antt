@@ -3,7 +3,7 @@ use Rattle.std.proofs.Common.{◌≡◌, ◌∙◌, sym, subst, ℕ, List, ◌�
 use Rattle.asn_core.specs.declared.codec.Codec.{Codec}
 use Rattle.asn_coding.specs.Answer.{AnswerBy, Refuses}
 use Rattle.asn_coding.proofs.Refusing.{out_of_memory}
-use Rattle.asn_decoded.specs.HeldValue.{IsHeldValue}
+use Rattle.asn_dynamic_reading.specs.fitting.HeldValue.{IsHeldValue}
 use Rattle.asn_dynamic_faults.specs.DynFailure.{dyn_failure}
 use Rattle.asn_dynamic_faults.specs.declared.errors.DynError.{DynError}
 use Rattle.asn_dynamic_values.specs.DynView.{dyn_value}
@@ -15,7 +15,7 @@ use Rattle.asn_model.specs.Notation.{Notation, notation_of}
 use Rattle.asn_model.specs.Shape.{Shape}
 use Rattle.asn_model.specs.Tree.{Slot, head_slot}
 use Rattle.asn_model.specs.Value.{Value}
-use Rattle.asn_within.specs.Listed.{PayloadBy}
+use Rattle.asn_parts.specs.Listed.{PayloadBy}
 
 -- Memory that ran out refuses by any shape.
 pub memory-refused : {n : Notation} (s : Shape) (before : List Slot) (e : DynError) → (codec : Codec) × (notation_of codec ≡ n) × (dyn_failure e ≡ at_root Cause.out_of_memory codec) → Refuses n (FailsWith n s (head_slot before)) (dyn_failure e)

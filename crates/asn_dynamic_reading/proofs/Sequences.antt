@@ -25,14 +25,14 @@ use Rattle.asn_model.specs.Value.{Value}
 use Rattle.asn_names.specs.Rows.{NameRow, row_names}
 use Rattle.asn_parts.specs.Parts.{component_of}
 use Rattle.asn_parts.specs.declared.part.PartField.{PartField}
-use Rattle.asn_within.specs.Bodies.{IsReadablePart, loops_of, meant}
-use Rattle.asn_within.specs.Closed.{closed, closed_added_fields, closed_fields}
-use Rattle.asn_within.specs.Listed.{Place, TakesComponent, closed_component, fields_in, place_rows, places_in}
+use Rattle.asn_parts.specs.Bodies.{IsReadablePart, loops_of, meant}
+use Rattle.asn_parts.specs.Closed.{closed, closed_added_fields, closed_fields}
+use Rattle.asn_parts.specs.Listed.{Place, TakesComponent, closed_component, fields_in, place_rows, places_in}
 use Rattle.asn_coding.specs.Opening.{PutsMembers}
 use Rattle.asn_coding.specs.Tables.{ListsFields, numbered}
-use Rattle.asn_within.proofs.Costs.{cost}
-use Rattle.asn_within.proofs.Repeats.{places-list}
-use Rattle.asn_within.proofs.Fields.{FieldsRead, IsNext, component-closed, field-cheaper, field-readable, field-refused, listed-closed, next-field, rows-distinct}
+use Rattle.asn_parts.proofs.Costs.{cost}
+use Rattle.asn_parts.proofs.Repeats.{places-list}
+use Rattle.asn_parts.proofs.Fields.{FieldsRead, IsNext, component-closed, field-cheaper, field-readable, field-refused, listed-closed, next-field, rows-distinct}
 
 rows-placed : (k : ℕ) (cs : List Component) → numbered k (component_names cs) ≡ place_rows (placed k cs)
 rows-placed k [] = refl

@@ -27,15 +27,15 @@ use Rattle.asn_names.specs.Rows.{NameRow, row_names}
 use Rattle.asn_parts.specs.Names.{rows_at}
 use Rattle.asn_parts.specs.Parts.{component_of}
 use Rattle.asn_parts.specs.declared.part.PartField.{PartField}
-use Rattle.asn_within.specs.Bodies.{IsReadablePart, loops_of, meant}
-use Rattle.asn_within.specs.Closed.{closed, closed_added_fields, closed_fields}
-use Rattle.asn_within.specs.Listed.{Place, TakesComponent, closed_component, fields_in, place_rows, places_in}
+use Rattle.asn_parts.specs.Bodies.{IsReadablePart, loops_of, meant}
+use Rattle.asn_parts.specs.Closed.{closed, closed_added_fields, closed_fields}
+use Rattle.asn_parts.specs.Listed.{Place, TakesComponent, closed_component, fields_in, place_rows, places_in}
 use Rattle.asn_coding.specs.Opening.{PutsMembers}
 use Rattle.asn_coding.specs.Tables.{ListsFields}
-use Rattle.asn_within.proofs.Costs.{cost}
-use Rattle.asn_within.proofs.Repeats.{places-list}
-use Rattle.asn_within.proofs.Fields.{IsNext, Stands, field-cheaper, field-refused, is-next, places-stand, rows-distinct}
-use Rattle.asn_within.proofs.Sets.{places-closed}
+use Rattle.asn_parts.proofs.Costs.{cost}
+use Rattle.asn_parts.proofs.Repeats.{places-list}
+use Rattle.asn_parts.proofs.Fields.{IsNext, Stands, field-cheaper, field-refused, is-next, places-stand, rows-distinct}
+use Rattle.asn_parts.proofs.Sets.{places-closed}
 
 numbers-closed : (env : List Shape) (ps : List Place) → map (λ (p : Place). p.0) (map (λ (p : Place). let q : Place = (p.0, closed_component env p.1) in q) ps) ≡ map (λ (p : Place). p.0) ps
 numbers-closed env [] = refl

@@ -19,10 +19,10 @@ use Rattle.asn_model.specs.Notation.{Notation}
 use Rattle.asn_model.specs.Shape.{Fields, FieldAdditions, SeqKind, Shape, all_fields, field_names}
 use Rattle.asn_model.specs.Tree.{Slot}
 use Rattle.asn_model.specs.Value.{Value}
-use Rattle.asn_within.specs.Listed.{Place, TakesComponent, fields_in, place_rows, places_in}
+use Rattle.asn_parts.specs.Listed.{Place, TakesComponent, fields_in, place_rows, places_in}
 use Rattle.asn_coding.specs.Opening.{PutsMembers}
-use Rattle.asn_within.proofs.Fields.{FieldsRead, IsNext, Kept, field-step, fields-finish, fields-start}
-use Rattle.asn_within.proofs.Sets.{StandsKept, kept-more, kept-read, places-apart}
+use Rattle.asn_parts.proofs.Fields.{FieldsRead, IsNext, Kept, field-step, fields-finish, fields-start}
+use Rattle.asn_parts.proofs.Sets.{StandsKept, kept-more, kept-read, places-apart}
 
 -- Of the fields of an open SET so many are read, and these members have them at their places.
 pub record SetRead (n : Notation) (s : Shape) (before : List Slot) (i : ℕ) (members : List Member) (now : List Slot) : Type 0 where

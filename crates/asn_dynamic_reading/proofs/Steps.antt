@@ -20,9 +20,9 @@ use Rattle.asn_model.proofs.Readables.{and-right}
 use Rattle.asn_parts.specs.Parts.{leaf_shape}
 use Rattle.asn_parts.specs.declared.part.LeafPart.{LeafPart}
 use Rattle.asn_parts.specs.declared.part.LeafPart.TheVariants.{Null, Bool, Int, Bits, Octets, Any, Oid, Str, Bmp, Utc, Gen, Day, Decimal}
-use Rattle.asn_within.specs.Bodies.{IsReadablePart, loops_of, meant}
-use Rattle.asn_within.specs.Closed.{IsPart, closed}
-use Rattle.asn_within.proofs.Costs.{cost, element-costs}
+use Rattle.asn_parts.specs.Bodies.{IsReadablePart, loops_of, meant}
+use Rattle.asn_parts.specs.Closed.{IsPart, closed}
+use Rattle.asn_parts.proofs.Costs.{cost, element-costs}
 
 -- An element costs less than its list of either kind.
 pub list-costs : (kind : SeqKind) (m n : ℕ) (s : Shape) → m < n → cost m s < cost n (list_shape kind s)

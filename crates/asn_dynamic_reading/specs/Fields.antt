@@ -15,8 +15,8 @@ use Rattle.asn_model.specs.Tree.{Slot, Tree}
 use Rattle.asn_model.specs.Value.{may_lack}
 use Rattle.asn_parts.specs.Parts.{component_of}
 use Rattle.asn_parts.specs.declared.part.PartField.{PartField}
-use Rattle.asn_within.specs.Bodies.{loops_of}
-use Rattle.asn_within.specs.Listed.{TakesComponent, closed_component}
+use Rattle.asn_parts.specs.Bodies.{loops_of}
+use Rattle.asn_parts.specs.Listed.{TakesComponent, closed_component}
 
 -- The component that a field is within the loops of these bodies.
 abbrev pub field_meant : {P : Type 0} → (List P → P → Shape) → List P → PartField P → Component

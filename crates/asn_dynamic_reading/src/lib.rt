@@ -2,7 +2,14 @@
 #![tactic(auto)]
 
 mod fields;
+pub mod fitting;
+mod leaves;
+mod numbers;
 mod reading;
+mod texts;
 mod told;
+mod values;
 
+pub use leaves::read_leaf;
+pub use numbers::is_between;
 pub use reading::read_value;

@@ -3,7 +3,7 @@ ghost use Rattle.asn_coding.specs.Answer.{Answer, AnswerBy};
 ghost use Rattle.asn_coding.specs.Opening.{list_shape, list_value};
 ghost use Rattle.asn_dynamic_faults.specs.DynFailure.{dyn_failure};
 ghost use Rattle.asn_dynamic_reading.specs.Fields.{AreAbsent, FieldAnswer, field_meant};
-ghost use Rattle.asn_decoded.specs.HeldValue.{AreHeldValues, IsHeldValue};
+ghost use Rattle.asn_dynamic_reading.specs.fitting.HeldValue.{AreHeldValues, IsHeldValue};
 ghost use Rattle.asn_dynamic_values.specs.DynView.{dyn_value};
 ghost use Rattle.asn_model.specs.Components.{component_names};
 ghost use Rattle.asn_model.specs.Shape.{Fields, FieldAdditions};
@@ -12,16 +12,16 @@ ghost use Rattle.asn_model.specs.Shape.{Shape as AbstractShape, SeqKind as Abstr
 ghost use Rattle.asn_model.specs.ShapeView.{kind_view};
 ghost use Rattle.asn_model.specs.Value.{values};
 ghost use Rattle.asn_parts.specs.Chain.{bodies_of};
-ghost use Rattle.asn_within.specs.Bodies.{IsReadablePart, meant};
-ghost use Rattle.asn_within.specs.Listed.{PayloadBy, fields_in};
+ghost use Rattle.asn_parts.specs.Bodies.{IsReadablePart, meant};
+ghost use Rattle.asn_parts.specs.Listed.{PayloadBy, fields_in};
 ghost use Rattle.std.specs.Prelude.{◌≡◌, ℕ, List, [], IfOk, IfSome, Option};
 
 use crate::fields::{kept_value, open_fields, take_absent_field};
+use crate::read_leaf;
 use crate::told::{no_choice, out_of_memory, told, within};
 use asn_core::OutOfMemory;
 use asn_decode::Decoder;
 use asn_dynamic_faults::DynError;
-use asn_dynamic_leaves::read_leaf;
 use asn_dynamic_values::{DynValue, bag, table};
 use asn_fault::DecodeError;
 use asn_model::{LeafKind, OwnedLeaf, SeqKind};

@@ -12,8 +12,8 @@ use Rattle.asn_model.specs.Shape.{Shape, SeqKind, Fields, FieldAdditions, Altern
 use Rattle.asn_model.specs.Value.{Fits, FitsAlternative, FitsFields, Slots, Value, is_leaf_of, may_lack}
 use Rattle.asn_model.proofs.Ranges.{between, inside}
 use Rattle.asn_model.proofs.Readables.{and-left, and-right}
-use Rattle.asn_within.specs.Closed.{AreReadable, IsPart, closed, closed_alternatives, closed_fields, closed_in}
-use Rattle.asn_within.proofs.Closing.{back-is, back-meant, body-closed, closed-none, part-body}
+use Rattle.asn_parts.specs.Closed.{AreReadable, IsPart, closed, closed_alternatives, closed_fields, closed_in}
+use Rattle.asn_parts.proofs.Closing.{back-is, back-meant, body-closed, closed-none, part-body}
 
 -- There is something, and there is nothing.
 some : {A P : Type 0} {a : A} → ◌≡◌ {A = Option A} (Some a) None → P

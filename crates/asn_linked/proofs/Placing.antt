@@ -12,7 +12,7 @@ use Rattle.asn_model.specs.Components.{Component}
 use Rattle.asn_model.specs.Shape.{Shape, alternative_at, identifiers}
 use Rattle.asn_model.specs.ShapeView.{shape_view}
 use Rattle.asn_model.specs.declared.shape_type.Shape as code
-use Rattle.asn_within.specs.Listed.{alternatives_in, fields_in, items_in, root_count_in}
+use Rattle.asn_parts.specs.Listed.{alternatives_in, fields_in, items_in, root_count_in}
 
 -- What is seen of a place is seen of what stands there.
 module _ (around : List Place) (place : Place) where

@@ -3,7 +3,7 @@
 #![tactic(auto)]
 
 pub mod expansion;
-pub mod types;
 mod place;
+pub mod types;
 
 pub use place::Place;

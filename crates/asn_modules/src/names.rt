@@ -7,8 +7,8 @@ ghost use Rattle.asn_modules_types.specs.Known.{assigned_view};
 ghost use Rattle.std.specs.Prelude.{◌≡◌, ◌<◌, ◌++◌, ◌∷◌, IfOk, IfSome, length, map, string_bytes};
 ghost use Rattle.std.specs.Str.{bytes_eq};
 
-use asn_modules_names::lookup::{Home, Sort, homes_of};
 use asn_modules_grammar::notation::Assignment;
+use asn_modules_names::lookup::{Home, Sort, homes_of};
 use asn_modules_reader::text::Source;
 use asn_modules_types::{Assigned, assigned_of, name_in};
 use std::alloc::{AllocError, Global};

@@ -7,10 +7,10 @@ ghost use Rattle.std.specs.Prelude.{IfErr, IfOk, map};
 
 use crate::modules::Modules;
 use crate::names::type_names;
-use asn_modules_rules::checks::check_all;
 use asn_modules_names::lookup::{Sort, index_of};
 use asn_modules_names::sources::read_sources;
 use asn_modules_reader::text::ModuleError;
+use asn_modules_rules::checks::check_all;
 use asn_modules_types::linked_types;
 use std::alloc::Global;
 

@@ -2,8 +2,8 @@
 ghost use Rattle.asn_modules_errors.specs.LeftOuts.{is_too_deep, left_out, left_out_text, part_of};
 ghost use Rattle.std.specs.Prelude.{◌≡◌, Some};
 
-use asn_modules_grammar::headers::Expected;
 use asn_lexer::{Keyword, Kind};
+use asn_modules_grammar::headers::Expected;
 use std::fmt;
 
 /// Names a part of ASN.1 that isn't read.

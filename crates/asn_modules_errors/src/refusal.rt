@@ -7,8 +7,8 @@ use crate::cause::Cause;
 use crate::error::ModuleError;
 use crate::left_out::left_out;
 use crate::slice::shown;
-use asn_modules_grammar::headers::Expected;
 use asn_lexer::{Kind, Place, Token, place_of};
+use asn_modules_grammar::headers::Expected;
 use std::alloc::{AllocError, Global};
 
 /// Returns the line and column of what begins so many bytes from the beginning of the text.

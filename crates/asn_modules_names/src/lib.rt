@@ -2,16 +2,16 @@
 //! token. Each check has the first name that breaks a rule as a definition, and tells that one.
 #![tactic(auto)]
 
-pub mod sources;
-pub mod references;
-pub mod imports;
-pub mod lookup;
 mod assigned;
 mod check;
 mod distinct;
 mod errors;
 mod headed;
+pub mod imports;
+pub mod lookup;
 mod mention;
+pub mod references;
+pub mod sources;
 
 pub use check::check_names;
 pub use distinct::check_distinct;

@@ -14,10 +14,10 @@ ghost use Rattle.std.specs.Prelude.{map};
 
 use crate::limits::NESTING_LIMIT;
 use crate::notation::read_notation;
-use asn_modules_grammar::headers::{Expected, SyntaxFault, read_names, unexpected};
-use asn_lexer::{Keyword, Kind, Token};
-use asn_modules_grammar::notation::{Assignment, Base, Closed, Leaf, Notation, Value};
 use crate::parts::{Mark, Sign, past_parameters, read_value, take, take_sign};
+use asn_lexer::{Keyword, Kind, Token};
+use asn_modules_grammar::headers::{Expected, SyntaxFault, read_names, unexpected};
+use asn_modules_grammar::notation::{Assignment, Base, Closed, Leaf, Notation, Value};
 use std::alloc::Global;
 
 /// Returns whether the word is that of a type of character strings.

@@ -3,14 +3,14 @@
 //! what stands at a place.
 #![tactic(auto)]
 
-pub mod text;
-pub mod parts;
 mod assignment;
 mod bases;
 pub mod limits;
 mod members;
 mod module;
 mod notation;
+pub mod parts;
+pub mod text;
 mod version;
 
 pub use assignment::{read_assignment, read_assignments};

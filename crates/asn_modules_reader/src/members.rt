@@ -4,8 +4,8 @@ ghost use Rattle.asn_modules_reader.specs.parts.EntryLists.{entries_of};
 ghost use Rattle.asn_modules_reader.specs.Views.{member_seen};
 ghost use Rattle.std.specs.Prelude.{◌≡◌, map};
 
-use asn_modules_grammar::notation::{Extension, Member, Members};
 use crate::parts::Entries;
+use asn_modules_grammar::notation::{Extension, Member, Members};
 
 /// Returns the members that the entries are.
 pub(crate) fn members_of(entries: Entries<Member>) -> Members

@@ -12,10 +12,10 @@ ghost use Rattle.std.specs.Prelude.{map};
 
 use crate::assignment::read_assignments;
 use crate::limits::NESTING_LIMIT;
-use asn_modules_grammar::headers::{Expected, SyntaxFault, read_header, unexpected};
-use asn_lexer::{Keyword, Kind, Token};
-use asn_modules_grammar::notation::Module;
 use crate::parts::{Mark, Sign, past_parameters, take, take_sign};
+use asn_lexer::{Keyword, Kind, Token};
+use asn_modules_grammar::headers::{Expected, SyntaxFault, read_header, unexpected};
+use asn_modules_grammar::notation::Module;
 use std::alloc::Global;
 
 /// Returns a module, and what follows it.

@@ -16,15 +16,15 @@ ghost use Rattle.std.specs.Prelude.{◌≡◌, ◌<◌, ◌≤◌, ◌^◌, IfOk
 use crate::bases::{fields_of, instance_or, list_of, may_have_components};
 use crate::limits::NESTING_LIMIT;
 use crate::members::members_of;
-use crate::version::past_version;
-use asn_modules_grammar::headers::{Expected, Group, SyntaxFault, unexpected};
-use asn_lexer::Token;
-use asn_model::SeqKind;
-use asn_modules_grammar::notation::{Base, Component, Member, Members, Notation};
 use crate::parts::{
     Entries, Mark, Sign, Start, begins_type, past, read_items, read_named_numbers, read_of,
     read_presence, read_sizes, read_start, read_tags, take, take_sign,
 };
+use crate::version::past_version;
+use asn_lexer::Token;
+use asn_model::SeqKind;
+use asn_modules_grammar::headers::{Expected, Group, SyntaxFault, unexpected};
+use asn_modules_grammar::notation::{Base, Component, Member, Members, Notation};
 use std::alloc::Global;
 
 /// Reads COMPONENTS OF and its type, which is looked for at the level. No word of a component

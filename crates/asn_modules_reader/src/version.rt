@@ -2,8 +2,8 @@
 ghost use Rattle.asn_modules_grammar.specs.notation.Grammar.{past_version};
 ghost use Rattle.std.specs.Prelude.{◌≡◌, ◌≤◌, length};
 
-use asn_lexer::Token;
 use crate::parts::{Mark, take};
+use asn_lexer::Token;
 
 /// Returns what follows the number of a version and its colon, if they stand here.
 pub(crate) fn past_version(tokens: &[Token]) -> &[Token]

@@ -11,10 +11,10 @@ ghost use Rattle.std.specs.List.{slice_get};
 ghost use Rattle.std.specs.Prelude.{◌≡◌, ◌<◌, ◌++◌, IfOk, IfSome, OnOk, is_some, length, map};
 ghost use Rattle.std.specs.Prelude.{option_map};
 
-use asn_lexer::Token;
-use asn_modules_names::lookup::{Home, Sort};
 use crate::named_numbers::{NamedNumbers, StatedType, named_numbers};
+use asn_lexer::Token;
 use asn_modules_grammar::notation::{Assignment, Notation, Value};
+use asn_modules_names::lookup::{Home, Sort};
 use std::alloc::{AllocError, Global};
 
 /// Is a type or value that a module assigns.

@@ -3,7 +3,6 @@
 //! expansion, which is never built.
 #![tactic(auto)]
 
-pub mod named_numbers;
 mod allowance;
 mod assigned;
 mod copies;
@@ -12,6 +11,7 @@ mod fault;
 mod leaves;
 mod limits;
 mod linked;
+pub mod named_numbers;
 mod names;
 mod numbers;
 mod parts;

@@ -9,13 +9,13 @@ ghost use Rattle.std.specs.Prelude.{◌≡◌, IfOk, MatchOption, false, true};
 use crate::assigned::{Assigned, assigned_at, notation_of};
 use crate::fault::LinkFault;
 use crate::leaves::{integer_shape, leaf_shape};
+use crate::named_numbers::NamedNumbers;
 use crate::scope::{Scope, find};
 use crate::sizes::sized;
 use asn_linked::types::no_values;
 use asn_model::Shape;
-use asn_modules_names::lookup::Index;
-use crate::named_numbers::NamedNumbers;
 use asn_modules_grammar::notation::Base;
+use asn_modules_names::lookup::Index;
 use asn_modules_reader::text::Source;
 use std::alloc::Global;
 

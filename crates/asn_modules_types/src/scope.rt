@@ -15,8 +15,8 @@ use crate::names::Names;
 use crate::values::{StatedValue, found_in, number_from};
 use asn_lexer::Token;
 use asn_modules_errors::text_of;
-use asn_modules_names::lookup::Home;
 use asn_modules_grammar::notation::Value;
+use asn_modules_names::lookup::Home;
 
 /// Is the name of a parameter, with what stands in its place.
 #[derive(Clone, Copy, Drop)]

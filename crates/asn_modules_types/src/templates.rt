@@ -16,8 +16,8 @@ use crate::names::Names;
 use crate::scope::{Binding, Scope, assigned_number};
 use crate::values::found_in;
 use asn_lexer::Token;
-use asn_modules_rules::included::is_small;
 use asn_modules_grammar::notation::{Base, Notation};
+use asn_modules_rules::included::is_small;
 use std::alloc::{AllocError, Global};
 
 /// Returns the number of the type with parameters of the name, or `None` where it is missing.

@@ -15,8 +15,8 @@ use crate::names::Names;
 use crate::numbers::signed_in;
 use asn_lexer::Token;
 use asn_modules_errors::text_of;
-use asn_modules_names::lookup::{Home, Index};
 use asn_modules_grammar::notation::Value;
+use asn_modules_names::lookup::{Home, Index};
 
 /// Is a value as it stands in a module.
 #[derive(Clone, Copy, Drop)]

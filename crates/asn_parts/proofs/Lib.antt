@@ -2,3 +2,10 @@ pub mod NameRows
 pub mod ShapeViews
 pub mod Orders
 pub mod Chains
+pub mod Closing
+pub mod Costs
+pub mod Opened
+pub mod Fields
+pub mod Repeats
+pub mod Choices
+pub mod Sets

@@ -12,7 +12,7 @@ use Rattle.asn_model.specs.Shape.{FieldAdditions, Fields, Shape, field_names}
 use Rattle.asn_model.specs.Sorting.{sort}
 use Rattle.asn_model.proofs.Sorting.{sort-map}
 use Rattle.asn_parts.specs.Names.{counted}
-use Rattle.asn_within.specs.Listed.{Place, fields_in, root_count_in}
+use Rattle.asn_parts.specs.Listed.{Place, fields_in, root_count_in}
 
 -- A place and the tag of the field there.
 abbrev pub Spot : Type 0

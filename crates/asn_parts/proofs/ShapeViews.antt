@@ -14,7 +14,7 @@ use Rattle.asn_model.specs.declared.shape_type.SeqKind.{SeqKind}
 use Rattle.asn_model.specs.declared.shape_type.Shape.{Enum, the_lemmas}
 use Rattle.asn_model.specs.declared.shape_type.Shape.TheViews.{Seq, Choice}
 use Rattle.asn_model.proofs.Viewing.{added_alternative_views, choice_viewed, sequence_viewed}
-use Rattle.asn_within.specs.Listed.{alternatives_in, fields_in, items_in, root_count_in}
+use Rattle.asn_parts.specs.Listed.{alternatives_in, fields_in, items_in, root_count_in}
 
 pub view-Enum : (items : Vec (String Global)) (added : Option (Vec (String Global))) → shape_view (Enum items added) ≡ spec.Shape.enum (map string_bytes items.items) (option_map (λ (v : Vec (String Global)). map string_bytes v.items) added)
 view-Enum items added = search (rules, the_lemmas)

@@ -1,5 +1,5 @@
 //! Defines what a reader or a writer of values sees of a type: its parts, each shown by a small
-//! handle, and the loops that stand around a part.
+//! handle, and the loops that stand around a part; and what a part means within these loops.
 #![tactic(auto)]
 
 mod loops;

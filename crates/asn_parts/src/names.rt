@@ -14,7 +14,7 @@ pub struct FieldNames<P> {
 impl<P: Part> NameList for FieldNames<P> {
     ghost use Rattle.asn_coding.specs.Tables.{numbered};
     ghost use Rattle.asn_model.specs.Components.{component_names};
-    ghost use Rattle.asn_within.specs.Listed.{fields_in};
+    ghost use Rattle.asn_parts.specs.Listed.{fields_in};
     ghost use Rattle.std.specs.Prelude.{[]};
 
     ghost rows = { λ names. numbered 0 (component_names (fields_in (P.shape [] names.part))) };
@@ -49,7 +49,7 @@ pub struct FieldsByTag<P> {
 impl<P: Part> NameList for FieldsByTag<P> {
     ghost use Rattle.asn_parts.specs.Names.{rows_at};
     ghost use Rattle.asn_model.specs.Components.{component_names};
-    ghost use Rattle.asn_within.specs.Listed.{fields_in};
+    ghost use Rattle.asn_parts.specs.Listed.{fields_in};
     ghost use Rattle.std.specs.Prelude.{[]};
 
     ghost rows = { λ names.
@@ -88,7 +88,7 @@ pub struct AlternativeNames<P> {
 impl<P: Part> NameList for AlternativeNames<P> {
     ghost use Rattle.asn_coding.specs.Tables.{numbered};
     ghost use Rattle.asn_model.specs.Shape.{identifiers};
-    ghost use Rattle.asn_within.specs.Listed.{alternatives_in};
+    ghost use Rattle.asn_parts.specs.Listed.{alternatives_in};
     ghost use Rattle.std.specs.Prelude.{[]};
 
     ghost rows = { λ names. numbered 0 (identifiers (alternatives_in (P.shape [] names.part))) };

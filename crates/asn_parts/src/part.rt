@@ -5,7 +5,7 @@ ghost use Rattle.asn_model.specs.Shape.{alternative_at, identifiers, is_item};
 ghost use Rattle.asn_coding.specs.SetFields.{component_at};
 ghost use Rattle.asn_parts.specs.Chain.{bodies_of};
 ghost use Rattle.asn_parts.specs.Parts.{IsKind, alternative_of, component_of};
-ghost use Rattle.asn_within.specs.Listed.{alternatives_in, fields_in, items_in, root_count_in};
+ghost use Rattle.asn_parts.specs.Listed.{alternatives_in, fields_in, items_in, root_count_in};
 ghost use Rattle.std.specs.Prelude.{◌≡◌, ◌<◌, List, [], Some, length, option_map};
 
 use crate::Loops;

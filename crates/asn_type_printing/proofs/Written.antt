@@ -7,7 +7,7 @@ use Rattle.asn_model.specs.ShapeView.{alternative_views, field_views, presence_v
 use Rattle.asn_model.specs.declared.shape_type.AlternativeShape.{AlternativeShape}
 use Rattle.asn_model.specs.declared.shape_type.FieldShape.{FieldShape}
 use Rattle.asn_model.specs.Shape.{Shape, SeqKind, Fields, FieldAdditions, Alternatives, AlternativeAdditions}
-use Rattle.asn_type_words.specs.Words.{kind_word}
+use Rattle.asn_type_printing.specs.words.Words.{kind_word}
 use Rattle.asn_type_printing.specs.Levels.{level_of}
 use Rattle.asn_type_printing.specs.declared.level.Level.{Level, Outermost, Within, the_lemmas}
 use Rattle.asn_type_printing.specs.Names.{name_at}

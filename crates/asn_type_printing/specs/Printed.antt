@@ -4,7 +4,7 @@ use Rattle.std.specs.Fmt.{signed_decimal}
 use Rattle.std.specs.List.{flat_map, slice_get}
 use Rattle.avn_grammar.specs.Chars.{quote_is_doubled}
 use Rattle.asn_model.specs.Shape.{Shape, Fields, FieldAdditions, Alternatives, AlternativeAdditions, Plain, Presence}
-use Rattle.asn_type_words.specs.Words.{kind_word}
+use Rattle.asn_type_printing.specs.words.Words.{kind_word}
 use Rattle.asn_type_printing.specs.Levels.{new_line}
 use Rattle.asn_type_printing.specs.Names.{name_at}
 use Rattle.asn_type_printing.specs.Reached.{reached}

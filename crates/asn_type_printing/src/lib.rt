@@ -6,6 +6,7 @@ mod level;
 mod print;
 mod reached;
 mod values;
+pub mod words;
 mod write;
 
 pub use print::printed_types;

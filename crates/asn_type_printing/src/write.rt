@@ -10,9 +10,9 @@ ghost use Rattle.std.specs.Prelude.{◌≡◌, ◌++◌, OnOk, map, option_map, 
 
 use crate::level::{Level, write_line};
 use crate::values::write_presence;
+use crate::words::kind_word;
 use asn_core::OutOfMemory;
 use asn_model::{AlternativeShape, FieldShape, Shape};
-use asn_type_words::kind_word;
 
 /// Returns the name of the type of a number, or an empty one where there is none.
 pub fn name_at(names: &[String], number: usize) -> &str

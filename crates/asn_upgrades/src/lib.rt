@@ -2,6 +2,7 @@
 //! their clauses say what follows for its answer from the laws of versions.
 #![tactic(auto)]
 
+pub mod agreement;
 mod versions;
 
 pub use versions::{decode_as_newer, decode_as_older};

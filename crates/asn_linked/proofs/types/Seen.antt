@@ -8,7 +8,7 @@ use Rattle.asn_linked.proofs.types.Expanding.{expansion-shows}
 use Rattle.asn_linked.proofs.types.Linking.{all_alternatives-linked, field_names-linked, identifiers-linked}
 use Rattle.asn_model.specs.Components.{Component, Standing, component_names, components}
 use Rattle.asn_model.specs.Shape.{Alternatives, FieldAdditions, Fields, Shape, alternative_at, identifiers}
-use Rattle.asn_within.specs.Listed.{alternatives_in, fields_in, items_in, root_count_in}
+use Rattle.asn_parts.specs.Listed.{alternatives_in, fields_in, items_in, root_count_in}
 
 -- A component whose names have these shapes.
 abbrev pub linked_component : (ℕ → Shape) → Component → Component

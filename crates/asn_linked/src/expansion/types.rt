@@ -19,8 +19,8 @@ ghost use Rattle.std.specs.Prelude.{length, map};
 use crate::expansion::copies::{copy_of_items, copy_of_leaf, copy_of_presence};
 use crate::expansion::limits::{NODE_LIMIT, OPEN_LIMIT};
 use crate::expansion::opened::{Opened, place_in};
-use asn_expansion::ExpansionFault;
 use crate::types::no_values;
+use asn_expansion::ExpansionFault;
 use asn_model::{AlternativeShape, FieldShape, Shape};
 use std::alloc::Global;
 

@@ -1,7 +1,7 @@
 //! Defines modules as they stand in a text.
+use crate::headers::Header;
 use crate::notation::notation::Notation;
 use crate::notation::value::Value;
-use crate::headers::Header;
 use asn_lexer::Token;
 
 /// Assigns a type or a value to a name (X.680, section 16), perhaps with parameters (X.683).

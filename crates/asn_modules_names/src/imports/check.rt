@@ -10,11 +10,11 @@ ghost use Rattle.std.specs.Prelude.{map};
 
 use crate::imports::index::{ExportIndex, export_index_of};
 use crate::imports::rule::{import_rule, is_named};
-use asn_modules_grammar::headers::Import;
-use asn_lexer::Token;
-use asn_modules_errors::{ModuleError, text_of};
 use crate::lookup::{Home, imports_of};
 use crate::{broken, mention_of};
+use asn_lexer::Token;
+use asn_modules_errors::{ModuleError, text_of};
+use asn_modules_grammar::headers::Import;
 use std::alloc::Global;
 
 /// Checks that the module may import these names, from itself or from another one, where `named` is

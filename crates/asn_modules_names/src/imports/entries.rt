@@ -9,10 +9,10 @@ ghost use Rattle.asn_modules_grammar.specs.notation.View.{assignment_view};
 ghost use Rattle.std.specs.Prelude.{◌≡◌, ◌++◌, IfOk, OnOk, map};
 ghost use Rattle.std.specs.Option.{option_map};
 
-use asn_modules_grammar::headers::Header;
+use crate::lookup::{Home, module_name};
 use asn_lexer::Token;
 use asn_modules_errors::text_of;
-use crate::lookup::{Home, module_name};
+use asn_modules_grammar::headers::Header;
 use asn_modules_grammar::notation::Assignment;
 use std::alloc::{AllocError, Global};
 

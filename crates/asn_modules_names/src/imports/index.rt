@@ -12,8 +12,8 @@ ghost use Rattle.std.specs.Prelude.{◌≡◌, IfOk, map};
 ghost use Rattle.std.specs.Set.{is_member};
 
 use crate::imports::entries::{Entry, Listed, entries_of};
-use asn_modules_grammar::headers::Header;
 use crate::lookup::Home;
+use asn_modules_grammar::headers::Header;
 use std::alloc::{AllocError, Global};
 use std::collections::{HashMap, HashSet};
 use std::hash::Hash;

@@ -5,8 +5,8 @@ ghost use Rattle.asn_modules_names.specs.lookup.Homes.{home_view};
 ghost use Rattle.std.specs.Prelude.{◌≡◌};
 
 use crate::imports::index::ExportIndex;
-use asn_modules_errors::{NameRule, text_of};
 use crate::lookup::{Home, module_name};
+use asn_modules_errors::{NameRule, text_of};
 
 /// Returns whether the module has this name.
 pub fn is_named(home: Home<'_, '_>, name: &[u8]) -> bool

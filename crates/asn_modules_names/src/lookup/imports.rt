@@ -9,9 +9,9 @@ ghost use Rattle.std.specs.Option.{option_map};
 
 use crate::lookup::entries::Key;
 use crate::lookup::home::Home;
-use asn_modules_grammar::headers::{Header, Import};
 use asn_lexer::Token;
 use asn_modules_errors::text_of;
+use asn_modules_grammar::headers::{Header, Import};
 use std::alloc::{AllocError, Global};
 
 /// Is an imported name behind the number of the module that imports it, with the name of the module

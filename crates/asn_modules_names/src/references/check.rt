@@ -10,12 +10,12 @@ ghost use Rattle.asn_modules_names.specs.references.References.{all_references, 
 ghost use Rattle.asn_modules_names.specs.references.References.{first_unknown, references_as, unknown};
 ghost use Rattle.std.specs.Prelude.{◌≡◌, ◌++◌, IfOk, List, OnOk, map};
 
+use crate::lookup::{Home, Index, Sort};
 use crate::references::value_names::value_name;
 use crate::references::walk::add_references;
+use crate::{broken, mention_of};
 use asn_lexer::Token;
 use asn_modules_errors::{ModuleError, NameRule, text_of};
-use crate::lookup::{Home, Index, Sort};
-use crate::{broken, mention_of};
 use asn_modules_grammar::notation::Assignment;
 use std::alloc::{AllocError, Global};
 

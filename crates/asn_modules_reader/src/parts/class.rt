@@ -7,8 +7,8 @@ ghost use Rattle.std.specs.Prelude.{◌≡◌, ◌<◌, ◌≤◌, IfOk, MatchOp
 
 use crate::parts::group::past;
 use crate::parts::mark::{Mark, take};
-use asn_modules_grammar::headers::{Expected, Group, SyntaxFault, unexpected};
 use asn_lexer::Token;
+use asn_modules_grammar::headers::{Expected, Group, SyntaxFault, unexpected};
 use std::alloc::Global;
 
 /// Returns what follows a point and `&`, if they stand here.

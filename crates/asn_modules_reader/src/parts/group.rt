@@ -3,8 +3,8 @@ ghost use Rattle.asn_modules_grammar.specs.headers.Fronts.{AnswersRest};
 ghost use Rattle.asn_modules_grammar.specs.headers.Groups.{past_groups, past_optional_braces};
 ghost use Rattle.std.specs.Prelude.{◌≡◌, ◌≤◌, ◌∷◌, [], IfOk, length};
 
-use asn_modules_grammar::headers::{Group, SyntaxFault, past_group, past_optional_braces};
 use asn_lexer::Token;
+use asn_modules_grammar::headers::{Group, SyntaxFault, past_group, past_optional_braces};
 use std::alloc::Global;
 
 /// Returns what follows the group whose opening token was read, which is no longer.

@@ -9,8 +9,8 @@ use crate::parts::entries::Entries;
 use crate::parts::mark::{Mark, take};
 use crate::parts::number::read_in_parens;
 use crate::parts::sign::{Sign, take_sign};
-use asn_modules_grammar::headers::{Expected, SyntaxFault, unexpected};
 use asn_lexer::{Kind, Token};
+use asn_modules_grammar::headers::{Expected, SyntaxFault, unexpected};
 use asn_modules_grammar::notation::Item;
 use std::alloc::Global;
 

@@ -8,8 +8,8 @@ ghost use Rattle.std.specs.Prelude.{◌≡◌, ◌<◌, ◌≤◌, IfOk, length}
 
 use crate::parts::mark::{Mark, take};
 use crate::parts::sign::{Sign, take_sign};
-use asn_modules_grammar::headers::{Expected, SyntaxFault, unexpected};
 use asn_lexer::{Kind, Token};
+use asn_modules_grammar::headers::{Expected, SyntaxFault, unexpected};
 use asn_modules_grammar::notation::{Constant, NamedNumber, SignedNumber};
 use std::alloc::Global;
 

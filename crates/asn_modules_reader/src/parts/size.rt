@@ -11,8 +11,8 @@ ghost use Rattle.std.specs.Prelude.{◌≡◌, ◌<◌, ◌≤◌, ◌++◌, ◌
 
 use crate::parts::group::past;
 use crate::parts::mark::{Mark, take};
-use asn_modules_grammar::headers::{Expected, Group, SyntaxFault, unexpected};
 use asn_lexer::{Keyword, Kind, Token};
+use asn_modules_grammar::headers::{Expected, Group, SyntaxFault, unexpected};
 use asn_modules_grammar::notation::Size;
 use std::alloc::{AllocError, Global};
 

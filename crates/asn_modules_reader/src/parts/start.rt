@@ -13,9 +13,9 @@ ghost use Rattle.std.specs.Prelude.{◌≡◌, ◌<◌, ◌≤◌, IfOk, length}
 use crate::parts::class::{past_class, past_fields, past_instance, take_field};
 use crate::parts::mark::{Mark, take};
 use crate::parts::opening::{Opening, opening_of};
-use asn_modules_grammar::headers::{Expected, SyntaxFault, unexpected};
 use asn_lexer::{Kind, Token};
 use asn_model::SeqKind;
+use asn_modules_grammar::headers::{Expected, SyntaxFault, unexpected};
 use asn_modules_grammar::notation::{Closed, Leaf};
 use std::alloc::Global;
 

@@ -7,8 +7,8 @@ ghost use Rattle.std.specs.Prelude.{◌≡◌, ◌≤◌, IfOk, length};
 
 use crate::parts::mark::{Mark, take};
 use asn_core::Class;
-use asn_modules_grammar::headers::{Expected, SyntaxFault, unexpected};
 use asn_lexer::{Keyword, Kind, Token};
+use asn_modules_grammar::headers::{Expected, SyntaxFault, unexpected};
 use asn_modules_grammar::notation::{TagMode, TagNotation};
 use std::alloc::Global;
 

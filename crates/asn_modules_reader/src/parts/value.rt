@@ -17,8 +17,8 @@ use crate::parts::class::{past_fields, take_field};
 use crate::parts::group::past;
 use crate::parts::mark::{Mark, take, take_first};
 use crate::parts::number::read_negative;
-use asn_modules_grammar::headers::{Expected, Group, SyntaxFault, unexpected};
 use asn_lexer::{Keyword, Kind, Token};
+use asn_modules_grammar::headers::{Expected, Group, SyntaxFault, unexpected};
 use asn_modules_grammar::notation::{Presence, SignedNumber, Value};
 use std::alloc::Global;
 

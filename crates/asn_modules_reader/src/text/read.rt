@@ -6,13 +6,13 @@ ghost use Rattle.asn_modules_grammar.specs.notation.View.{module_view};
 ghost use Rattle.asn_modules_reader.specs.text.Texts.{IsText, IsTextRefusal, IsRefused};
 ghost use Rattle.std.specs.Prelude.{◌≡◌, IfErr, IfOk, List, map};
 
-use crate::text::source::Source;
-use asn_modules_grammar::headers::SyntaxFault;
-use asn_lexer::{LexFault, Token, tokens};
-use asn_modules_errors::{Cause, ModuleError, no_token_at, place_at, refused, unexpected_token};
-use asn_modules_grammar::notation::Module;
 use crate::limits::NESTING_LIMIT;
 use crate::read_text;
+use crate::text::source::Source;
+use asn_lexer::{LexFault, Token, tokens};
+use asn_modules_errors::{Cause, ModuleError, no_token_at, place_at, refused, unexpected_token};
+use asn_modules_grammar::headers::SyntaxFault;
+use asn_modules_grammar::notation::Module;
 use std::alloc::Global;
 
 /// Returns the modules that the tokens of the text of this name stand for.

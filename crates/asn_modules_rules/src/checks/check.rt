@@ -9,16 +9,16 @@ ghost use Rattle.asn_modules_names.specs.Faults.{Checks};
 ghost use Rattle.asn_modules_names.specs.Mentions.{source_view};
 ghost use Rattle.std.specs.Prelude.{◌≡◌, map};
 
-use asn_modules_errors::ModuleError;
-use asn_modules_names::imports::check_imports;
 use crate::included::check_included;
 use crate::lists::check_lists;
-use asn_modules_names::lookup::{Home, Index, Sort, homes_of, index_of};
-use asn_modules_names::check_names;
 use crate::numbers::check_numbers;
+use crate::values::check_values;
+use asn_modules_errors::ModuleError;
+use asn_modules_names::check_names;
+use asn_modules_names::imports::check_imports;
+use asn_modules_names::lookup::{Home, Index, Sort, homes_of, index_of};
 use asn_modules_names::references::check_references;
 use asn_modules_reader::text::Source;
-use crate::values::check_values;
 use std::alloc::Global;
 
 /// Checks the names and the numbers in lists.

@@ -10,13 +10,15 @@ ghost use Rattle.asn_modules_grammar.specs.notation.View.{notation_view};
 ghost use Rattle.std.specs.Prelude.{◌≡◌, List, map};
 
 use crate::included::count::{past_type, past_type_name};
-use crate::included::limits::{INCLUDED_LEVEL_LIMIT, INCLUDED_SIZE_LIMIT, INSTANCE_SIZE, NAME_LIMIT};
+use crate::included::limits::{
+    INCLUDED_LEVEL_LIMIT, INCLUDED_SIZE_LIMIT, INSTANCE_SIZE, NAME_LIMIT,
+};
 use crate::included::scope::{Depth, Scope};
 use crate::included::types::{AssignedType, stands_for, types_of};
 use asn_modules_errors::{ModuleError, NameRule};
+use asn_modules_grammar::notation::Notation;
 use asn_modules_names::lookup::{Home, Index};
 use asn_modules_names::{broken, mention_of};
-use asn_modules_grammar::notation::Notation;
 use std::alloc::Global;
 
 /// Returns whether the type in the module of the number counts as little as one with actual

@@ -17,8 +17,8 @@ use crate::included::names::TypeName;
 use crate::included::scope::{Depth, Scope};
 use crate::included::sizes::{past_constraints, past_instance, past_presence, past_reference};
 use crate::included::types::{type_at, type_named};
-use asn_modules_grammar::notation::{Base, Component, Member, Members, Notation};
 use crate::sizes::{past_items, past_name, past_numbers};
+use asn_modules_grammar::notation::{Base, Component, Member, Members, Notation};
 
 /// Returns how many of so many bytes are left behind the type, or `None` where there aren't as
 /// many, or it nests too deep. This and the others below count a type with all that stands in it.

@@ -5,9 +5,9 @@ ghost use Rattle.asn_modules_rules.specs.sizes.Sizes.{name_size, past};
 ghost use Rattle.std.specs.Prelude.{◌≡◌, ◌+◌};
 
 use crate::included::limits::INSTANCE_SIZE;
+use crate::sizes::{ENTRY_SIZE, past_name};
 use asn_lexer::Token;
 use asn_modules_grammar::notation::{Presence, Size, Value};
-use crate::sizes::{ENTRY_SIZE, past_name};
 
 /// Returns how many of so many bytes are left behind the two names, or `None` where there aren't as
 /// many. It is the same with the others below.

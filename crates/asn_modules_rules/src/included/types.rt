@@ -13,8 +13,8 @@ ghost use Rattle.std.specs.Prelude.{◌≡◌, ◌++◌, [], IfOk, List, OnOk, m
 
 use crate::included::names::{TypeName, add_behind, name_of};
 use asn_modules_errors::text_of;
-use asn_modules_names::lookup::{Home, Index};
 use asn_modules_grammar::notation::{Assignment, Notation};
+use asn_modules_names::lookup::{Home, Index};
 use std::alloc::{AllocError, Global};
 
 /// Is a type that a module assigns.

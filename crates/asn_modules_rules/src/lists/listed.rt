@@ -7,8 +7,8 @@ ghost use Rattle.std.specs.Prelude.{◌≡◌, ◌++◌, IfOk, OnOk, Some, map};
 
 use crate::lists::members::add_members;
 use asn_lexer::Token;
-use asn_modules_names::{Mention, mention_of};
 use asn_modules_grammar::notation::{Base, Item, NamedNumber};
+use asn_modules_names::{Mention, mention_of};
 use asn_modules_reader::text::Source;
 use std::alloc::{AllocError, Global};
 

@@ -11,11 +11,11 @@ ghost use Rattle.asn_modules_reader.specs.Views.{base_view};
 ghost use Rattle.std.specs.Global.{Vec};
 ghost use Rattle.std.specs.Prelude.{◌≡◌, IfOk, map};
 
+use crate::lists::{WrittenType, written_types};
 use crate::numbers::rules::{Broken, bits_fault, enumerated_fault};
 use asn_modules_errors::ModuleError;
-use crate::lists::{WrittenType, written_types};
-use asn_modules_names::{broken, mention_of};
 use asn_modules_grammar::notation::{Base, Item};
+use asn_modules_names::{broken, mention_of};
 use asn_modules_reader::text::Source;
 use std::alloc::{AllocError, Global};
 

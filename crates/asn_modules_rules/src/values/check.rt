@@ -13,8 +13,8 @@ ghost use Rattle.std.specs.Prelude.{◌≡◌, ℕ, IfOk, List, Some, is_some, l
 use crate::values::leads::{leads_past, next_at};
 use crate::values::links::{ValueLink, links_of};
 use asn_modules_errors::{ModuleError, NameRule};
-use asn_modules_names::lookup::{Home, Index};
 use asn_modules_names::broken;
+use asn_modules_names::lookup::{Home, Index};
 use std::alloc::{AllocError, Global};
 
 /// Returns the numbers of the values that these are the names of.

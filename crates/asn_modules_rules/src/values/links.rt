@@ -10,10 +10,10 @@ ghost use Rattle.std.specs.List.{cons_option};
 ghost use Rattle.std.specs.Prelude.{◌≡◌, ◌++◌, [], IfOk, List, OnOk, map, option_map};
 
 use asn_modules_errors::text_of;
-use asn_modules_names::lookup::{Home, Index};
-use asn_modules_names::{Mention, mention_of};
 use asn_modules_grammar::notation::Assignment;
+use asn_modules_names::lookup::{Home, Index};
 use asn_modules_names::references::value_name;
+use asn_modules_names::{Mention, mention_of};
 use std::alloc::{AllocError, Global};
 
 /// Is a value that is assigned, as far as it is the name of another one.

@@ -15,8 +15,8 @@ use Rattle.asn_model.specs.ShapeView.{presence_view}
 use Rattle.asn_model.specs.Value.{Fits, nodes, nodes_slots, nodes_values, values}
 use Rattle.asn_parts.specs.Chain.{bodies_of}
 use Rattle.asn_parts.specs.declared.loops.Loops.TheVariants.{Within}
-use Rattle.asn_within.specs.Bodies.{meant}
-use Rattle.asn_within.proofs.Costs.{cost, element-costs}
+use Rattle.asn_parts.specs.Bodies.{meant}
+use Rattle.asn_parts.proofs.Costs.{cost, element-costs}
 use Rattle.asn_dynamic_fits.proofs.membership.+fits.Goals as goal
 
 pub fits_part-returns-in-Leaf : goal.fits_part-returns-in-Leaf

@@ -7,8 +7,8 @@ use Rattle.asn_dynamic_values.specs.DynView.{dyn_value, members_named, named_val
 use Rattle.asn_model.specs.Shape.{Shape}
 use Rattle.asn_model.specs.Value.{FitsEach, nodes, nodes_slots, nodes_values, values}
 use Rattle.asn_parts.specs.Chain.{bodies_of}
-use Rattle.asn_within.specs.Bodies.{meant}
-use Rattle.asn_within.proofs.Costs.{cost}
+use Rattle.asn_parts.specs.Bodies.{meant}
+use Rattle.asn_parts.proofs.Costs.{cost}
 use Rattle.asn_dynamic_fits.proofs.membership.+fits.Given as goal
 
 -- A value costs more than its parts, and a loop more than its body.

@@ -2,7 +2,7 @@ use Rattle.std.proofs.Common.{◌∙◌, ap}
 use Rattle.asn_dynamic_fits.proofs.Having.{item-decides, item-other}
 use Rattle.asn_dynamic_values.specs.DynView.{dyn_value}
 use Rattle.asn_model.specs.Shape.{is_item}
-use Rattle.asn_within.specs.Listed.{items_in}
+use Rattle.asn_parts.specs.Listed.{items_in}
 use Rattle.asn_dynamic_fits.proofs.membership.is_item.Goals as goal
 
 pub returns-in-Some : goal.returns-in-Some

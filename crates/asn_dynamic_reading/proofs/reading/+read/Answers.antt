@@ -27,11 +27,11 @@ use Rattle.asn_model.specs.Tree.{head_nodes, head_slot}
 use Rattle.asn_model.specs.Value.{Value, values}
 use Rattle.asn_parts.specs.Chain.{bodies_of}
 use Rattle.asn_parts.proofs.Chains.{bodies-outermost, bodies-within}
-use Rattle.asn_within.specs.Bodies.{IsReadablePart, loops_of, meant}
-use Rattle.asn_within.specs.Closed.{closed}
-use Rattle.asn_within.specs.Listed.{fields_in}
-use Rattle.asn_within.proofs.Costs.{cost, element-costs}
-use Rattle.asn_within.proofs.Opened.{back-answer, back-inside, back-less, back-part, within-answer, within-less, within-part}
+use Rattle.asn_parts.specs.Bodies.{IsReadablePart, loops_of, meant}
+use Rattle.asn_parts.specs.Closed.{closed}
+use Rattle.asn_parts.specs.Listed.{fields_in}
+use Rattle.asn_parts.proofs.Costs.{cost, element-costs}
+use Rattle.asn_parts.proofs.Opened.{back-answer, back-inside, back-less, back-part, within-answer, within-less, within-part}
 use Rattle.asn_dynamic_reading.proofs.reading.+read.Goals as goal
 
 pub read_value-returns-in-Ok-clause-answer : goal.read_value-returns-in-Ok-clause-answer

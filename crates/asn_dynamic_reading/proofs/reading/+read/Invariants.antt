@@ -3,9 +3,9 @@ use Rattle.asn_coding.proofs.Reading.{Reading}
 use Rattle.asn_dynamic_values.specs.DynView.{dyn_value}
 use Rattle.asn_model.specs.Tree.{head_nodes}
 use Rattle.asn_parts.specs.Chain.{bodies_of}
-use Rattle.asn_within.specs.Bodies.{meant}
-use Rattle.asn_within.proofs.Costs.{cost}
-use Rattle.asn_decoded.specs.HeldValue.{AreHeldValues}
+use Rattle.asn_parts.specs.Bodies.{meant}
+use Rattle.asn_parts.proofs.Costs.{cost}
+use Rattle.asn_dynamic_reading.specs.fitting.HeldValue.{AreHeldValues}
 use Rattle.asn_model.specs.Value.{values}
 use Rattle.asn_dynamic_reading.proofs.FieldSteps.{SequenceRead}
 use Rattle.asn_dynamic_reading.proofs.Held.{HeldMembers}

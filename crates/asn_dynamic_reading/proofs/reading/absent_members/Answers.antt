@@ -6,7 +6,7 @@ use Rattle.asn_dynamic_values.specs.declared.value.DynValue.{DynValue}
 use Rattle.asn_model.specs.Components.{Component, component_names}
 use Rattle.asn_parts.specs.Parts.{component_of}
 use Rattle.asn_parts.proofs.NameRows.{component-name}
-use Rattle.asn_within.specs.Listed.{fields_in}
+use Rattle.asn_parts.specs.Listed.{fields_in}
 use Rattle.asn_dynamic_reading.specs.Fields.{AreAbsent}
 use Rattle.asn_dynamic_reading.proofs.FieldSteps.{Member}
 use Rattle.asn_dynamic_reading.proofs.reading.absent_members.Goals as goal

@@ -1,6 +1,6 @@
 use Rattle.std.proofs.Common.{[], take}
 use Rattle.asn_model.specs.Components.{component_names}
-use Rattle.asn_within.specs.Listed.{fields_in}
+use Rattle.asn_parts.specs.Listed.{fields_in}
 use Rattle.asn_dynamic_reading.specs.Fields.{AreAbsent}
 use Rattle.asn_dynamic_reading.proofs.reading.absent_members.Given as goal
 

@@ -7,7 +7,7 @@ use Rattle.asn_model.specs.Leaf.{codec_of}
 use Rattle.asn_model.specs.Shape.{Shape, all_items, is_item}
 use Rattle.asn_model.specs.Value.{Value}
 use Rattle.asn_model.specs.declared.leaves.LeafKind.TheVariants.{Item}
-use Rattle.asn_within.specs.Listed.{items_in}
+use Rattle.asn_parts.specs.Listed.{items_in}
 use Rattle.asn_dynamic_reading.proofs.reading.read_item.Goals as goal
 
 pub returns-then-has_item-clause-answer : goal.returns-then-has_item-clause-answer

@@ -10,7 +10,7 @@ use Rattle.asn_model.specs.Components.{Component, tag_cmp}
 use Rattle.asn_model.specs.Shape.{field_names}
 use Rattle.asn_model.specs.Sorting.{sort}
 use Rattle.asn_sorting.proofs.Exact.{sorted-stable}
-use Rattle.asn_within.specs.Listed.{fields_in, root_count_in}
+use Rattle.asn_parts.specs.Listed.{fields_in, root_count_in}
 use Rattle.asn_parts.specs.Names.{counted}
 use Rattle.asn_parts.specs.Parts.{component_of}
 use Rattle.asn_parts.proofs.Orders.{Spot, counted-more, order-read, root-within, spot_of, spots-more, tag_cmp-total}

@@ -1,7 +1,7 @@
 use Rattle.std.proofs.Common.{◌≡◌, ◌++◌, ◌-◌, List, map, take}
 use Rattle.asn_coding.specs.SetFields.{placed}
 use Rattle.asn_parts.specs.Names.{counted}
-use Rattle.asn_within.specs.Listed.{fields_in}
+use Rattle.asn_parts.specs.Listed.{fields_in}
 use Rattle.asn_parts.proofs.Orders.{Spot, spot_of}
 use Rattle.asn_parts.proofs.order.places_as_read.Given as goal
 

@@ -6,7 +6,7 @@ use Rattle.asn_linked.proofs.Placing.{alternative-placed}
 use Rattle.asn_model.specs.Shape.{alternative_at}
 use Rattle.asn_model.specs.ShapeView.{shape_view}
 use Rattle.asn_parts.specs.Parts.{alternative_of}
-use Rattle.asn_within.specs.Listed.{alternatives_in}
+use Rattle.asn_parts.specs.Listed.{alternatives_in}
 use Rattle.asn_linked.proofs.place.PlacePart.alternative.Goals as goal
 
 pub returns-in-Some-alternative : goal.returns-in-Some-alternative

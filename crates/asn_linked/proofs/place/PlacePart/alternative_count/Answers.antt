@@ -2,7 +2,7 @@ use Rattle.std.proofs.Common.{◌∙◌, [], ap, length, sym}
 use Rattle.asn_linked.specs.Places.{part_view}
 use Rattle.asn_linked.proofs.Placing.{own_identifiers}
 use Rattle.asn_model.specs.Shape.{identifiers}
-use Rattle.asn_within.specs.Listed.{alternatives_in}
+use Rattle.asn_parts.specs.Listed.{alternatives_in}
 use Rattle.asn_linked.proofs.place.PlacePart.alternative_count.Goals as goal
 
 pub returns-in-Some : goal.returns-in-Some

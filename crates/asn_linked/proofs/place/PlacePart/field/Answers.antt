@@ -6,7 +6,7 @@ use Rattle.asn_model.specs.Components.{Component}
 use Rattle.asn_model.specs.Shape.{Shape}
 use Rattle.asn_model.specs.ShapeView.{presence_view, shape_view}
 use Rattle.asn_parts.specs.Parts.{component_of, standing_of}
-use Rattle.asn_within.specs.Listed.{fields_in}
+use Rattle.asn_parts.specs.Listed.{fields_in}
 use Rattle.asn_linked.proofs.place.PlacePart.field.Goals as goal
 
 pub field-field-requires : goal.field-field-requires

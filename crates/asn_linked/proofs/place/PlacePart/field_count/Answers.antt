@@ -1,7 +1,7 @@
 use Rattle.std.proofs.Common.{◌∙◌, [], ap, length, sym}
 use Rattle.asn_linked.specs.Places.{part_view}
 use Rattle.asn_linked.proofs.Placing.{fields-placed}
-use Rattle.asn_within.specs.Listed.{fields_in}
+use Rattle.asn_parts.specs.Listed.{fields_in}
 use Rattle.asn_linked.proofs.place.PlacePart.field_count.Goals as goal
 
 pub returns-in-Some : goal.returns-in-Some

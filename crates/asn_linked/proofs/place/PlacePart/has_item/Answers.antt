@@ -2,7 +2,7 @@ use Rattle.std.proofs.Common.{◌∙◌, [], ap, sym}
 use Rattle.asn_linked.specs.Places.{part_view}
 use Rattle.asn_linked.proofs.Placing.{items-placed}
 use Rattle.asn_model.specs.Shape.{is_item}
-use Rattle.asn_within.specs.Listed.{items_in}
+use Rattle.asn_parts.specs.Listed.{items_in}
 use Rattle.asn_linked.proofs.place.PlacePart.has_item.Goals as goal
 
 pub returns-in-Some : goal.returns-in-Some

@@ -1,7 +1,7 @@
 use Rattle.std.proofs.Common.{◌∙◌, [], ap, sym}
 use Rattle.asn_linked.specs.Places.{part_view}
 use Rattle.asn_linked.proofs.Placing.{root-placed}
-use Rattle.asn_within.specs.Listed.{root_count_in}
+use Rattle.asn_parts.specs.Listed.{root_count_in}
 use Rattle.asn_linked.proofs.place.PlacePart.root_count.Goals as goal
 
 pub returns-in-Some : goal.returns-in-Some

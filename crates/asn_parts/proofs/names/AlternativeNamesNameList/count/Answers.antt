@@ -1,6 +1,6 @@
 use Rattle.std.proofs.Common.{◌∙◌, [], sym}
 use Rattle.asn_model.specs.Shape.{identifiers}
-use Rattle.asn_within.specs.Listed.{alternatives_in}
+use Rattle.asn_parts.specs.Listed.{alternatives_in}
 use Rattle.asn_coding.proofs.NameRows.{length-numbered}
 use Rattle.asn_parts.proofs.names.AlternativeNamesNameList.count.Goals as goal
 

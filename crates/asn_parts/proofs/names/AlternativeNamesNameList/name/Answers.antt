@@ -1,7 +1,7 @@
 use Rattle.std.proofs.Common.{◌∙◌, [], ap, arith, get_or, sym}
 use Rattle.std.specs.Prelude.{option_map}
 use Rattle.asn_model.specs.Shape.{identifiers}
-use Rattle.asn_within.specs.Listed.{alternatives_in}
+use Rattle.asn_parts.specs.Listed.{alternatives_in}
 use Rattle.asn_parts.specs.Parts.{alternative_of}
 use Rattle.asn_parts.proofs.NameRows.{identifier-name, identifier-there}
 use Rattle.asn_coding.proofs.NameRows.{length-numbered, names-numbered}

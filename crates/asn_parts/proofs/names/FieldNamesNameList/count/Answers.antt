@@ -1,7 +1,7 @@
 use Rattle.std.proofs.Common.{◌∙◌, [], sym}
 use Rattle.std.proofs.lemmas.List.{length-map}
 use Rattle.asn_model.specs.Components.{Component, component_names}
-use Rattle.asn_within.specs.Listed.{fields_in}
+use Rattle.asn_parts.specs.Listed.{fields_in}
 use Rattle.asn_coding.proofs.NameRows.{length-numbered}
 use Rattle.asn_parts.proofs.names.FieldNamesNameList.count.Goals as goal
 

@@ -1,6 +1,6 @@
 use Rattle.std.proofs.Common.{◌≡◌, ◌+◌, ◌∙◌, [], arith}
 use Rattle.asn_model.specs.Components.{component_names}
-use Rattle.asn_within.specs.Listed.{fields_in}
+use Rattle.asn_parts.specs.Listed.{fields_in}
 use Rattle.asn_coding.proofs.NameRows.{index-numbered, length-numbered}
 use Rattle.asn_parts.proofs.names.FieldNamesNameList.index.Goals as goal
 

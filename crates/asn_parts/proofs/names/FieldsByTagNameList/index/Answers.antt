@@ -1,6 +1,6 @@
 use Rattle.std.proofs.Common.{◌≡◌, ◌∙◌, [], ap, arith, get_or, sym}
 use Rattle.asn_model.specs.Components.{component_names}
-use Rattle.asn_within.specs.Listed.{fields_in}
+use Rattle.asn_parts.specs.Listed.{fields_in}
 use Rattle.asn_parts.proofs.NameRows.{at-index, place-at}
 use Rattle.asn_parts.proofs.names.FieldsByTagNameList.index.Goals as goal
 

@@ -1,7 +1,7 @@
 use Rattle.std.proofs.Common.{◌≡◌, ◌≤◌, ◌∙◌, [], ap, arith, get_or, length, sym}
 use Rattle.std.proofs.lemmas.List.{get_or_past, length-map}
 use Rattle.asn_model.specs.Components.{Component, component_names}
-use Rattle.asn_within.specs.Listed.{fields_in}
+use Rattle.asn_parts.specs.Listed.{fields_in}
 use Rattle.asn_parts.specs.Parts.{component_of}
 use Rattle.asn_parts.proofs.NameRows.{at-name, component-name, place-at}
 use Rattle.asn_parts.proofs.names.FieldsByTagNameList.name.Goals as goal

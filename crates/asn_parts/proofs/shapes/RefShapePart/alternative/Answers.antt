@@ -2,7 +2,7 @@ use Rattle.std.proofs.Common.{◌≡◌, ◌<◌, ◌≤◌, ◌-◌, ◌∙◌,
 use Rattle.asn_model.specs.Shape.{alternative_at}
 use Rattle.asn_model.specs.Enclosing.{entries_of}
 use Rattle.asn_model.specs.ShapeView.{shape_view}
-use Rattle.asn_within.specs.Listed.{alternatives_in}
+use Rattle.asn_parts.specs.Listed.{alternatives_in}
 use Rattle.asn_parts.proofs.ShapeViews.{added-alternative, no-alternative, root-alternative}
 use Rattle.asn_parts.proofs.shapes.RefShapePart.alternative.Goals as goal
 

@@ -1,7 +1,7 @@
 use Rattle.std.proofs.Common.{◌≡◌, ◌∙◌, ◌+◌, ap, arith, length, sym}
 use Rattle.asn_model.specs.Shape.{identifiers}
 use Rattle.asn_model.specs.ShapeView.{shape_view}
-use Rattle.asn_within.specs.Listed.{alternatives_in}
+use Rattle.asn_parts.specs.Listed.{alternatives_in}
 use Rattle.asn_parts.proofs.ShapeViews.{alternatives-counted}
 use Rattle.asn_parts.proofs.shapes.RefShapePart.alternative_count.Goals as goal
 

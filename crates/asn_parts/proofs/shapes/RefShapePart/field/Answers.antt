@@ -1,7 +1,7 @@
 use Rattle.std.proofs.Common.{◌≡◌, ◌<◌, ◌≤◌, ◌∙◌, ◌-◌, Some, ap, arith, get_or, length, sym}
 use Rattle.asn_coding.specs.SetFields.{component_at}
 use Rattle.asn_model.specs.ShapeView.{shape_view}
-use Rattle.asn_within.specs.Listed.{fields_in}
+use Rattle.asn_parts.specs.Listed.{fields_in}
 use Rattle.asn_parts.proofs.ShapeViews.{added-field, fields-counted, root-field}
 use Rattle.asn_parts.proofs.shapes.RefShapePart.field.Goals as goal
 

@@ -1,6 +1,6 @@
 use Rattle.std.proofs.Common.{◌≡◌, ◌∙◌, ◌+◌, ap, arith, length, sym}
 use Rattle.asn_model.specs.ShapeView.{shape_view}
-use Rattle.asn_within.specs.Listed.{fields_in}
+use Rattle.asn_parts.specs.Listed.{fields_in}
 use Rattle.asn_parts.proofs.ShapeViews.{fields-counted}
 use Rattle.asn_parts.proofs.shapes.RefShapePart.field_count.Goals as goal
 

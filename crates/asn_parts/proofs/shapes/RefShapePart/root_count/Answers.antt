@@ -1,6 +1,6 @@
 use Rattle.std.proofs.Common.{◌≡◌, ◌∙◌, ap, arith, length, sym}
 use Rattle.asn_model.specs.ShapeView.{shape_view}
-use Rattle.asn_within.specs.Listed.{root_count_in}
+use Rattle.asn_parts.specs.Listed.{root_count_in}
 use Rattle.asn_parts.proofs.ShapeViews.{root-counted}
 use Rattle.asn_parts.proofs.shapes.RefShapePart.root_count.Goals as goal
 

@@ -1,8 +1,0 @@
-use Rattle.asn_agreement.proofs.Blocks.{one_cause, written-unrefused}
-use Rattle.asn_agreement.proofs.writing.one_writing.Goals as goal
-
-pub returns : goal.returns
-returns c = record {
-  no_refusal = λ codec v cause text can refused. written-unrefused codec v cause text can refused;
-  refusals = λ codec v cause other once a b. one_cause codec v cause other once a b;
-}

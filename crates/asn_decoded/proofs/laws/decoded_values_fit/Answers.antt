@@ -1,5 +1,0 @@
-use Rattle.asn_decoded.proofs.Fitting.{decoded_fits}
-use Rattle.asn_decoded.proofs.laws.decoded_values_fit.Goals as goal
-
-pub returns : goal.returns
-returns c = λ n s slot v is says held. decoded_fits is says held

@@ -1,3 +1,0 @@
-pub mod IntLeaves
-pub mod Viewed
-pub mod Outside

@@ -1,8 +1,0 @@
-use Rattle.std.proofs.Common.{sym}
-use Rattle.asn_dynamic_leaves.proofs.Viewed.{viewed}
-use Rattle.asn_dynamic_values.specs.DynView.{dyn_value}
-use Rattle.asn_model.specs.Value.{Value}
-use Rattle.asn_dynamic_leaves.proofs.leaves.read_gen.Goals as goal
-
-pub returns-in-Ok-clause-answer : goal.returns-in-Ok-clause-answer
-returns-in-Ok-clause-answer g c = viewed Value.gen dyn_value c.in-Ok.time c.gen_value.result (sym c.gen_value.ensures.value) c.in-Ok.ensures

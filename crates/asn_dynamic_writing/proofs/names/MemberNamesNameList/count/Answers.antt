@@ -1,6 +1,0 @@
-use Rattle.std.proofs.Common.{sym}
-use Rattle.asn_dynamic_writing.proofs.Members.{count-members}
-use Rattle.asn_dynamic_writing.proofs.names.MemberNamesNameList.count.Goals as goal
-
-pub returns : goal.returns
-returns c = sym (count-members c.args.self.now.members.now)

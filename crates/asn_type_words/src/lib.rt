@@ -1,6 +1,0 @@
-//! Names the kinds of types as ASN.1 does (X.680).
-#![tactic(auto)]
-
-mod kinds;
-
-pub use kinds::{kind_word, string_word};

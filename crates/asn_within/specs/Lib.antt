@@ -1,3 +1,0 @@
-pub mod Closed
-pub mod Bodies
-pub mod Listed

@@ -25,7 +25,7 @@ pub struct Versions {
 
 impl Versions {
     /// Returns the pair of these versions.
-    #[tactic(auto, using(crate::versions::proofs::Grown::none_differs))]
+    #[tactic(auto, using(crate::proofs::versions::Grown::none_differs))]
     pub(crate) fn new(older: Shape, newer: Shape) -> Versions
         requires readable_older { is_readable (shape_view older) ≡ true }
         requires readable_newer { is_readable (shape_view newer) ≡ true }

@@ -42,7 +42,7 @@ pub(crate) fn closes(group: Group, kind: Kind) -> bool
 ///
 /// `Unexpected` where it isn't closed, or one within it closes otherwise than it opens, and
 /// `OutOfMemory`.
-#[tactic(auto, using(crate::headers::proofs::Groups::group_steps))]
+#[tactic(auto, using(crate::proofs::headers::Groups::group_steps))]
 pub fn past_group(alloc: Global, group: Group, tokens: &[Token]) -> Result<&[Token], SyntaxFault>
     ensures { AnswersRest (past_groups (group ∷ []) tokens.now) result }
 {

@@ -48,7 +48,7 @@ fn past_empty_braces(tokens: &[Token]) -> Result<&[Token], SyntaxFault>
 ///
 /// `Unexpected` where no name stands first or behind a comma, or braces aren't empty, and
 /// `OutOfMemory`.
-#[tactic(auto, using(crate::headers::proofs::Names::name_steps))]
+#[tactic(auto, using(crate::proofs::headers::Names::name_steps))]
 pub fn read_names(alloc: Global, tokens: &[Token]) -> Result<(Vec<Token>, &[Token]), SyntaxFault>
     ensures { Answers (λ names. names.items) (names_at tokens.now) result }
 {

@@ -12,7 +12,7 @@ use asn_modules_grammar::headers::{Expected, Group, SyntaxFault, unexpected};
 use std::alloc::Global;
 
 /// Returns what follows a point and `&`, if they stand here.
-#[tactic(auto, using(crate::parts::proofs::Fields::field_steps))]
+#[tactic(auto, using(crate::proofs::parts::Fields::field_steps))]
 pub(crate) fn take_field(tokens: &[Token]) -> Option<&[Token]>
     ensures { MatchOption result (begins_field tokens.now ≡ false) (λ rest.
         (begins_field tokens.now ≡ true) × (past_fields tokens.now ≡ past_names rest.now)
@@ -32,7 +32,7 @@ pub(crate) fn take_field(tokens: &[Token]) -> Option<&[Token]>
 /// # Errors
 ///
 /// `Unexpected` where no name stands behind `&`.
-#[tactic(auto, using(crate::parts::proofs::Fields::name_steps))]
+#[tactic(auto, using(crate::proofs::parts::Fields::name_steps))]
 pub(crate) fn past_fields(tokens: &[Token]) -> Result<&[Token], SyntaxFault>
     ensures found { AnswersRest (past_fields tokens.now) result }
     ensures shorter { IfOk result (λ rest. length rest.now ≤ length tokens.now) }

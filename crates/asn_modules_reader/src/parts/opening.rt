@@ -102,7 +102,7 @@ fn other_of(keyword: Keyword) -> Opening
 }
 
 /// Returns what the reserved word is where a type may begin.
-#[tactic(auto, using(crate::parts::proofs::Openings::opening_steps))]
+#[tactic(auto, using(crate::proofs::parts::Openings::opening_steps))]
 pub(crate) fn opening_of(keyword: Keyword) -> Opening
     ensures { opening_view result ≡ opening_of keyword }
 {

@@ -49,7 +49,7 @@ fn is_sign(sign: Sign, kind: Kind) -> bool
 }
 
 /// Returns what follows the first token where it is this one.
-#[tactic(auto, using(crate::parts::proofs::SignsTaken::sign_steps))]
+#[tactic(auto, using(crate::proofs::parts::SignsTaken::sign_steps))]
 pub fn take_sign(sign: Sign, tokens: &[Token]) -> Option<&[Token]>
     ensures { MatchOption result (first_kind tokens.now ≢ Some (kind_of sign))
         (λ rest. (first_kind tokens.now ≡ Some (kind_of sign)) × (rest.now ≡ drop 1 tokens.now)

@@ -152,7 +152,7 @@ fn read_plain_value(alloc: Global, tokens: &[Token]) -> Result<(Value, &[Token])
 
 /// Returns the identifier of an alternative of a CHOICE, and what follows its colon, if they stand
 /// here.
-#[tactic(auto, using(crate::parts::proofs::ValuesRead::value_steps))]
+#[tactic(auto, using(crate::proofs::parts::ValuesRead::value_steps))]
 fn take_alternative(tokens: &[Token]) -> Option<(Token, &[Token])>
     ensures { MatchOption result (value_at tokens.now ≡ value_here tokens.now) (λ found.
         (value_at tokens.now

@@ -1,4 +1,4 @@
-//! Makes the shape that a type means which names others by number (`asn_linked_types`): its
+//! Makes the shape that a type means which names others by number (`asn_linked::types`): its
 //! expansion, in which each type that is named stands in the place of its name. Values are read
 //! without it; two versions of a type are compared by it.
 

@@ -1,3 +1,3 @@
 pub mod Expansion
 pub mod Linked
-pub mod expansion
+pub mod expander

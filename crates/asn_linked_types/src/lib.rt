@@ -4,7 +4,7 @@
 #![tactic(auto)]
 
 mod closed;
-pub mod expansion;
+pub mod expander;
 mod limits;
 mod readable;
 

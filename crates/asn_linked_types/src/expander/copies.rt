@@ -1,5 +1,5 @@
 //! Copies what stands in a shape beside its parts.
-ghost use Rattle.asn_linked_types.specs.expansion.Leaves.{is_leaf};
+ghost use Rattle.asn_linked_types.specs.expander.Leaves.{is_leaf};
 ghost use Rattle.asn_model.specs.Shape as spec;
 ghost use Rattle.asn_model.specs.ShapeView.{plain_view, presence_view, shape_view};
 ghost use Rattle.std.specs.Prelude.{◌≡◌, IfOk, map, option_map, string_bytes, true};

@@ -1,10 +1,10 @@
 use Rattle.std.proofs.Common.{◌≡◌, Err, IfOk, ap, length, subst, arith}
 use Rattle.std.proofs.lemmas.Result.{IfOk-weaker}
 use Rattle.asn_expansion.specs.declared.fault.ExpansionFault.TheVariants.{TooLarge}
-use Rattle.asn_linked_types.specs.expansion.Large.{IsTooLarge}
-use Rattle.asn_linked_types.proofs.expansion.Opening.{none-opened, outermost}
+use Rattle.asn_linked_types.specs.expander.Large.{IsTooLarge}
+use Rattle.asn_linked_types.proofs.expander.Opening.{none-opened, outermost}
 use Rattle.asn_model.specs.ShapeView.{shape_view}
-use Rattle.asn_linked_types.proofs.expansion.types.expand.Goals as goal
+use Rattle.asn_linked_types.proofs.expander.types.expand.Goals as goal
 
 pub shape_of_type-requires-clause-depth : goal.shape_of_type-requires-clause-depth
 shape_of_type-requires-clause-depth c = ap length none-opened

@@ -1,7 +1,7 @@
 -- The types that are open.
 use Rattle.std.specs.Prelude.{ℕ, List, [], ◌∷◌}
-use Rattle.asn_linked_types.specs.declared.expansion.opened.Opened.{Opened, fold-Opened}
-use Rattle.asn_linked_types.specs.declared.expansion.opened.Opened.TheOpen.{Opened-F}
+use Rattle.asn_linked_types.specs.declared.expander.opened.Opened.{Opened, fold-Opened}
+use Rattle.asn_linked_types.specs.declared.expander.opened.Opened.TheOpen.{Opened-F}
 
 -- The number, and those of the types that are open further out.
 abbrev pub open_step : Opened-F (List ℕ) → List ℕ

@@ -1,8 +1,8 @@
 -- When a shape is too large.
 use Rattle.std.specs.Prelude.{ℕ, ◌<◌, ◌⊎◌}
 use Rattle.asn_growth.specs.Parts.{node_count}
-use Rattle.asn_linked_types.specs.expansion.Loops.{loop_depth}
-use Rattle.asn_linked_types.specs.declared.expansion.limits.TheConstants.{NODE_LIMIT, OPEN_LIMIT}
+use Rattle.asn_linked_types.specs.expander.Loops.{loop_depth}
+use Rattle.asn_linked_types.specs.declared.expander.limits.TheConstants.{NODE_LIMIT, OPEN_LIMIT}
 use Rattle.asn_model.specs.Shape.{Shape}
 
 -- It has more nodes than these, or more loops within each other than these.

@@ -4,8 +4,8 @@ use Rattle.std.proofs.lemmas.List.{drop_all}
 use Rattle.asn_core.specs.declared.tag.Tag.{Tag}
 use Rattle.asn_growth.specs.Parts.{added_field_nodes, field_nodes, node_count}
 use Rattle.asn_growth.proofs.Steps.{drop-step}
-use Rattle.asn_linked_types.specs.expansion.Large.{IsBeyond}
-use Rattle.asn_linked_types.specs.expansion.Loops.{added_field_loops, field_loops, loop_depth}
+use Rattle.asn_linked_types.specs.expander.Large.{IsBeyond}
+use Rattle.asn_linked_types.specs.expander.Loops.{added_field_loops, field_loops, loop_depth}
 use Rattle.asn_linked_types.specs.Expansion.{linked_fields, linked_shape}
 use Rattle.asn_model.specs.Shape.{FieldAdditions, Fields, Presence, SeqKind, Shape, join_fields}
 use Rattle.asn_model.specs.ShapeView.{field_views, presence_view, shape_view}

@@ -1,6 +1,6 @@
 //! Holds the types that are open while a type is expanded.
-ghost use Rattle.asn_linked_types.specs.expansion.OpenTypes.{open_numbers};
-ghost use Rattle.asn_linked_types.specs.declared.expansion.limits.TheConstants.{OPEN_LIMIT};
+ghost use Rattle.asn_linked_types.specs.expander.OpenTypes.{open_numbers};
+ghost use Rattle.asn_linked_types.specs.declared.expander.limits.TheConstants.{OPEN_LIMIT};
 ghost use Rattle.asn_linked_types.specs.Expansion.{place_of};
 ghost use Rattle.std.specs.Prelude.{◌≡◌, ◌<◌, ◌≤◌, IfSome, length};
 

@@ -2,18 +2,18 @@ use Rattle.std.proofs.Common.{◌≡◌, ◌<◌, ◌+◌, ◌-◌, refl, sym, a
 use Rattle.std.proofs.lemmas.Grind.{common_steps}
 use Rattle.asn_expansion.proofs.Alternatives.{choice_made}
 use Rattle.asn_growth.specs.Parts.{node_count}
-use Rattle.asn_linked_types.specs.expansion.OpenTypes.{open_numbers}
-use Rattle.asn_linked_types.specs.expansion.Resolving.{resolve}
-use Rattle.asn_linked_types.specs.declared.expansion.limits.TheConstants.{OPEN_LIMIT}
-use Rattle.asn_linked_types.proofs.expansion.Alternatives.{alternatives-beyond, alternatives-end, alternatives-next}
-use Rattle.asn_linked_types.proofs.expansion.Fields.{fields-beyond, fields-end, fields-next}
-use Rattle.asn_linked_types.proofs.expansion.Opening.{body-beyond, opens, opens-beyond, type-past}
-use Rattle.asn_linked_types.proofs.expansion.Shapes.{back-seen, choice-large-added, choice-large-root, choice-made, loop-seen, seq-large-added, seq-large-root, seq-made}
+use Rattle.asn_linked_types.specs.expander.OpenTypes.{open_numbers}
+use Rattle.asn_linked_types.specs.expander.Resolving.{resolve}
+use Rattle.asn_linked_types.specs.declared.expander.limits.TheConstants.{OPEN_LIMIT}
+use Rattle.asn_linked_types.proofs.expander.Alternatives.{alternatives-beyond, alternatives-end, alternatives-next}
+use Rattle.asn_linked_types.proofs.expander.Fields.{fields-beyond, fields-end, fields-next}
+use Rattle.asn_linked_types.proofs.expander.Opening.{body-beyond, opens, opens-beyond, type-past}
+use Rattle.asn_linked_types.proofs.expander.Shapes.{back-seen, choice-large-added, choice-large-root, choice-made, loop-seen, seq-large-added, seq-large-root, seq-made}
 use Rattle.asn_linked_types.proofs.Expanding.{expands-back, expands-full, expands-none}
 use Rattle.asn_model.specs.Shape.{Shape}
 use Rattle.asn_model.specs.ShapeView.{alternative_views, field_views, shape_view}
 use Rattle.asn_model.proofs.Viewing.{sequence_viewed}
-use Rattle.asn_linked_types.proofs.expansion.types.+expand.Goals as goal
+use Rattle.asn_linked_types.proofs.expander.types.+expand.Goals as goal
 
 pub fields_of-returns-in_err-shape-clause-large : goal.fields_of-returns-in_err-shape-clause-large
 fields_of-returns-in_err-shape-clause-large t c = λ e.

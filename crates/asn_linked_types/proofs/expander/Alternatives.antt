@@ -4,8 +4,8 @@ use Rattle.std.proofs.lemmas.List.{drop_all}
 use Rattle.asn_core.specs.declared.tag.Tag.{Tag}
 use Rattle.asn_growth.specs.Parts.{added_alternative_nodes, alternative_nodes, node_count}
 use Rattle.asn_growth.proofs.Steps.{drop-step}
-use Rattle.asn_linked_types.specs.expansion.Large.{IsBeyond}
-use Rattle.asn_linked_types.specs.expansion.Loops.{added_alternative_loops, alternative_loops, loop_depth}
+use Rattle.asn_linked_types.specs.expander.Large.{IsBeyond}
+use Rattle.asn_linked_types.specs.expander.Loops.{added_alternative_loops, alternative_loops, loop_depth}
 use Rattle.asn_linked_types.specs.Expansion.{linked_alternatives, linked_shape}
 use Rattle.asn_model.specs.Shape.{AlternativeAdditions, Alternatives, Shape, join_alternatives}
 use Rattle.asn_model.specs.ShapeView.{alternative_views, shape_view}

@@ -4,10 +4,10 @@ use Rattle.std.specs.Global.{Box, Vec}
 use Rattle.asn_expansion.specs.Resolving.{additions_view}
 use Rattle.asn_expansion.proofs.Alternatives.{choice_made}
 use Rattle.asn_growth.specs.Parts.{added_alternative_nodes, added_field_nodes, alternative_nodes, field_nodes, node_count}
-use Rattle.asn_linked_types.specs.expansion.Large.{IsBeyond}
-use Rattle.asn_linked_types.specs.expansion.Loops.{added_alternative_loops, added_field_loops, alternative_loops, field_loops, loop_depth}
-use Rattle.asn_linked_types.proofs.expansion.Alternatives.{choice-beyond-added, choice-beyond-root}
-use Rattle.asn_linked_types.proofs.expansion.Fields.{seq-beyond-added, seq-beyond-root}
+use Rattle.asn_linked_types.specs.expander.Large.{IsBeyond}
+use Rattle.asn_linked_types.specs.expander.Loops.{added_alternative_loops, added_field_loops, alternative_loops, field_loops, loop_depth}
+use Rattle.asn_linked_types.proofs.expander.Alternatives.{choice-beyond-added, choice-beyond-root}
+use Rattle.asn_linked_types.proofs.expander.Fields.{seq-beyond-added, seq-beyond-root}
 use Rattle.asn_linked_types.specs.Expansion.{linked_added_alternatives, linked_added_fields, linked_alternatives, linked_fields, linked_shape}
 use Rattle.asn_model.specs.Shape.{Alternatives, Fields, Shape}
 use Rattle.asn_model.specs.ShapeView.{added_field_views, alternative_step, alternative_views, field_step, field_views, kind_view, shape_step, shape_view}

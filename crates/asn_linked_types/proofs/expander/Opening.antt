@@ -3,12 +3,12 @@ use Rattle.std.proofs.Common.{◌≡◌, ◌<◌, ◌≤◌, refl, ap, sym, subs
 use Rattle.std.specs.Borrow.{Bor}
 use Rattle.asn_growth.specs.Parts.{node_count}
 use Rattle.asn_growth.proofs.Walking.{nodes-parts}
-use Rattle.asn_linked_types.specs.expansion.Large.{IsBeyond}
-use Rattle.asn_linked_types.specs.expansion.Loops.{loop_depth}
-use Rattle.asn_linked_types.specs.expansion.OpenTypes.{open_numbers, open_step}
-use Rattle.asn_linked_types.specs.declared.expansion.opened.Opened.{Opened, fold-roll-Opened}
-use Rattle.asn_linked_types.specs.declared.expansion.opened.Opened.TheVariants.{Nothing, rolls-Nothing, rolls-Number}
-use Rattle.asn_linked_types.specs.declared.expansion.opened.Opened.TheViews.{Number}
+use Rattle.asn_linked_types.specs.expander.Large.{IsBeyond}
+use Rattle.asn_linked_types.specs.expander.Loops.{loop_depth}
+use Rattle.asn_linked_types.specs.expander.OpenTypes.{open_numbers, open_step}
+use Rattle.asn_linked_types.specs.declared.expander.opened.Opened.{Opened, fold-roll-Opened}
+use Rattle.asn_linked_types.specs.declared.expander.opened.Opened.TheVariants.{Nothing, rolls-Nothing, rolls-Number}
+use Rattle.asn_linked_types.specs.declared.expander.opened.Opened.TheViews.{Number}
 use Rattle.asn_linked_types.specs.Expansion.{expansion, linked_shape, place_of, type_at}
 use Rattle.asn_linked_types.proofs.Expanding.{expands-loop}
 use Rattle.asn_model.specs.Shape.{Shape}

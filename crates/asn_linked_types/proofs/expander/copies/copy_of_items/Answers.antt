@@ -1,8 +1,8 @@
 use Rattle.std.proofs.Common.{◌∙◌, None, Some, ap, sym, map, option_map, string_bytes}
-use Rattle.asn_linked_types.proofs.expansion.Texts.{texts-copied}
+use Rattle.asn_linked_types.proofs.expander.Texts.{texts-copied}
 use Rattle.asn_linked_types.proofs.Within.{enum-viewed}
 use Rattle.asn_model.specs.Shape.{Shape}
-use Rattle.asn_linked_types.proofs.expansion.copies.copy_of_items.Goals as goal
+use Rattle.asn_linked_types.proofs.expander.copies.copy_of_items.Goals as goal
 
 pub returns-in_ok-added-in-Some : goal.returns-in_ok-added-in-Some
 returns-in_ok-added-in-Some c =

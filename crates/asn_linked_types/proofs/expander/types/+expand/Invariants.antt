@@ -1,8 +1,8 @@
 use Rattle.std.proofs.Common.{◌+◌, ◌*◌}
-use Rattle.asn_linked_types.specs.expansion.Resolving.{resolve}
-use Rattle.asn_linked_types.proofs.expansion.Alternatives.{AlternativesGoing}
-use Rattle.asn_linked_types.proofs.expansion.Fields.{FieldsGoing}
-use Rattle.asn_linked_types.proofs.expansion.types.+expand.Given as goal
+use Rattle.asn_linked_types.specs.expander.Resolving.{resolve}
+use Rattle.asn_linked_types.proofs.expander.Alternatives.{AlternativesGoing}
+use Rattle.asn_linked_types.proofs.expander.Fields.{FieldsGoing}
+use Rattle.asn_linked_types.proofs.expander.types.+expand.Given as goal
 
 -- Each shape takes a node.
 abbrev pub decreases-shape_of : goal.decreases-shape_of

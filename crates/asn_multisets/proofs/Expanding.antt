@@ -1,20 +1,18 @@
 -- Entries with counts, expanded to the list of their elements.
-use Rattle.std.proofs.Common.{◌≡◌, ℕ, zero, suc, ◌+◌, ◌≤◌, Bool, true, false, cond, List, [], ◌∷◌, ◌++◌, length, length-append, append-nil, Option, None, Some, is_some, nat_eq, refl, sym, ap, subst, ◌∙◌, true≢false, arith}
-use Rattle.std.specs.Prelude.{replicate}
+use Rattle.std.proofs.Common.{◌≡◌, ℕ, zero, suc, ◌+◌, ◌≤◌, Bool, true, false, cond, List, [], ◌∷◌, ◌++◌, length, length-append, append-nil, Option, None, Some, is_some, ◌↔◌, refl, sym, ap, subst, ◌∙◌, true≢false, arith}
+use Rattle.std.specs.Prelude.{replicate, slice_get}
+use Rattle.std.proofs.Math.Seq.{take-suc}
+use Rattle.std.proofs.Common.{take, get_or}
+use Rattle.std.proofs.lemmas.Option.{get_or_from_slice_get, slice_get_within}
 use Rattle.std.specs.Cmp.{IsEquivalence}
-use Rattle.std.specs.Bool.{Decides}
-use Rattle.std.specs.HashMap.{HashMap, hash_map_eq}
-use Rattle.std.proofs.lemmas.Bool.Decides.{Decides-eqb}
 use Rattle.std.proofs.lemmas.Grind.{flat_map-append}
 use Rattle.std.proofs.lemmas.List.{length-replicate}
-use Rattle.std.proofs.lemmas.Map.Lookups.{hash_map_eq-Decides}
 use Rattle.std.specs.List.{IsDistinct, AllByRecursion}
 use Rattle.std.specs.Option.{unwrap_or}
 use Rattle.std.specs.Map.{keys_of, lookup}
-use Rattle.indexmap.specs.IndexMap.{insert_entry}
-use Rattle.asn_sets.specs.Multisets.{multiplicity, IsSameMultiset}
-use Rattle.asn_sets.specs.Multiplicities.{multiplicity-append}
-use Rattle.asn_sets.specs.Entries.{expanded, AllPositive}
+use Rattle.asn_multisets.specs.Multisets.{multiplicity, IsSameMultiset}
+use Rattle.asn_multisets.specs.Multiplicities.{multiplicity-append}
+use Rattle.asn_multisets.specs.Entries.{expanded, AllPositive, Agree, with_count}
 
 -- An entry adds its count to the length.
 pub length-expanded : {X : Type 0} (entry : X × ℕ) (entries : List (X × ℕ)) → length (expanded (entry ∷ entries)) ≡ entry.1 + length (expanded entries)
@@ -27,6 +25,15 @@ length-expanded entry entries =
 pub expanded-push : {X : Type 0} (entries : List (X × ℕ)) (x : X) (n : ℕ) → expanded (entries ++ (x, n) ∷ []) ≡ expanded entries ++ replicate n x
 expanded-push {X} entries x n =
     flat_map-append (λ (e : X × ℕ). replicate e.1 e.0) entries ((x, n) ∷ []) ∙ ap (λ l. expanded entries ++ l) (append-nil (replicate n x))
+
+-- One more entry adds its copies.
+pub expanded-step : {X : Type 0} (entries : List (X × ℕ)) (i : ℕ) (x : X) (n : ℕ) → slice_get entries i ≡ Some (x, n)
+    → expanded (take (i + 1) entries) ≡ expanded (take i entries) ++ replicate n x
+expanded-step {X} entries i x n e =
+    let more = take-suc entries i (x, n) (slice_get_within entries i (x, n) e) in
+    let found : get_or entries i (x, n) ≡ (x, n) = get_or_from_slice_get entries i (x, n) (x, n) e in
+    let same : i + 1 ≡ suc i = omega arith in
+    ap (λ k. expanded (take k entries)) same ∙ ap expanded more ∙ ap (λ y. expanded (take i entries ++ y ∷ [])) found ∙ expanded-push (take i entries) x n
 
 module _ {X : Type 0} (eq : X → X → Bool) where
   pub multiplicity-replicate : (x y : X) (n : ℕ) → multiplicity eq x (replicate n y) ≡ cond (eq x y) n 0
@@ -53,34 +60,34 @@ module _ {X : Type 0} (eq : X → X → Bool) where
 
   -- The count of one more element k.
   module _ (k : X) where
-    pub length-expanded-insert : (entries : List (X × ℕ)) (count : ℕ) → count ≡ unwrap_or (lookup (eq k) entries) 0 → length (expanded (insert_entry eq entries k (count + 1))) ≡ length (expanded entries) + 1
+    pub length-expanded-insert : (entries : List (X × ℕ)) (count : ℕ) → count ≡ unwrap_or (lookup (eq k) entries) 0 → length (expanded (with_count eq entries k (count + 1))) ≡ length (expanded entries) + 1
     length-expanded-insert [] c e = let a = length-expanded (k, c + 1) [] in omega arith
     length-expanded-insert (f ∷ es) c e =
-        elim (eq k f.0) as (λ b. c ≡ unwrap_or (cond b (Some f.1) (lookup (eq k) es)) 0 → length (expanded (cond b ((f.0, c + 1) ∷ es) (f ∷ insert_entry eq es k (c + 1)))) ≡ length (expanded (f ∷ es)) + 1) [
+        elim (eq k f.0) as (λ b. c ≡ unwrap_or (cond b (Some f.1) (lookup (eq k) es)) 0 → length (expanded (cond b ((f.0, c + 1) ∷ es) (f ∷ with_count eq es k (c + 1)))) ≡ length (expanded (f ∷ es)) + 1) [
           | true ↦ λ h. let a = length-expanded (f.0, c + 1) es in let b = length-expanded f es in omega arith
-          | false ↦ λ h. let a = length-expanded f (insert_entry eq es k (c + 1)) in let b = length-expanded f es in let ih = length-expanded-insert es c h in omega arith
+          | false ↦ λ h. let a = length-expanded f (with_count eq es k (c + 1)) in let b = length-expanded f es in let ih = length-expanded-insert es c h in omega arith
         ] e
 
-    pub AllPositive-insert : (entries : List (X × ℕ)) (count : ℕ) → AllPositive entries → AllPositive (insert_entry eq entries k (count + 1))
+    pub AllPositive-insert : (entries : List (X × ℕ)) (count : ℕ) → AllPositive entries → AllPositive (with_count eq entries k (count + 1))
     AllPositive-insert [] c p = (omega arith, tt)
     AllPositive-insert (f ∷ es) c p =
-        elim (eq k f.0) as (λ b. AllPositive (cond b ((f.0, c + 1) ∷ es) (f ∷ insert_entry eq es k (c + 1)))) [
+        elim (eq k f.0) as (λ b. AllPositive (cond b ((f.0, c + 1) ∷ es) (f ∷ with_count eq es k (c + 1)))) [
           | true ↦ (omega arith, p.1)
           | false ↦ (p.0, AllPositive-insert es c p.1)
         ]
 
     pub multiplicity-expanded-insert : IsEquivalence eq → (x : X) (entries : List (X × ℕ)) (count : ℕ) → count ≡ unwrap_or (lookup (eq k) entries) 0
-        → multiplicity eq x (expanded (insert_entry eq entries k (count + 1))) ≡ cond (eq x k) 1 0 + multiplicity eq x (expanded entries)
+        → multiplicity eq x (expanded (with_count eq entries k (count + 1))) ≡ cond (eq x k) 1 0 + multiplicity eq x (expanded entries)
     multiplicity-expanded-insert laws x [] c e = let a = multiplicity-expanded x (k, c + 1) [] in let z : c ≡ 0 = e in ap (λ n. multiplicity eq x (expanded ((k, n + 1) ∷ []))) z
     multiplicity-expanded-insert laws x (f ∷ es) c e =
-        elim (eq k f.0) as (λ b. eq k f.0 ≡ b → c ≡ unwrap_or (cond b (Some f.1) (lookup (eq k) es)) 0 → multiplicity eq x (expanded (cond b ((f.0, c + 1) ∷ es) (f ∷ insert_entry eq es k (c + 1)))) ≡ cond (eq x k) 1 0 + multiplicity eq x (expanded (f ∷ es))) [
+        elim (eq k f.0) as (λ b. eq k f.0 ≡ b → c ≡ unwrap_or (cond b (Some f.1) (lookup (eq k) es)) 0 → multiplicity eq x (expanded (cond b ((f.0, c + 1) ∷ es) (f ∷ with_count eq es k (c + 1)))) ≡ cond (eq x k) 1 0 + multiplicity eq x (expanded (f ∷ es))) [
           | true ↦ λ t h.
               let a = multiplicity-expanded x (f.0, c + 1) es in
               let b = multiplicity-expanded x f es in
               let same : eq x k ≡ eq x f.0 = laws.symm x k ∙ laws.congr k f.0 x t ∙ laws.symm f.0 x in
               counted (eq x f.0) (eq x k) same f.1 c h _ _ _ a b
           | false ↦ λ t h.
-              let a = multiplicity-expanded x f (insert_entry eq es k (c + 1)) in
+              let a = multiplicity-expanded x f (with_count eq es k (c + 1)) in
               let b = multiplicity-expanded x f es in
               let ih = multiplicity-expanded-insert laws x es c h in
               omega arith
@@ -92,8 +99,13 @@ module _ {X : Type 0} (eq : X → X → Bool) where
         counted true false e n c h r s t a b = absurd (true≢false (sym e))
         counted false true e n c h r s t a b = absurd (true≢false e)
 
+-- No entries are the empty multiset.
+pub none_held : {X : Type 0} (eq : X → X → Bool) (entries : List (X × ℕ)) → entries ≡ [] → (0 ≡ length (expanded entries)) × IsDistinct eq (keys_of entries) × AllPositive entries
+unfolding IsDistinct
+none_held eq entries is = subst (λ es. (0 ≡ length (expanded es)) × IsDistinct eq (keys_of es) × AllPositive es) (sym is) (refl, tt, tt)
+
 -- The entries after one more k.
-module _ {X : Type 0} (eq : X → X → Bool) (laws : IsEquivalence eq) (k : X) (entries new : List (X × ℕ)) (count : ℕ) (found : count ≡ unwrap_or (lookup (eq k) entries) 0) (is : new ≡ insert_entry eq entries k (count + 1)) where
+module _ {X : Type 0} (eq : X → X → Bool) (laws : IsEquivalence eq) (k : X) (entries new : List (X × ℕ)) (count : ℕ) (found : count ≡ unwrap_or (lookup (eq k) entries) 0) (is : new ≡ with_count eq entries k (count + 1)) where
   pub inserted-length : length (expanded new) ≡ length (expanded entries) + 1
   inserted-length = ap (λ es. length (expanded es)) is ∙ length-expanded-insert eq k entries count found
 
@@ -145,19 +157,18 @@ same_option None (Some n) a b e = absurd (b (ap (λ k. Some k) (sym e)))
 same_option (Some m) None a b e = absurd (a (ap (λ k. Some k) e))
 same_option (Some m) (Some n) a b e = ap (λ k. Some k) e
 
--- Distinct entries with positive counts are equal as maps exactly where their multisets are.
-module _ {X S : Type 0} (eq : X → X → Bool) (laws : IsEquivalence eq) where
-  map_eq-same : (m n : HashMap X ℕ S) → IsDistinct eq (keys_of m.entries) → IsDistinct eq (keys_of n.entries) → AllPositive m.entries → AllPositive n.entries
-      → (r : Bool) → r ≡ hash_map_eq eq nat_eq m n → Decides r (IsSameMultiset eq (expanded m.entries) (expanded n.entries))
-  map_eq-same m n dm dn pm pn r e =
-      let d = hash_map_eq-Decides laws Decides-eqb m n r e in (
-        (λ t. record { each = λ x. multiplicity-lookup eq laws x m.entries dm ∙ ap (λ o. unwrap_or o 0) (d.0 t x) ∙ sym (multiplicity-lookup eq laws x n.entries dn) }),
-        (λ s. d.1 (λ x. same_option _ _ (found_positive eq x m.entries pm) (found_positive eq x n.entries pn) (sym (multiplicity-lookup eq laws x m.entries dm) ∙ s.each x ∙ multiplicity-lookup eq laws x n.entries dn))),
-      )
+-- Distinct entries with positive counts agree exactly where their multisets are the same.
+module _ {X : Type 0} (eq : X → X → Bool) (laws : IsEquivalence eq) where
+  agree-same : (ms ns : List (X × ℕ)) → IsDistinct eq (keys_of ms) → IsDistinct eq (keys_of ns) → AllPositive ms → AllPositive ns
+      → Agree eq ms ns ↔ IsSameMultiset eq (expanded ms) (expanded ns)
+  agree-same ms ns dm dn pm pn = (
+    (λ a. record { each = λ x. multiplicity-lookup eq laws x ms dm ∙ ap (λ o. unwrap_or o 0) (a x) ∙ sym (multiplicity-lookup eq laws x ns dn) }),
+    (λ s x. same_option _ _ (found_positive eq x ms pm) (found_positive eq x ns pn) (sym (multiplicity-lookup eq laws x ms dm) ∙ s.each x ∙ multiplicity-lookup eq laws x ns dn)),
+  )
 
   -- The same of the lists that contracts see.
-  pub map_eq-views : (m n : HashMap X ℕ S) (xs ys : List X) → expanded m.entries ≡ xs → expanded n.entries ≡ ys → IsDistinct eq (keys_of m.entries) → IsDistinct eq (keys_of n.entries) → AllPositive m.entries → AllPositive n.entries
-      → (r : Bool) → r ≡ hash_map_eq eq nat_eq m n → Decides r (IsSameMultiset eq xs ys)
-  map_eq-views m n xs ys p q dm dn pm pn r e =
-      let d = map_eq-same m n dm dn pm pn r e in
-      (λ t. same_along eq _ _ _ _ p q (d.0 t), λ s. d.1 (same_along eq _ _ _ _ (sym p) (sym q) s))
+  pub agree-views : (ms ns : List (X × ℕ)) (xs ys : List X) → expanded ms ≡ xs → expanded ns ≡ ys → IsDistinct eq (keys_of ms) → IsDistinct eq (keys_of ns) → AllPositive ms → AllPositive ns
+      → {R : Type 0} → R ↔ Agree eq ms ns → R ↔ IsSameMultiset eq xs ys
+  agree-views ms ns xs ys p q dm dn pm pn r =
+      let d = agree-same ms ns dm dn pm pn in
+      (λ t. same_along eq _ _ _ _ p q (d.0 (r.0 t)), λ s. r.1 (d.1 (same_along eq _ _ _ _ (sym p) (sym q) s)))

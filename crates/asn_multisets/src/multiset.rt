@@ -1,52 +1,57 @@
 //! Multisets.
-ghost use Rattle.asn_sets.specs.Multiplicities.{same_multiset_equiv};
-ghost use Rattle.asn_sets.specs.Multisets.{IsSameMultiset, same_multiset};
+ghost use Rattle.asn_multisets.specs.Multiplicities.{same_multiset_equiv};
+ghost use Rattle.asn_multisets.specs.Multisets.{IsSameMultiset, same_multiset};
 ghost use Rattle.std.specs.Cmp.{partial_equiv_from_equiv};
 ghost use Rattle.std.specs.Map.Iter.{deref};
 ghost use Rattle.std.specs.Prelude.{◌≡◌, ◌∷◌, [], ◌<◌, ◌+◌, ◌↔◌, IfOk, IsTrue, OnErr, OnOk, length};
 ghost use Rattle.std.specs.Prelude.{map};
 
+use crate::Counts;
 use asn_core::OutOfMemory;
-use indexmap::IndexMap;
 use std::alloc::Global;
 use std::fmt;
 use std::hash::Hash;
-use std::marker::Model;
+use std::marker::{Model, PhantomData};
 
 /// A multiset of at most `usize::MAX` elements, repeats counted. It is seen as the list of its
 /// elements, each as often as it is there, whose order is of no account.
 ///
-/// Elements that are equal are counted under the first one that was inserted. The seed of the hash
-/// is fixed.
+/// Elements that are equal are counted under the first one that was inserted. `M` is the table of
+/// the counts.
 #[derive(Drop)]
-pub struct SetOf<D: Eq + Hash + Drop> {
+pub struct Multiset<D: Eq + Hash + Drop, M: Counts<D>> {
     /// How often each element is there, at least once.
-    counts: IndexMap<D, usize>,
+    counts: M,
     /// The sum of the counts.
     total: usize,
+    /// Names the type of the elements, and takes no memory.
+    elements: PhantomData<D>,
 }
 
-impl<D: Eq + Hash + Drop> Model for SetOf<D> {
-    ghost use Rattle.asn_sets.specs.Entries.{AllPositive, expanded};
-    ghost use Rattle.indexmap.specs.IndexMap.{IsUnique};
+impl<D: Eq + Hash + Drop, M: Counts<D>> Model for Multiset<D, M> {
+    ghost use Rattle.asn_multisets.specs.Entries.{AllPositive, expanded};
+    ghost use Rattle.std.specs.List.{IsDistinct};
+    ghost use Rattle.std.specs.Map.{keys_of};
     ghost use Rattle.std.specs.Prelude.{◌≡◌, List, length};
 
     ghost Value = { List D };
 
-    ghost view = { λ set. expanded set.counts.entries };
+    ghost view = { λ set. expanded (M.entries set.counts) };
 
-    ghost invariant = { λ set. (set.total ≡ length (expanded set.counts.entries))
-        × IsUnique D.eq set.counts × AllPositive set.counts.entries };
+    ghost invariant = { λ set. (set.total ≡ length (expanded (M.entries set.counts)))
+        × IsDistinct D.eq (keys_of (M.entries set.counts))
+        × AllPositive (M.entries set.counts) };
 }
 
-impl<D: Eq + Hash + Drop> SetOf<D> {
+impl<D: Eq + Hash + Drop, M: Counts<D>> Multiset<D, M> {
     /// Returns the empty set. It takes no memory.
-    pub fn new(alloc: Global) -> SetOf<D>
+    pub fn new(alloc: Global) -> Multiset<D, M>
         ensures { result ≡ [] }
     {
-        SetOf {
-            counts: IndexMap::new(alloc),
+        Multiset {
+            counts: M::empty(alloc),
             total: 0,
+            elements: PhantomData,
         }
     }
 
@@ -55,11 +60,11 @@ impl<D: Eq + Hash + Drop> SetOf<D> {
     /// # Errors
     ///
     /// `OutOfMemory`.
-    pub fn from_vec(alloc: Global, values: Vec<D>) -> Result<SetOf<D>, OutOfMemory>
+    pub fn from_vec(alloc: Global, values: Vec<D>) -> Result<Multiset<D, M>, OutOfMemory>
         ensures same { IfOk result (λ set. IsSameMultiset D.eq values.items set) }
         ensures counted { IfOk result (λ set. length set ≡ length values.items) }
     {
-        let mut set = SetOf::new(alloc);
+        let mut set = Multiset::new(alloc);
         for value in values {
             set.insert(value)?;
         }
@@ -77,8 +82,8 @@ impl<D: Eq + Hash + Drop> SetOf<D> {
         ensures counted { OnOk result (length self.new ≡ length self.old + 1) }
         ensures unchanged { OnErr result (self.new ≡ self.old) }
     {
-        let count = self.counts.get(&value).copied().unwrap_or(0);
-        self.counts.insert(value, count + 1)?;
+        let count = self.counts.count(&value);
+        self.counts.set_count(value, count + 1)?;
         self.total += 1;
         Ok(())
     }
@@ -106,8 +111,9 @@ impl<D: Eq + Hash + Drop> SetOf<D> {
         ensures { IfOk result (λ elements. map (deref {X = D}) elements.items ≡ self.now) }
     {
         let mut elements = Vec::with_capacity(alloc, self.total)?;
-        for (element, count) in &self.counts {
-            for _ in 0..*count {
+        for index in 0..self.counts.len() {
+            let (element, count) = self.counts.entry(index);
+            for _ in 0..count {
                 elements.push(element)?;
             }
         }
@@ -116,11 +122,12 @@ impl<D: Eq + Hash + Drop> SetOf<D> {
 }
 
 /// Shows the elements, each as often as it is there.
-impl<D: Eq + Hash + Drop + fmt::Debug> fmt::Debug for SetOf<D> {
+impl<D: Eq + Hash + Drop + fmt::Debug, M: Counts<D>> fmt::Debug for Multiset<D, M> {
     fn fmt<W: fmt::Write>(&self, f: &mut fmt::Formatter<W>) -> fmt::Result {
         let mut shown = f.debug_set();
-        for (element, count) in &self.counts {
-            for _ in 0..*count {
+        for index in 0..self.counts.len() {
+            let (element, count) = self.counts.entry(index);
+            for _ in 0..count {
                 shown.entry(element);
             }
         }
@@ -129,19 +136,19 @@ impl<D: Eq + Hash + Drop + fmt::Debug> fmt::Debug for SetOf<D> {
 }
 
 /// Two sets are equal where each element is in both as often.
-impl<D: Eq + Hash + Drop> PartialEq for SetOf<D> {
+impl<D: Eq + Hash + Drop, M: Counts<D>> PartialEq for Multiset<D, M> {
     ghost eq = { same_multiset D.eq };
 
     ghost laws = { partial_equiv_from_equiv (same_multiset_equiv D.eq D.Eq.laws) };
 
-    fn eq(&self, other: &SetOf<D>) -> bool
+    fn eq(&self, other: &Multiset<D, M>) -> bool
         ensures is { result ≡ same_multiset D.eq self.now other.now }
         ensures same { IsTrue result ↔ IsSameMultiset D.eq self.now other.now }
     {
-        self.counts == other.counts
+        self.counts.agrees(&other.counts)
     }
 }
 
-impl<D: Eq + Hash + Drop> Eq for SetOf<D> {
+impl<D: Eq + Hash + Drop, M: Counts<D>> Eq for Multiset<D, M> {
     ghost laws = { same_multiset_equiv D.eq D.Eq.laws };
 }

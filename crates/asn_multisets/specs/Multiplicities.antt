@@ -3,7 +3,7 @@ use Rattle.std.proofs.Common.{◌≡◌, ℕ, ◌+◌, ◌⊎◌, inl, inr, Bool
 use Rattle.std.proofs.lemmas.Bool.Decides.{nat_tests}
 use Rattle.std.specs.List.{list_all}
 use Rattle.std.specs.Cmp.{IsEquivalence, both_ways, first_so, second_so}
-use Rattle.asn_sets.specs.Multisets.{multiplicity, IsSameMultiset, same_multiset}
+use Rattle.asn_multisets.specs.Multisets.{multiplicity, IsSameMultiset, same_multiset}
 
 module _ {X : Type 0} (eq : X → X → Bool) where
   pub multiplicity-append : (x : X) (xs ys : List X) → multiplicity eq x (xs ++ ys) ≡ multiplicity eq x xs + multiplicity eq x ys

@@ -1,6 +1,6 @@
 use Rattle.std.proofs.Common.{[], ◌∷◌, arith, length-append}
-use Rattle.asn_sets.specs.Multiplicities.{same_push}
-use Rattle.asn_sets.proofs.set_of.SetOf.from_vec.Goals as goal
+use Rattle.asn_multisets.specs.Multiplicities.{same_push}
+use Rattle.asn_multisets.proofs.multiset.Multiset.from_vec.Goals as goal
 
 pub loop-value-preserved : goal.loop-value-preserved
 loop-value-preserved g c =

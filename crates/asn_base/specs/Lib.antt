@@ -6,9 +6,9 @@ pub use Rattle.asn_core.specs.ObjectIdentifiers
 pub use Rattle.asn_core.specs.Tags
 pub use Rattle.asn_core.specs.Texts
 pub use Rattle.asn_core.specs.Seen
-pub use Rattle.asn_sets.specs.Multisets
-pub use Rattle.asn_sets.specs.Multiplicities
-pub use Rattle.asn_sets.specs.Entries
+pub use Rattle.asn_multisets.specs.Multisets
+pub use Rattle.asn_multisets.specs.Multiplicities
+pub use Rattle.asn_multisets.specs.Entries
 pub use Rattle.asn_strings.specs.Alphabets
 pub use Rattle.asn_strings.specs.Refusals
 pub use Rattle.asn_strings.specs.Units

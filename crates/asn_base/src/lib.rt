@@ -3,6 +3,7 @@
 //! times of `asn_times`.
 #![tactic(auto)]
 
+pub use asn_civil::{CivilDate, CivilGeneralizedTime, CivilUtcTime};
 pub use asn_core::{
     Any, BitString, Bits, Bound, Bounded, Class, Codec, Constraint, Constraints, Extensible,
     Identifier, Integer, ObjectIdentifier, OctetString, Oid, OutOfMemory, Scan, Size, Tag, TagTree,

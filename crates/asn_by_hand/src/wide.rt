@@ -4,7 +4,7 @@ ghost use Rattle.asn_by_hand.specs.Wide.{rest_fields, rest_slots, wide_fields, w
 ghost use Rattle.std.specs.Prelude.{refl};
 
 use crate::groups::{Flags, Names, Numbers};
-use asn_base::{OutOfMemory, Tag};
+use asn_core::{OutOfMemory, Tag};
 use asn_fault::{DecodeError, EncodeError};
 use asn_fields::{FieldGroup, FieldShapes, read_groups, write_groups};
 use asn_traits::{

@@ -1,7 +1,7 @@
 //! Encodes values of each kind as the text that they have in the value notation, and decodes them
 //! from it. The texts are written by the rules of X.680, in the layout of the crate `rasn`.
 use crate::checks::{MEMORY, assert_given, assert_of, assert_true, is_refused};
-use asn_base::OctetString;
+use asn_core::OctetString;
 use asn_traits::{Decode, Encode};
 use avn_rules::avn;
 use std::alloc::Global;

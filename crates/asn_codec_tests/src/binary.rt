@@ -3,8 +3,8 @@
 ghost use Rattle.std.specs.Prelude.{⊤};
 
 use crate::checks::{assert_refused, assert_same, assert_true};
-use asn_base::Codec;
 use asn_codec::{BinaryRules, CodecCalls, NoRules};
+use asn_core::Codec;
 use asn_fault::{DecodeError, EncodeError};
 use asn_traits::{Decode, Encode};
 use jer_rules::jer;

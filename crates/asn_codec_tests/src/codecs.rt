@@ -3,8 +3,8 @@
 use crate::checks::{
     DECODER, MEMORY, assert_given, assert_refused, assert_text, assert_true, let_go,
 };
-use asn_base::{Codec, Constraints, Identifier, Scan, Tag};
 use asn_codec::CodecCalls;
+use asn_core::{Codec, Constraints, Identifier, Scan, Tag};
 use asn_traits::{Decoder, Encode, Encoder};
 use avn_rules::avn::{de, enc};
 use avn_value::{AvnValue, LEVEL_LIMIT, NodeTable};

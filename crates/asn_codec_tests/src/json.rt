@@ -1,6 +1,6 @@
 //! Calls JER directly: the edges of its numbers, shapes of types, and an encoder without a value.
 use crate::checks::{MEMORY, assert_given, assert_refused, assert_true, let_go};
-use asn_base::{Bits, Identifier, Tag};
+use asn_core::{Bits, Identifier, Tag};
 use asn_fields::FieldShapes;
 use asn_traits::{AsnType, Encode, Encoder, Shape, is_readable};
 use jer_rules::jer::{enc, encode};

@@ -1,7 +1,7 @@
 //! Passes a text on by each call that is named for one type of strings or of times: it is read in
 //! one notation and written in the other.
 use crate::checks::{DECODER, assert_given, let_go};
-use asn_base::{Constraints, Identifier, Tag};
+use asn_core::{Constraints, Identifier, Tag};
 use asn_fault::EncodeError;
 use asn_traits::{Decoder, Encoder};
 use avn_rules::avn;

@@ -1,7 +1,7 @@
 //! Encodes and decodes OCTET STRING in both notations. The forms are those of X.697 and X.680,
 //! section 23.
 use crate::checks::{MEMORY, assert_given, assert_refused, assert_same};
-use asn_base::OctetString;
+use asn_core::OctetString;
 use asn_fault::DecodeError;
 use avn_rules::avn;
 use jer_rules::jer;

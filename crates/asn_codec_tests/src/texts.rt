@@ -1,7 +1,7 @@
 //! Tests values that have a text in neither notation, and calls that always refuse.
 use crate::checks::{DECODER, MEMORY, assert_given, assert_refused, let_go};
-use asn_base::{Constraints, Identifier, Tag};
 use asn_civil::{CivilDate, CivilGeneralizedTime, CivilUtcTime};
+use asn_core::{Constraints, Identifier, Tag};
 use asn_fault::{DecodeError, EncodeError};
 use asn_strings::{BmpString, GeneralString, GraphicString, TeletexString};
 use asn_times::{Date, GeneralizedTime, UtcTime};

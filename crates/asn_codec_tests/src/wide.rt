@@ -1,8 +1,8 @@
 //! Converts texts of a SEQUENCE of nine fields, and of a SET with an extension marker.
 use crate::checks::{MEMORY, assert_given, assert_same, assert_text, assert_true, let_go};
-use asn_base::Codec;
 use asn_by_hand::{GrowingSet, Wide};
 use asn_codec::{CodecCalls, transcode};
+use asn_core::Codec;
 use asn_traits::{Decode, Encode};
 use std::alloc::Global;
 use std::fmt::Display;

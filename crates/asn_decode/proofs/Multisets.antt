@@ -1,7 +1,7 @@
 -- Multisets of elements that are equal exactly where their values are have one value.
 use Rattle.std.proofs.Common.{◌≡◌, ◌↔◌, refl, sym, ap, ◌∙◌, ℕ, ◌+◌, ◌≤◌, Bool, true, false, cond, if◌then◌else◌, List, [], ◌∷◌, map, arith}
 use Rattle.std.specs.Cmp.{IsEquivalence}
-use Rattle.asn_sets.specs.Multisets.{IsSameMultiset, multiplicity}
+use Rattle.asn_multisets.specs.Multisets.{IsSameMultiset, multiplicity}
 use Rattle.asn_model.specs.Sorting.{insert_in_order, sort}
 use Rattle.asn_model.specs.Value.{Value, bag_of, elements, value_cmp, values}
 use Rattle.asn_model.proofs.Sorting.{insert-insert}

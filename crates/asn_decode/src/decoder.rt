@@ -40,7 +40,7 @@ use asn_fault::{DecodeError, DecodeErrorKind, Refusal};
 use asn_integers::IntegerType;
 use asn_model::words::NO_TELETEX;
 use asn_model::{LeafKind, OwnedLeaf, SeqKind, fixed_size};
-use asn_sets::SetOf;
+use asn_multisets::{Counts, Multiset};
 use asn_strings::{
     BmpString, GeneralString, GraphicString, Ia5String, NumericString, PrintableString,
     TeletexString, VisibleString,
@@ -502,17 +502,17 @@ pub trait Decoder {
     }
 
     /// Decodes a SET OF, whose elements may stand in any order.
-    final fn decode_set_of<T: Decode + SetElement>(
+    final fn decode_set_of<T: Decode + SetElement, M: Counts<T>>(
         &mut self,
         tag: Tag,
         constraints: &Constraints,
-    ) -> Result<SetOf<T>, DecodeError>
+    ) -> Result<Multiset<T, M>, DecodeError>
         ensures { Answer notation (Shape.set_of T.shape_of)
             (λ set. bag_of (values T.value_of set)) (pending self.old) result
             (pending self.new) }
     {
         let elements = self.decode_elements::<T>(SeqKind::Set)?;
-        match SetOf::from_vec(self.allocator(), elements) {
+        match Multiset::from_vec(self.allocator(), elements) {
             Ok(set) => Ok(set),
             Err(_) => Err(DecodeError::out_of_memory(self.codec())),
         }

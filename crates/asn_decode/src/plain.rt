@@ -3,7 +3,7 @@
 use crate::{Decode, DecodeKind, Decoder};
 use asn_core::{Any, Bits, Constraints, ObjectIdentifier, OctetString, Tag};
 use asn_fault::DecodeError;
-use asn_sets::SetOf;
+use asn_multisets::{Counts, Multiset};
 use asn_types::{PlainKind, SetElement};
 
 /// Decodes BOOLEAN by the call of the decoder.
@@ -107,12 +107,12 @@ impl DecodeKind<Any> for PlainKind {
 }
 
 /// Decodes SET OF by the call of the decoder, which decodes each element by its own type.
-impl<T: Decode + SetElement> DecodeKind<SetOf<T>> for PlainKind {
+impl<T: Decode + SetElement, M: Counts<T>> DecodeKind<Multiset<T, M>> for PlainKind {
     fn decode_as<D: Decoder>(
         decoder: &mut D,
         tag: Tag,
         constraints: &Constraints,
-    ) -> Result<SetOf<T>, DecodeError> {
-        decoder.decode_set_of::<T>(tag, constraints)
+    ) -> Result<Multiset<T, M>, DecodeError> {
+        decoder.decode_set_of::<T, M>(tag, constraints)
     }
 }

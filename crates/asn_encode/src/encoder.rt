@@ -32,7 +32,7 @@ use asn_fault::{EncodeError, EncodeErrorKind};
 use asn_integers::IntegerType;
 use asn_model::words::NO_TELETEX;
 use asn_model::{Leaf, are_arcs, are_octets, fixed_size};
-use asn_sets::SetOf;
+use asn_multisets::{Counts, Multiset};
 use asn_strings::{
     BmpString, GeneralString, GraphicString, Ia5String, NumericString, PrintableString,
     TeletexString, VisibleString,
@@ -618,10 +618,10 @@ pub trait Encoder {
     ///
     /// The kind of a part of any element that the notation cannot encode, since they have no order;
     /// else `OutOfMemory` alone.
-    final fn encode_set_of<T: Encode + SetElement>(
+    final fn encode_set_of<T: Encode + SetElement, M: Counts<T>>(
         &mut self,
         tag: Tag,
-        value: &SetOf<T>,
+        value: &Multiset<T, M>,
         constraints: &Constraints,
         identifier: Identifier,
     ) -> Result<(), EncodeError>

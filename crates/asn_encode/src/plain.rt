@@ -3,7 +3,7 @@
 use crate::{Encode, EncodeKind, Encoder};
 use asn_core::{Any, Bits, Constraints, Identifier, ObjectIdentifier, OctetString, Tag};
 use asn_fault::EncodeError;
-use asn_sets::SetOf;
+use asn_multisets::{Counts, Multiset};
 use asn_types::{PlainKind, SetElement};
 
 /// Encodes BOOLEAN by the call of the encoder.
@@ -111,14 +111,14 @@ impl EncodeKind<Any> for PlainKind {
 }
 
 /// Encodes SET OF by the call of the encoder, which encodes each element by its own type.
-impl<T: Encode + SetElement> EncodeKind<SetOf<T>> for PlainKind {
+impl<T: Encode + SetElement, M: Counts<T>> EncodeKind<Multiset<T, M>> for PlainKind {
     fn encode_as<E: Encoder>(
-        value: &SetOf<T>,
+        value: &Multiset<T, M>,
         encoder: &mut E,
         tag: Tag,
         constraints: &Constraints,
         identifier: Identifier,
     ) -> Result<(), EncodeError> {
-        encoder.encode_set_of::<T>(tag, value, constraints, identifier)
+        encoder.encode_set_of::<T, M>(tag, value, constraints, identifier)
     }
 }

@@ -1,5 +1,5 @@
-//! Runs the program over the source and the sink that never fail. All other inputs of it are rows
-//! of `asn_cases`.
+//! Runs the program over the source and the sink that never fail. Other inputs of it are rows of
+//! `.ci/rows/requests.tsv`.
 use asn_convert::{Status, SteadySink, SteadySource, run};
 use std::test::Fail;
 

@@ -2,11 +2,11 @@
 //! tests say so where it was, and then nothing has changed; with ample memory each has its due
 //! answer.
 use crate::pieces::{REFUSED, Share, take_pieces_before};
-use asn_base::{Bits, SetOf};
 use asn_codec::{CodecCalls, transcode};
-use asn_core::{Codec, OutOfMemory};
+use asn_core::{Bits, Codec, OutOfMemory};
 use asn_document::{Document, DocumentMap};
 use asn_sample_choices::TestTypeA;
+use asn_sets::SetOf;
 use asn_traits::{Decode, Encode};
 use avn_value::AvnValue;
 use serde_json::Value;

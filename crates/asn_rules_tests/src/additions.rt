@@ -1,7 +1,7 @@
 //! Calls both codecs directly by each call for an extension addition. Such a call gives what the
 //! plain call of the type gives, and a group is one field.
 use crate::checks::{assert_given, assert_refused, assert_same, let_go};
-use asn_base::{Constraints, Identifier, Tag};
+use asn_core::{Constraints, Identifier, Tag};
 use asn_fault::{DecodeError, EncodeError};
 use asn_sample_fields::Struct;
 use asn_traits::{Decoder, Encoder, Field, SeqKind, optional};

@@ -1,6 +1,6 @@
 //! Tests bit strings and object identifiers by calls that no text makes.
 use crate::checks::{MEMORY, assert_given, assert_refused, assert_same, let_go};
-use asn_base::{Bits, Identifier, ObjectIdentifier, Tag};
+use asn_core::{Bits, Identifier, ObjectIdentifier, Tag};
 use asn_fault::DecodeError;
 use asn_sample_fields::{ConstrainedBitString, ExtensibleBitString};
 use asn_traits::{Decode, Encoder as _};

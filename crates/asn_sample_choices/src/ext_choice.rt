@@ -7,7 +7,7 @@ ghost use Rattle.asn_sample_choices.specs.declared.ext_choice.ExtChoice.TheVaria
 ghost use Rattle.asn_traits.specs.Shape.{AlternativeAdditions};
 ghost use Rattle.std.specs.Prelude.{refl};
 
-use asn_base::{OutOfMemory, Tag, TagTree};
+use asn_core::{OutOfMemory, Tag, TagTree};
 use asn_fault::{DecodeError, EncodeError};
 use asn_fields::AlternativeShapes;
 use asn_traits::{ChoiceKind, ChoicePayload, Decode, Decoder, Encode, Encoder, OfKind, Shape};

@@ -5,11 +5,12 @@ ghost use Rattle.asn_traits.specs.Shape.{FieldAdditions};
 ghost use Rattle.std.specs.Prelude.{refl};
 
 use crate::NewPart;
-use asn_base::{Integer, OutOfMemory, SetOf, Tag};
+use asn_core::{Integer, OutOfMemory, Tag};
 use asn_fault::{DecodeError, EncodeError};
 use asn_fields::{
     FieldShapes, read_addition, read_field, read_optional_field, write_field, write_optional_field,
 };
+use asn_sets::SetOf;
 use asn_traits::{
     Decoder, Encoder, Field, FieldNames, OfKind, SequenceFields, SequenceKind, Shape, optional,
     required,

@@ -4,9 +4,10 @@ ghost use Rattle.asn_traits.specs.Shape.{FieldAdditions, Fields};
 ghost use Rattle.std.specs.Prelude.{refl};
 
 use crate::OldPart;
-use asn_base::{Integer, OutOfMemory, SetOf, Tag};
+use asn_core::{Integer, OutOfMemory, Tag};
 use asn_fault::{DecodeError, EncodeError};
 use asn_fields::{FieldShapes, read_field, write_field};
+use asn_sets::SetOf;
 use asn_traits::{
     Decoder, Encoder, Field, FieldNames, OfKind, SequenceFields, SequenceKind, Shape, required,
 };

@@ -5,7 +5,7 @@ ghost use Rattle.asn_sample_choices.specs.TestTypeA.{test_type_a_slots};
 ghost use Rattle.std.specs.Prelude.{refl};
 
 use crate::Inner;
-use asn_base::{Bits, Integer, OutOfMemory, Tag};
+use asn_core::{Bits, Integer, OutOfMemory, Tag};
 use asn_fault::{DecodeError, EncodeError};
 use asn_fields::{FieldShapes, read_addition, read_field, write_field};
 use asn_traits::{

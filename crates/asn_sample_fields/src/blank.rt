@@ -3,7 +3,7 @@ ghost use Rattle.asn_sample_fields.specs.Blank.{blank_slots};
 ghost use Rattle.asn_traits.specs.Shape.{FieldAdditions, Fields};
 ghost use Rattle.std.specs.Prelude.{refl};
 
-use asn_base::OutOfMemory;
+use asn_core::OutOfMemory;
 use asn_fault::{DecodeError, EncodeError};
 use asn_fields::FieldShapes;
 use asn_traits::{

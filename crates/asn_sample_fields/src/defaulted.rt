@@ -2,7 +2,7 @@
 ghost use Rattle.asn_sample_fields.specs.Defaulted.{defaulted_fields, defaulted_slots};
 ghost use Rattle.std.specs.Prelude.{refl};
 
-use asn_base::{Integer, OutOfMemory, Tag};
+use asn_core::{Integer, OutOfMemory, Tag};
 use asn_fault::{DecodeError, EncodeError};
 use asn_fields::{FieldShapes, read_default_field, write_default_field};
 use asn_traits::{

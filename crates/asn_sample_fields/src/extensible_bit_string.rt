@@ -3,7 +3,7 @@ ghost use Rattle.asn_sample_fields.specs.ExtensibleBitString.{extensible_bit_str
 ghost use Rattle.asn_sample_fields.specs.ExtensibleBitString.{extensible_bit_string_value};
 ghost use Rattle.std.specs.Prelude.{refl};
 
-use asn_base::{
+use asn_core::{
     Bits, Bounded, Constraint, Constraints, Extensible, Identifier, OutOfMemory, Size, Tag, TagTree,
 };
 use asn_fault::{DecodeError, EncodeError};

@@ -3,7 +3,7 @@ ghost use Rattle.asn_sample_fields.specs.ExtensibleBitStringField.{bit_string_fi
 ghost use Rattle.std.specs.Prelude.{refl};
 
 use crate::MarkedBitString;
-use asn_base::{OutOfMemory, Tag};
+use asn_core::{OutOfMemory, Tag};
 use asn_fault::{DecodeError, EncodeError};
 use asn_fields::{FieldShapes, read_field, write_field};
 use asn_traits::{

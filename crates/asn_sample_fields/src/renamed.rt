@@ -3,7 +3,7 @@
 ghost use Rattle.asn_sample_fields.specs.Renamed.{renamed_fields, renamed_slots};
 ghost use Rattle.std.specs.Prelude.{refl};
 
-use asn_base::{Integer, OutOfMemory, Tag};
+use asn_core::{Integer, OutOfMemory, Tag};
 use asn_fault::{DecodeError, EncodeError};
 use asn_fields::{FieldShapes, read_field, read_optional_field, write_field, write_optional_field};
 use asn_traits::{

@@ -4,7 +4,7 @@ ghost use Rattle.asn_traits.specs.Shape.{Fields};
 ghost use Rattle.std.specs.Prelude.{refl};
 
 use crate::Nested;
-use asn_base::{OutOfMemory, Tag};
+use asn_core::{OutOfMemory, Tag};
 use asn_fault::{DecodeError, EncodeError};
 use asn_fields::{FieldShapes, read_optional_field, write_optional_field};
 use asn_traits::{

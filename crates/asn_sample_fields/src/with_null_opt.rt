@@ -4,7 +4,7 @@
 ghost use Rattle.asn_sample_fields.specs.WithNullOpt.{with_null_opt_fields, with_null_opt_slots};
 ghost use Rattle.std.specs.Prelude.{refl};
 
-use asn_base::{OutOfMemory, Tag};
+use asn_core::{OutOfMemory, Tag};
 use asn_fault::{DecodeError, EncodeError};
 use asn_fields::{FieldShapes, read_field, read_optional_field, write_field, write_optional_field};
 use asn_traits::{

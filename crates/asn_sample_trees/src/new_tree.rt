@@ -3,7 +3,7 @@ ghost use Rattle.asn_sample_trees.specs.NewTree.{label_slots, new_tree_added};
 ghost use Rattle.std.specs.Prelude.{refl};
 
 use crate::{Tree, TreeAdditions};
-use asn_base::{OutOfMemory, Tag};
+use asn_core::{OutOfMemory, Tag};
 use asn_fault::{DecodeError, EncodeError};
 use asn_fields::{FieldShapes, read_optional_field, write_optional_field};
 use asn_traits::{Decoder, Encoder, Field, FieldNames, optional};

@@ -4,7 +4,7 @@ ghost use Rattle.asn_traits.specs.Shape.{Fields};
 ghost use Rattle.std.specs.Prelude.{[], refl};
 
 use crate::{Tree, TreeAdditions};
-use asn_base::OutOfMemory;
+use asn_core::OutOfMemory;
 use asn_fault::{DecodeError, EncodeError};
 use asn_fields::FieldShapes;
 use asn_traits::{Decoder, Encoder, Field, FieldNames};

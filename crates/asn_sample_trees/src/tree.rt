@@ -11,7 +11,7 @@ ghost use Rattle.asn_coding.specs.Writing.{FailsToEncode, Written};
 ghost use Rattle.std.specs.Prelude.{◌≡◌, IfErr, OnOk};
 
 use crate::TreeAdditions;
-use asn_base::{Constraints, Identifier, OutOfMemory, Tag, TagTree};
+use asn_core::{Constraints, Identifier, OutOfMemory, Tag, TagTree};
 use asn_fault::{DecodeError, EncodeError};
 use asn_fields::{FieldShapes, within_field};
 use asn_traits::{

@@ -11,7 +11,7 @@ ghost use Rattle.asn_coding.specs.Tables.{field_rows, rows_of};
 ghost use Rattle.asn_coding.specs.Writing.{Frame};
 ghost use Rattle.std.specs.Prelude.{◌≡◌, IfErr, IfOk, OnOk, true};
 
-use asn_base::OutOfMemory;
+use asn_core::OutOfMemory;
 use asn_fault::{DecodeError, EncodeError};
 use asn_fields::FieldShapes;
 use asn_traits::{Decoder, Encoder, Field, FieldNames};

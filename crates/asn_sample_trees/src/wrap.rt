@@ -4,7 +4,7 @@ ghost use Rattle.asn_sample_trees.specs.Wrap.{wrap_1_value, wrap_2_value};
 ghost use Rattle.asn_coding.specs.Terms.{unsigned};
 ghost use Rattle.std.specs.Prelude.{refl};
 
-use asn_base::{Constraints, Identifier, OutOfMemory, Tag, TagTree};
+use asn_core::{Constraints, Identifier, OutOfMemory, Tag, TagTree};
 use asn_fault::{DecodeError, EncodeError};
 use asn_traits::{AsnType, Decode, Decoder, Encode, Encoder, Shape};
 use std::alloc::Global;

@@ -10,8 +10,9 @@ ghost use Rattle.std.specs.Option.{option_map};
 ghost use Rattle.std.specs.Prelude.{◌≡◌, ◌<◌, ◌^◌, IfOk, IfSome, is_some, true};
 
 use crate::SampleVisitor;
-use asn_base::{Any, BitString, Integer, ObjectIdentifier, OctetString, OutOfMemory, SetOf};
+use asn_core::{Any, BitString, Integer, ObjectIdentifier, OctetString, OutOfMemory};
 use asn_document::Document;
+use asn_sets::SetOf;
 use asn_strings::{
     BmpString, GeneralString, GraphicString, Ia5String, NumericString, PrintableString,
     UniversalString, VisibleString,

@@ -1,7 +1,8 @@
 //! Defines `SetOf`, the values of SET OF (X.680, section 28): multisets, seen as the list of their
-//! elements, each as often as it is there. The order of that list is of no account.
+//! elements, each as often as it is there. Their counts are kept in a map of `indexmap`, which no
+//! interface of the traits and codecs names: these are over any multiset of `asn_multisets`.
 #![tactic(auto)]
 
-pub mod set_of;
+pub mod indexed;
 
-pub use set_of::SetOf;
+pub use indexed::{Indexed, SetOf};

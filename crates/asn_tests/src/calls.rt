@@ -2,7 +2,7 @@
 //! optional value, and by the one that writes a SET. The calls under a tag, constraints or a
 //! prefix give what the plain call gives, since neither notation writes tags.
 use crate::checks::{DECODER, MEMORY, assert_given, assert_refused, assert_refused_with, let_go};
-use asn_base::{Constraints, Identifier, Tag};
+use asn_core::{Constraints, Identifier, Tag};
 use asn_fault::{DecodeError, EncodeError};
 use asn_samples::MarkSet;
 use asn_traits::{Decode, Decoder, Encode, Encoder, Field, SeqKind, optional};

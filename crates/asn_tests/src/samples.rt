@@ -1,7 +1,7 @@
 //! Runs visitors at the sample types, and shows the shape of one.
 use crate::checks::{MEMORY, assert_of, assert_true, let_go};
 use crate::constants::has_its_tags;
-use asn_base::{Identifier, Tag};
+use asn_core::{Identifier, Tag};
 use asn_samples::{Sample, SampleVisitor, is_sample_name};
 use asn_traits::{Decode, Encode, Shape, is_readable};
 use std::alloc::Global;

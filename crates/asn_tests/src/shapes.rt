@@ -1,6 +1,6 @@
 //! Tests shapes that can't be read.
 use crate::checks::{MEMORY, let_go};
-use asn_base::{Class, Tag};
+use asn_core::{Class, Tag};
 use asn_traits::{AlternativeShape, FieldShape, Plain, PresenceShape, SeqKind, Shape, is_readable};
 use std::alloc::Global;
 use std::process::Abort;

@@ -1,4 +1,4 @@
-//! Describes SET OF (X.680, section 28) by the multisets of `asn_sets`, for elements that are equal
+//! Describes SET OF (X.680, section 28) by the multisets of `asn_multisets`, for elements that are equal
 //! exactly where their values are.
 ghost use Rattle.asn_model.specs.Shape.{Shape as AbstractShape};
 ghost use Rattle.asn_model.specs.Value.{Value, bag_of, values};
@@ -9,7 +9,7 @@ use crate::{AsnType, DescribeKind, IntegerKind, OfKind, PlainKind};
 use asn_core::{OutOfMemory, Tag, TagTree};
 use asn_integers::IntegerType;
 use asn_model::Shape;
-use asn_sets::SetOf;
+use asn_multisets::{Counts, Multiset};
 use std::alloc::Global;
 use std::hash::Hash;
 
@@ -49,12 +49,12 @@ impl ElementKind<String> for PlainKind {
     ghost same = { texts_alike };
 }
 
-impl<T: Eq + Hash + Drop> OfKind for SetOf<T> {
+impl<T: Eq + Hash + Drop, M: Counts<T>> OfKind for Multiset<T, M> {
     type Kind = PlainKind;
 }
 
 /// Describes SET OF (X.680, section 28).
-impl<T: SetElement> DescribeKind<SetOf<T>> for PlainKind {
+impl<T: SetElement, M: Counts<T>> DescribeKind<Multiset<T, M>> for PlainKind {
     const TAG: Tag = Tag::SET;
 
     ghost shape = { AbstractShape.set_of T.shape_of };

@@ -37,8 +37,8 @@ example extensible = record {
   extensible = extensible;
   type_named = λ home name. Shape.back 7;
   copied = λ n. Shape.enum (codes "b" ∷ codes "c" ∷ []) None;
-  number_named = λ home name word. Some (pos 5);
-  values = λ v. (letters, v) ∷ (letters, number_three) ∷ [];
+  number_named = λ home name word. Some (Some (pos 5));
+  values = λ numeric v. (letters, v) ∷ (letters, number_three) ∷ [];
 }
 
 -- One of the text `a"en"a"a""a"`.
@@ -52,7 +52,7 @@ quoting = record {
   type_named = λ home name. Shape.back 7;
   copied = λ n. Shape.back n;
   number_named = λ home name word. None;
-  values = λ v. (strings, v) ∷ [];
+  values = λ numeric v. (strings, v) ∷ [];
 }
 
 -- The token of the kind at the place.

@@ -61,8 +61,8 @@ abbrev pub choice_shape : Option (List Part × Option (List Part)) → Shape
 choice_shape None = no_values
 choice_shape (Some lists) = Shape.choice (alternatives_from 0 lists.0) (added_alternatives_from (length lists.0) lists.1)
 
--- The number that a word names in the type.
-abbrev pub number_in_type : Scope → Notation → List ℕ → Option ℤ
+-- The number that a word names in the type, if it names one. It isn't known where it is by a value that leads to none.
+abbrev pub number_in_type : Scope → Notation → List ℕ → Option (Option ℤ)
 number_in_type s (notation tags (integer ns) sizes) word = named_number s ns word
 number_in_type s (notation tags (reference home name) sizes) word = s.number_named home name word
 number_in_type s (notation tags base sizes) word = None

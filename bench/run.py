@@ -1,5 +1,5 @@
 #!/usr/bin/env python3
-"""Runs the program, and the reader and the printer of AVN, beside peers on large inputs.
+"""Runs the program beside peers on large inputs.
 
 usage: bench/run.py [-n RUNS] [-k PART] [-s | -p PROGRAM DIR]
 
@@ -9,10 +9,7 @@ counts. Times are processor times. Both outputs have to be equal. A speed is the
 librust-hex-dev).
 
 The first table is of the program, beside Python's json module or Rust's serde_json: seconds, user and system, and peak
-memory. The second is of avn_bench beside a plain reader and printer of AVN: MB/s of text read into a table of nodes
-(what types are decoded from) and into a value, both beside the peer's reading, and of text printed from a value and
-from a table, both beside the peer's printing, each the best of ten turns in a process, and how many times as long twice
-the input takes.
+memory.
 
 With -p, the inputs are the files *.in in DIR, each a request line and a text, and the peer is PROGRAM, which takes the
 same requests: seconds and peak memory of both, and ours by its.
@@ -20,14 +17,13 @@ same requests: seconds and peak memory of both, and ours by its.
 With -s, the table is of the command `asn`, which converts by a shape that it holds as data, beside the program: seconds
 and peak memory of both, the first by the second, and how many times as long by a shape twice the input takes.
 
-The third table is of the string types, from and to either notation: seconds of each on one ASCII text, by those of
-UTF8String on the same text. The fourth is of a SET OF a million numbers, from and to either notation: seconds for
+The second table is of the string types, from and to either notation: seconds of each on one ASCII text, by those of
+UTF8String on the same text. The third is of a SET OF a million numbers, from and to either notation: seconds for
 elements in some orders, by those of a SEQUENCE OF the same text, and those of twice the elements.
 """
 import hashlib
 import os
 import random
-import re
 import subprocess
 import sys
 
@@ -43,9 +39,6 @@ OCTETS = [os.path.join(OUT, "octets_peer")]
 # The program is run itself, since the launcher looks at the sources first.
 PROGRAM = [os.path.join(TOP, "crates", "asn_convert_main", "out", "asn_convert_main")]
 PROVE = [os.path.join(TOP, "asn_convert"), "--prove"]
-AVN_PEER = os.path.join(OUT, "avn_peer")
-AVN_CRATE = os.path.join(TOP, "crates", "avn_bench")
-AVN_BENCH = os.path.join(AVN_CRATE, "out", "avn_bench")
 INPUTS = {
     "blanks and one number, 16 MB": (
         lambda: b"jer jer u64\n" + b" " * 16_777_000 + b"18446744073709551615",
@@ -110,17 +103,6 @@ SETS = (
     ("sorted", "sorted", MILLION),
     ("reversed", "reversed", MILLION),
 )
-QUOTED = 'The quick brown fox says ""hello"".\n'
-AVN_INPUTS = {
-    "integers without commas": lambda size: "{" + " ".join(str(i) for i in range(MILLION * size)) + "}",
-    "integers with commas": lambda size: "{" + ", ".join(str(i) for i in range(MILLION * size)) + "}",
-    "choices": lambda size: "{" + ", ".join(f"item : {i}" for i in range(MILLION * size)) + "}",
-    "one string, 10 MB": lambda size: '"' + QUOTED * (10 * MILLION // len(QUOTED) * size) + '"',
-    "wide braces": lambda size: "{" + ", ".join(["{}"] * MILLION * size) + "}",
-    "braces 60 deep": lambda size: "{" + ", ".join(["{" * 60 + "}" * 60] * (MILLION // 60 * size)) + "}",
-    "octets, 10 MB": lambda size: "'" + "00FF5A17" * (10 * MILLION // 4 * size) + "'H",
-    "bits, 10 MB": lambda size: "'" + "0110100" * (10 * MILLION // 7 * size) + "'B",
-}
 
 
 def write_input(make, path):
@@ -244,35 +226,6 @@ def compare_sets(runs):
         print(row, flush=True)
 
 
-def turns(program, path):
-    """What one run says of its input, and the nanoseconds of each step."""
-    with open(path, "rb") as file:
-        run = subprocess.run([program], stdin=file, capture_output=True, text=True, check=True)
-    return run.stdout, [int(number) for number in re.findall(r"(\d+) ns", run.stderr)]
-
-
-def best_turns(name, size, runs):
-    """The bytes read and printed at this size, and the least nanoseconds of each step, ours and the peer's."""
-    path = os.path.join(OUT, "input")
-    write_input(lambda: AVN_INPUTS[name](size).encode(), path)
-    pairs = [(turns(AVN_BENCH, path), turns(AVN_PEER, path)) for _ in range(runs)]
-    if len({said for pair in pairs for said, _ in pair}) > 1:
-        sys.exit(f"{name}: the outputs differ")
-    amounts = [int(number) for number in re.findall(r"(\d+) bytes", pairs[0][0][0])]
-    return amounts, *([min(step) for step in zip(*(pair[side][1] for pair in pairs))] for side in (0, 1))
-
-
-def compare_avn(name, runs):
-    """Prints the row of one input of the readers and the printers of AVN."""
-    (read, printed), ours, (reading, printing) = best_turns(name, 1, runs)
-    _, ours_twice, _ = best_turns(name, 2, runs)
-    row = f"{name:24} {read / 1e6:5.1f}"
-    steps = zip((read, read, printed, printed), ours, (reading, reading, printing, printing), ours_twice)
-    for amount, mine, peer, twice in steps:
-        row += f"  | {1e3 * amount / mine:6.0f} {1e3 * amount / peer:6.0f} {peer / mine:6.2f} {twice / mine:5.2f}"
-    print(row, flush=True)
-
-
 def run_peer(program, folder, part, runs):
     """The table beside a program that takes the same requests."""
     subprocess.run(PROVE, stdout=subprocess.DEVNULL, check=True)
@@ -317,23 +270,13 @@ def main():
         return run_shapes(part, runs)
     os.makedirs(OUT, exist_ok=True)
     program_inputs = [name for name in INPUTS if part in name]
-    avn_inputs = [name for name in AVN_INPUTS if part in name]
-    if not os.path.exists(AVN_PEER):
+    if not os.path.exists(NATIVE[0]):
         subprocess.run([os.path.join(TOP, "bench", "native", "build.sh")], check=True)
     if program_inputs:
         subprocess.run(PROVE, stdout=subprocess.DEVNULL, check=True)
         print(f"{'program':32} {'MB':>5} {'ours s':>7} {'peer s':>7} {'speed':>6} {'ours MB':>8} {'peer MB':>8}  peer")
     for name in program_inputs:
         compare_program(name, *INPUTS[name], runs)
-    if avn_inputs:
-        if not os.path.exists(AVN_BENCH):
-            subprocess.run(["rt", "run"], cwd=AVN_CRATE, capture_output=True)
-        columns = f"{'ours':>6} {'peer':>6} {'speed':>6} {'twice':>5}"
-        steps = "reading a table", "reading a value", "printing a value", "printing a table"
-        print(f"{'AVN':24} {'MB':>5}" + "".join(f"  | {step:^26}" for step in steps))
-        print(f"{'':30}" + f"  | {columns}" * len(steps))
-    for name in avn_inputs:
-        compare_avn(name, runs)
     if part in "string types":
         compare_strings(runs)
     if part in "sets":

@@ -3,10 +3,10 @@
 # the crate NAME, in the form of a must-fail edit, and the prover has to refuse each. It runs
 # `rt ci NAME..` in a copy of the repository that has these edits and no others, so what the gate
 # proved on this machine of the same files isn't proved again, and an edit that was refused there
-# isn't tried again. Where `rt ci` takes no names, tools/kept_ci.py does the same over its STORE. A
-# crate is checked once more for its edits, and each edit takes some 12 s.
+# isn't tried again. A crate is checked once more for its edits, and each
+# edit takes some 12 s.
 #
-# usage: [STORE=FOLDER] tools/wrong_bodies.sh [NAME..]      all that have such edits unless given
+# usage: tools/wrong_bodies.sh [NAME..]      all that have such edits unless given
 top=$(CDPATH= cd -- "$(dirname -- "$0")/.." && pwd) || exit 1
 edits=$top/tools/wrong_bodies
 [ $# -gt 0 ] || set -- $(ls "$edits")
@@ -27,12 +27,6 @@ done
 given=$(find "$copy/crates" -name '*.edit' | wc -l)
 (cd "$copy" && rt ci "$@") >"$copy/said" 2>&1
 status=$?
-# It stops with 2 where it takes no names.
-if [ "$status" -eq 2 ] && ! grep -q ' passed, ' "$copy/said"; then
-    (cd "$copy" && git init -q . &&
-        "$top/tools/kept_ci.py" ${STORE:+-s "$STORE"} "$@") >"$copy/said" 2>&1
-    status=$?
-fi
 grep -E 'must-fail|BAD EDIT|NOT (REFUSED|TRIED|PROVED)' "$copy/said"
 refused=$(grep -c ': refused, as it must be' "$copy/said")
 [ "$status" -eq 0 ] || tail -n 3 "$copy/said"

@@ -18,4 +18,3 @@ cd "$out/native"
 cargo build --release --offline -q
 cp target/release/native "$out/native_peer"
 cp target/release/octets_peer "$out/octets_peer"
-cp target/release/avn_peer "$out/avn_peer"

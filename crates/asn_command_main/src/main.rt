@@ -1,7 +1,7 @@
 //! The command `asn`: converts values by published ASN.1 modules, checks modules, lists and shows
 //! their types and compares versions of them. The command line is read by `asn_command_line`, and
-//! what a command comes to is the work of `asn_command`, `asn_command_show` and
-//! `asn_command_versions`; this program opens the files and makes the calls.
+//! what a command comes to is the work of `asn_command`, `asn_command::show` and
+//! `asn_command::versions`; this program opens the files and makes the calls.
 #![tactic(auto)]
 
 mod done;

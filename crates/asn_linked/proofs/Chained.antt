@@ -4,7 +4,7 @@ use Rattle.std.specs.Prelude.{option_map}
 use Rattle.std.proofs.lemmas.Bool.{eq-eqb, le-ltb, lt-ltb, ltb-false, ltb-true, ne_eqb}
 use Rattle.asn_linked.specs.Places.{open_numbers}
 use Rattle.asn_linked.specs.declared.place.Place.{Place}
-use Rattle.asn_linked.specs.types.Expansion.{place_of}
+use Rattle.asn_linked_types.specs.Expansion.{place_of}
 
 -- No loop is around, or none is looked at.
 pub open-none : (count number : ℕ) → place_of (open_numbers count []) number ≡ None

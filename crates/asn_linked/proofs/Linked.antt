@@ -1,6 +1,6 @@
 -- The leaves of a shape whose names have shapes.
 use Rattle.std.proofs.Common.{◌≡◌, refl, ℕ}
-use Rattle.asn_linked.specs.types.Expansion.{linked_shape}
+use Rattle.asn_linked_types.specs.Expansion.{linked_shape}
 use Rattle.asn_model.specs.Shape.{Shape}
 use Rattle.asn_parts.specs.Parts.{leaf_shape}
 use Rattle.asn_parts.specs.declared.part.LeafPart.{LeafPart}

@@ -5,9 +5,9 @@ use Rattle.std.proofs.lemmas.List.{length-map, take_all}
 use Rattle.asn_coding.specs.SetFields.{component_at}
 use Rattle.asn_linked.specs.Places.{left_at, named_shape, open_numbers, part_view, place_shape, types_at}
 use Rattle.asn_linked.specs.declared.place.Place.{Place}
-use Rattle.asn_linked.proofs.types.Seen.{alternative-linked, field-linked, fields-counted, identifiers-same, items-same, linked_alternative, linked_component, root-counted}
-use Rattle.asn_linked.specs.types.Expansion.{expansion, linked_shape, no_values, place_of, type_at}
-use Rattle.asn_linked.proofs.types.Expanding.{expands-back, expands-full, expands-loop, expands-none}
+use Rattle.asn_linked_types.proofs.Seen.{alternative-linked, field-linked, fields-counted, identifiers-same, items-same, linked_alternative, linked_component, root-counted}
+use Rattle.asn_linked_types.specs.Expansion.{expansion, linked_shape, no_values, place_of, type_at}
+use Rattle.asn_linked_types.proofs.Expanding.{expands-back, expands-full, expands-loop, expands-none}
 use Rattle.asn_model.specs.Components.{Component}
 use Rattle.asn_model.specs.Shape.{Shape, alternative_at, identifiers}
 use Rattle.asn_model.specs.ShapeView.{shape_view}

@@ -2,7 +2,7 @@
 use Rattle.std.specs.Prelude.{ℕ, ◌-◌, List, length, map, take, Option, Some, None}
 use Rattle.std.specs.Borrow.{Bor}
 use Rattle.asn_linked.specs.declared.place.Place.{Place}
-use Rattle.asn_linked.specs.types.Expansion.{expansion, linked_shape}
+use Rattle.asn_linked_types.specs.Expansion.{expansion, linked_shape}
 use Rattle.asn_model.specs.Shape.{Shape}
 use Rattle.asn_model.specs.ShapeView.{shape_view}
 use Rattle.asn_model.specs.declared.shape_type.Shape as code

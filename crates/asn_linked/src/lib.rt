@@ -2,8 +2,6 @@
 //! type is opened where a value reaches its name, and what it means is never built.
 #![tactic(auto)]
 
-pub mod expansion;
 mod place;
-pub mod types;
 
 pub use place::Place;

@@ -1,14 +1,14 @@
 //! Shows the places in types that name each other by number. A number is opened as a loop of its
 //! type where it isn't open, and means that loop where it is.
 ghost use Rattle.asn_linked.specs.Places.{named_shape, open_numbers, place_shape};
-ghost use Rattle.asn_linked.specs.types.Expansion.{expansion, linked_shape, place_of};
+ghost use Rattle.asn_linked_types.specs.Expansion.{expansion, linked_shape, place_of};
 ghost use Rattle.asn_model.specs.ShapeView.{shape_view};
 ghost use Rattle.asn_parts.specs.Chain.{bodies_of};
 ghost use Rattle.asn_parts.specs.Parts.{IsKind};
 ghost use Rattle.std.specs.Prelude.{◌≡◌, ◌<◌, ◌≤◌, IfSome, List, MatchOption, [], length, map};
 ghost use Rattle.std.specs.Prelude.{nat_lt};
 
-use crate::types::TYPE_LIMIT;
+use asn_linked_types::TYPE_LIMIT;
 use asn_model::Shape;
 use asn_parts::{Loops, Part, PartAlternative, PartField, PartKind};
 
@@ -106,7 +106,7 @@ impl<'t> Place<'t> {
 impl<'t> Part for Place<'t> {
     ghost use Rattle.asn_linked.specs.Places.{left_at, open_numbers, part_view, place_shape};
     ghost use Rattle.asn_linked.specs.Places.{types_at};
-    ghost use Rattle.asn_linked.proofs.types.Seen.{identifiers-alike, names-alike};
+    ghost use Rattle.asn_linked_types.proofs.Seen.{identifiers-alike, names-alike};
     ghost use Rattle.std.specs.Prelude.{[]};
 
     ghost shape = { place_shape };

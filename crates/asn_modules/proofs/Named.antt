@@ -2,10 +2,10 @@
 use Rattle.std.proofs.Common.{◌≡◌, ap, sym, ◌∙◌, ℕ, List, [], length, map, true, Some}
 use Rattle.std.proofs.lemmas.List.{length-map}
 use Rattle.std.specs.Prelude.{nat_lt, option_map}
-use Rattle.asn_linked.specs.types.Expansion.{expansion}
-use Rattle.asn_linked.specs.types.Linked.{are_linked, are_readable_among}
-use Rattle.asn_linked.specs.declared.types.limits.TheConstants.{TYPE_LIMIT}
-use Rattle.asn_linked.proofs.types.Expanding.{types-readable}
+use Rattle.asn_linked_types.specs.Expansion.{expansion}
+use Rattle.asn_linked_types.specs.Linked.{are_linked, are_readable_among}
+use Rattle.asn_linked_types.specs.declared.limits.TheConstants.{TYPE_LIMIT}
+use Rattle.asn_linked_types.proofs.Expanding.{types-readable}
 use Rattle.asn_model.proofs.Readables.{and-right}
 use Rattle.asn_model.specs.Readable.{is_readable}
 use Rattle.asn_model.specs.Shape as spec

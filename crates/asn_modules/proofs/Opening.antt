@@ -3,10 +3,10 @@ use Rattle.std.proofs.Common.{◌≡◌, ℕ, List, [], length, map, true, Optio
 use Rattle.std.specs.Prelude.{IfSome, nat_lt}
 use Rattle.asn_linked.specs.Places.{place_shape}
 use Rattle.asn_linked.specs.declared.place.Place.{Place}
-use Rattle.asn_linked.specs.types.Expansion.{expansion}
-use Rattle.asn_linked.specs.types.Linked.{are_linked, are_readable_among}
-use Rattle.asn_linked.specs.declared.types.limits.TheConstants.{TYPE_LIMIT}
-use Rattle.asn_linked.proofs.types.Expanding.{types-readable}
+use Rattle.asn_linked_types.specs.Expansion.{expansion}
+use Rattle.asn_linked_types.specs.Linked.{are_linked, are_readable_among}
+use Rattle.asn_linked_types.specs.declared.limits.TheConstants.{TYPE_LIMIT}
+use Rattle.asn_linked_types.proofs.Expanding.{types-readable}
 use Rattle.asn_model.proofs.Readables.{and-right}
 use Rattle.asn_model.specs.Readable.{is_readable}
 use Rattle.asn_model.specs.ShapeView.{shape_view}

@@ -1,7 +1,7 @@
 -- What types of modules mean.
 use Rattle.std.specs.Prelude.{ℕ, List, [], length, map, Bool, false, Option, Some, None, option_map}
 use Rattle.std.specs.List.{slice_get}
-use Rattle.asn_linked.specs.types.Expansion.{expansion}
+use Rattle.asn_linked_types.specs.Expansion.{expansion}
 use Rattle.asn_model.specs.Shape.{Shape}
 use Rattle.asn_model.specs.ShapeView.{shape_view}
 use Rattle.asn_modules.specs.Empty.{is_without_values}

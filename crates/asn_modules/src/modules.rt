@@ -1,6 +1,6 @@
 //! Holds the types of modules.
 ghost use Rattle.asn_linked.specs.Places.{place_shape};
-ghost use Rattle.asn_linked.specs.types.Linked.{are_linked};
+ghost use Rattle.asn_linked_types.specs.Linked.{are_linked};
 ghost use Rattle.asn_model.specs.Readable.{is_readable};
 ghost use Rattle.asn_model.specs.ShapeView.{shape_view};
 ghost use Rattle.asn_modules.specs.Names.{number_named, type_name_view};

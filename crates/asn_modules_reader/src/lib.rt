@@ -1,5 +1,5 @@
 //! Reads the modules of published files: one function for each production of the grammar of
-//! `asn_modules_notation`, over tokens that it goes over once and never back. One token decides
+//! `asn_modules_grammar`, over tokens that it goes over once and never back. One token decides
 //! what stands at a place.
 #![tactic(auto)]
 

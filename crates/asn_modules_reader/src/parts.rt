@@ -1,6 +1,6 @@
 //! Reads the parts of types of published files that don't nest: tags, numbers, items, sizes, the
 //! words that begin types, object classes, and values. There is one function for each production of
-//! the grammar of `asn_modules_notation`, over tokens. One token decides what stands at a place.
+//! the grammar of `asn_modules_grammar`, over tokens. One token decides what stands at a place.
 
 mod class;
 mod entries;

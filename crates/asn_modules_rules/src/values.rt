@@ -1,4 +1,4 @@
-//! Checks that the names of values lead to values. Values are numbered as `asn_modules_lookup`
+//! Checks that the names of values lead to values. Values are numbered as `asn_modules_names`
 //! does.
 
 mod check;

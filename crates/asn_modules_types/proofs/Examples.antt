@@ -5,7 +5,7 @@ use Rattle.asn_expansion.specs.Expansion.{context_tag}
 use Rattle.asn_lexer.specs.declared.kind.Kind.{Kind}
 use Rattle.asn_lexer.specs.declared.kind.Kind.TheVariants as kind
 use Rattle.asn_lexer.specs.declared.token.Token.{Token}
-use Rattle.asn_linked.specs.types.Expansion.{no_values}
+use Rattle.asn_linked_types.specs.Expansion.{no_values}
 use Rattle.asn_model.specs.Shape.{Alphabet, Alternatives, AlternativeAdditions, Fields, FieldAdditions, Plain, Presence, SeqKind, Shape}
 use Rattle.asn_model.specs.declared.shape_type.Alphabet.TheVariants as alphabet
 use Rattle.asn_modules_grammar.specs.notation.Notation.{Base, Member, Notation, bit_string, choice, component, components_of, enumerated, group, instance_of, integer, leaf, marker, members, members_of, no_members, no_notations, notation, reference}

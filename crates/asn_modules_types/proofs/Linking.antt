@@ -1,10 +1,10 @@
 -- The shapes of types that were linked so far.
 use Rattle.std.proofs.Common.{◌≡◌, ◌≤◌, ◌<◌, ◌+◌, ℕ, suc, List, [], ◌∷◌, ◌++◌, map, Bool, true, false, if◌then◌else◌, length, drop, get_or, refl, sym, ap, ◌∙◌, add-one, arith}
 use Rattle.std.proofs.lemmas.List.{drop_all, drop_more, length-map}
-use Rattle.asn_linked.specs.types.Expansion.{no_values}
-use Rattle.asn_linked.specs.types.Linked.{are_linked, are_readable_among}
-use Rattle.asn_linked.specs.declared.types.limits.TheConstants.{TYPE_LIMIT}
-use Rattle.asn_linked.proofs.types.Within.{linked-is}
+use Rattle.asn_linked_types.specs.Expansion.{no_values}
+use Rattle.asn_linked_types.specs.Linked.{are_linked, are_readable_among}
+use Rattle.asn_linked_types.specs.declared.limits.TheConstants.{TYPE_LIMIT}
+use Rattle.asn_linked_types.proofs.Within.{linked-is}
 use Rattle.asn_model.proofs.Readables.{and-both}
 use Rattle.asn_model.specs.Readable.{is_readable_in}
 use Rattle.asn_model.specs.Shape.{Shape}

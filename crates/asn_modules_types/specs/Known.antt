@@ -3,7 +3,7 @@ use Rattle.std.specs.Prelude.{◌≡◌, ◌<◌, ℕ, List, [], length, map, st
 use Rattle.std.specs.Global.{Vec}
 use Rattle.std.specs.Option.{option_map}
 use Rattle.asn_lexer.specs.declared.token.Token.{Token}
-use Rattle.asn_linked.specs.declared.types.limits.TheConstants.{TYPE_LIMIT}
+use Rattle.asn_linked_types.specs.declared.limits.TheConstants.{TYPE_LIMIT}
 use Rattle.asn_model.specs.ShapeView.{kind_view, presence_view, shape_view}
 use Rattle.asn_modules_names.specs.lookup.Homes.{Home, home_view}
 use Rattle.asn_modules_names.specs.lookup.Indexes.{IsIndexOf}

@@ -1,7 +1,7 @@
 -- The shapes of types without parts.
 use Rattle.std.specs.Prelude.{ℕ, pos, negsuc, ◌-◌, ◌^◌, List, map, Bool, Option}
 use Rattle.std.specs.Option.{option_map}
-use Rattle.asn_linked.specs.types.Expansion.{no_values}
+use Rattle.asn_linked_types.specs.Expansion.{no_values}
 use Rattle.asn_model.specs.Shape.{Alphabet, Shape}
 use Rattle.asn_model.specs.ShapeView.{alphabet_view}
 use Rattle.asn_modules_grammar.specs.declared.notation.leaf.Closed.{Closed}

@@ -3,7 +3,7 @@ use Rattle.std.specs.Prelude.{ℕ, ℤ, zero, suc, nat_eq, nat_le, List, [], ◌
 use Rattle.std.specs.List.{slice_get}
 use Rattle.std.specs.Option.{option_and_then}
 use Rattle.asn_modules_grammar.specs.headers.Headers.{Header}
-use Rattle.asn_linked.specs.types.Expansion.{no_values}
+use Rattle.asn_linked_types.specs.Expansion.{no_values}
 use Rattle.asn_model.specs.Readable.{is_readable_in}
 use Rattle.asn_model.specs.Shape.{Shape}
 use Rattle.asn_lexer.specs.declared.token.Token.{Token}

@@ -2,7 +2,7 @@
 use Rattle.std.specs.Prelude.{ℕ, ℤ, suc, List, [], ◌∷◌, ◌++◌, length, map, Bool, true, false, if◌then◌else◌, Option, Some, None, option_map}
 use Rattle.asn_expansion.specs.Expansion.{context_tag, list_shape, of_both}
 use Rattle.asn_lexer.specs.declared.token.Token.{Token}
-use Rattle.asn_linked.specs.types.Expansion.{no_values}
+use Rattle.asn_linked_types.specs.Expansion.{no_values}
 use Rattle.asn_model.specs.Shape.{Alternatives, AlternativeAdditions, Fields, FieldAdditions, Presence, SeqKind, Shape}
 use Rattle.asn_modules_grammar.specs.notation.Notation.{Base, Member, Members, Notation, Notations, bit_string, choice, component, components_of, enumerated, group, instance_of, integer, leaf, list_of, marker, member, members, no_members, notation, reference}
 use Rattle.asn_modules_grammar.specs.declared.notation.notation.Presence as stated

@@ -6,7 +6,7 @@ use std::alloc::{AllocError, AllocFailed};
 #[derive(Clone, Copy, Debug, Drop, PartialEq, Eq)]
 pub enum LinkFault {
     /// There are 2^32 types or more, or so many parts of one, or COMPONENTS OF includes more types
-    /// or nests them deeper than the limits, which `asn_modules_included` tells before.
+    /// or nests them deeper than the limits, which `asn_modules_rules` tells before.
     TooMany,
     /// Memory ran out.
     OutOfMemory,

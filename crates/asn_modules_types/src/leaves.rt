@@ -10,7 +10,7 @@ ghost use Rattle.std.specs.Prelude.{◌≡◌, IfOk, map, string_bytes};
 use crate::fault::LinkFault;
 use crate::scope::{Scope, is_extensible};
 use crate::words::name_in;
-use asn_linked::types::no_values;
+use asn_linked_types::no_values;
 use asn_model::{Alphabet, Shape};
 use asn_modules_grammar::notation::{Closed, Item, Leaf};
 use std::alloc::{AllocError, Global};

@@ -6,7 +6,7 @@ use asn_modules_reader::limits::NESTING_LIMIT;
 /// has one that leads to itself.
 pub const NAME_LIMIT: usize = asn_modules_rules::included::NAME_LIMIT;
 
-/// Limits the bytes that the items of an ENUMERATED take (`asn_modules_sizes`) which a component
+/// Limits the bytes that the items of an ENUMERATED take (`asn_modules_rules`) which a component
 /// with DEFAULT names: the shape of that component holds a copy of it. A DEFAULT of one with more
 /// isn't understood. An ENUMERATED that the component states itself isn't limited.
 pub const DEFAULT_ITEMS_LIMIT: usize = 16_384;
@@ -16,7 +16,7 @@ pub const DEFAULT_ITEMS_LIMIT: usize = 16_384;
 pub const DEFAULT_STRING_LIMIT: usize = 1_024;
 
 /// Limits the types that COMPONENTS OF includes in those of all texts, with what stands within: no
-/// more than these are let through by `asn_modules_included`.
+/// more than these are let through by `asn_modules_rules`.
 pub const INCLUDED_LIMIT: usize = asn_modules_rules::included::INCLUDED_SIZE_LIMIT
     / asn_modules_rules::included::TYPE_SIZE;
 

@@ -1,5 +1,5 @@
 //! Links the types that modules assign.
-ghost use Rattle.asn_linked.specs.types.Linked.{are_linked};
+ghost use Rattle.asn_linked_types.specs.Linked.{are_linked};
 ghost use Rattle.asn_model.specs.ShapeView.{shape_view};
 ghost use Rattle.asn_modules_names.specs.lookup.Indexes.{IsIndexOf};
 ghost use Rattle.asn_modules_names.specs.declared.lookup.sort.Sort.TheVariants.{Types};
@@ -16,7 +16,7 @@ use crate::limits::{INCLUDED_LIMIT, LEVEL_LIMIT, NAME_LIMIT};
 use crate::names::{Names, named_type};
 use crate::scope::Scope;
 use crate::shapes::shape_of;
-use asn_linked::types::{TYPE_LIMIT, no_values};
+use asn_linked_types::{TYPE_LIMIT, no_values};
 use asn_model::{Shape, is_readable_within_with};
 use asn_modules_names::lookup::{Index, Sort, homes_of, index_of};
 use asn_modules_reader::text::Source;

@@ -12,7 +12,7 @@ use crate::leaves::{integer_shape, leaf_shape};
 use crate::named_numbers::NamedNumbers;
 use crate::scope::{Scope, find};
 use crate::sizes::sized;
-use asn_linked::types::no_values;
+use asn_linked_types::no_values;
 use asn_model::Shape;
 use asn_modules_grammar::notation::Base;
 use asn_modules_names::lookup::Index;

@@ -30,7 +30,7 @@ use crate::sizes::sized;
 use crate::templates::{bindings_of, takes, template_named};
 use crate::words::name_in;
 use asn_lexer::Token;
-use asn_linked::types::no_values;
+use asn_linked_types::no_values;
 use asn_model::{SeqKind, Shape};
 use asn_modules_grammar::notation::{Base, Component, Extension, Member, Members, Notation};
 use std::alloc::Global;

@@ -2,6 +2,8 @@
 use Rattle.std.proofs.Common.{◌≡◌, ℕ, ◌<◌, List, Option, None, Some, refl, sym, ap, subst, ◌∙◌, arith, ℤ, pos, neg_ℤ, ◌+ℤ◌, ◌-ℤ◌, ◌*ℤ◌, ◌≤ℤ◌}
 use Rattle.std.specs.Prelude.{unsigned_abs}
 use Rattle.jiff_core.specs.declared.civil.datetime.DateTime.{DateTime}
+use Rattle.jiff_core.specs.declared.civil.date.Date.{Date}
+use Rattle.jiff_core.specs.declared.civil.time.Time.{Time}
 use Rattle.jiff_core.specs.Calendar.{IsBetween}
 use Rattle.jiff_core.specs.DateTime.{IsCivilNanos, civil_nanos, civil_seconds}
 use Rattle.jiff_core.specs.Time.{time_nanos}
@@ -34,20 +36,20 @@ same_years first last a b e y =
     let same = epoch_day_injective a.date b.date (civil_nanos_injective a b e).0 in
     subst (IsBetween first last) same.0 y
 
--- The moment that a local time less the offset comes to is that of the fields.
-pub shifted_moment : (f : MomentFields) (local utc : DateTime) → HasDay f.day local.date → HasClock f.clock local.time → civil_nanos utc ≡ civil_nanos local +ℤ f.offset *ℤ neg_ℤ (pos 1_000_000_000) → IsMomentOf f utc
-shifted_moment f local utc d c e = record {
+-- The moment that a local time and an offset come to is that of the fields.
+pub shifted_moment : (f : MomentFields) (local utc : DateTime) (date : Date) (time : Time) (offset : ℤ) → HasDay f.day date → HasClock f.clock time → local.date ≡ date → local.time ≡ time → offset ≡ f.offset *ℤ pos 1_000_000_000 → civil_nanos utc ≡ civil_nanos local +ℤ neg_ℤ offset → IsMomentOf f utc
+shifted_moment f local utc date time offset d c p q o e = record {
   local = local;
-  day = d;
-  clock = c;
-  shifted = omega (arith, signed_arith, e);
+  day = subst (HasDay f.day) (sym p) d;
+  clock = subst (HasClock f.clock) (sym q) c;
+  shifted = omega (arith, signed_arith, o, e);
 }
 
 -- A moment of the fields is one that the library has.
-pub moment_in_range : (f : MomentFields) (local utc : DateTime) → HasDay f.day local.date → HasClock f.clock local.time → IsMomentOf f utc → IsCivilNanos (civil_nanos local +ℤ f.offset *ℤ neg_ℤ (pos 1_000_000_000))
-moment_in_range f local utc d c m =
-    let same = same_local f local m.local d c m.day m.clock in
-    let e : civil_nanos local +ℤ f.offset *ℤ neg_ℤ (pos 1_000_000_000) ≡ civil_nanos utc = let s = m.shifted in omega (arith, signed_arith, s, same) in
+pub moment_in_range : (f : MomentFields) (local utc : DateTime) (date : Date) (time : Time) (offset : ℤ) → HasDay f.day date → HasClock f.clock time → local.date ≡ date → local.time ≡ time → offset ≡ f.offset *ℤ pos 1_000_000_000 → IsMomentOf f utc → IsCivilNanos (civil_nanos local +ℤ neg_ℤ offset)
+moment_in_range f local utc date time offset d c p q o m =
+    let same = same_local f local m.local (subst (HasDay f.day) (sym p) d) (subst (HasClock f.clock) (sym q) c) m.day m.clock in
+    let e : civil_nanos local +ℤ neg_ℤ offset ≡ civil_nanos utc = let s = m.shifted in omega (arith, signed_arith, o, s, same) in
     subst IsCivilNanos (sym e) (civil_nanos_range utc)
 
 -- A moment of whole seconds, in nanoseconds.

@@ -15,7 +15,8 @@ ghost use Rattle.asn_times.specs.Written.{day_text};
 
 use crate::digits::{push_char, push_four, push_two, read_four, read_two};
 use crate::faults::TimeFault;
-use jiff_core::civil;
+use jiff::civil;
+use jiff_core::civil as plain;
 use std::alloc::Global;
 use std::marker::Model;
 
@@ -48,7 +49,7 @@ impl Date {
         ensures some { IsSome result ↔ (is_held_day days ≡ true) }
         ensures value { IfSome result (λ date. date ≡ days) }
     {
-        match civil::Date::from_unix_epoch_day(days as i64) {
+        match plain::Date::from_unix_epoch_day(days as i64) {
             Ok(_) => Some(Date { days }),
             Err(_) => None,
         }
@@ -68,7 +69,8 @@ fn civil_of(date: &Date) -> civil::Date
     ensures { epoch_day result ≡ date.now }
 {
     // The calendar has the day of a date.
-    civil::Date::from_unix_epoch_day(date.days as i64).unwrap()
+    let day = plain::Date::from_unix_epoch_day(date.days as i64).unwrap();
+    civil::Date::from_plain(day)
 }
 
 /// Compares two dates: they are equal where they are the same day.
@@ -161,7 +163,7 @@ pub fn read_date(text: &str) -> Result<Date, TimeFault>
     };
     match day_of(fields) {
         Some(day) => Ok(Date {
-            days: day.to_unix_epoch_day(),
+            days: day.to_plain().to_unix_epoch_day(),
         }),
         None => Err(TimeFault::InvalidDate),
     }
@@ -195,9 +197,9 @@ pub(crate) fn fields_of(day: civil::Date) -> DayFields
     ensures small { IsSmallDay result }
 {
     DayFields {
-        year: day.year as u16,
-        month: day.month,
-        day: day.day,
+        year: day.year() as u16,
+        month: day.month() as u8,
+        day: day.day() as u8,
     }
 }
 
@@ -212,7 +214,7 @@ pub fn write_date(alloc: Global, day: &Date) -> Result<String, TimeFault>
     ensures refuses { IfErr result (IsUnwrittenDay day.now) }
 {
     let day = civil_of(day);
-    if day.year < 0 {
+    if day.year() < 0 {
         return Err(TimeFault::OutOfYears);
     }
     match text_of(alloc, fields_of(day)) {

@@ -23,7 +23,8 @@ use crate::moments::{
     ClockFields, MomentFields, fields_of_moment, is_within, moment_of, push_minute, read_minute,
     read_zone,
 };
-use jiff_core::civil::DateTime;
+use jiff::civil::DateTime;
+use jiff_core::civil as plain;
 use std::alloc::Global;
 use std::marker::Model;
 
@@ -56,7 +57,7 @@ impl GeneralizedTime {
         ensures some { IsSome result ↔ (is_held_nanosecond nanoseconds ≡ true) }
         ensures value { IfSome result (λ time. time ≡ nanoseconds) }
     {
-        match DateTime::from_nanosecond(nanoseconds) {
+        match plain::DateTime::from_nanosecond(nanoseconds) {
             Ok(_) => Some(GeneralizedTime { nanoseconds }),
             Err(_) => None,
         }
@@ -75,7 +76,7 @@ impl GeneralizedTime {
 fn moment_of_time(time: &GeneralizedTime) -> DateTime
     ensures { civil_nanos result ≡ time.now }
 {
-    DateTime::from_nanosecond_in_range(time.nanoseconds)
+    DateTime::from_plain(plain::DateTime::from_nanosecond_in_range(time.nanoseconds))
 }
 
 /// Compares two times: they are equal where they are the same moment.
@@ -210,7 +211,7 @@ pub fn read_generalized(text: &str) -> Result<GeneralizedTime, TimeFault>
     };
     match moment_of(fields, FIRST, LAST) {
         Some(moment) => Ok(GeneralizedTime {
-            nanoseconds: moment.to_nanosecond(),
+            nanoseconds: moment.to_plain().to_nanosecond(),
         }),
         None => Err(TimeFault::InvalidDate),
     }

@@ -14,7 +14,8 @@ ghost use Rattle.asn_times.specs.Reading.{length_of_offset, minute_fields, zone}
 use crate::dates::{DayFields, day_of, fields_of};
 use crate::digits::{push_two, read_two};
 use crate::faults::TimeFault;
-use jiff_core::civil::{DateTime, Time};
+use jiff::SignedDuration;
+use jiff::civil::{DateTime, Time};
 
 /// Holds a time of day, as a text states it.
 #[derive(Clone, Copy)]
@@ -117,7 +118,7 @@ fn time_of(fields: ClockFields) -> Option<Time>
 pub(crate) fn is_within(moment: DateTime, first: i16, last: i16) -> bool
     ensures { IsTrue result ↔ IsBetween first last moment.date.year }
 {
-    first <= moment.date.year && moment.date.year <= last
+    first <= moment.year() && moment.year() <= last
 }
 
 /// Returns the moment of the fields in UTC, or `None` where there is none with a year from `first`
@@ -129,8 +130,9 @@ pub(crate) fn moment_of(fields: MomentFields, first: i16, last: i16) -> Option<D
     let date = day_of(fields.day)?;
     let time = time_of(fields.clock)?;
     // UTC is local time minus what it is ahead. At an end of the calendar there may be no such day.
-    let local = DateTime { date, time };
-    match local.checked_add_nanos(fields.offset as i128 * -1_000_000_000) {
+    let local = DateTime::from_parts(date, time);
+    let offset = SignedDuration::from_secs(fields.offset as i64);
+    match local.checked_sub(offset) {
         Ok(utc) => {
             if is_within(utc, first, last) {
                 Some(utc)
@@ -148,10 +150,10 @@ fn clock_of(time: Time) -> ClockFields
     ensures small { IsSmallClock result }
 {
     ClockFields {
-        hour: time.hour,
-        minute: time.minute,
-        second: time.second,
-        nanosecond: time.subsec_nanosecond,
+        hour: time.hour() as u8,
+        minute: time.minute() as u8,
+        second: time.second() as u8,
+        nanosecond: time.subsec_nanosecond() as u32,
     }
 }
 
@@ -164,8 +166,8 @@ pub(crate) fn fields_of_moment(moment: DateTime) -> MomentFields
     ensures small { IsSmallMoment result }
 {
     MomentFields {
-        day: fields_of(moment.date),
-        clock: clock_of(moment.time),
+        day: fields_of(moment.date()),
+        clock: clock_of(moment.time()),
         offset: 0,
     }
 }

@@ -20,7 +20,8 @@ use crate::moments::{
     ClockFields, MomentFields, fields_of_moment, is_within, moment_of, push_minute, read_minute,
     read_zone,
 };
-use jiff_core::civil::DateTime;
+use jiff::civil::DateTime;
+use jiff_core::civil as plain;
 use std::alloc::Global;
 use std::marker::Model;
 
@@ -53,7 +54,7 @@ impl UtcTime {
         ensures some { IsSome result ↔ (is_held_second seconds ≡ true) }
         ensures value { IfSome result (λ time. time ≡ seconds) }
     {
-        match DateTime::from_nanosecond(seconds as i128 * 1_000_000_000) {
+        match plain::DateTime::from_nanosecond(seconds as i128 * 1_000_000_000) {
             Ok(_) => Some(UtcTime { seconds }),
             Err(_) => None,
         }
@@ -72,7 +73,8 @@ impl UtcTime {
 fn moment_of_time(time: &UtcTime) -> DateTime
     ensures { civil_nanos result ≡ time.now *ℤ pos 1_000_000_000 }
 {
-    DateTime::from_nanosecond_in_range(time.seconds as i128 * 1_000_000_000)
+    let nanoseconds = time.seconds as i128 * 1_000_000_000;
+    DateTime::from_plain(plain::DateTime::from_nanosecond_in_range(nanoseconds))
 }
 
 /// Compares two times: they are equal where they are the same moment.
@@ -169,7 +171,7 @@ pub fn read_utc(text: &str) -> Result<UtcTime, TimeFault>
     };
     match moment_of(fields, FIRST, LAST) {
         Some(moment) => Ok(UtcTime {
-            seconds: moment.to_second(),
+            seconds: moment.to_plain().to_second(),
         }),
         None => Err(TimeFault::InvalidDate),
     }

@@ -1,9 +1,9 @@
 -- The shape of the one type of a name, expanded whole.
 use Rattle.std.proofs.Common.{◌≡◌, ◌≤◌, arith, ℕ, ◌^◌, List, [], length, map, true, Some}
 use Rattle.asn_growth.specs.Parts.{node_count}
-use Rattle.asn_linked.specs.declared.expansion.limits.TheConstants.{NODE_LIMIT}
-use Rattle.asn_linked.specs.types.Expansion.{expansion}
-use Rattle.asn_linked.specs.types.Linked.{are_linked}
+use Rattle.asn_linked_types.specs.declared.expander.limits.TheConstants.{NODE_LIMIT}
+use Rattle.asn_linked_types.specs.Expansion.{expansion}
+use Rattle.asn_linked_types.specs.Linked.{are_linked}
 use Rattle.asn_model.specs.Shape as spec
 use Rattle.asn_model.specs.ShapeView.{shape_view}
 use Rattle.asn_model.specs.declared.shape_type.Shape.{Shape}

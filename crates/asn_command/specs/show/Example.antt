@@ -2,7 +2,7 @@
 use Rattle.std.specs.Prelude.{◌≡◌, ◌⊎◌, ℕ, List, [], ◌∷◌, ◌++◌, codes, string_bytes, Bool, false, Option, Some, None}
 use Rattle.asn_core.specs.declared.codec.Codec.{Codec}
 use Rattle.asn_example_values.specs.Examples.{example}
-use Rattle.asn_linked.specs.expansion.Large.{IsTooLarge}
+use Rattle.asn_linked_types.specs.expander.Large.{IsTooLarge}
 use Rattle.asn_model.specs.Canonical.{canonical_text}
 use Rattle.asn_model.specs.Notation.{IsText, notation_of}
 use Rattle.asn_model.specs.Shape.{Shape}

@@ -5,7 +5,7 @@ use Rattle.asn_growth.specs.Differences.{differences_of}
 use Rattle.asn_growth.specs.Grows.{Grows}
 use Rattle.asn_growth.specs.Parts.{node_count}
 use Rattle.asn_growth.specs.Paths.{paths}
-use Rattle.asn_linked.specs.expansion.Large.{IsTooLarge}
+use Rattle.asn_linked_types.specs.expander.Large.{IsTooLarge}
 use Rattle.asn_model.specs.Readable.{is_readable}
 use Rattle.asn_model.specs.Shape as spec
 use Rattle.asn_model.specs.ShapeView.{shape_view}

@@ -14,7 +14,7 @@ ghost use Rattle.std.specs.Prelude.{◌≡◌, IfOk, true};
 use asn_core::{Codec, OutOfMemory};
 use asn_dynamic::{DynValue, write};
 use asn_example_values::{Extent, example};
-use asn_linked::expansion::{ExpansionFault, expand};
+use asn_linked_types::expander::{ExpansionFault, expand};
 use asn_model::Shape;
 use asn_modules::Modules;
 use asn_replies::{Reply, with_feed};
@@ -96,7 +96,7 @@ fn reply_on(
 /// Returns the canonical text of an example of the type that the text names, in this notation, or
 /// `None` where no type or more than one is named so. Refused is a type of which no value is read,
 /// and one that is too large: in which each type that it names stands in the place of its name, as
-/// `asn_linked_expansion` limits it.
+/// `asn_linked_types::expander` limits it.
 ///
 /// # Errors
 ///

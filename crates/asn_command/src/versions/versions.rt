@@ -8,7 +8,7 @@ ghost use Rattle.std.specs.Prelude.{IfOk};
 use crate::versions::pair::Versions;
 use asn_core::OutOfMemory;
 use asn_growth::{Growth, grows_check};
-use asn_linked::expansion::{ExpansionFault, expand};
+use asn_linked_types::expander::{ExpansionFault, expand};
 use asn_model::Shape;
 use asn_modules::Modules;
 use asn_replies::{Reply, Status, missing_reply};

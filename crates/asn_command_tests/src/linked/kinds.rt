@@ -1,7 +1,7 @@
 //! What is shown at a place.
 use crate::linked::samples::{chain, pair};
 use asn_linked::Place;
-use asn_linked::types::are_linked;
+use asn_linked_types::are_linked;
 use asn_model::Shape;
 use asn_parts::{Loops, Part, PartKind};
 use std::test::Fail;

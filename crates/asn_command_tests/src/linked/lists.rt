@@ -1,6 +1,6 @@
 //! Lists of types that can be read, and lists that can't.
 use crate::linked::samples::{chain, pair, tree};
-use asn_linked::types::are_linked;
+use asn_linked_types::are_linked;
 use asn_model::Shape;
 use std::test::Fail;
 

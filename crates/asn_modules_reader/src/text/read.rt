@@ -42,7 +42,7 @@ fn read_tokens(
 }
 
 /// Returns the modules of the text of this name, of which each is in the grammar of
-/// `asn_modules_notation`.
+/// `asn_modules_grammar`.
 ///
 /// # Errors
 ///

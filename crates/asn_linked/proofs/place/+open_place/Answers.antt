@@ -2,7 +2,7 @@ use Rattle.std.proofs.Common.{◌≡◌, ◌<◌, ◌+◌, ◌∙◌, ◌∷◌,
 use Rattle.std.specs.Prelude.{option_map}
 use Rattle.asn_linked.specs.Places.{open_numbers}
 use Rattle.asn_linked.specs.declared.place.Place.{Place}
-use Rattle.asn_linked.specs.types.Expansion.{place_of}
+use Rattle.asn_linked_types.specs.Expansion.{place_of}
 use Rattle.asn_linked.proofs.Chained.{open-first, open-next, open-none, open-zero}
 use Rattle.asn_parts.specs.Chain.{bodies_of}
 use Rattle.asn_parts.proofs.Chains.{bodies-outermost, bodies-within}

@@ -1,6 +1,6 @@
 use Rattle.std.proofs.Common.{◌≡◌, ◌∙◌, ap, map, string_bytes, sym}
 use Rattle.std.specs.Option.{option_map}
-use Rattle.asn_linked.proofs.types.Within.{enum-viewed}
+use Rattle.asn_linked_types.proofs.Within.{enum-viewed}
 use Rattle.asn_model.specs.Shape.{Shape}
 use Rattle.asn_modules_names.specs.lookup.Homes.{home_view}
 use Rattle.asn_modules_grammar.specs.notation.View.{items_view}

@@ -1,8 +1,8 @@
 use Rattle.std.proofs.Common.{◌≡◌, ◌<◌, ◌∙◌, ap, arith, length, map, sym}
 use Rattle.std.proofs.lemmas.List.{length-map}
 use Rattle.std.proofs.lemmas.Result.{IfOk-weaker}
-use Rattle.asn_linked.specs.types.Linked.{are_linked}
-use Rattle.asn_linked.specs.declared.types.limits.TheConstants.{TYPE_LIMIT}
+use Rattle.asn_linked_types.specs.Linked.{are_linked}
+use Rattle.asn_linked_types.specs.declared.limits.TheConstants.{TYPE_LIMIT}
 use Rattle.asn_modules_names.specs.lookup.Homes.{home_view}
 use Rattle.asn_modules_names.specs.declared.lookup.sort.Sort.TheVariants.{Types}
 use Rattle.asn_modules_names.specs.Mentions.{source_view}

@@ -1,4 +1,5 @@
 use Rattle.std.proofs.Common.{refl, sym, ap, ◌∙◌, arith, pos}
+use Rattle.jiff_core.specs.DateTime.{civil_nanos}
 use Rattle.jiff_core.proofs.SignedLemmas.{signed_arith}
 use Rattle.asn_times.specs.Reading.{generalized_fields}
 use Rattle.asn_times.specs.Generalized.{GeneralizedStates}
@@ -19,11 +20,12 @@ returns-in-None-moment_of-clause-refuses c =
 pub returns-in-Some-moment_of-clause-reads : goal.returns-in-Some-moment_of-clause-reads
 returns-in-Some-moment_of-clause-reads c =
     let read = c.in-Some.ensures.is ∙ ap generalized_fields c.as_bytes.ensures.value in
+    let same = ap civil_nanos c.to_plain.ensures in
     record {
       fields = c.in-Some.fields;
       states = generalized-states c.args.text.now c.in-Some.fields (sym read);
       utc = c.in-Some-moment_of.moment;
       moment = c.in-Some-moment_of.ensures.0;
       years = c.in-Some-moment_of.ensures.1;
-      number = omega (arith, signed_arith, c.to_nanosecond.ensures.value, c.to_nanosecond.ensures.bound);
+      number = omega (arith, signed_arith, same, c.to_nanosecond.ensures.value, c.to_nanosecond.ensures.bound);
     }

@@ -23,6 +23,7 @@ returns-in-Some-moment_of-clause-reads c =
     let states = utc-states c.args.text.now c.in-Some.fields (sym read) in
     let moment = c.in-Some-moment_of.moment in
     let whole = whole_moment c.in-Some.fields moment states.whole c.in-Some-moment_of.ensures.0 in
+    let same = ap civil_seconds c.to_plain.ensures in
     let seconds = whole_nanos moment (civil_seconds moment) whole refl in
     record {
       fields = c.in-Some.fields;
@@ -30,5 +31,5 @@ returns-in-Some-moment_of-clause-reads c =
       utc = moment;
       moment = c.in-Some-moment_of.ensures.0;
       years = c.in-Some-moment_of.ensures.1;
-      number = omega (arith, signed_arith, seconds, c.to_second.ensures.value, c.to_second.ensures.bound);
+      number = omega (arith, signed_arith, same, seconds, c.to_second.ensures.value, c.to_second.ensures.bound);
     }

@@ -1,5 +1,5 @@
 use Rattle.std.proofs.Common.{Err, [], ap, refl, sym, length, map, inr}
-use Rattle.asn_linked.specs.types.Expansion.{expansion}
+use Rattle.asn_linked_types.specs.Expansion.{expansion}
 use Rattle.asn_model.specs.ShapeView.{shape_view}
 use Rattle.asn_modules.specs.Modules.{modules_view}
 use Rattle.asn_command.proofs.versions.Named.{expanded-type}

@@ -1,7 +1,7 @@
 use Rattle.std.proofs.Common.{◌∙◌, [], None, ap, sym, subst}
 use Rattle.asn_linked.specs.Places.{named_shape, place_shape}
 use Rattle.asn_linked.proofs.Linked.{leaf-linked}
-use Rattle.asn_linked.specs.types.Expansion.{linked_shape, linked_fields, linked_added_fields, linked_alternatives, linked_added_alternatives}
+use Rattle.asn_linked_types.specs.Expansion.{linked_shape, linked_fields, linked_added_fields, linked_alternatives, linked_added_alternatives}
 use Rattle.asn_model.specs.Shape.{Shape}
 use Rattle.asn_parts.specs.Chain.{bodies_of}
 use Rattle.asn_parts.specs.Parts.{IsKind}

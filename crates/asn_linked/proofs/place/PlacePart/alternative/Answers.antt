@@ -1,7 +1,7 @@
 use Rattle.std.proofs.Common.{◌∙◌, [], Some, ap, sym}
 use Rattle.std.specs.Prelude.{option_map}
 use Rattle.asn_linked.specs.Places.{named_shape, part_view}
-use Rattle.asn_linked.proofs.types.Seen.{linked_alternative}
+use Rattle.asn_linked_types.proofs.Seen.{linked_alternative}
 use Rattle.asn_linked.proofs.Placing.{alternative-placed}
 use Rattle.asn_model.specs.Shape.{alternative_at}
 use Rattle.asn_model.specs.ShapeView.{shape_view}

@@ -1,6 +1,6 @@
 use Rattle.std.proofs.Common.{sym, subst}
 use Rattle.asn_linked.specs.Places.{named_shape, part_view, place_shape}
-use Rattle.asn_linked.specs.types.Expansion.{linked_shape}
+use Rattle.asn_linked_types.specs.Expansion.{linked_shape}
 use Rattle.asn_parts.specs.Chain.{bodies_of}
 use Rattle.asn_parts.specs.Parts.{IsKind}
 use Rattle.asn_linked.proofs.place.PlacePart.kind.Goals as goal

@@ -1,5 +1,5 @@
 use Rattle.std.proofs.Common.{◌∙◌, ap, map}
-use Rattle.asn_linked.specs.types.Linked.{are_linked}
+use Rattle.asn_linked_types.specs.Linked.{are_linked}
 use Rattle.asn_model.specs.ShapeView.{shape_view}
 use Rattle.asn_modules.proofs.Opening.{opened-readable}
 use Rattle.asn_modules.proofs.modules.Modules.find.Goals as goal

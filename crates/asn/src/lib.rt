@@ -3,9 +3,10 @@
 #![tactic(auto)]
 
 pub use asn_base::{
-    Any, BitString, Bits, BmpString, Codec, Date, GeneralString, GeneralizedTime, GraphicString,
-    Ia5String, Integer, NumericString, ObjectIdentifier, OctetString, Oid, OutOfMemory,
-    PrintableString, SetOf, UniversalString, UtcTime, Utf8String, VisibleString,
+    Any, BitString, Bits, BmpString, CivilDate, CivilGeneralizedTime, CivilUtcTime, Codec, Date,
+    GeneralString, GeneralizedTime, GraphicString, Ia5String, Integer, NumericString,
+    ObjectIdentifier, OctetString, Oid, OutOfMemory, PrintableString, SetOf, UniversalString,
+    UtcTime, Utf8String, VisibleString,
 };
 pub use asn_codec::{
     BinaryRules, CodecCalls, GREATEST_LEVEL_LIMIT, LEVEL_LIMIT, NoRules, TranscodeError, transcode,

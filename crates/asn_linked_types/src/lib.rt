@@ -9,5 +9,5 @@ mod limits;
 mod readable;
 
 pub use closed::no_values;
-pub use limits::TYPE_LIMIT;
+pub use limits::{TYPE_LIMIT, stated_limits};
 pub use readable::are_linked;

@@ -17,6 +17,7 @@ rule_text rule.NumberNotRising = codes "has a number below that of an addition b
 rule_text rule.BitTwice = codes "has the number of another bit"
 rule_text rule.BitNegative = codes "has a negative number"
 rule_text rule.NotExported = codes "isn't exported by its module"
+rule_text rule.NotHeld = codes "is neither assigned nor imported by the module that it is imported from"
 rule_text rule.OwnImport = codes "is imported by a module from itself"
 rule_text rule.NotAssigned = codes "is neither assigned nor imported"
 rule_text rule.NoValue = codes "leads to no value"

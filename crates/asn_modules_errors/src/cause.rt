@@ -27,6 +27,8 @@ pub enum NameRule {
     BitNegative,
     /// What is imported is exported by its module.
     NotExported,
+    /// What is imported is assigned or imported by its module.
+    NotHeld,
     /// A module imports from others.
     OwnImport,
     /// A type or value that is named is assigned or imported.
@@ -51,6 +53,9 @@ impl fmt::Display for NameRule {
             NameRule::BitTwice => "has the number of another bit",
             NameRule::BitNegative => "has a negative number",
             NameRule::NotExported => "isn't exported by its module",
+            NameRule::NotHeld => {
+                "is neither assigned nor imported by the module that it is imported from"
+            }
             NameRule::OwnImport => "is imported by a module from itself",
             NameRule::NotAssigned => "is neither assigned nor imported",
             NameRule::NoValue => "leads to no value",

@@ -9,4 +9,6 @@ mod sizes;
 mod types;
 
 pub use check::{check_included, is_small};
-pub use limits::{INCLUDED_LEVEL_LIMIT, INCLUDED_SIZE_LIMIT, INSTANCE_SIZE, NAME_LIMIT, TYPE_SIZE};
+pub use limits::{
+    INCLUDED_LEVEL_LIMIT, INCLUDED_SIZE_LIMIT, INSTANCE_SIZE, NAME_LIMIT, TYPE_SIZE, stated_limits,
+};

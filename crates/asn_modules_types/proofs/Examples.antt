@@ -9,9 +9,10 @@ use Rattle.asn_linked_types.specs.Expansion.{no_values}
 use Rattle.asn_model.specs.Shape.{Alphabet, Alternatives, AlternativeAdditions, Fields, FieldAdditions, Plain, Presence, SeqKind, Shape}
 use Rattle.asn_model.specs.declared.shape_type.Alphabet.TheVariants as alphabet
 use Rattle.asn_modules_grammar.specs.notation.Notation.{Base, Member, Notation, bit_string, choice, component, components_of, enumerated, group, instance_of, integer, leaf, marker, members, members_of, no_members, no_notations, notation, reference}
-use Rattle.asn_modules_grammar.specs.declared.notation.leaf.Leaf.TheVariants.{Boolean, Null, Text}
+use Rattle.asn_modules_grammar.specs.declared.notation.leaf.Leaf.TheVariants.{Boolean, Null, OctetString, Text}
 use Rattle.asn_modules_grammar.specs.declared.notation.notation.Presence.TheVariants.{Default, Optional, Required}
 use Rattle.asn_modules_grammar.specs.declared.notation.number.Constant.TheVariants as constant
+use Rattle.asn_modules_grammar.specs.declared.notation.size.Size.{Size}
 use Rattle.asn_modules_grammar.specs.declared.notation.value.Value.{Value}
 use Rattle.asn_modules_grammar.specs.declared.notation.value.Value.TheVariants as value
 use Rattle.asn_modules_types.specs.Leaves.{integer_shape}
@@ -36,8 +37,8 @@ example extensible = record {
   extensible = extensible;
   type_named = λ home name. Shape.back 7;
   copied = λ n. Shape.enum (codes "b" ∷ codes "c" ∷ []) None;
-  number_named = λ home name word. Some (pos 5);
-  values = λ v. (letters, v) ∷ (letters, number_three) ∷ [];
+  number_named = λ home name word. Some (Some (pos 5));
+  values = λ numeric v. (letters, v) ∷ (letters, number_three) ∷ [];
 }
 
 -- One of the text `a"en"a"a""a"`.
@@ -51,7 +52,7 @@ quoting = record {
   type_named = λ home name. Shape.back 7;
   copied = λ n. Shape.back n;
   number_named = λ home name word. None;
-  values = λ v. (strings, v) ∷ [];
+  values = λ numeric v. (strings, v) ∷ [];
 }
 
 -- The token of the kind at the place.
@@ -85,6 +86,24 @@ many = refl
 
 within : notation_shape no_roots (example false) (notation [] (bit_string []) (record { low = at kind.Number 11; high = at kind.Number 11 } ∷ record { low = at kind.Number 11; high = at kind.Number 16 } ∷ [])) ≡ Shape.bits (Some 3)
 within = refl
+
+-- BIT STRING (SIZE (c)) and BIT STRING (SIZE (c)) (SIZE (c)) have no values where c leads to no number, and OCTET STRING (SIZE (c)) has them.
+abbrev by_unknown : Size
+by_unknown = record { low = word 2; high = word 2 }
+
+unknown_end : notation_shape no_roots quoting (notation [] (bit_string []) (by_unknown ∷ [])) ≡ no_values
+unknown_end = refl
+
+unknown_within : notation_shape no_roots quoting (notation [] (bit_string []) (by_unknown ∷ by_unknown ∷ [])) ≡ no_values
+unknown_within = refl
+
+unknown_octets : notation_shape no_roots quoting (notation [] (leaf OctetString) (by_unknown ∷ [])) ≡ Shape.octets
+unknown_octets = refl
+
+-- SEQUENCE { ..., a BOOLEAN } may lack it, since a sender of an older version does.
+older : notation_shape no_roots (example false) (plain (members SeqKind.sequence (members_of (marker ∷ component (word 0) (plain (leaf Boolean)) Required ∷ []))))
+    ≡ Shape.seq SeqKind.sequence Fields.no_fields (FieldAdditions.extended_fields (Fields.field (codes "a") (context_tag 0) Presence.optional Shape.boolean Fields.no_fields))
+older = refl
 
 -- SEQUENCE { a BOOLEAN, ..., [[ b NULL ]], ..., c T OPTIONAL }
 abbrev both_markers : List Member

@@ -74,7 +74,7 @@ module _ (ss : List Source) (more less n : ℕ) (above : more ≡ less + 1) (lis
     follows_unit e = sym (ap (λ b. chosen b held) e) ∙ sym (ap (λ x. chosen (is_numbered (base_of x)) x) is) ∙ follows (Some t) there
 
 -- What words name doesn't depend on the shapes of types.
-module _ (ss : List Source) (k : ℕ) (h : Home) (f g : ℕ → Shape) (numbers : ℕ → List ℕ → Option ℤ) where
+module _ (ss : List Source) (k : ℕ) (h : Home) (f g : ℕ → Shape) (numbers : ℕ → List ℕ → Option (Option ℤ)) where
   constants_same : (c : Constant) → constant_in (plain_scope ss k h f numbers) c ≡ constant_in (plain_scope ss k h g numbers) c
   constants_same (constant.Number n) = refl
   constants_same (constant.Name t) = refl
@@ -82,8 +82,8 @@ module _ (ss : List Source) (k : ℕ) (h : Home) (f g : ℕ → Shape) (numbers 
   words_same : (ns : List NamedNumber) (word : List ℕ) → named_number (plain_scope ss k h f numbers) ns word ≡ named_number (plain_scope ss k h g numbers) ns word
   words_same [] word = refl
   words_same (n ∷ ns) word =
-      ap (λ o. if bytes_eq (text_of h.source.text n.name) word then o else named_number (plain_scope ss k h f numbers) ns word) (constants_same n.number)
-      ∙ ap (λ o. if bytes_eq (text_of h.source.text n.name) word then constant_in (plain_scope ss k h g numbers) n.number else o) (words_same ns word)
+      ap (λ o. if bytes_eq (text_of h.source.text n.name) word then Some o else named_number (plain_scope ss k h f numbers) ns word) (constants_same n.number)
+      ∙ ap (λ o. if bytes_eq (text_of h.source.text n.name) word then Some (constant_in (plain_scope ss k h g numbers) n.number) else o) (words_same ns word)
 
   pub numbers_same : (n : Notation) (word : List ℕ) → number_in_type (plain_scope ss k h f numbers) n word ≡ number_in_type (plain_scope ss k h g numbers) n word
   numbers_same (notation tags (integer ns) sizes) word = words_same ns word

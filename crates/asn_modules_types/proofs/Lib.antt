@@ -5,6 +5,7 @@ mod Listing
 mod Tagged
 mod Naming
 mod Leading
+mod Defaulting
 mod Sizing
 mod Following
 mod Copying

@@ -14,13 +14,13 @@ use Rattle.asn_modules_types.specs.Numbers.{constant_in, named_number}
 use Rattle.asn_modules_types.specs.Scopes.{Scope}
 use Rattle.asn_modules_types.proofs.Separated.{items_added, items_closed}
 
-pub named_here : (s : Scope) (ns : List NamedNumber) (i : ℕ) (word : List ℕ) (d : NamedNumber) → i < length ns → bytes_eq (text_of s.text (get_or ns i d).name) word ≡ true → named_number s (drop i ns) word ≡ constant_in s (get_or ns i d).number
+pub named_here : (s : Scope) (ns : List NamedNumber) (i : ℕ) (word : List ℕ) (d : NamedNumber) → i < length ns → bytes_eq (text_of s.text (get_or ns i d).name) word ≡ true → named_number s (drop i ns) word ≡ Some (constant_in s (get_or ns i d).number)
 named_here s ns i word d h e =
-    ap (λ l. named_number s l word) (drop_more ns i d h) ∙ ap (λ b. if b then constant_in s (get_or ns i d).number else named_number s (drop (i + 1) ns) word) e
+    ap (λ l. named_number s l word) (drop_more ns i d h) ∙ ap (λ b. if b then Some (constant_in s (get_or ns i d).number) else named_number s (drop (i + 1) ns) word) e
 
 pub named_past : (s : Scope) (ns : List NamedNumber) (i : ℕ) (word : List ℕ) (d : NamedNumber) → i < length ns → bytes_eq (text_of s.text (get_or ns i d).name) word ≡ false → named_number s (drop i ns) word ≡ named_number s (drop (i + 1) ns) word
 named_past s ns i word d h e =
-    ap (λ l. named_number s l word) (drop_more ns i d h) ∙ ap (λ b. if b then constant_in s (get_or ns i d).number else named_number s (drop (i + 1) ns) word) e
+    ap (λ l. named_number s l word) (drop_more ns i d h) ∙ ap (λ b. if b then Some (constant_in s (get_or ns i d).number) else named_number s (drop (i + 1) ns) word) e
 
 pub named_none : (s : Scope) (ns : List NamedNumber) (i : ℕ) (word : List ℕ) → length ns ≤ i → named_number s (drop i ns) word ≡ None
 named_none s ns i word h = ap (λ l. named_number s l word) (drop_all i ns h)

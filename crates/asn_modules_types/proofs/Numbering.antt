@@ -42,11 +42,11 @@ use Rattle.asn_modules_types.proofs.Following.{word_assigned}
 use Rattle.asn_modules_types.proofs.Seen.{notation_out}
 
 -- The first named number of a name leads to what it names.
-led_by : (b : Bool) (f : Constant → Option ℤ) (c : Constant) (o : Option ℤ) (p : Option Constant) → o ≡ option_and_then f p → (if b then f c else o) ≡ option_and_then f (if b then Some c else p)
+led_by : (b : Bool) (f : Constant → Option ℤ) (c : Constant) (o : Option (Option ℤ)) (p : Option Constant) → o ≡ option_map f p → (if b then Some (f c) else o) ≡ option_map f (if b then Some c else p)
 led_by true f c o p e = refl
 led_by false f c o p e = e
 
-numbers_led : (s : Scope) (ns : List NamedNumber) (word : List ℕ) → named_number s ns word ≡ option_and_then (constant_in s) (first_named s.text ns word)
+numbers_led : (s : Scope) (ns : List NamedNumber) (word : List ℕ) → named_number s ns word ≡ option_map (constant_in s) (first_named s.text ns word)
 numbers_led s [] word = refl
 numbers_led s (n ∷ ns) word = led_by (bytes_eq (text_of s.text n.name) word) (constant_in s) n.number (named_number s ns word) (first_named s.text ns word) (numbers_led s ns word)
 
@@ -85,7 +85,7 @@ name_held n home name e = ap base_of (notation_out n) ∙ ap base_view e ∙ nam
 pub other_held : (n : code_notation.Notation) → ((home : Option Token) (name : Token) → (out-Notation n).base ≡ Reference home name → ⊥) → is_name (base_of (notation_view n)) ≡ false
 other_held n other = ap (λ b. is_name (base_of b)) (notation_out n) ∙ no_name (out-Notation n).base other
 
-type_led : (s : Scope) (n : Notation) (word : List ℕ) → is_name (base_of n) ≡ false → number_in_type s n word ≡ option_and_then (constant_in s) (first_named s.text (numbers_in n) word)
+type_led : (s : Scope) (n : Notation) (word : List ℕ) → is_name (base_of n) ≡ false → number_in_type s n word ≡ option_map (constant_in s) (first_named s.text (numbers_in n) word)
 type_led s (notation tags (integer ns) sizes) word e = numbers_led s ns word
 type_led s (notation tags (reference home name) sizes) word e = cc e
 type_led s (notation tags (leaf l) sizes) word e = refl
@@ -114,8 +114,8 @@ module _ (ss : List Source) (more less n : ℕ) (list : List Assigned) (t : Assi
       ap (option_and_then (λ x. first_named x.text (numbers_in x.notation) word)) (slice_get-map stated_type (assigned Types ss) n ∙ ap (option_map stated_type) (ap (λ l. slice_get l n) (sym all) ∙ sym there))
       ∙ ap (λ x. first_named t.home.source.text (numbers_in x) word) is
 
-  pub word_led : (o : Option Constant) → is_name (base_of held) ≡ false → o ≡ constant_named (map stated_type (assigned Types ss)) n word → option_and_then (constant_in here) o ≡ number_word ss more n word
-  word_led o direct e = ap (option_and_then (constant_in here)) (e ∙ table_led) ∙ sym (type_led here held word direct) ∙ word_assigned ss more less n list t held word above all there is
+  pub word_led : (o : Option Constant) → is_name (base_of held) ≡ false → o ≡ constant_named (map stated_type (assigned Types ss)) n word → option_map (constant_in here) o ≡ number_word ss more n word
+  word_led o direct e = ap (option_map (constant_in here)) (e ∙ table_led) ∙ sym (type_led here held word direct) ∙ word_assigned ss more less n list t held word above all there is
 
   pub word_behind : (home : Option Token) (name : Token) (o : Option ℕ) → base_of held ≡ reference home name → o ≡ found_in Types ss t.number t.home home name → option_and_then (λ m. number_word ss less m word) o ≡ number_word ss more n word
   word_behind home name o e f = ap (option_and_then (λ m. number_word ss less m word)) f ∙ sym (type_behind here held home name word e) ∙ word_assigned ss more less n list t held word above all there is

@@ -24,7 +24,7 @@ use Rattle.asn_modules_names.proofs.references.Outs.{extension_seen, members_out
 use Rattle.asn_modules_types.specs.Known.{items_of, known_parts, part_view, tail_of}
 use Rattle.asn_modules_types.specs.Lists.{added_of, all_known, behind, front, front_of, if_marked, implied, root_of}
 use Rattle.asn_modules_types.specs.Scopes.{Scope}
-use Rattle.asn_modules_types.specs.Types.{Part, Place, Roots, between_brackets, entry_parts, included, lists_of, notation_roots, parts}
+use Rattle.asn_modules_types.specs.Types.{Part, Place, Roots, between_brackets, entry_parts, included, lists_of, notation_roots, parts, relaxed}
 use Rattle.asn_modules_types.specs.declared.parts.Part as code
 
 -- All are up to the first marker.
@@ -251,7 +251,7 @@ module _ (roots : Roots) (s : Scope) where
     -- The lists of a type, by its root and its additions.
     module _ (extensible : Bool) (m : Members) where
       abbrev joined : Option (List Part) → Option (Option (List Part)) → Option (List Part × Option (List Part))
-      joined o p = of_both (λ root added. (root, added)) o p
+      joined o p = of_both (λ root added. (root, option_map (map relaxed) added)) o p
 
       abbrev known_root : Option (List Part)
       known_root = all_known (root_of (seen (members_view m)))
@@ -271,7 +271,7 @@ module _ (roots : Roots) (s : Scope) where
       pub lists_addless : (x : Extension) (root : List Part) → (out-Members m).extension ≡ Some x → Some root ≡ known_root → None ≡ all_known (additions x) → None ≡ lists_of extensible (seen (members_view m))
       lists_addless x root is e none = sym (lists_with (Some x) root is e ∙ ap (λ o. joined (Some root) (option_map (λ y. Some y) o)) (sym none))
 
-      pub lists_extended : (x : Extension) (root added : List Part) → (out-Members m).extension ≡ Some x → Some root ≡ known_root → Some added ≡ all_known (additions x) → lists_of extensible (seen (members_view m)) ≡ Some (root, Some added)
+      pub lists_extended : (x : Extension) (root added : List Part) → (out-Members m).extension ≡ Some x → Some root ≡ known_root → Some added ≡ all_known (additions x) → lists_of extensible (seen (members_view m)) ≡ Some (root, Some (map relaxed added))
       lists_extended x root added is e known = lists_with (Some x) root is e ∙ ap (λ o. joined (Some root) (option_map (λ y. Some y) o)) (sym known)
 
       pub lists_implied : (root : List Part) → (out-Members m).extension ≡ None → Some root ≡ known_root → extensible ≡ true → lists_of extensible (seen (members_view m)) ≡ Some (root, Some [])

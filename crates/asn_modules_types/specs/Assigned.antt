@@ -8,7 +8,6 @@ use Rattle.asn_modules_types.specs.named_numbers.Named.{StatedType}
 use Rattle.asn_modules_names.specs.Mentions.{Source}
 use Rattle.asn_modules_grammar.specs.notation.Modules.{Assignment, type_assignment, value_assignment, template_assignment}
 use Rattle.asn_modules_grammar.specs.notation.Notation.{Notation}
-use Rattle.asn_modules_grammar.specs.declared.notation.value.Value.{Value}
 
 -- An assignment, with its module and the number of that.
 pub record Assigned : Type 0 where
@@ -47,8 +46,3 @@ parameters_of a = []
 -- The type with the text that it stands in.
 abbrev pub stated_type : Assigned → StatedType
 stated_type a = record { text = a.home.source.text; notation = notation_of a.assignment }
-
--- The value that is assigned, if it is one.
-abbrev pub value_of : Assignment → Option Value
-value_of (value_assignment name n v) = Some v
-value_of a = None

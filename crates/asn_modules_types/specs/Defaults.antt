@@ -10,19 +10,18 @@ use Rattle.asn_modules_errors.specs.Slices.{text_of}
 use Rattle.asn_modules_names.specs.Assigned.{first_found}
 use Rattle.asn_modules_grammar.specs.declared.notation.value.Value.{Value}
 use Rattle.asn_modules_grammar.specs.declared.notation.value.Value.TheVariants as value
-use Rattle.asn_modules_types.specs.Numbers.{signed_in}
+use Rattle.asn_modules_types.specs.Numbers.{number_at}
 use Rattle.asn_modules_types.specs.Scopes.{Scope, ascii_of, name_in}
 use Rattle.asn_modules_types.specs.declared.limits.TheConstants.{DEFAULT_STRING_LIMIT}
 
 abbrev pub boolean_named : List ℕ → Option Plain
 boolean_named word = if bytes_eq word (codes "TRUE") then Some (Plain.boolean true) else if bytes_eq word (codes "FALSE") then Some (Plain.boolean false) else None
 
--- What a word is as a value of the shape, whose named numbers are these: TRUE or FALSE, a named number, or an item.
-abbrev pub word_plain : (List ℕ → Option ℤ) → Shape → List ℕ → Option Plain
-word_plain numbers Shape.boolean word = boolean_named word
-word_plain numbers (Shape.int least greatest width) word = option_map (λ n. Plain.int n) (numbers word)
-word_plain numbers (Shape.enum items added) word = Some (Plain.item (ascii_of word))
-word_plain numbers s word = None
+-- What a word is as a value of the shape: TRUE or FALSE, or an item.
+abbrev pub word_plain : Shape → List ℕ → Option Plain
+word_plain Shape.boolean word = boolean_named word
+word_plain (Shape.enum items added) word = Some (Plain.item (ascii_of word))
+word_plain s word = None
 
 -- A character that stands for itself in a string: no quote, and none that ends a line.
 abbrev pub is_verbatim : ℕ → Bool
@@ -41,18 +40,38 @@ abbrev pub string_plain : Shape → Option (List ℕ) → Option Plain
 string_plain (Shape.text a) string = option_map (λ s. Plain.text s) string
 string_plain s string = None
 
--- What a value in its text is as one of the shape.
-abbrev pub plain_in : (List ℕ → Option ℤ) → Shape → List ℕ → Value → Option Plain
-plain_in numbers shape text (value.Number n) = option_map (λ k. Plain.int k) (signed_in text n)
-plain_in numbers shape text (value.Word t) = word_plain numbers shape (name_in text t)
-plain_in numbers shape text (value.Cstring t) = string_plain shape (string_in text t)
-plain_in numbers shape text v = None
+-- What a value in its text is as one of the shape, which is no INTEGER.
+abbrev pub plain_in : Shape → List ℕ → Value → Option Plain
+plain_in shape text (value.Word t) = word_plain shape (name_in text t)
+plain_in shape text (value.Cstring t) = string_plain shape (string_in text t)
+plain_in shape text v = None
 
 -- The value, if it is one of the shape.
 abbrev pub suited : Shape → Option Plain → Option Plain
 suited shape None = None
 suited shape (Some p) = if is_of_shape shape p then Some p else None
 
--- The value of the shape that a DEFAULT states: of those that its value leads to, the first that is one of the shape.
-abbrev pub default_of : Scope → (List ℕ → Option ℤ) → Shape → Value → Option Plain
-default_of s numbers shape v = first_found (λ x. suited shape (plain_in numbers shape x.0 x.1)) (s.values v)
+-- What a word names, where words name these numbers, of which some aren't known.
+abbrev pub number_said : (List ℕ → Option (Option ℤ)) → List ℕ → Value → Option (Option ℤ)
+number_said numbers text (value.Word t) = numbers (name_in text t)
+number_said numbers text v = None
+
+abbrev pub number_or : Option (Option ℤ) → Option ℤ → Option ℤ
+number_or None other = other
+number_or (Some n) other = n
+
+-- The number that a DEFAULT states: one of the named numbers of the component's type, which alone governs the word of the DEFAULT, else the number that its value leads to.
+abbrev pub number_default : Scope → (List ℕ → Option (Option ℤ)) → Value → Option ℤ
+number_default s numbers v = number_or (number_said numbers s.text v) (number_at s v)
+
+abbrev pub number_plain : Option ℤ → Option Plain
+number_plain o = option_map (λ n. Plain.int n) o
+
+abbrev pub is_numeric : Shape → Bool
+is_numeric (Shape.int least greatest width) = true
+is_numeric s = false
+
+-- The value of the shape that a DEFAULT states: its number, or of the values that its value leads to, the first that is one of the shape.
+abbrev pub default_of : Scope → (List ℕ → Option (Option ℤ)) → Shape → Value → Option Plain
+default_of s numbers shape v =
+    if is_numeric shape then suited shape (number_plain (number_default s numbers v)) else first_found (λ x. suited shape (plain_in shape x.0 x.1)) (s.values false v)

@@ -49,18 +49,18 @@ abbrev pub copied_type : List Source → ℕ → Shape
 copied_type ss n = copied_by n (slice_get (assigned Types ss) n)
 
 -- The scope of a module in which names of types stand for these numbers, and types of these numbers have these shapes and named numbers.
-abbrev pub scope_in : List Source → ℕ → Home → Finder → (ℕ → Shape) → (ℕ → List ℕ → Option ℤ) → Scope
+abbrev pub scope_in : List Source → ℕ → Home → Finder → (ℕ → Shape) → (ℕ → List ℕ → Option (Option ℤ)) → Scope
 scope_in ss k h find shapes numbers = record {
   text = h.source.text;
   extensible = is_extensible h.parsed.header;
   type_named = λ home name. shape_or shapes (find home name);
   copied = copied_type ss;
   number_named = λ home name word. option_and_then (λ n. numbers n word) (find home name);
-  values = λ v. values_from ss NAME_LIMIT (value_in k h v);
+  values = λ numeric v. values_from ss numeric NAME_LIMIT (value_in k h v);
 }
 
 -- That of a module outside types with parameters.
-abbrev pub plain_scope : List Source → ℕ → Home → (ℕ → Shape) → (ℕ → List ℕ → Option ℤ) → Scope
+abbrev pub plain_scope : List Source → ℕ → Home → (ℕ → Shape) → (ℕ → List ℕ → Option (Option ℤ)) → Scope
 plain_scope ss k h shapes numbers = scope_in ss k h (found_in Types ss k h) shapes numbers
 
 -- The type has parts or items, and is named by its number.
@@ -77,17 +77,17 @@ abbrev pub no_roots : Roots
 no_roots = record { components = λ place home name. None; instance = λ home name ns. no_values }
 
 -- What the name of the type of number n stands for, by its assignment: the number, where it has parts or items; else its shape, where names in it have these shapes and numbers.
-abbrev pub named_by : List Source → (ℕ → Shape) → (ℕ → List ℕ → Option ℤ) → ℕ → Option Assigned → Shape
+abbrev pub named_by : List Source → (ℕ → Shape) → (ℕ → List ℕ → Option (Option ℤ)) → ℕ → Option Assigned → Shape
 named_by ss shapes numbers n None = no_values
 named_by ss shapes numbers n (Some t) =
     if is_numbered (base_of (notation_of t.assignment)) then Shape.back n else notation_shape no_roots (plain_scope ss t.number t.home shapes numbers) (notation_of t.assignment)
 
-abbrev pub number_by : List Source → (ℕ → List ℕ → Option ℤ) → Option Assigned → List ℕ → Option ℤ
+abbrev pub number_by : List Source → (ℕ → List ℕ → Option (Option ℤ)) → Option Assigned → List ℕ → Option (Option ℤ)
 number_by ss numbers None word = None
 number_by ss numbers (Some t) word = number_in_type (plain_scope ss t.number t.home (λ n. no_values) numbers) (notation_of t.assignment) word
 
 -- The number that a word names in the type of number n, past at most so many names that stand for it.
-unfoldable pub number_word : List Source → ℕ → ℕ → List ℕ → Option ℤ
+unfoldable pub number_word : List Source → ℕ → ℕ → List ℕ → Option (Option ℤ)
 number_word ss zero n word = None
 number_word ss (suc more) n word = number_by ss (number_word ss more) (slice_get (assigned Types ss) n) word
 

@@ -1,5 +1,5 @@
 -- Numbers as they stand in modules, and words that name them.
-use Rattle.std.specs.Prelude.{ℕ, ℤ, List, [], ◌∷◌, if◌then◌else◌, Option, None}
+use Rattle.std.specs.Prelude.{ℕ, ℤ, List, [], ◌∷◌, if◌then◌else◌, Option, None, true, Some}
 use Rattle.std.specs.Option.{option_map}
 use Rattle.std.specs.Str.{bytes_eq}
 use Rattle.asn_lexer.specs.declared.token.Token.{Token}
@@ -30,14 +30,14 @@ number_of_value text v = None
 
 -- The number that the value leads to: the first one that is a number.
 abbrev pub number_at : Scope → Value → Option ℤ
-number_at s v = first_found (λ x. number_of_value x.0 x.1) (s.values v)
+number_at s v = first_found (λ x. number_of_value x.0 x.1) (s.values true v)
 
 -- The number that a constant is: its own, or the one that the name of a value leads to.
 abbrev pub constant_in : Scope → Constant → Option ℤ
 constant_in s (constant.Number n) = signed_in s.text n
 constant_in s (constant.Name t) = number_at s (value.Word t)
 
--- The first of the named numbers that the word names.
-abbrev pub named_number : Scope → List NamedNumber → List ℕ → Option ℤ
+-- The first of the named numbers that the word names, if there is one, and its number is known.
+abbrev pub named_number : Scope → List NamedNumber → List ℕ → Option (Option ℤ)
 named_number s [] word = None
-named_number s (n ∷ ns) word = if bytes_eq (text_of s.text n.name) word then constant_in s n.number else named_number s ns word
+named_number s (n ∷ ns) word = if bytes_eq (text_of s.text n.name) word then Some (constant_in s n.number) else named_number s ns word

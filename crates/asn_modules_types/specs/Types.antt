@@ -38,9 +38,18 @@ abbrev pub added_alternatives_from : ℕ → Option (List Part) → AlternativeA
 added_alternatives_from tag None = AlternativeAdditions.closed_alternatives
 added_alternatives_from tag (Some ps) = AlternativeAdditions.extended_alternatives (alternatives_from tag ps)
 
+-- A part that is stated as required, and may be absent where it is an extension addition.
+abbrev pub if_required : Presence → Presence
+if_required Presence.required = Presence.optional
+if_required p = p
+
+-- The part as an extension addition: it may be absent, since a sender of an older version of the type leaves it out (X.680, section 6).
+abbrev pub relaxed : Part → Part
+relaxed p = record { name = p.name; presence = if_required p.presence; shape = p.shape }
+
 -- The root and the extension additions, of which there are none without a marker, by what entries between braces are. There are no such lists where a part of them isn't understood.
 abbrev pub lists_of : Bool → List (Option (Option Part)) → Option (List Part × Option (List Part))
-lists_of extensible ps = of_both (λ root added. (root, added)) (all_known (root_of ps)) (if_marked all_known (implied extensible (added_of ps)))
+lists_of extensible ps = of_both (λ root added. (root, option_map (map relaxed) added)) (all_known (root_of ps)) (if_marked all_known (implied extensible (added_of ps)))
 
 -- SEQUENCE or SET, by these lists: tags are by place, those of the root first.
 abbrev pub members_shape : SeqKind → Option (List Part × Option (List Part)) → Shape
@@ -52,8 +61,8 @@ abbrev pub choice_shape : Option (List Part × Option (List Part)) → Shape
 choice_shape None = no_values
 choice_shape (Some lists) = Shape.choice (alternatives_from 0 lists.0) (added_alternatives_from (length lists.0) lists.1)
 
--- The number that a word names in the type.
-abbrev pub number_in_type : Scope → Notation → List ℕ → Option ℤ
+-- The number that a word names in the type, if it names one. It isn't known where it is by a value that leads to none.
+abbrev pub number_in_type : Scope → Notation → List ℕ → Option (Option ℤ)
 number_in_type s (notation tags (integer ns) sizes) word = named_number s ns word
 number_in_type s (notation tags (reference home name) sizes) word = s.number_named home name word
 number_in_type s (notation tags base sizes) word = None

@@ -5,7 +5,7 @@ ghost use Rattle.asn_modules_types.specs.named_numbers.Numbers.{AreNumbersOf};
 ghost use Rattle.asn_modules_types.specs.named_numbers.Views.{type_view};
 ghost use Rattle.asn_modules_grammar.specs.notation.View.{assignment_view, notation_view};
 ghost use Rattle.asn_modules_types.specs.Assigned.{assigned_in, assigned_of, notation_of};
-ghost use Rattle.asn_modules_types.specs.Assigned.{parameters_of, stated_type, value_of};
+ghost use Rattle.asn_modules_types.specs.Assigned.{parameters_of, stated_type};
 ghost use Rattle.asn_modules_types.specs.Known.{assigned_view};
 ghost use Rattle.std.specs.List.{slice_get};
 ghost use Rattle.std.specs.Prelude.{◌≡◌, ◌<◌, ◌++◌, IfOk, IfSome, OnOk, is_some, length, map};
@@ -13,7 +13,7 @@ ghost use Rattle.std.specs.Prelude.{option_map};
 
 use crate::named_numbers::{NamedNumbers, StatedType, named_numbers};
 use asn_lexer::Token;
-use asn_modules_grammar::notation::{Assignment, Notation, Value};
+use asn_modules_grammar::notation::{Assignment, Notation};
 use asn_modules_names::lookup::{Home, Sort};
 use std::alloc::{AllocError, Global};
 
@@ -161,14 +161,4 @@ pub fn numbers_of<'t>(
 {
     let stated = stated_types(alloc, types)?;
     named_numbers(alloc, stated.as_slice())
-}
-
-/// Returns the value that is assigned, or `None` where none is.
-pub fn value_of(assignment: &Assignment) -> Option<Value>
-    ensures { result ≡ value_of (assignment_view assignment.now) }
-{
-    match assignment {
-        Assignment::Value { value, .. } => Some(*value),
-        _ => None,
-    }
 }

@@ -3,14 +3,16 @@ ghost use Rattle.asn_model.specs.Readable.{is_of_shape};
 ghost use Rattle.asn_model.specs.ShapeView.{plain_view, presence_view, shape_view};
 ghost use Rattle.asn_modules_names.specs.Assigned.{first_found};
 ghost use Rattle.asn_modules_grammar.specs.notation.View.{notation_view};
-ghost use Rattle.asn_modules_types.specs.Defaults.{boolean_named, default_of, plain_in, suited};
+ghost use Rattle.asn_modules_types.specs.Defaults.{boolean_named, default_of, is_numeric};
+ghost use Rattle.asn_modules_types.specs.Defaults.{number_default, number_plain};
+ghost use Rattle.asn_modules_types.specs.Defaults.{number_said, plain_in, suited};
 ghost use Rattle.asn_modules_types.specs.Defaults.{string_in, string_plain, word_plain};
 ghost use Rattle.asn_modules_types.specs.Known.{KnowsNames, scope_view, sources_of, stated_view};
 ghost use Rattle.asn_modules_types.specs.Linked.{number_word};
 ghost use Rattle.asn_modules_types.specs.Numbers.{constant_in, named_number};
 ghost use Rattle.asn_modules_types.specs.Types.{number_in_type, presence_of};
 ghost use Rattle.asn_modules_types.specs.Values.{values_from};
-ghost use Rattle.std.specs.Prelude.{◌≡◌, IfOk, ℕ, option_map};
+ghost use Rattle.std.specs.Prelude.{◌≡◌, IfOk, false, ℕ, option_map};
 
 use crate::assigned::{assigned_at, notation_of};
 use crate::fault::LinkFault;
@@ -38,15 +40,20 @@ fn constant_in(scope: &Scope<'_, '_, '_>, constant: Constant) -> Option<i128>
     }
 }
 
-/// Returns the number that the word names first, or `None` where it names none.
-fn named_number(scope: &Scope<'_, '_, '_>, named: &[NamedNumber], word: &[u8]) -> Option<i128>
+/// Returns the number that the word names first, or `None` where it names none: `Some(None)` is one
+/// that isn't known.
+fn named_number(
+    scope: &Scope<'_, '_, '_>,
+    named: &[NamedNumber],
+    word: &[u8],
+) -> Option<Option<i128>>
     requires known { KnowsNames scope.now.names.now }
     ensures { (limit : ℕ)
         → result ≡ named_number (scope_view limit scope.now) named.now word.now }
 {
     for entry in named {
         if text_of(scope.home.source.text, entry.name) == word {
-            return constant_in(scope, entry.number);
+            return Some(constant_in(scope, entry.number));
         }
     }
     None
@@ -59,7 +66,7 @@ fn number_word<'t>(
     more: usize,
     number: usize,
     word: &'t [u8],
-) -> Option<i128>
+) -> Option<Option<i128>>
     requires known { KnowsNames names.now }
     ensures { result ≡ number_word (sources_of names.now) more number word.now }
 {
@@ -82,7 +89,7 @@ fn number_word<'t>(
         }
         _ => {
             let constant = names.numbers.constant(number, word)?;
-            constant_in(&scope, constant)
+            Some(constant_in(&scope, constant))
         }
     }
 }
@@ -93,7 +100,7 @@ fn number_in_type<'t>(
     more: usize,
     notation: &Notation,
     word: &'t [u8],
-) -> Option<i128>
+) -> Option<Option<i128>>
     requires known { KnowsNames scope.now.names.now }
     ensures { result ≡ number_in_type (scope_view more scope.now) (notation_view notation.now)
         word.now }
@@ -130,29 +137,18 @@ fn boolean_named(word: &[u8]) -> Option<Plain>
     }
 }
 
-/// Returns what a word is as a value of the shape of this type, or `None` where it is none.
+/// Returns what a word is as a value of the shape, or `None` where it is none.
 ///
 /// # Errors
 ///
 /// `OutOfMemory` alone.
-fn word_plain<'t>(
-    scope: &Scope<'_, '_, 't>,
-    notation: &Notation,
-    shape: &Shape,
-    word: &'t [u8],
-) -> Result<Option<Plain>, LinkFault>
-    requires known { KnowsNames scope.now.names.now }
+fn word_plain(alloc: Global, shape: &Shape, word: &[u8]) -> Result<Option<Plain>, LinkFault>
     ensures { IfOk result (λ o. option_map plain_view o
-        ≡ word_plain (number_in_type (scope_view NAME_LIMIT scope.now) (notation_view notation.now))
-        (shape_view shape.now) word.now) }
+        ≡ word_plain (shape_view shape.now) word.now) }
 {
     match shape {
         Shape::Bool => Ok(boolean_named(word)),
-        Shape::Int { .. } => match number_in_type(scope, NAME_LIMIT, notation, word) {
-            Some(number) => Ok(Some(Plain::Int(number))),
-            None => Ok(None),
-        },
-        Shape::Enum { .. } => Ok(Some(Plain::Item(string_of(scope.names.alloc, word)?))),
+        Shape::Enum { .. } => Ok(Some(Plain::Item(string_of(alloc, word)?))),
         _ => Ok(None),
     }
 }
@@ -180,66 +176,65 @@ fn string_plain(
     }
 }
 
-/// Returns what a value in this text is as one of the shape of this type, or `None` where it isn't
-/// understood.
+/// Returns what a value in this text is as one of the shape, which is no INTEGER, or `None` where
+/// it isn't understood.
 ///
 /// # Errors
 ///
 /// `OutOfMemory` alone.
-fn plain_in<'t>(
-    scope: &Scope<'_, '_, 't>,
-    notation: &Notation,
+fn plain_in(
+    alloc: Global,
     shape: &Shape,
-    text: &'t str,
+    text: &str,
     value: Value,
 ) -> Result<Option<Plain>, LinkFault>
-    requires known { KnowsNames scope.now.names.now }
     ensures { IfOk result (λ o. option_map plain_view o
-        ≡ plain_in (number_in_type (scope_view NAME_LIMIT scope.now) (notation_view notation.now))
-        (shape_view shape.now) text.now value) }
+        ≡ plain_in (shape_view shape.now) text.now value) }
 {
     match value {
-        Value::Number(number) => match signed_in(text, number) {
-            Some(number) => Ok(Some(Plain::Int(number))),
-            None => Ok(None),
-        },
-        Value::Word(token) => word_plain(scope, notation, shape, word_in(text, token)),
-        Value::Cstring(token) => string_plain(scope.names.alloc, shape, text, token),
+        Value::Word(token) => word_plain(alloc, shape, word_in(text, token)),
+        Value::Cstring(token) => string_plain(alloc, shape, text, token),
         _ => Ok(None),
     }
 }
 
-/// Returns what a value in this text is, if it is one of the shape of this type.
+/// Returns the value, if it is one of the shape.
+fn suited(shape: &Shape, plain: Option<Plain>) -> Option<Plain>
+    ensures { option_map plain_view result
+        ≡ suited (shape_view shape.now) (option_map plain_view plain) }
+{
+    match plain {
+        Some(plain) => {
+            if is_of_shape(shape, &plain) {
+                Some(plain)
+            } else {
+                None
+            }
+        }
+        None => None,
+    }
+}
+
+/// Returns what a value in this text is, if it is one of the shape, which is no INTEGER.
 ///
 /// # Errors
 ///
 /// `OutOfMemory` alone.
-fn suited_in<'t>(
-    scope: &Scope<'_, '_, 't>,
-    notation: &Notation,
+fn suited_in(
+    alloc: Global,
     shape: &Shape,
-    text: &'t str,
+    text: &str,
     value: Value,
 ) -> Result<Option<Plain>, LinkFault>
-    requires known { KnowsNames scope.now.names.now }
     ensures { IfOk result (λ o. option_map plain_view o ≡ suited (shape_view shape.now)
-        (plain_in (number_in_type (scope_view NAME_LIMIT scope.now) (notation_view notation.now))
-        (shape_view shape.now) text.now value)) }
+        (plain_in (shape_view shape.now) text.now value)) }
 {
-    match plain_in(scope, notation, shape, text, value)? {
-        Some(plain) => {
-            if is_of_shape(shape, &plain) {
-                Ok(Some(plain))
-            } else {
-                Ok(None)
-            }
-        }
-        None => Ok(None),
-    }
+    let plain = plain_in(alloc, shape, text, value)?;
+    Ok(suited(shape, plain))
 }
 
 /// Returns the first of the values that this one leads to, past at most so many names, that is one
-/// of the shape of this type.
+/// of the shape, which is no INTEGER.
 ///
 /// # Errors
 ///
@@ -247,28 +242,76 @@ fn suited_in<'t>(
 #[cycle(defaults)]
 fn default_from<'s, 't>(
     scope: &Scope<'_, 's, 't>,
-    notation: &Notation,
     shape: &Shape,
     more: usize,
     stated: StatedValue<'s, 't>,
 ) -> Result<Option<Plain>, LinkFault>
     requires known { KnowsNames scope.now.names.now }
     ensures { IfOk result (λ o. option_map plain_view o
-        ≡ first_found (λ x. suited (shape_view shape.now)
-        (plain_in (number_in_type (scope_view NAME_LIMIT scope.now) (notation_view notation.now))
-        (shape_view shape.now) x.0 x.1))
-        (values_from (sources_of scope.now.names.now) more (stated_view stated.entry))) }
+        ≡ first_found (λ x. suited (shape_view shape.now) (plain_in (shape_view shape.now) x.0 x.1))
+        (values_from (sources_of scope.now.names.now) false more (stated_view stated.entry))) }
 {
     let text = stated.home.source.text;
-    if let Some(plain) = suited_in(scope, notation, shape, text, stated.value)? {
+    if let Some(plain) = suited_in(scope.names.alloc, shape, text, stated.value)? {
         return Ok(Some(plain));
     }
     if more == 0 {
         return Ok(None);
     }
-    match next_value(scope.names, stated) {
-        Some(next) => default_from(scope, notation, shape, more - 1, next),
+    match next_value(scope.names, false, stated) {
+        Some(next) => default_from(scope, shape, more - 1, next),
         None => Ok(None),
+    }
+}
+
+/// Returns the number that a word in the scope names in the type, or `None` where it names none:
+/// `Some(None)` is one that isn't known.
+fn number_said(scope: &Scope<'_, '_, '_>, notation: &Notation, value: Value) -> Option<Option<i128>>
+    requires known { KnowsNames scope.now.names.now }
+    ensures { result ≡ number_said
+        (number_in_type (scope_view NAME_LIMIT scope.now) (notation_view notation.now))
+        (scope_view NAME_LIMIT scope.now).text value }
+{
+    match value {
+        Value::Word(token) => {
+            let word = word_in(scope.home.source.text, token);
+            number_in_type(scope, NAME_LIMIT, notation, word)
+        }
+        _ => None,
+    }
+}
+
+/// Returns the number that a DEFAULT of this type states, or `None` where it isn't understood: a
+/// named number of the type, else the number that the value leads to.
+fn number_default(scope: &Scope<'_, '_, '_>, notation: &Notation, value: Value) -> Option<i128>
+    requires known { KnowsNames scope.now.names.now }
+    ensures { result ≡ number_default (scope_view NAME_LIMIT scope.now)
+        (number_in_type (scope_view NAME_LIMIT scope.now) (notation_view notation.now)) value }
+{
+    match number_said(scope, notation, value) {
+        Some(named) => named,
+        None => number_at(scope, value),
+    }
+}
+
+/// Returns whether the shape is that of an INTEGER.
+fn is_numeric(shape: &Shape) -> bool
+    ensures { result ≡ is_numeric (shape_view shape.now) }
+{
+    match shape {
+        Shape::Int { .. } => true,
+        _ => false,
+    }
+}
+
+/// Returns the number as a value of the shape, if it is one.
+fn suited_number(shape: &Shape, number: Option<i128>) -> Option<Plain>
+    ensures { option_map plain_view result
+        ≡ suited (shape_view shape.now) (number_plain number) }
+{
+    match number {
+        Some(number) => suited(shape, Some(Plain::Int(number))),
+        None => None,
     }
 }
 
@@ -290,13 +333,10 @@ fn default_of(
         (number_in_type (scope_view NAME_LIMIT scope.now) (notation_view notation.now))
         (shape_view shape.now) value) }
 {
-    default_from(
-        scope,
-        notation,
-        shape,
-        NAME_LIMIT,
-        stated_here(scope, value),
-    )
+    if is_numeric(shape) {
+        return Ok(suited_number(shape, number_default(scope, notation, value)));
+    }
+    default_from(scope, shape, NAME_LIMIT, stated_here(scope, value))
 }
 
 /// Returns whether a part of this type and shape may be absent, or `None` where its DEFAULT isn't

@@ -26,6 +26,7 @@ pub use assigned::{Assigned, assigned_of};
 pub use fault::LinkFault;
 pub use limits::{
     DEFAULT_ITEMS_LIMIT, DEFAULT_STRING_LIMIT, INCLUDED_LIMIT, LEVEL_LIMIT, NAME_LIMIT,
+    stated_limits,
 };
 pub use linked::linked_types;
 pub use words::name_in;

@@ -1,4 +1,6 @@
 //! Sets the limits that links of types keep.
+ghost use Rattle.std.specs.Prelude.{◌≡◌};
+
 use asn_modules_reader::limits::NESTING_LIMIT;
 
 /// Limits the names of types or of values that stand for one another in a row, as `A ::= B`, and
@@ -25,3 +27,12 @@ pub const INCLUDED_LIMIT: usize = asn_modules_rules::included::INCLUDED_SIZE_LIM
 pub const LEVEL_LIMIT: usize = NESTING_LIMIT
     + asn_modules_rules::included::INCLUDED_LEVEL_LIMIT
     + NESTING_LIMIT;
+
+/// The limits are these numbers.
+pub fn stated_limits()
+    ensures names { NAME_LIMIT ≡ 64 }
+    ensures items { DEFAULT_ITEMS_LIMIT ≡ 16384 }
+    ensures bytes { DEFAULT_STRING_LIMIT ≡ 1024 }
+    ensures types { INCLUDED_LIMIT ≡ 65536 }
+    ensures levels { LEVEL_LIMIT ≡ 320 }
+{}

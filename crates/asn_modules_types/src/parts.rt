@@ -1,14 +1,15 @@
 //! Makes lists of parts: the components of a SEQUENCE or SET, and the alternatives of a CHOICE.
-ghost use Rattle.asn_model.specs.ShapeView.{added_field_views, alternative_views, field_views};
-ghost use Rattle.asn_modules_types.specs.Known.{part_view};
+ghost use Rattle.asn_model.specs.ShapeView.{alternative_views, field_views, presence_view};
+ghost use Rattle.asn_modules_types.specs.Known.{part_view, parts_view};
 ghost use Rattle.asn_expansion.specs.Expansion.{context_tag};
-ghost use Rattle.asn_modules_types.specs.Types.{alternatives_from, fields_from};
+ghost use Rattle.asn_modules_types.specs.Types.{alternatives_from, fields_from, if_required};
+ghost use Rattle.asn_modules_types.specs.Types.{relaxed};
 ghost use Rattle.std.specs.Prelude.{◌≡◌, ◌+◌, ◌∷◌, [], IfOk, OnOk, length, map};
 
 use crate::fault::LinkFault;
 use asn_core::{Class, Tag};
 use asn_model::{AlternativeShape, FieldShape, PresenceShape, SeqKind, Shape};
-use std::alloc::Global;
+use std::alloc::{AllocError, Global};
 
 /// States where components stand. In a CHOICE it doesn't matter: alternatives have no presence, and
 /// there is no COMPONENTS OF.
@@ -38,6 +39,43 @@ pub struct Lists {
     pub root: Vec<Part>,
     /// Lists the extension additions; `None` where there is no marker.
     pub added: Option<Vec<Part>>,
+}
+
+/// Returns whether an extension addition of this presence may be absent: one that is stated as
+/// required may, since a sender of an older version leaves it out (X.680, section 6).
+fn if_required(presence: PresenceShape) -> PresenceShape
+    ensures { presence_view result ≡ if_required (presence_view presence) }
+{
+    match presence {
+        PresenceShape::Required => PresenceShape::Optional,
+        presence => presence,
+    }
+}
+
+/// Returns the part as an extension addition.
+fn relaxed(part: Part) -> Part
+    ensures { part_view result ≡ relaxed (part_view part) }
+{
+    Part {
+        name: part.name,
+        presence: if_required(part.presence),
+        shape: part.shape,
+    }
+}
+
+/// Returns the parts as extension additions, of which each may be absent.
+///
+/// # Errors
+///
+/// Where memory runs out.
+pub fn relaxed_parts(alloc: Global, parts: Vec<Part>) -> Result<Vec<Part>, AllocError>
+    ensures { IfOk result (λ added. parts_view added ≡ map relaxed (parts_view parts)) }
+{
+    let mut added = Vec::new(alloc);
+    for part in parts {
+        added.push(relaxed(part))?;
+    }
+    Ok(added)
 }
 
 /// Returns the context tag with this number.

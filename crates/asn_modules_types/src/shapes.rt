@@ -24,7 +24,7 @@ use crate::fault::LinkFault;
 use crate::leaves::enumerated_shape;
 use crate::limits::NAME_LIMIT;
 use crate::names::{Names, unit_shape};
-use crate::parts::{Lists, Part, Place, alternatives_of, fields_of};
+use crate::parts::{Lists, Part, Place, alternatives_of, fields_of, relaxed_parts};
 use crate::scope::{Scope, included_number, is_extensible};
 use crate::sizes::sized;
 use crate::templates::{bindings_of, takes, template_named};
@@ -264,7 +264,7 @@ fn lists_of(
             let Some(added) = parts_of(scope, depth, left, place, additions)? else {
                 return Ok(None);
             };
-            Some(added)
+            Some(relaxed_parts(scope.names.alloc, added)?)
         }
         None => {
             if is_extensible(scope) {

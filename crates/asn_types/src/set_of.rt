@@ -1,5 +1,5 @@
-//! Describes SET OF (X.680, section 28) by the multisets of `asn_multisets`, for elements that are equal
-//! exactly where their values are.
+//! Describes SET OF (X.680, section 28) by the multisets of `asn_multisets`, for elements that are
+//! equal exactly where their values are.
 ghost use Rattle.asn_model.specs.Shape.{Shape as AbstractShape};
 ghost use Rattle.asn_model.specs.Value.{Value, bag_of, values};
 ghost use Rattle.asn_integers.specs.SetElements.{flags_alike, numbers_alike, texts_alike};

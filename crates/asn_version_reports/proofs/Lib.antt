@@ -3,3 +3,4 @@ pub mod Passed
 pub mod Nodes
 pub mod Listed
 pub mod Reported
+pub mod Lacking

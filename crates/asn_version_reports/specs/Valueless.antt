@@ -1,7 +1,9 @@
 -- The parts of a type that have no values.
-use Rattle.std.specs.Prelude.{ℕ, List, [], ◌∷◌, ◌++◌, None}
+use Rattle.std.specs.Prelude.{ℕ, List, [], ◌∷◌, ◌++◌, codes, map, None}
+use Rattle.std.specs.List.{flat_map}
 use Rattle.asn_growth.specs.Paths.{into_each, under}
 use Rattle.asn_model.specs.Shape.{Shape, Fields, FieldAdditions, Alternatives, AlternativeAdditions}
+use Rattle.asn_version_reports.specs.Paths.{path_text}
 
 -- The paths to the parts that are the type without values, an ENUMERATED without items, in the order of the parts. There is no step to the body of a loop.
 abbrev mutual
@@ -34,3 +36,11 @@ abbrev mutual
   pub added_alternative_valueless : AlternativeAdditions → List (List (List ℕ))
   added_alternative_valueless AlternativeAdditions.closed_alternatives = []
   added_alternative_valueless (AlternativeAdditions.extended_alternatives alts) = alternative_valueless alts
+
+-- The line that says that the part at this path isn't compared with that of another version.
+abbrev pub uncompared_line : List ℕ → List ℕ
+uncompared_line part = part ++ codes ": no value of it is read, so it isn't compared\n"
+
+-- A line for each part without values.
+abbrev pub uncompared_lines : Shape → List ℕ
+uncompared_lines s = flat_map uncompared_line (map path_text (valueless_paths s))

@@ -1,7 +1,10 @@
 -- Entries that were listed so far.
-use Rattle.std.proofs.Common.{◌≡◌, ◌≤◌, ℕ, ◌+◌, ◌<◌, List, [], ◌∷◌, ◌++◌, map, sym, ap, ◌∙◌, get_or, drop, length, add-one}
-use Rattle.std.proofs.lemmas.List.{drop_all}
+use Rattle.std.proofs.Common.{◌≡◌, ◌≤◌, ℕ, ◌+◌, ◌<◌, List, [], ◌∷◌, ◌++◌, map, sym, ap, ◌∙◌, append_assoc, get_or, drop, length, add-one}
+use Rattle.std.proofs.lemmas.List.{drop_all, map-append}
 use Rattle.std.specs.Borrow.{Bor}
+use Rattle.asn_modules_grammar.specs.declared.headers.import.Import.{Import}
+use Rattle.asn_modules_grammar.specs.headers.Views.{import_view}
+use Rattle.asn_modules_names.specs.imports.Imported.{imported_names}
 use Rattle.asn_modules_names.specs.imports.Tables.{names_by, numbered_by}
 use Rattle.asn_modules_names.specs.lookup.Homes.{Home, bytes_in, home_view}
 use Rattle.asn_modules_names.specs.lookup.Views.{entry_view}
@@ -39,3 +42,21 @@ module _ (f : Home → List (List ℕ)) (hs : List code.Home) where
 
   pub modules_listed : (all new : List (List ℕ × ℕ)) (i : ℕ) → length hs ≤ i → all ≡ new ++ names_from i → new ≡ all
   modules_listed all new i h was = sym (listed_all all new (names_from i) was (ap (λ x. names_by f i (map home_view x)) (drop_all i hs h)))
+
+-- Two lists of names of a module, one after another.
+pub numbered_both : (k : ℕ) (before middle : List (List ℕ × ℕ)) (xs ys : List (List ℕ)) → middle ≡ before ++ numbered_by k xs → middle ++ numbered_by k ys ≡ before ++ numbered_by k (xs ++ ys)
+numbered_both k before middle xs ys e =
+    ap (λ l. l ++ numbered_by k ys) e ∙ append_assoc before (numbered_by k xs) (numbered_by k ys) ∙ ap (λ l. before ++ l) (sym (map-append (λ n. (n, k)) xs ys))
+
+-- What the imports of a module list, as they are held.
+module _ (k : ℕ) (h : Home) where
+  abbrev pub imported_from : List Import → List (List ℕ × ℕ)
+  imported_from is = numbered_by k (imported_names h (map import_view is))
+
+  pub import_listed : (all before after : List (List ℕ × ℕ)) (is : List Import) (i : ℕ) (x : Import) → i < length is → x ≡ get_or is i x → all ≡ before ++ imported_from (drop i is) → after ≡ before ++ numbered_by k (map (bytes_in h) x.names.items) → all ≡ after ++ imported_from (drop (i + 1) is)
+  import_listed all before after is i x l e was a =
+      listed_more all before after (numbered_by k (map (bytes_in h) x.names.items)) (imported_from (drop i is)) (imported_from (drop (i + 1) is)) was
+      (ap imported_from (drop_at is i x l e) ∙ map-append (λ n. (n, k)) (map (bytes_in h) x.names.items) (imported_names h (map import_view (drop (i + 1) is)))) a
+
+  pub imports_listed : (is : List Import) (i : ℕ) → length is ≤ i → imported_from (drop i is) ≡ []
+  imports_listed is i l = ap imported_from (drop_all i is l)

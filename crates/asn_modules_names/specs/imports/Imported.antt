@@ -1,12 +1,12 @@
 -- What modules may import (X.680, section 13).
-use Rattle.std.specs.Prelude.{ℕ, List, [], ◌∷◌, filter, map, Bool, true, false, ◌&&◌, if◌then◌else◌, Option, Some, None}
+use Rattle.std.specs.Prelude.{ℕ, List, [], ◌∷◌, ◌++◌, filter, map, Bool, true, false, ◌&&◌, if◌then◌else◌, Option, Some, None}
 use Rattle.std.specs.Option.{option_map}
 use Rattle.std.specs.Str.{bytes_eq}
 use Rattle.asn_modules_grammar.specs.headers.Headers.{Header}
 use Rattle.asn_lexer.specs.declared.token.Token.{Token}
 use Rattle.asn_model.specs.Shape.{is_item}
 use Rattle.asn_modules_errors.specs.declared.cause.NameRule.{NameRule}
-use Rattle.asn_modules_errors.specs.declared.cause.NameRule.TheVariants.{NotExported, OwnImport}
+use Rattle.asn_modules_errors.specs.declared.cause.NameRule.TheVariants.{NotExported, NotHeld, OwnImport}
 use Rattle.asn_modules_names.specs.lookup.Entries.{imports_of}
 use Rattle.asn_modules_names.specs.lookup.Homes.{Home, bytes_in}
 use Rattle.asn_modules_names.specs.Assigned.{assigned_name, first_found, module_name}
@@ -68,10 +68,27 @@ abbrev pub is_exported_by : Option Home → List ℕ → Bool
 is_exported_by None name = true
 is_exported_by (Some h) name = is_exported h name
 
--- The rule that a module breaks by importing the name from itself, or from the module of the name that it states, if there is one, all modules being these: that one exports the name, and so does the only one that assigns it.
+-- The names that these imports of the module list.
+abbrev pub imported_names : Home → List (List Token × Token) → List (List ℕ)
+imported_names h [] = []
+imported_names h (i ∷ is) = map (bytes_in h) i.0 ++ imported_names h is
+
+-- The names that the module assigns or imports, of which another module may import each (X.680, section 13).
+abbrev pub held_names : Home → List (List ℕ)
+held_names h = assigned_by h h.parsed.assignments ++ imported_names h (imports_of h.parsed.header)
+
+-- The module, if there is one, assigns or imports the name.
+abbrev pub is_held_by : Option Home → List ℕ → Bool
+is_held_by None name = true
+is_held_by (Some h) name = is_item (held_names h) name
+
+abbrev pub held_rule : Option Home → List ℕ → Option NameRule
+held_rule named name = if is_held_by named name then None else Some NotHeld
+
+-- The rule that a module breaks by importing the name from itself, or from the module of the name that it states, if there is one, all modules being these: that one exports the name, and so does the only one that assigns it; and that one assigns it, or imports it itself.
 abbrev pub import_rule : List Home → Bool → Option Home → List ℕ → Option NameRule
 import_rule all true named name = Some OwnImport
-import_rule all false named name = if is_exported_by named name && is_exported_by (only_assigning all name) name then None else Some NotExported
+import_rule all false named name = if is_exported_by named name && is_exported_by (only_assigning all name) name then held_rule named name else Some NotExported
 
 -- What breaks a rule in importing these.
 abbrev pub import_fault : List Home → Home → Bool → Option Home → Token → Option Fault

@@ -8,9 +8,9 @@ use Rattle.std.specs.Option.{option_and_then, option_map}
 use Rattle.std.specs.Set.{is_member}
 use Rattle.std.specs.Str.{bytes_eq}
 use Rattle.asn_lexer.specs.declared.token.Token.{Token}
-use Rattle.asn_modules_names.specs.imports.Imported.{assigned_by, exports_of}
+use Rattle.asn_modules_names.specs.imports.Imported.{assigned_by, exports_of, held_names}
 use Rattle.asn_modules_names.specs.declared.imports.entries.Listed.{Listed}
-use Rattle.asn_modules_names.specs.declared.imports.entries.Listed.TheVariants.{Assigned, Exported, Title}
+use Rattle.asn_modules_names.specs.declared.imports.entries.Listed.TheVariants.{Assigned, Exported, Title, Held}
 use Rattle.asn_modules_names.specs.declared.imports.index.ExportIndex.{ExportIndex}
 use Rattle.asn_modules_names.specs.lookup.Homes.{Home, bytes_in, home_view}
 use Rattle.asn_modules_names.specs.lookup.Indexes.{same_name}
@@ -28,6 +28,7 @@ abbrev pub names_of : Listed → Home → List (List ℕ)
 names_of Title h = cons_option (option_map (bytes_in h) (module_name h.parsed)) []
 names_of Assigned h = assigned_by h h.parsed.assignments
 names_of Exported h = map (bytes_in h) (names_in (exports_of h.parsed.header))
+names_of Held h = held_names h
 
 -- The names, each with this number.
 abbrev pub numbered_by : ℕ → List (List ℕ) → List (List ℕ × ℕ)
@@ -63,3 +64,4 @@ pub record IsExportIndex (index : ExportIndex) : Type 0 where
   pub first : (q : Bor (List ℕ)) → get same_name index.first q ≡ last_of bytes_eq (reverse (entries_of Assigned (modules_of index))) q.now
   pub last : (q : Bor (List ℕ)) → get same_name index.last q ≡ last_of bytes_eq (entries_of Assigned (modules_of index)) q.now
   pub exported : (q : Bor (List ℕ) × ℕ) → contains same_entry index.exported q ≡ is_member same_named (entries_of Exported (modules_of index)) (entry_view q)
+  pub held : (q : Bor (List ℕ) × ℕ) → contains same_entry index.held q ≡ is_member same_named (entries_of Held (modules_of index)) (entry_view q)

@@ -1,6 +1,7 @@
 //! Lists names of modules: their own, those that they assign, and those that they export.
 ghost use Rattle.asn_modules_grammar.specs.headers.Views as headers;
-ghost use Rattle.asn_modules_names.specs.imports.Imported.{assigned_by, exports_of};
+ghost use Rattle.asn_modules_names.specs.imports.Imported.{assigned_by, exports_of, held_names};
+ghost use Rattle.asn_modules_names.specs.imports.Imported.{imported_names};
 ghost use Rattle.asn_modules_names.specs.imports.Tables.{names_by, names_in, names_of, numbered_by};
 ghost use Rattle.asn_modules_names.specs.lookup.Homes.{bytes_in, home_view};
 ghost use Rattle.asn_modules_names.specs.lookup.Views.{entry_view};
@@ -9,10 +10,10 @@ ghost use Rattle.asn_modules_grammar.specs.notation.View.{assignment_view};
 ghost use Rattle.std.specs.Prelude.{◌≡◌, ◌++◌, IfOk, OnOk, map};
 ghost use Rattle.std.specs.Option.{option_map};
 
-use crate::lookup::{Home, module_name};
+use crate::lookup::{Home, imports_of, module_name};
 use asn_lexer::Token;
 use asn_modules_errors::text_of;
-use asn_modules_grammar::headers::Header;
+use asn_modules_grammar::headers::{Header, Import};
 use asn_modules_grammar::notation::Assignment;
 use std::alloc::{AllocError, Global};
 
@@ -28,6 +29,8 @@ pub enum Listed {
     Assigned,
     /// Is the names that it lists as exports.
     Exported,
+    /// Is the names that it assigns or imports.
+    Held,
 }
 
 /// Returns the name that is assigned.
@@ -96,6 +99,44 @@ fn add_assigned<'t>(
     Ok(())
 }
 
+/// Appends the names that these imports of the module of the number list.
+///
+/// # Errors
+///
+/// Where memory runs out.
+fn add_imports<'t>(
+    entries: &mut Vec<Entry<'t>>,
+    number: usize,
+    home: Home<'_, 't>,
+    imports: &[Import],
+) -> Result<(), AllocError>
+    ensures { OnOk result (map entry_view entries.new.items ≡ map entry_view entries.old.items
+        ++ numbered_by number
+        (imported_names (home_view home.entry) (map headers.import_view imports.now))) }
+{
+    for import in imports {
+        add_names(entries, number, home, import.names.as_slice())?;
+    }
+    Ok(())
+}
+
+/// Appends the names that the module of the number assigns or imports.
+///
+/// # Errors
+///
+/// Where memory runs out.
+fn add_held<'t>(
+    entries: &mut Vec<Entry<'t>>,
+    number: usize,
+    home: Home<'_, 't>,
+) -> Result<(), AllocError>
+    ensures { OnOk result (map entry_view entries.new.items ≡ map entry_view entries.old.items
+        ++ numbered_by number (held_names (home_view home.entry))) }
+{
+    add_assigned(entries, number, home, home.parsed.assignments.as_slice())?;
+    add_imports(entries, number, home, imports_of(&home.parsed.header))
+}
+
 /// Appends the names that are listed of the module of the number.
 ///
 /// # Errors
@@ -119,6 +160,7 @@ fn add_listed<'t>(
             add_assigned(entries, number, home, home.parsed.assignments.as_slice())
         }
         Listed::Exported => add_names(entries, number, home, listed_exports(&home.parsed.header)),
+        Listed::Held => add_held(entries, number, home),
     }
 }
 

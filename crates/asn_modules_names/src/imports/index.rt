@@ -1,7 +1,7 @@
 //! Makes the tables by which it is found who exports a name, and finds it.
 ghost use Rattle.asn_modules_grammar.specs.headers.Views as headers;
-ghost use Rattle.asn_modules_names.specs.imports.Imported.{exports_of, is_exported_by, module_named};
-ghost use Rattle.asn_modules_names.specs.imports.Imported.{only_assigning};
+ghost use Rattle.asn_modules_names.specs.imports.Imported.{exports_of, is_exported_by, is_held_by};
+ghost use Rattle.asn_modules_names.specs.imports.Imported.{module_named, only_assigning};
 ghost use Rattle.asn_modules_names.specs.imports.Tables.{IsExportIndex, module_at, modules_of};
 ghost use Rattle.asn_modules_names.specs.lookup.Homes.{home_view};
 ghost use Rattle.asn_modules_names.specs.lookup.Lookup.{if_same, last_of};
@@ -32,6 +32,8 @@ pub struct ExportIndex<'h, 's, 't> {
     pub last: HashMap<&'t [u8], usize>,
     /// Holds the names that modules list as exports, each with the number of its module.
     pub exported: HashSet<Entry<'t>>,
+    /// Holds the names that modules assign or import, each with the number of its module.
+    pub held: HashSet<Entry<'t>>,
 }
 
 /// Returns the table of the entries, in which the last one of a key counts.
@@ -82,12 +84,15 @@ pub fn export_index_of<'h, 's, 't>(
     let first = table_of(alloc, assigned.as_slice())?;
     let listed = entries_of(alloc, Listed::Exported, homes)?;
     let exported = set_of(alloc, listed.as_slice())?;
+    let known = entries_of(alloc, Listed::Held, homes)?;
+    let held = set_of(alloc, known.as_slice())?;
     Ok(ExportIndex {
         homes,
         titles,
         first,
         last,
         exported,
+        held,
     })
 }
 
@@ -154,5 +159,20 @@ impl<'h, 's, 't> ExportIndex<'h, 's, 't> {
             return true;
         }
         self.exported.contains(&(name, number))
+    }
+
+    /// Returns whether the module of the number assigns or imports the name. Where there is none,
+    /// nothing is missing.
+    pub fn is_held(&self, number: Option<usize>, name: &'t [u8]) -> bool
+        requires { IsExportIndex self.now }
+        ensures { result ≡ is_held_by (module_at self.now number) name.now }
+    {
+        let Some(number) = number else {
+            return true;
+        };
+        let Some(_home) = self.homes.get(number) else {
+            return true;
+        };
+        self.held.contains(&(name, number))
     }
 }

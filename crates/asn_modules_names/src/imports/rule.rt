@@ -1,5 +1,5 @@
 //! Tells which rule an import breaks.
-ghost use Rattle.asn_modules_names.specs.imports.Imported.{import_rule, is_named};
+ghost use Rattle.asn_modules_names.specs.imports.Imported.{held_rule, import_rule, is_named};
 ghost use Rattle.asn_modules_names.specs.imports.Tables.{IsExportIndex, module_at, modules_of};
 ghost use Rattle.asn_modules_names.specs.lookup.Homes.{home_view};
 ghost use Rattle.std.specs.Prelude.{◌≡◌};
@@ -15,6 +15,23 @@ pub fn is_named(home: Home<'_, '_>, name: &[u8]) -> bool
     match module_name(home.parsed) {
         Some(token) => name == text_of(home.source.text, token),
         None => false,
+    }
+}
+
+/// Returns the rule that is broken where the module of the number, if there is one, neither assigns
+/// nor imports the name.
+fn held_rule<'t>(
+    index: &ExportIndex<'_, '_, 't>,
+    named: Option<usize>,
+    name: &'t [u8],
+) -> Option<NameRule>
+    requires { IsExportIndex index.now }
+    ensures { result ≡ held_rule (module_at index.now named) name.now }
+{
+    if index.is_held(named, name) {
+        None
+    } else {
+        Some(NameRule::NotHeld)
     }
 }
 
@@ -36,7 +53,7 @@ pub fn import_rule<'t>(
     }
     let only = index.only_assigning(name);
     if index.is_exported(named, name) && index.is_exported(only, name) {
-        None
+        held_rule(index, named, name)
     } else {
         Some(NameRule::NotExported)
     }

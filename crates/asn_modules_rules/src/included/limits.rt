@@ -1,4 +1,5 @@
 //! Sets the limits that COMPONENTS OF keeps.
+ghost use Rattle.std.specs.Prelude.{◌≡◌};
 
 /// Limits the names of types that are followed in a row: those behind COMPONENTS OF, and those that
 /// stand for one another, as `A ::= B`.
@@ -19,3 +20,12 @@ pub const INCLUDED_SIZE_LIMIT: usize = 4_194_304;
 /// A text alone has at most 64, but types that include others have those of each, and every level
 /// takes room on the stack.
 pub const INCLUDED_LEVEL_LIMIT: usize = 192;
+
+/// The limits are these numbers, and types and types with actual parameters count these bytes.
+pub fn stated_limits()
+    ensures names { NAME_LIMIT ≡ 64 }
+    ensures types { TYPE_SIZE ≡ 64 }
+    ensures instances { INSTANCE_SIZE ≡ 16384 }
+    ensures bytes { INCLUDED_SIZE_LIMIT ≡ 4194304 }
+    ensures levels { INCLUDED_LEVEL_LIMIT ≡ 192 }
+{}

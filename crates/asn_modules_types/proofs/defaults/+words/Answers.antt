@@ -1,4 +1,4 @@
-use Rattle.std.proofs.Common.{◌≡◌, ◌+◌, ◌-◌, ◌∙◌, None, Some, arith, map, sym}
+use Rattle.std.proofs.Common.{◌≡◌, ◌+◌, ◌-◌, ◌∙◌, None, Some, arith, map, sym, ap}
 use Rattle.asn_modules_names.specs.declared.lookup.sort.Sort.TheVariants.{Types}
 use Rattle.asn_modules_grammar.specs.notation.View.{notation_view}
 use Rattle.asn_modules_types.specs.Assigned.{assigned, stated_type}
@@ -50,6 +50,6 @@ returns-in_ok-constant-in_default t c =
     let less = c.args.more - 1 in
     let above : c.args.more ≡ less + 1 = omega (arith, c.if-more-eq0.false) in
     let n = c.notation_of-notation.result.now in
-    c.constant_in.ensures less
+    ap Some (c.constant_in.ensures less)
     ∙ word_led ss c.args.more less c.args.number (map assigned_view c.args.names.now.types.now) (assigned_view c.in_ok-assigned.assigned) (notation_view n) c.args.word.now above c.requires.known.types c.in_ok-assigned.ensures.there
     (sym c.notation_of-notation.ensures) (Some c.in_ok-constant-in_default.constant) (other_held n c.in_default.not-Reference) (c.in_ok-constant-in_default.ensures (map stated_type (assigned Types ss)) c.requires.known.numbers)

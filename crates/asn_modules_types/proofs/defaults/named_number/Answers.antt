@@ -1,4 +1,4 @@
-use Rattle.std.proofs.Common.{ap, arith, sym, ◌∙◌}
+use Rattle.std.proofs.Common.{ap, arith, sym, ◌∙◌, Some}
 use Rattle.std.specs.Str.{bytes_eq}
 use Rattle.asn_modules_types.specs.Known.{scope_view}
 use Rattle.asn_modules_types.proofs.Naming.{named_here, named_none, named_past}
@@ -6,7 +6,7 @@ use Rattle.asn_modules_types.proofs.defaults.named_number.Goals as goal
 
 pub returns-then-eq : goal.returns-then-eq
 returns-then-eq c = λ limit.
-    c.constant_in.ensures limit
+    ap Some (c.constant_in.ensures limit)
     ∙ sym (c.loop-entry.invariant limit ∙ named_here (scope_view limit c.args.scope.now) c.args.named.now c.loop-entry.entry-index c.args.word.now _ c.loop-entry-test.true (ap (λ x. bytes_eq x c.args.word.now) (sym c.text_of.ensures) ∙ sym c.eq.ensures ∙ c.if-eq.true))
 
 pub loop-entry-preserved : goal.loop-entry-preserved

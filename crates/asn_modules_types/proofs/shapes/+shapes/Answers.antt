@@ -20,7 +20,7 @@ use Rattle.asn_modules_types.proofs.Following.{follows_roots, roots_none}
 use Rattle.asn_modules_types.proofs.Seen.{included_known, notation_made, part_made, part_missed, roots_made}
 use Rattle.asn_modules_types.proofs.Separated.{component_unmarked, group_known, lists_addless, lists_closed, lists_extended, lists_implied, lists_rootless, member_unmarked, parts_end, parts_missed, parts_more, root_frontless, root_made, root_tailless}
 use Rattle.asn_modules_types.proofs.shapes.+shapes.Goals as goal
-use Rattle.asn_modules_types.proofs.shapes.+shapes.Goals.{lists_of-in-Some-extension+in_ok-added-in-Some-extension+in-Some-2, lists_of-in-None+then-is_extensible, lists_of-in-None+else-is_extensible}
+use Rattle.asn_modules_types.proofs.shapes.+shapes.Goals.{lists_of-in-Some-extension+in_ok-added-in-Some-extension+in-Some-2+in_ok-relaxed_parts-in-Some-extension, lists_of-in-None+then-is_extensible, lists_of-in-None+else-is_extensible}
 
 pub shape_of-returns-clause-shape : goal.shape_of-returns-clause-shape
 shape_of-returns-clause-shape t c =
@@ -89,8 +89,9 @@ lists_of-returns-clause-lists t c =
     let root = parts_view c.in-Some.root in
     let known = sym (ap (option_map parts_view) c.in-Some.is) ∙ c.in_ok-root.ensures.root in
     elim c.match-members.branch [
-      | lists_of-in-Some-extension+in_ok-added-in-Some-extension+in-Some-2 w ↦
+      | lists_of-in-Some-extension+in_ok-added-in-Some-extension+in-Some-2+in_ok-relaxed_parts-in-Some-extension w ↦
           ap (λ o. Some (root, option_map parts_view o)) w.added-is
+          ∙ ap (λ l. Some (root, Some l)) w.in_ok-relaxed_parts-in-Some-extension.ensures
           ∙ sym (lists_extended roots s (outside_brackets (kind_view c.args.kind)) s.extensible c.args.members.now w.in-Some-extension.extension root (parts_view w.in-Some-2.added) w.in-Some-extension.is known
           (sym (ap (option_map parts_view) w.in-Some-2.is) ∙ w.in_ok-added-in-Some-extension.ensures.parts ∙ ap (λ l. known_parts roots s (outside_brackets (kind_view c.args.kind)) (map member_view l)) w.as_slice-additions.ensures.value))
       | lists_of-in-None+then-is_extensible w ↦

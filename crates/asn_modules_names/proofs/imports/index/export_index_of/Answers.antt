@@ -14,6 +14,7 @@ returns-clause-tables c =
     let titled = c.in_ok-titled.titled.items in
     let assigned = c.in_ok-assigned.assigned.items in
     let listed = c.in_ok-listed.listed.items in
+    let known = c.in_ok-known.known.items in
     record {
       titles = λ q. c.in_ok-titles.ensures q ∙ ap (λ es. last_of same_name es q) (c.as_slice.ensures.value ∙ c.reverse.ensures.items) ∙ named_found (reverse titled) q
           ∙ ap (λ es. last_of bytes_eq es q.now) (entries_turned titled ∙ ap reverse c.in_ok-titled.ensures);
@@ -21,4 +22,5 @@ returns-clause-tables c =
           ∙ ap (λ es. last_of bytes_eq es q.now) (entries_turned assigned ∙ ap reverse c.in_ok-assigned.ensures);
       last = λ q. c.in_ok-last.ensures q ∙ ap (λ es. last_of same_name es q) c.as_slice-2.ensures.value ∙ named_found assigned q ∙ ap (λ es. last_of bytes_eq es q.now) c.in_ok-assigned.ensures;
       exported = λ q. c.in_ok-exported.ensures q ∙ ap (λ es. is_member same_entry es q) c.as_slice-4.ensures.value ∙ members_viewed q listed ∙ ap (λ es. is_member same_named es (entry_view q)) c.in_ok-listed.ensures;
+      held = λ q. c.in_ok-held.ensures q ∙ ap (λ es. is_member same_entry es q) c.as_slice-5.ensures.value ∙ members_viewed q known ∙ ap (λ es. is_member same_named es (entry_view q)) c.in_ok-known.ensures;
     }

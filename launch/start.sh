@@ -1,6 +1,6 @@
 # What the launchers of the programs share; they source this file. Each sets `top`, the folder of the
 # repository, `command`, its own name, `name`, the crate of its program, and `waiting`, words with
-# which that waits on a pipe (see .ci/try). It runs the proved program where that is built and no
+# which that waits on a pipe (see launch/try). It runs the proved program where that is built and no
 # source is newer than it. Else it compiles the sources, runs them unproved, and says so on standard
 # error. What it compiled is kept in out/unproved until a source is newer.
 proved=$top/crates/$name/out/$name
@@ -54,7 +54,7 @@ need_toolchain() {
 prove() {
     if ! is_current "$proved"; then
         need_toolchain
-        "$top/.ci/prove" "$name" </dev/null >&2 || exit 1
+        "$top/launch/prove" "$name" </dev/null >&2 || exit 1
     fi
     echo "$command is proved: $proved"
 }
@@ -73,6 +73,6 @@ choose() {
     else
         need_toolchain
         say "$state, and is compiled first, in about two minutes; $how"
-        "$top/.ci/try" "$name" "$program" $waiting </dev/null >&2 || exit 125
+        "$top/launch/try" "$name" "$program" $waiting </dev/null >&2 || exit 125
     fi
 }

@@ -37,6 +37,7 @@ fetch() {
     ls -d "$1"-*/ >/dev/null 2>&1 && return
     apt-get source --download-only "$2" >"$room/fetched" 2>&1
     for archive in "$2"_*.orig.tar.[bgx]z*; do
+        [ "${archive%.asc}" = "$archive" ] || continue
         tar xf "$archive" 2>/dev/null || {
             tail -n 2 "$room/fetched"
             echo "can't be had: the source package $2 (is deb-src switched on, and apt-get update done?)"
@@ -148,19 +149,33 @@ restored() {
     rm -f "$room"/*.asn
 }
 
+# Puts copies in the place of the files where these comment out an assignment that one of them
+# imports, and has that assignment again: X.680 has no import of what the other module lacks.
+mended() {
+    local at file
+    grep -qE '^--( SetupRelease \{|directoryUnbind )' "${files[@]}" || return
+    rm -rf "$room/mended" && mkdir "$room/mended"
+    for at in "${!files[@]}"; do
+        file=$room/mended/${files[at]##*/}
+        sed -E -e '/^-- SetupRelease \{/,/^-- \}/s/^-- //' -e 's/^--(directoryUnbind )/\1/' "${files[at]}" >"$file"
+        files[at]=$file
+    done
+}
+
 # Prints what is said of each protocol of Wireshark, and converts values of those that are read.
 protocols() {
     local folder all=0 whole=0 types=0
     for folder in wireshark-*/epan/dissectors/asn1/*/; do
         files=("$folder"*.asn*)
         [ -e "${files[0]}" ] || continue
+        mended
         all=$((all + 1))
         if "$asn" check "${files[@]}" >"$room/out" 2>"$room/err"; then
             echo "$folder: $(head -n 1 "$room/out"), $(($(wc -l <"$room/out") - 1)) parts without values"
             whole=$((whole + 1))
             types=$((types + $(head -n 1 "$room/out" | cut -d' ' -f1)))
             values "${files[@]}"
-            grep -q '^-- SetupRelease {' "${files[@]}" && restored "${files[@]}"
+            grep -q '^SetupRelease {' "${files[@]}" && restored "${files[@]}"
         else
             echo "$folder: $(head -n 1 "$room/err")"
         fi

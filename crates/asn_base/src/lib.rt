@@ -1,6 +1,6 @@
 //! Passes on the plain types that ASN.1 types and both notations share, under one name: what
-//! `asn_core` has, the multisets of `asn_sets`, the character strings of `asn_strings`, and the times
-//! of `asn_times` with what makes them of `jiff`'s civil values (`asn_civil`).
+//! `asn_core` has, the multisets of `asn_sets`, the character strings of `asn_strings`, and the
+//! times of `asn_times` with what makes them of `jiff`'s civil values (`asn_civil`).
 #![tactic(auto)]
 
 pub use asn_civil::{CivilDate, CivilGeneralizedTime, CivilUtcTime};

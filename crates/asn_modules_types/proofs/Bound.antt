@@ -20,7 +20,7 @@ use Rattle.asn_modules_types.specs.Assigned.{Assigned, assigned, notation_of, pa
 use Rattle.asn_modules_types.specs.Known.{binding_view, included_number, roots_where}
 use Rattle.asn_modules_types.specs.Linked.{instance_by, instance_in, no_roots, takes, template_named, template_scope, type_roots}
 use Rattle.asn_modules_types.specs.Templates.{Bindings, Finder, argument_number, bindings, bound, listed}
-use Rattle.asn_modules_types.specs.Types.{Part, Place, notation_shape}
+use Rattle.asn_modules_types.specs.Types.{Place, notation_shape}
 use Rattle.asn_modules_types.specs.Values.{found_in}
 use Rattle.asn_modules_types.specs.declared.scope.Binding.{Binding}
 

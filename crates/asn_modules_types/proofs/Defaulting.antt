@@ -1,5 +1,5 @@
 -- The values that DEFAULT states, by the kind of their shape.
-use Rattle.std.proofs.Common.{◌≡◌, ℕ, ℤ, List, Bool, true, false, if◌then◌else◌, Option, sym, ap}
+use Rattle.std.proofs.Common.{◌≡◌, ℕ, ℤ, List, true, false, if◌then◌else◌, Option, sym, ap}
 use Rattle.asn_model.specs.Shape.{Shape}
 use Rattle.asn_modules_names.specs.Assigned.{first_found}
 use Rattle.asn_modules_grammar.specs.declared.notation.value.Value.{Value}

@@ -1,5 +1,5 @@
 -- The types and values that modules assign, by their numbers.
-use Rattle.std.specs.Prelude.{ℕ, suc, List, [], ◌∷◌, ◌++◌, filter_map, Option, Some, None, option_map}
+use Rattle.std.specs.Prelude.{ℕ, suc, List, [], ◌∷◌, ◌++◌, filter_map, Option, option_map}
 use Rattle.asn_lexer.specs.declared.token.Token.{Token}
 use Rattle.asn_modules_names.specs.lookup.Entries.{name_as}
 use Rattle.asn_modules_names.specs.lookup.Homes.{Home, homes}

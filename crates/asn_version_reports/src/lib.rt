@@ -1,5 +1,5 @@
-//! Reports on versions of a type in words: where and why a type is no later version of another, which
-//! parts of a type have no values, and that these aren't compared.
+//! Reports on versions of a type in words: where and why a type is no later version of another,
+//! which parts of a type have no values, and that these aren't compared.
 #![tactic(auto)]
 
 mod differences;

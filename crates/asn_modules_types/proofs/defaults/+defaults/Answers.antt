@@ -2,11 +2,8 @@ use Rattle.std.proofs.Common.{◌≡◌, ◌+◌, ◌-◌, ◌∙◌, ap, arith,
 use Rattle.std.proofs.lemmas.Result.{IfOk-weaker}
 use Rattle.std.specs.Option.{option_map}
 use Rattle.asn_model.specs.ShapeView.{plain_view, shape_view}
-use Rattle.asn_modules_grammar.specs.notation.View.{notation_view}
 use Rattle.asn_modules_types.specs.Defaults.{plain_in, suited}
-use Rattle.asn_modules_types.specs.Known.{scope_view, sources_of, stated_view}
-use Rattle.asn_modules_types.specs.Types.{number_in_type}
-use Rattle.asn_modules_types.specs.declared.limits.TheConstants.{NAME_LIMIT}
+use Rattle.asn_modules_types.specs.Known.{sources_of, stated_view}
 use Rattle.asn_modules_types.proofs.Leading.{leads_here, leads_no_further, leads_nowhere, leads_on}
 use Rattle.asn_modules_types.proofs.defaults.+defaults.Goals as goal
 

@@ -1,5 +1,5 @@
 -- Older and newer versions of a type of modules.
-use Rattle.std.specs.Prelude.{◌≡◌, ◌⊎◌, ℕ, ◌<◌, ◌^◌, List, ◌++◌, codes, string_bytes, true, Some, None, Result, Ok, Err}
+use Rattle.std.specs.Prelude.{◌≡◌, ◌⊎◌, ℕ, ◌<◌, ◌^◌, List, [], ◌++◌, codes, string_bytes, true, Some, None, Result, Ok, Err}
 use Rattle.asn_command.specs.declared.versions.pair.Versions as code
 use Rattle.asn_growth.specs.Differences.{differences_of}
 use Rattle.asn_growth.specs.Grows.{Grows}
@@ -17,6 +17,7 @@ use Rattle.asn_replies.specs.declared.reply.Reply.{Reply}
 use Rattle.asn_replies.specs.declared.reply.Reply.TheVariants.{Answer, Refusal}
 use Rattle.asn_replies.specs.declared.status.Status.TheVariants.{Refused}
 use Rattle.asn_version_reports.specs.Reports.{report_text}
+use Rattle.asn_version_reports.specs.Valueless.{uncompared_lines, valueless_paths}
 
 -- The line that says that the type of the name has too many parts.
 abbrev pub large_line : List ℕ → List ℕ
@@ -44,24 +45,35 @@ abbrev pub IsWhole : Modules → List ℕ → Result Shape Reply → Type 0
 IsWhole m name (Ok s) = IsTypeNamed m name (shape_view s)
 IsWhole m name (Err reply) = IsNoType m name reply
 
--- The shapes are those of the type of the name in older and in newer modules, and the newer one is a later version of the older one.
+-- The shapes are those of the type of the name in older and in newer modules, and the newer one is a later version of the older one. Each part of the older one has values. So has each part of the newer one that is compared with one of these: the type without values is a later version of itself alone.
 pub record IsLater (old new : Modules) (name : List ℕ) (older newer : spec.Shape) : Type 0 where
   pub is_older : shape_named old name ≡ Some older
   pub is_newer : shape_named new name ≡ Some newer
   pub grows : Grows older newer
+  pub valued : valueless_paths older ≡ []
 
--- The reply refuses a command since the newer one is no later version: it has a line for each place of the older one that differs.
+-- The reply refuses a command since the newer one is no later version: it has a line for each place of the older one that differs, and one for each part of that one that isn't compared since it has no values.
 pub record IsDifference (old new : Modules) (name : List ℕ) (reply : Reply) : Type 0 where
   pub older : spec.Shape
   pub newer : spec.Shape
   pub is_older : shape_named old name ≡ Some older
   pub is_newer : shape_named new name ≡ Some newer
   pub differs : Grows older newer → ⊥
-  pub told : IsRefusal Refused (report_text (paths older) (differences_of older newer 0)) reply
+  pub told : IsRefusal Refused (report_text (paths older) (differences_of older newer 0) ++ uncompared_lines older) reply
+
+-- The reply refuses a command since parts of the older one have no values. Nothing else differs, and each of them has a line.
+pub record IsValueless (old new : Modules) (name : List ℕ) (reply : Reply) : Type 0 where
+  pub older : spec.Shape
+  pub newer : spec.Shape
+  pub is_older : shape_named old name ≡ Some older
+  pub is_newer : shape_named new name ≡ Some newer
+  pub grows : Grows older newer
+  pub lacking : valueless_paths older ≡ [] → ⊥
+  pub told : IsRefusal Refused (uncompared_lines older) reply
 
 -- The reply refuses a command since there are no such versions.
 abbrev pub AreNone : Modules → Modules → List ℕ → Reply → Type 0
-AreNone old new name reply = IsNoType old name reply ⊎ (IsNoType new name reply ⊎ IsDifference old new name reply)
+AreNone old new name reply = IsNoType old name reply ⊎ (IsNoType new name reply ⊎ (IsDifference old new name reply ⊎ IsValueless old new name reply))
 
 -- The versions of the type of the name, or why there are none.
 abbrev pub AreVersions : Modules → Modules → List ℕ → Result code.Versions Reply → Type 0

@@ -12,7 +12,7 @@ use asn_linked_types::expander::{ExpansionFault, expand};
 use asn_model::Shape;
 use asn_modules::Modules;
 use asn_replies::{Reply, Status, missing_reply};
-use asn_version_reports::differences_report;
+use asn_version_reports::{differences_report, uncompared_report};
 use std::alloc::Global;
 
 /// Returns the refusal of a command whose type is too large to be compared.
@@ -53,8 +53,9 @@ fn whole_type(
 }
 
 /// Returns the types of the name in the older and in the newer modules, where the newer one is a
-/// later version. Else it returns the refusal: one of the two has no such type, or one that is too
-/// large; or a line for each place of the older type that differs.
+/// later version and each part of the older one has values. Else it returns the refusal: one of the
+/// two has no such type, or one that is too large; or a line for each place of the older type that
+/// differs, and one for each part of it that has no values, so that nothing is known of it.
 ///
 /// # Errors
 ///
@@ -75,10 +76,18 @@ pub fn versions_of(
         Ok(shape) => shape,
         Err(reply) => return Ok(Err(reply)),
     };
+    let uncompared = uncompared_report(alloc, &older)?;
     match grows_check(&older, &newer) {
-        Growth::Grows => Ok(Ok(Versions::new(older, newer))),
+        Growth::Grows => {
+            if uncompared.is_empty() {
+                Ok(Ok(Versions::new(older, newer)))
+            } else {
+                Ok(Err(Reply::refused(uncompared)))
+            }
+        }
         Growth::Differs { .. } => {
-            let report = differences_report(alloc, &older, &newer)?;
+            let mut report = differences_report(alloc, &older, &newer)?;
+            report.push_str(&uncompared)?;
             Ok(Err(Reply::refused(report)))
         }
     }

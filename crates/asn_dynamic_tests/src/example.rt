@@ -1,4 +1,4 @@
-//! Shows a type that a program holds as data, as docs/TYPES-AS-DATA.md does.
+//! Shows a type that a program holds as data, as docs/FROM-A-PROGRAM.md does.
 use crate::checks::{MEMORY, UNREADABLE, assert_printed, assert_true, let_go, refusal};
 use asn_core::{Codec, OutOfMemory, Tag, WholeNumber};
 use asn_dynamic::{DynError, DynValue, Step, fits, read, write};

@@ -1,4 +1,5 @@
 pub mod Fronts
+pub mod Spaces
 pub mod Comments
 pub mod Words
 pub mod Shorter

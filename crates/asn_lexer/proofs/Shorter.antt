@@ -5,16 +5,17 @@ use Rattle.std.specs.Option.{option_map, option_or}
 use Rattle.avn_grammar.specs.Chars.{is_digit, is_letter, skip_while, starts_with}
 use Rattle.avn_grammar.specs.Octets.{is_hex}
 use Rattle.avn_grammar.proofs.Runs.{past-le, past-step}
-use Rattle.asn_lexer.specs.Blanks.{is_white, ends_line, past_line_comment, past_block_comment}
+use Rattle.asn_lexer.specs.Blanks.{is_white, no_break_space, begins_white, past_spaced, ends_line, past_line_comment, past_block_comment}
 use Rattle.asn_lexer.specs.Fronts.{begins}
 use Rattle.asn_lexer.specs.Pieces.{as_token, piece_at}
 use Rattle.asn_lexer.specs.Runs.{is_bit_or_white, is_hex_or_white}
 use Rattle.asn_lexer.specs.Signs.{long_signs, sign_among, sign_of_char, short_sign_at, sign_at}
-use Rattle.asn_lexer.specs.Words.{is_word_char, continues_word, past_word, begins_hex, past_number, past_string, quoted_at}
+use Rattle.asn_lexer.specs.Words.{is_word_char, continues_word, past_word, begins_hex, begins_fraction, begins_exponent, past_sign, past_exponent, behind_digits, number_at, past_string, quoted_at}
 use Rattle.asn_lexer.specs.declared.kind.Kind.{Kind}
 use Rattle.asn_lexer.specs.declared.kind.Kind.TheVariants as kind
 use Rattle.asn_lexer.specs.declared.piece.Piece.{Piece}
 use Rattle.asn_lexer.specs.declared.piece.Piece.TheVariants.{Blank, Token}
+use Rattle.asn_lexer.proofs.Spaces.{spaced_le, spaced_passes, spaced_skips}
 use Rattle.asn_lexer.proofs.Words.{word_goes, word_le}
 
 -- What holds either way holds of the choice.
@@ -64,6 +65,10 @@ string_le (c ∷ d ∷ u) =
     either_way (AtMost (length (c ∷ d ∷ u))) (begins (34 ∷ []) (c ∷ d ∷ u)) (Some (d ∷ u)) (past_string (d ∷ u)) (λ _. omega arith)
     (λ _. at_most (length (d ∷ u)) _ (past_string (d ∷ u)) (omega arith) (string_le (d ∷ u))))
 
+or_false : (b : Bool) → (b || false) ≡ true → b ≡ true
+or_false true h = refl
+or_false false h = h
+
 letter_continues : (c : ℕ) (u : List ℕ) → is_letter c ≡ true → continues_word (c ∷ u) ≡ true
 letter_continues c u h = ap (λ b. (b || is_digit c || (c == 95)) || ((c == 45) && starts_with is_word_char u)) h
 
@@ -73,20 +78,41 @@ word_lt c u h = omega (arith, ap (λ v. length v) (word_goes (c ∷ u) (letter_c
 run_lt : (p : ℕ → Bool) (c : ℕ) (u : List ℕ) → p c ≡ true → length (skip_while p (c ∷ u)) < suc (length u)
 run_lt p c u h = omega (arith, ap (λ v. length v) (past-step p (c ∷ u) u c h refl), past-le p u)
 
-number_lt : (c : ℕ) (u : List ℕ) → is_digit c ≡ true → length (past_number (c ∷ u)) < suc (length u)
+-- What follows white space is shorter.
+white_lt : (c : ℕ) (u : List ℕ) → begins_white (c ∷ u) ≡ true → length (past_spaced is_white (c ∷ u)) < suc (length u)
+white_lt c u h =
+    elim (begins no_break_space (c ∷ u)) as (λ a. begins no_break_space (c ∷ u) ≡ a → (is_white c || a) ≡ true → length (past_spaced is_white (c ∷ u)) < suc (length u)) [
+      | true ↦ λ e _. omega (arith, ap (λ v. length v) (spaced_skips is_white (c ∷ u) e), spaced_le is_white (drop 1 u), drop_le 1 u)
+      | false ↦ λ e w. omega (arith, ap (λ v. length v) (spaced_passes is_white (c ∷ u) u c refl e (or_false (is_white c) w)), spaced_le is_white u)
+    ] refl h
+
+sign_le : (u : List ℕ) → length (past_sign u) ≤ length u
+sign_le u = either_way (λ v. length v ≤ length u) (starts_with (λ c. (c == 43) || (c == 45)) u) (drop 1 u) u (λ _. drop_le 1 u) (λ _. omega arith)
+
+exponent_le : (u : List ℕ) → length (past_exponent u) ≤ length u
+exponent_le u = either_way (λ v. length v ≤ length u) (begins_exponent u) (skip_while is_digit (past_sign (drop 1 u))) u (λ _. omega (arith, past-le is_digit (past_sign (drop 1 u)), sign_le (drop 1 u), drop_le 1 u)) (λ _. omega arith)
+
+digits_le : (u : List ℕ) → length (behind_digits u).1 ≤ length u
+digits_le u =
+    either_way {A = Kind × List ℕ} (λ f. length f.1 ≤ length u) (begins_fraction u) (kind.RealNumber, past_exponent (skip_while is_digit (drop 1 u))) (if begins_exponent u then (kind.RealNumber, past_exponent u) else (kind.Number, u))
+    (λ _. omega (arith, exponent_le (skip_while is_digit (drop 1 u)), past-le is_digit (drop 1 u), drop_le 1 u)) (λ _.
+    either_way {A = Kind × List ℕ} (λ f. length f.1 ≤ length u) (begins_exponent u) (kind.RealNumber, past_exponent u) (kind.Number, u) (λ _. exponent_le u) (λ _. omega arith))
+
+number_lt : (c : ℕ) (u : List ℕ) → is_digit c ≡ true → length (number_at (c ∷ u)).1 < suc (length u)
+unfolding number_at
 number_lt c u h =
-    either_way (λ v. length v < suc (length u)) (begins_hex (c ∷ u)) (skip_while is_hex (drop 1 u)) (skip_while is_digit (c ∷ u))
-    (λ _. omega (arith, past-le is_hex (drop 1 u), drop_le 1 u)) (λ _. run_lt is_digit c u h)
+    either_way {A = Kind × List ℕ} (λ f. length f.1 < suc (length u)) (begins_hex (c ∷ u)) (kind.Number, skip_while is_hex (drop 1 u)) (behind_digits (skip_while is_digit (c ∷ u)))
+    (λ _. omega (arith, past-le is_hex (drop 1 u), drop_le 1 u)) (λ _. omega (arith, digits_le (skip_while is_digit (c ∷ u)), run_lt is_digit c u h))
 
 quoted_lt : (u : List ℕ) → Below (suc (length u)) (quoted_at u)
 unfolding quoted_at
 quoted_lt u =
-    let v = skip_while is_bit_or_white u in
-    let w = skip_while is_hex_or_white u in
+    let v = past_spaced is_bit_or_white u in
+    let w = past_spaced is_hex_or_white u in
     either_way (Below (suc (length u))) (begins (codes "'B") v) (Some (kind.Bstring, drop 2 v)) (if begins (codes "'H") w then Some (kind.Hstring, drop 2 w) else None)
-    (λ _. omega (arith, drop_le 2 v, past-le is_bit_or_white u)) (λ _.
+    (λ _. omega (arith, drop_le 2 v, spaced_le is_bit_or_white u)) (λ _.
     either_way (Below (suc (length u))) (begins (codes "'H") w) (Some (kind.Hstring, drop 2 w)) None
-    (λ _. omega (arith, drop_le 2 w, past-le is_hex_or_white u)) (λ _. tt))
+    (λ _. omega (arith, drop_le 2 w, spaced_le is_hex_or_white u)) (λ _. tt))
 
 -- The signs have characters.
 abbrev AreSome : List (List ℕ × Kind) → Type 0
@@ -135,7 +161,7 @@ marks_lt c u =
 begins_lt : (c : ℕ) (u : List ℕ) → Below (suc (length u)) (piece_at (c ∷ u))
 unfolding piece_at
 begins_lt c u =
-    either_way (Below (suc (length u))) (is_white c) _ _ (λ h. run_lt is_white c u h) (λ _.
+    either_way (Below (suc (length u))) (begins_white (c ∷ u)) _ _ (λ h. white_lt c u h) (λ _.
     either_way (Below (suc (length u))) (is_letter c) _ _ (λ h. word_lt c u h) (λ _.
     either_way (Below (suc (length u))) (is_digit c) _ _ (λ h. number_lt c u h) (λ _.
     either_way (Below (suc (length u))) (begins (codes "--") (c ∷ u)) _ _ (λ _. omega (arith, line_le (drop 1 u), drop_le 1 u)) (λ _.

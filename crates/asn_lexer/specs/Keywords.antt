@@ -13,7 +13,8 @@ header_words =
     ∷ (codes "END", keyword.End) ∷ (codes "EXPORTS", keyword.Exports) ∷ (codes "ALL", keyword.All) ∷ (codes "IMPORTS", keyword.Imports)
     ∷ (codes "FROM", keyword.From) ∷ (codes "WITH", keyword.With) ∷ (codes "SUCCESSORS", keyword.Successors) ∷ (codes "DESCENDANTS", keyword.Descendants)
     ∷ (codes "MACRO", keyword.Macro) ∷ (codes "CLASS", keyword.Class) ∷ (codes "INSTANCE", keyword.Instance) ∷ (codes "SYNTAX", keyword.Syntax)
-    ∷ (codes "TYPE-IDENTIFIER", keyword.TypeIdentifier) ∷ (codes "ABSTRACT-SYNTAX", keyword.AbstractSyntax) ∷ []
+    ∷ (codes "TYPE-IDENTIFIER", keyword.TypeIdentifier) ∷ (codes "ABSTRACT-SYNTAX", keyword.AbstractSyntax)
+    ∷ (codes "INSTRUCTIONS", keyword.Instructions) ∷ (codes "ENCODING-CONTROL", keyword.EncodingControl) ∷ []
 
 -- Those within types.
 abbrev pub part_words : List (List ℕ × Keyword)
@@ -30,7 +31,7 @@ type_words =
     ∷ (codes "BIT", keyword.Bit) ∷ (codes "OBJECT", keyword.Object) ∷ (codes "ENUMERATED", keyword.Enumerated) ∷ (codes "SEQUENCE", keyword.Sequence)
     ∷ (codes "SET", keyword.Set) ∷ (codes "CHOICE", keyword.Choice) ∷ (codes "ANY", keyword.Any) ∷ (codes "REAL", keyword.Real)
     ∷ (codes "EXTERNAL", keyword.External) ∷ (codes "EMBEDDED", keyword.Embedded) ∷ (codes "CHARACTER", keyword.Character) ∷ (codes "RELATIVE-OID", keyword.RelativeOid)
-    ∷ (codes "ObjectDescriptor", keyword.ObjectDescriptor) ∷ []
+    ∷ (codes "ObjectDescriptor", keyword.ObjectDescriptor) ∷ (codes "OID-IRI", keyword.OidIri) ∷ (codes "RELATIVE-OID-IRI", keyword.RelativeOidIri) ∷ []
 
 -- Those for character strings.
 abbrev pub text_words : List (List ℕ × Keyword)

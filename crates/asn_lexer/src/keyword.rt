@@ -51,6 +51,10 @@ pub enum Keyword {
     TypeIdentifier,
     /// Is `ABSTRACT-SYNTAX`.
     AbstractSyntax,
+    /// Is `INSTRUCTIONS`.
+    Instructions,
+    /// Is `ENCODING-CONTROL`.
+    EncodingControl,
     /// Is `SIZE`.
     Size,
     /// Is `UNIVERSAL`.
@@ -111,6 +115,10 @@ pub enum Keyword {
     RelativeOid,
     /// Is `ObjectDescriptor`.
     ObjectDescriptor,
+    /// Is `OID-IRI`.
+    OidIri,
+    /// Is `RELATIVE-OID-IRI`.
+    RelativeOidIri,
     /// Is `UTF8String`.
     Utf8String,
     /// Is `NumericString`.
@@ -180,6 +188,8 @@ fn header_word(text: &str) -> Option<Keyword>
         "SYNTAX" => Some(Keyword::Syntax),
         "TYPE-IDENTIFIER" => Some(Keyword::TypeIdentifier),
         "ABSTRACT-SYNTAX" => Some(Keyword::AbstractSyntax),
+        "INSTRUCTIONS" => Some(Keyword::Instructions),
+        "ENCODING-CONTROL" => Some(Keyword::EncodingControl),
         _ => None,
     }
 }
@@ -228,6 +238,8 @@ fn type_word(text: &str) -> Option<Keyword>
         "CHARACTER" => Some(Keyword::Character),
         "RELATIVE-OID" => Some(Keyword::RelativeOid),
         "ObjectDescriptor" => Some(Keyword::ObjectDescriptor),
+        "OID-IRI" => Some(Keyword::OidIri),
+        "RELATIVE-OID-IRI" => Some(Keyword::RelativeOidIri),
         _ => None,
     }
 }

@@ -1,16 +1,29 @@
 //! Lists the kinds of tokens.
 use crate::keyword::Keyword;
 
+/// Tells how a name begins. X.680 tells names of types from names of values by it (sections 12.2 to
+/// 12.4).
+#[derive(Clone, Copy, Drop, PartialEq, Eq)]
+pub enum Initial {
+    /// With a capital letter.
+    Capital,
+    /// With a small letter.
+    Small,
+}
+
 /// Names a kind of token (X.680, section 12).
 #[derive(Clone, Copy, Drop, PartialEq, Eq)]
 pub enum Kind {
     /// Is a word that isn't reserved: a letter, then letters, digits, `_`, and single `-` which one
     /// of these follows.
-    Name,
+    Name(Initial),
     /// Is the reserved word.
     Reserved(Keyword),
     /// Is a number: digits, or `0x` and hexadecimal digits.
     Number,
+    /// Is a real number (X.680, section 12.9): digits and a point, digits behind it or none, and an
+    /// exponent or none, as `1.5`, `1.` and `1.5e-3`; or digits and an exponent, as `15E2`.
+    RealNumber,
     /// Is a string between quotes, in which a quote is written twice.
     Cstring,
     /// Is binary digits, as `'0110'B`.

@@ -15,7 +15,7 @@ mod token;
 mod word;
 
 pub use keyword::Keyword;
-pub use kind::Kind;
+pub use kind::{Initial, Kind};
 pub use place::{Place, place_of};
 pub use split::{LexFault, tokens};
 pub use token::Token;

@@ -1,14 +1,14 @@
 //! Reads what stands at the front of a text.
-ghost use Rattle.asn_lexer.specs.Pieces.{piece_at, word_kind};
+ghost use Rattle.asn_lexer.specs.Pieces.{initial_of, piece_at, word_kind};
 ghost use Rattle.std.specs.Option.{option_map};
 ghost use Rattle.std.specs.Prelude.{◌≡◌};
 
 use crate::comment::{past_block_comment, past_line_comment};
 use crate::keyword::Keyword;
-use crate::kind::Kind;
-use crate::run::{Run, passes, past_run};
+use crate::kind::{Initial, Kind};
+use crate::run::{NO_BREAK_SPACE, Run, passes, past_spaced};
 use crate::sign::sign_at;
-use crate::word::{past_number, past_string, quoted_at, word_at};
+use crate::word::{number_at, past_string, quoted_at, word_at};
 
 /// States what a part of a text is.
 #[derive(Clone, Copy, Drop, PartialEq, Eq)]
@@ -19,13 +19,23 @@ pub enum Piece {
     Token(Kind),
 }
 
+/// Returns how the word begins.
+fn initial_of(word: &str) -> Initial
+    ensures { result ≡ initial_of word.now }
+{
+    match word.as_bytes() {
+        [b'A'..=b'Z', ..] => Initial::Capital,
+        _ => Initial::Small,
+    }
+}
+
 /// Returns the kind of the word: a reserved word, or a name.
 fn word_kind(word: &str) -> Kind
     ensures { result ≡ word_kind word.now }
 {
     match Keyword::named(word) {
         Some(keyword) => Kind::Reserved(keyword),
-        None => Kind::Name,
+        None => Kind::Name(initial_of(word)),
     }
 }
 
@@ -39,15 +49,16 @@ pub fn piece_at(text: &[u8]) -> Option<(Piece, &[u8])>
         return None;
     };
     let first = *first;
-    if passes(Run::Whites, first) {
-        return Some((Piece::Blank, past_run(Run::Whites, text)));
+    if passes(Run::Whites, first) || text.starts_with(NO_BREAK_SPACE.as_slice()) {
+        return Some((Piece::Blank, past_spaced(Run::Whites, text)));
     }
     if first.is_ascii_alphabetic() {
         let (word, rest) = word_at(text);
         return Some((Piece::Token(word_kind(word)), rest));
     }
     if passes(Run::Digits, first) {
-        return Some((Piece::Token(Kind::Number), past_number(text)));
+        let (kind, rest) = number_at(text);
+        return Some((Piece::Token(kind), rest));
     }
     if let Some(rest) = text.strip_prefix(b"--".as_slice()) {
         return Some((Piece::Blank, past_line_comment(rest)));

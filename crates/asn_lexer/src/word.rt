@@ -1,11 +1,12 @@
 //! Passes over words, numbers and strings.
-ghost use Rattle.asn_lexer.specs.Words.{continues_word, is_word_char, past_number, past_string};
-ghost use Rattle.asn_lexer.specs.Words.{past_word, quoted_at, word_front};
+ghost use Rattle.asn_lexer.specs.Words.{begins_exponent, begins_fraction, behind_digits};
+ghost use Rattle.asn_lexer.specs.Words.{continues_word, is_word_char, number_at, past_exponent};
+ghost use Rattle.asn_lexer.specs.Words.{past_sign, past_string, past_word, quoted_at, word_front};
 ghost use Rattle.std.specs.Option.{option_map};
 ghost use Rattle.std.specs.Prelude.{◌≡◌};
 
 use crate::kind::Kind;
-use crate::run::{Run, passes, past_run};
+use crate::run::{Run, passes, past_run, past_spaced};
 
 /// Returns whether the byte is a letter, a digit or `_`.
 fn is_word_char(byte: u8) -> bool
@@ -50,15 +51,73 @@ pub fn word_at(text: &[u8]) -> (&str, &[u8])
     }
 }
 
-/// Returns what follows the number at the front of the text.
-pub fn past_number(text: &[u8]) -> &[u8]
-    ensures { result.now ≡ past_number text.now }
+/// Returns whether a point stands at the front of the text that isn't the first of two.
+fn begins_fraction(text: &[u8]) -> bool
+    ensures { result ≡ begins_fraction text.now }
+{
+    text.starts_with(b".".as_slice()) && !text.starts_with(b"..".as_slice())
+}
+
+/// Returns what follows the optional sign at the front of the text.
+fn past_sign(text: &[u8]) -> &[u8]
+    ensures { result.now ≡ past_sign text.now }
+{
+    match text {
+        [b'+' | b'-', rest @ ..] => rest,
+        _ => text,
+    }
+}
+
+/// Returns whether an exponent stands at the front of the text.
+fn begins_exponent(text: &[u8]) -> bool
+    ensures { result ≡ begins_exponent text.now }
+{
+    match text {
+        [b'e' | b'E', rest @ ..] => {
+            let digits = past_sign(rest);
+            !digits.is_empty() && passes(Run::Digits, digits[0])
+        }
+        _ => false,
+    }
+}
+
+/// Returns what follows the optional exponent at the front of the text.
+fn past_exponent(text: &[u8]) -> &[u8]
+    ensures { result.now ≡ past_exponent text.now }
+{
+    if !begins_exponent(text) {
+        return text;
+    }
+    match text {
+        [_, rest @ ..] => past_run(Run::Digits, past_sign(rest)),
+        [] => text,
+    }
+}
+
+/// Returns what the number is whose digits were read, and what follows it.
+fn behind_digits(text: &[u8]) -> (Kind, &[u8])
+    ensures { (result.0, result.1.now) ≡ behind_digits text.now }
+{
+    if begins_fraction(text) {
+        let rest = past_run(Run::Digits, &text[1..]);
+        return (Kind::RealNumber, past_exponent(rest));
+    }
+    if begins_exponent(text) {
+        return (Kind::RealNumber, past_exponent(text));
+    }
+    (Kind::Number, text)
+}
+
+/// Returns what the number at the front of the text is, and what follows it.
+#[tactic(auto, unfolding(crate::specs::Words::number_at))]
+pub fn number_at(text: &[u8]) -> (Kind, &[u8])
+    ensures { (result.0, result.1.now) ≡ number_at text.now }
 {
     match text.strip_prefix(b"0x".as_slice()) {
         Some(digits) if !digits.is_empty() && passes(Run::HexDigits, digits[0]) => {
-            past_run(Run::HexDigits, digits)
+            (Kind::Number, past_run(Run::HexDigits, digits))
         }
-        _ => past_run(Run::Digits, text),
+        _ => behind_digits(past_run(Run::Digits, text)),
     }
 }
 
@@ -88,10 +147,10 @@ pub fn past_string(text: &[u8]) -> Option<&[u8]>
 pub fn quoted_at(text: &[u8]) -> Option<(Kind, &[u8])>
     ensures { option_map (λ found. (found.0, found.1.now)) result ≡ quoted_at text.now }
 {
-    if let Some(rest) = past_run(Run::Bits, text).strip_prefix(b"'B".as_slice()) {
+    if let Some(rest) = past_spaced(Run::Bits, text).strip_prefix(b"'B".as_slice()) {
         return Some((Kind::Bstring, rest));
     }
-    if let Some(rest) = past_run(Run::Octets, text).strip_prefix(b"'H".as_slice()) {
+    if let Some(rest) = past_spaced(Run::Octets, text).strip_prefix(b"'H".as_slice()) {
         return Some((Kind::Hstring, rest));
     }
     None

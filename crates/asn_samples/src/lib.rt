@@ -1,6 +1,6 @@
 //! Gives the sample types the names by which the program knows them. The types stand in the crates
 //! `asn_sample_fields`, `asn_sample_choices` and `asn_sample_trees`, whose names this crate passes
-//! on; `docs/YOUR-OWN-TYPE.md` goes through the files to copy.
+//! on; `docs/FROM-A-PROGRAM.md` goes through the files to copy.
 #![tactic(auto)]
 
 mod sample;

@@ -1,5 +1,5 @@
 //! Converts an alarm from one notation to the other: a whole program over types of one's own, the
-//! example of `docs/YOUR-OWN-TYPE.md`. `example_convert jer FILE` reads JSON and writes AVN,
+//! example of `docs/FROM-A-PROGRAM.md`. `example_convert jer FILE` reads JSON and writes AVN,
 //! `example_convert avn FILE` the other way; without a file it reads standard input.
 #![tactic(auto, using(asn_coding::proofs::Passing::field_steps))]
 

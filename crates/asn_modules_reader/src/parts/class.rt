@@ -7,7 +7,7 @@ ghost use Rattle.std.specs.Prelude.{◌≡◌, ◌<◌, ◌≤◌, IfOk, MatchOp
 
 use crate::parts::group::past;
 use crate::parts::mark::{Mark, take};
-use asn_lexer::Token;
+use asn_lexer::{Kind, Token};
 use asn_modules_grammar::headers::{Expected, Group, SyntaxFault, unexpected};
 use std::alloc::Global;
 
@@ -24,6 +24,18 @@ pub(crate) fn take_field(tokens: &[Token]) -> Option<&[Token]>
     match take(Mark::Ampersand, behind) {
         Some((_ampersand, rest)) => Some(rest),
         None => None,
+    }
+}
+
+/// Returns whether a point and `&` stand here.
+pub(crate) fn begins_field(tokens: &[Token]) -> bool
+    ensures { result ≡ begins_field tokens.now }
+{
+    match tokens {
+        [point, ampersand, ..] => {
+            matches!(point.kind, Kind::Point) && matches!(ampersand.kind, Kind::Ampersand)
+        }
+        _ => false,
     }
 }
 

@@ -144,7 +144,7 @@ fn read_plain_value(alloc: Global, tokens: &[Token]) -> Result<(Value, &[Token])
         Kind::Cstring => Ok((Value::Cstring(first), rest)),
         Kind::Bstring => Ok((Value::Bstring(first), rest)),
         Kind::Hstring => Ok((Value::Hstring(first), rest)),
-        Kind::Name | Kind::Reserved(_) => read_word_value(alloc, first, rest),
+        Kind::Name(_) | Kind::Reserved(_) => read_word_value(alloc, first, rest),
         Kind::OpenBrace => read_braced_value(alloc, first, rest),
         _ => Err(unexpected(tokens, Expected::Value)),
     }

@@ -15,6 +15,7 @@ use Rattle.asn_modules_grammar.specs.notation.Lists.{no_more, one_more, last_ent
 use Rattle.asn_modules_grammar.specs.notation.Modules.{Assignment, type_assignment, value_assignment, BodyParses, TextParses, modules_parse, assignments_parse, no_modules, next_module, no_assignments, next_assignment, assignment_parses, type_parses, value_parses, template_assignment}
 use Rattle.asn_modules_grammar.specs.notation.Notation.{notation, leaf, bit_string, enumerated, members, list_of, reference, instance_of, notations_of, component, components_of, group, marker, members_of}
 use Rattle.asn_modules_grammar.specs.notation.Numbers.{no_named_numbers, some_items}
+use Rattle.asn_modules_grammar.specs.notation.Sizes.{of_at}
 use Rattle.asn_modules_grammar.specs.notation.Starts.{Start, start_at, begins_type}
 use Rattle.asn_modules_grammar.specs.notation.Values.{value_at}
 use Rattle.asn_modules_grammar.specs.declared.notation.leaf.Closed.TheVariants.{ClassField, Parameterized}
@@ -144,3 +145,20 @@ field_begins = refl
 no_small : {a : Assignment} {rest : List Token} → BodyParses 64 (small 0) (at kind.Assignment 1 ∷ word keyword.Boolean 2 ∷ []) a rest → ⊥
 no_small (type_parses h k d) = let e : true ≡ false = k in let y : ⊥ = cc in y
 no_small (value_parses h d k x) = h refl
+
+-- SET SIZE (1..4) OF a BOOLEAN has named elements, whose name means nothing.
+named_elements : NotationParses 64 0
+    (word keyword.Set 0 ∷ word keyword.Size 1 ∷ at kind.OpenParen 2 ∷ at kind.Number 3 ∷ at kind.Range 4 ∷ at kind.Number 5 ∷ at kind.CloseParen 6 ∷ word keyword.Of 7 ∷ small 8 ∷ word keyword.Boolean 9 ∷ [])
+    (notation [] (list_of SeqKind.set (notation [] (leaf Boolean) [])) []) []
+named_elements = notation_parses (fits 0 refl) (no_more refl) refl (list_parses refl (notation_parses fits_one (no_more refl) refl leaf_parses (no_more refl))) (no_more refl)
+
+-- The elements of SEQUENCE OF a.&T are of the type of a field.
+element_field : of_at (word keyword.Of 0 ∷ small 1 ∷ at kind.Point 2 ∷ at kind.Ampersand 3 ∷ capital 4 ∷ []) ≡ Some (small 1 ∷ at kind.Point 2 ∷ at kind.Ampersand 3 ∷ capital 4 ∷ [])
+element_field = refl
+
+-- 1.5 and -1.5 are values, kept by their first tokens.
+real : value_at (at kind.RealNumber 0 ∷ at kind.Comma 1 ∷ []) ≡ Some (value.Other (at kind.RealNumber 0), at kind.Comma 1 ∷ [])
+real = refl
+
+negative_real : value_at (at kind.Minus 0 ∷ at kind.RealNumber 1 ∷ []) ≡ Some (value.Other (at kind.Minus 0), [])
+negative_real = refl

@@ -9,7 +9,7 @@ use Rattle.asn_lexer.specs.declared.token.Token.{Token}
 use Rattle.asn_modules_grammar.specs.headers.Fronts.{first_is, is_name}
 use Rattle.asn_model.specs.Shape.{SeqKind}
 use Rattle.asn_model.specs.declared.shape_type.Alphabet.TheVariants as alphabet
-use Rattle.asn_modules_grammar.specs.notation.Classes.{begins_field, past_fields, past_class, past_instance}
+use Rattle.asn_modules_grammar.specs.notation.Classes.{begins_field, names_value, past_fields, past_class, past_instance}
 use Rattle.asn_modules_grammar.specs.notation.Kinds.{past, name_at, is_small, is_by, is_defined, is_identifier, is_pdv, is_point, is_string}
 use Rattle.asn_modules_grammar.specs.declared.notation.leaf.Closed.TheVariants as closed
 use Rattle.asn_modules_grammar.specs.declared.notation.leaf.Leaf.{Leaf}
@@ -146,11 +146,6 @@ opens_type (kind.Name initial) = true
 opens_type kind.OpenBracket = true
 opens_type (kind.Reserved k) = is_opening (opening_of k)
 opens_type k = false
-
--- The name of a value stands here: one that begins with a small letter, and no fields behind it.
-abbrev pub names_value : List Token → Bool
-names_value [] = false
-names_value (t ∷ u) = is_small t.kind && not (begins_field u)
 
 -- So behind the name of a module.
 abbrev pub names_module_value : List Token → Bool

@@ -1,12 +1,13 @@
 //! Passes over object classes and their fields (X.681).
 ghost use Rattle.asn_modules_grammar.specs.headers.Fronts.{AnswersRest};
-ghost use Rattle.asn_modules_grammar.specs.notation.Classes.{begins_field, past_braces, past_class};
+ghost use Rattle.asn_modules_grammar.specs.notation.Classes.{begins_field, names_value};
+ghost use Rattle.asn_modules_grammar.specs.notation.Classes.{past_braces, past_class};
 ghost use Rattle.asn_modules_grammar.specs.notation.Classes.{past_fields, past_instance, past_names};
 ghost use Rattle.asn_modules_grammar.specs.notation.Classes.{past_syntax};
 ghost use Rattle.std.specs.Prelude.{◌≡◌, ◌<◌, ◌≤◌, IfOk, MatchOption, false, length, true};
 
 use crate::parts::group::past;
-use crate::parts::mark::{Mark, take};
+use crate::parts::mark::{Mark, is_small, take};
 use asn_lexer::{Kind, Token};
 use asn_modules_grammar::headers::{Expected, Group, SyntaxFault, unexpected};
 use std::alloc::Global;
@@ -36,6 +37,16 @@ pub(crate) fn begins_field(tokens: &[Token]) -> bool
             matches!(point.kind, Kind::Point) && matches!(ampersand.kind, Kind::Ampersand)
         }
         _ => false,
+    }
+}
+
+/// Returns whether the name of a value stands here.
+pub(crate) fn names_value(tokens: &[Token]) -> bool
+    ensures { result ≡ names_value tokens.now }
+{
+    match tokens {
+        [first, rest @ ..] => is_small(first.kind) && !begins_field(rest),
+        [] => false,
     }
 }
 

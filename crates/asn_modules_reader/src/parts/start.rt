@@ -3,7 +3,7 @@ ghost use Rattle.asn_modules_grammar.specs.headers.Fronts.{Answers};
 ghost use Rattle.asn_modules_grammar.specs.notation.Classes.{past_class, past_fields, past_instance};
 ghost use Rattle.asn_modules_grammar.specs.notation.Starts.{any_at, begins_type, is_opening, leaf_at};
 ghost use Rattle.asn_modules_grammar.specs.notation.Starts.{named_at, named_class_at, opened_at, opens_type};
-ghost use Rattle.asn_modules_grammar.specs.notation.Starts.{names_module_value, names_value};
+ghost use Rattle.asn_modules_grammar.specs.notation.Starts.{names_module_value};
 ghost use Rattle.asn_modules_grammar.specs.notation.Starts.{reference_at, start_at};
 ghost use Rattle.asn_modules_grammar.specs.declared.notation.leaf.Closed.TheVariants as closed;
 ghost use Rattle.asn_modules_grammar.specs.declared.notation.leaf.Leaf.TheVariants as leaf;
@@ -11,7 +11,9 @@ ghost use Rattle.asn_modules_reader.specs.parts.Marks.{passes};
 ghost use Rattle.asn_modules_reader.specs.parts.Starts.{opening_view, pair_at, start_view};
 ghost use Rattle.std.specs.Prelude.{◌≡◌, ◌<◌, ◌≤◌, IfOk, length};
 
-use crate::parts::class::{begins_field, past_class, past_fields, past_instance, take_field};
+use crate::parts::class::{
+    begins_field, names_value, past_class, past_fields, past_instance, take_field,
+};
 use crate::parts::mark::{Mark, is_small, take};
 use crate::parts::opening::{Opening, opening_of};
 use asn_lexer::{Kind, Token};
@@ -238,16 +240,6 @@ fn opens_type(kind: Kind) -> bool
         Kind::Name(_) | Kind::OpenBracket => true,
         Kind::Reserved(keyword) => is_opening(opening_of(keyword)),
         _ => false,
-    }
-}
-
-/// Returns whether the name of a value stands here.
-fn names_value(tokens: &[Token]) -> bool
-    ensures { result ≡ names_value tokens.now }
-{
-    match tokens {
-        [first, rest @ ..] => is_small(first.kind) && !begins_field(rest),
-        [] => false,
     }
 }
 

@@ -4,8 +4,8 @@ use Rattle.asn_modules_grammar.specs.notation.View.{notation_view}
 use Rattle.asn_modules_reader.proofs.ModulesRead.{small_none, type_read, type_none, value_read, value_untyped, value_unassigned, value_none}
 use Rattle.asn_modules_reader.proofs.assignment.read_body.Goals as goal
 
-pub returns-in-Some-then-is_small-clause-found : goal.returns-in-Some-then-is_small-clause-found
-returns-in-Some-then-is_small-clause-found c = λ syntax a rest q.
+pub returns-then-is_small-clause-found : goal.returns-then-is_small-clause-found
+returns-then-is_small-clause-found c = λ syntax a rest q.
     small_none 64 c.args.name c.args.tokens.now c.in-Some.ensures.0 (sym c.is_small.ensures ∙ c.if-is_small.true) a rest q
 
 pub returns-in_err-assigned-clause-found : goal.returns-in_err-assigned-clause-found

@@ -9,7 +9,7 @@ use Rattle.asn_modules_grammar.specs.headers.Groups.{past_optional_braces}
 use Rattle.asn_modules_grammar.specs.headers.Headers.{Header, HeaderParses, definitions_at}
 use Rattle.asn_modules_grammar.proofs.headers.HeadersRead.{same_header}
 use Rattle.asn_modules_grammar.specs.notation.Grammar.{NotationParses}
-use Rattle.asn_modules_grammar.specs.notation.Kinds.{assigned_at, assigns_universal, first_kind, is_open_brace, is_string_type}
+use Rattle.asn_modules_grammar.specs.notation.Kinds.{assigned_at, assigns_universal, first_kind, is_open_brace, is_small, is_string_type}
 use Rattle.asn_modules_grammar.specs.notation.Modules.{Assignment, type_assignment, value_assignment, Module, BodyParses, type_parses, value_parses, parameters_at, with_parameters, assigned_by, AssignmentParses, assignment_parses, AssignmentsParse, no_assignments, next_assignment, ModulesParse, no_modules, next_module, TextParses, modules_parse, assignments_parse, begins_module}
 use Rattle.asn_modules_grammar.specs.notation.Notation.{Notation}
 use Rattle.asn_modules_grammar.specs.notation.Values.{value_at}
@@ -23,28 +23,33 @@ pub unnamed : (limit : ℕ) (u : List Token) → assigned_at u ≡ None → (a :
 unnamed limit u h a rest (assignment_parses n p d) = none_some h n
 
 -- What goes on behind a name and its parameters.
-pub type_read : (limit : ℕ) (name : Token) (u v rest : List Token) (n : Notation) → first_kind u ≡ Some kind.Assignment → v ≡ drop 1 u → NotationParses limit 0 v n rest → BodyParses limit name u (type_assignment name n) rest
-type_read limit name u v rest n k f d = type_parses k (subst (λ z. NotationParses limit 0 z n rest) f d)
+pub type_read : (limit : ℕ) (name : Token) (u v rest : List Token) (n : Notation) → first_kind u ≡ Some kind.Assignment → is_small name.kind ≡ false → v ≡ drop 1 u → NotationParses limit 0 v n rest
+    → BodyParses limit name u (type_assignment name n) rest
+type_read limit name u v rest n k s f d = type_parses k s (subst (λ z. NotationParses limit 0 z n rest) f d)
 
 pub type_none : (limit : ℕ) (name : Token) (u v : List Token) → first_kind u ≡ Some kind.Assignment → v ≡ drop 1 u → ((n : Notation) (rest : List Token) → NotationParses limit 0 v n rest → ⊥)
     → (a : Assignment) (rest : List Token) → BodyParses limit name u a rest → ⊥
-type_none limit name u v k f none a rest (type_parses {n = n} j d) = none n rest (subst (λ z. NotationParses limit 0 z n rest) (sym f) d)
+type_none limit name u v k f none a rest (type_parses {n = n} j s d) = none n rest (subst (λ z. NotationParses limit 0 z n rest) (sym f) d)
 type_none limit name u v k f none a rest (value_parses j d l x) = j k
+
+pub small_none : (limit : ℕ) (name : Token) (u : List Token) → first_kind u ≡ Some kind.Assignment → is_small name.kind ≡ true → (a : Assignment) (rest : List Token) → BodyParses limit name u a rest → ⊥
+small_none limit name u k h a rest (type_parses j s d) = true_false (sym h ∙ s)
+small_none limit name u k h a rest (value_parses j d l x) = j k
 
 pub value_read : (limit : ℕ) (name : Token) (u v w rest : List Token) (n : Notation) (value : Value) → first_kind u ≢ Some kind.Assignment → NotationParses limit 0 u n v → first_kind v ≡ Some kind.Assignment → w ≡ drop 1 v → value_at w ≡ Some (value, rest)
     → BodyParses limit name u (value_assignment name n value) rest
 value_read limit name u v w rest n value k d l f p = value_parses k d l (ap value_at (sym f) ∙ p)
 
 pub value_untyped : (limit : ℕ) (name : Token) (u : List Token) → first_kind u ≢ Some kind.Assignment → ((n : Notation) (v : List Token) → NotationParses limit 0 u n v → ⊥) → (a : Assignment) (rest : List Token) → BodyParses limit name u a rest → ⊥
-value_untyped limit name u k none a rest (type_parses j d) = k j
+value_untyped limit name u k none a rest (type_parses j s d) = k j
 value_untyped limit name u k none a rest (value_parses {v = v} {n = n} j d l x) = none n v d
 
 pub value_unassigned : (limit : ℕ) (name : Token) (u v : List Token) (n : Notation) → first_kind u ≢ Some kind.Assignment → NotationParses limit 0 u n v → first_kind v ≢ Some kind.Assignment → (a : Assignment) (rest : List Token) → BodyParses limit name u a rest → ⊥
-value_unassigned limit name u v n k d l a rest (type_parses j c) = k j
+value_unassigned limit name u v n k d l a rest (type_parses j s c) = k j
 value_unassigned limit name u v n k d l a rest (value_parses j c m x) = l (ap first_kind (same_notation d c).1 ∙ m)
 
 pub value_none : (limit : ℕ) (name : Token) (u v w : List Token) (n : Notation) → first_kind u ≢ Some kind.Assignment → NotationParses limit 0 u n v → w ≡ drop 1 v → value_at w ≡ None → (a : Assignment) (rest : List Token) → BodyParses limit name u a rest → ⊥
-value_none limit name u v w n k d f none a rest (type_parses j c) = k j
+value_none limit name u v w n k d f none a rest (type_parses j s c) = k j
 value_none limit name u v w n k d f none a rest (value_parses j c m p) = none_some (ap value_at (sym (f ∙ ap (drop 1) (same_notation d c).1)) ∙ none) p
 
 -- An assignment, by what follows its name.

@@ -14,7 +14,7 @@ ghost use Rattle.std.specs.Prelude.{map};
 
 use crate::limits::NESTING_LIMIT;
 use crate::notation::read_notation;
-use crate::parts::{Mark, Sign, past_parameters, read_value, take, take_sign};
+use crate::parts::{Mark, Sign, is_small, past_parameters, read_value, take, take_sign};
 use asn_lexer::{Keyword, Kind, Token};
 use asn_modules_grammar::headers::{Expected, SyntaxFault, read_names, unexpected};
 use asn_modules_grammar::notation::{Assignment, Base, Closed, Leaf, Notation, Value};
@@ -66,7 +66,7 @@ fn take_assigned(tokens: &[Token]) -> Option<(Token, &[Token])>
 {
     match tokens {
         [first, rest @ ..] => {
-            if matches!(first.kind, Kind::Name)
+            if matches!(first.kind, Kind::Name(_))
                 || (is_string_type(first.kind) && assigns_universal(rest))
             {
                 Some((*first, rest))
@@ -83,7 +83,8 @@ fn take_assigned(tokens: &[Token]) -> Option<(Token, &[Token])>
 ///
 /// # Errors
 ///
-/// `Unexpected` where none goes on here, and `OutOfMemory`.
+/// `Unexpected` where none goes on here, as where a type is assigned to a name that begins with a
+/// small letter, and `OutOfMemory`.
 fn read_body(
     alloc: Global,
     name: Token,
@@ -93,6 +94,9 @@ fn read_body(
     ensures shorter { IfOk result (λ found. length found.1.now < length tokens.now) }
 {
     if let Some(inner) = take_sign(Sign::Assignment, tokens) {
+        if is_small(name.kind) {
+            return Err(unexpected(tokens, Expected::Type));
+        }
         let (assigned, rest) = read_notation(alloc, inner, 0)?;
         let assignment = Assignment::Type {
             name,

@@ -18,7 +18,7 @@ mod value;
 pub use entries::Entries;
 pub use group::{past, past_parameters};
 pub use item::{read_item, read_items};
-pub use mark::{Mark, take};
+pub use mark::{Mark, is_small, take};
 pub use number::{read_constant, read_named_number, read_named_numbers};
 pub use sign::{Sign, take_sign};
 pub use size::{read_of, read_sizes};

@@ -2,6 +2,7 @@
 use Rattle.std.proofs.Common.{◌≡◌, ℕ, pos, suc, List, [], ◌∷◌, ◌++◌, codes, Bool, true, false, if◌then◌else◌, Some, None, refl}
 use Rattle.std.specs.Str.{chars, is_utf8}
 use Rattle.asn_expansion.specs.Expansion.{context_tag}
+use Rattle.asn_lexer.specs.declared.kind.Initial.TheVariants.{Small}
 use Rattle.asn_lexer.specs.declared.kind.Kind.{Kind}
 use Rattle.asn_lexer.specs.declared.kind.Kind.TheVariants as kind
 use Rattle.asn_lexer.specs.declared.token.Token.{Token}
@@ -60,7 +61,7 @@ abbrev at : Kind → ℕ → Token
 at k n = record { kind = k; start = n; end = suc n }
 
 abbrev word : ℕ → Token
-word n = at kind.Name n
+word n = at (kind.Name Small) n
 
 -- A type without tags and constraints.
 abbrev plain : Base → Notation

@@ -1,5 +1,5 @@
 //! Texts with their tokens, and texts that stop.
-use asn_lexer::{Kind, LexFault, place_of, tokens};
+use asn_lexer::{Initial, Kind, LexFault, place_of, tokens};
 use std::alloc::Global;
 use std::process::Abort;
 use std::test::Fail;
@@ -29,8 +29,9 @@ fn stops(rt: &impl Abort, alloc: Global, text: &str, place: usize) -> Result<(),
     Ok(())
 }
 
-/// Lists texts with their tokens. Comments are those of X.680, section 12.6.
-const TEXTS: [(&str, &str); 28] = [
+/// Lists texts with their tokens. Comments are those of X.680, section 12.6, real numbers those of
+/// 12.9.
+const TEXTS: [(&str, &str); 34] = [
     ("", ""),
     (" \t\r\n\u{b}\u{c}", ""),
     ("A ::= INTEGER", "A|::=|INTEGER|"),
@@ -49,7 +50,11 @@ const TEXTS: [(&str, &str); 28] = [
     ("a /*/ b */ c", "a|c|"),
     ("a /**/ b /***/ c", "a|b|c|"),
     ("0 12 0x1F 0x 007", "0|12|0x1F|0|x|007|"),
-    ("1..5 1.5 (MIN..MAX)", "1|..|5|1|.|5|(|MIN|..|MAX|)|"),
+    ("1..5 1.5 (MIN..MAX)", "1|..|5|1.5|(|MIN|..|MAX|)|"),
+    ("1. 1.,1.e5 0.5", "1.|1.|,|1.e5|0.5|"),
+    ("1.5e3 15E-2 1e+07", "1.5e3|15E-2|1e+07|"),
+    ("1e 1e- 1ex 1.5f", "1|e|1|e|-|1|ex|1.5|f|"),
+    ("0.1..0.5 1...,2 1.2.3", "0.1|..|0.5|1|...|,|2|1.2|.|3|"),
     ("{ ... , ..., .. }", "{|...|,|...|,|..|}|"),
     ("[[ [ ]] ] [[]]", "[[|[|]]|]|[[|]]|"),
     (":: = ::= :::=", ":|:|=|::=|:|::=|"),
@@ -64,6 +69,11 @@ const TEXTS: [(&str, &str); 28] = [
         "'01101100'B|'AB0196'H|''H|''B|",
     ),
     ("'0 1\n1'B 'A B'Hx", "'0 1\n1'B|'A B'H|x|"),
+    ("a\u{a0}b \u{a0}\u{a0} c\u{a0}", "a|b|c|"),
+    (
+        "'0\u{a0}1'B 'A\u{a0} B'H",
+        "'0\u{a0}1'B|'A\u{a0} B'H|",
+    ),
     (
         "\"\u{e4}\" -- \u{20ac} -- /* \u{1f600} */ a",
         "\"\u{e4}\"|a|",
@@ -80,7 +90,7 @@ fn splits_texts(rt: HostRuntime) -> Result<(), Fail> {
 }
 
 /// Lists texts that stop, with the places where they do.
-const STOPS: [(&str, usize); 13] = [
+const STOPS: [(&str, usize); 14] = [
     ("a /* b", 2),
     ("a /* /* */ b", 2),
     ("a \"b\"\"", 2),
@@ -92,7 +102,8 @@ const STOPS: [(&str, usize); 13] = [
     ("a '", 2),
     ("_a", 0),
     ("A ::= %", 6),
-    ("a\u{a0}b", 1),
+    ("a\u{a2}b", 1),
+    ("\u{a0}\u{2011}", 2),
     ("/*/", 0),
 ];
 
@@ -108,10 +119,12 @@ fn stops_at_other_parts(rt: HostRuntime) -> Result<(), Fail> {
 /// Tokens have their kinds.
 #[test]
 fn tells_kinds(rt: HostRuntime) -> Result<(), Fail> {
-    let found = tokens(rt.alloc(), "a 1 \"s\" '1'B '1'H ::= [[")?;
+    let found = tokens(rt.alloc(), "a A 1 1.5 \"s\" '1'B '1'H ::= [[")?;
     let kinds = [
-        Kind::Name,
+        Kind::Name(Initial::Small),
+        Kind::Name(Initial::Capital),
         Kind::Number,
+        Kind::RealNumber,
         Kind::Cstring,
         Kind::Bstring,
         Kind::Hstring,

@@ -199,9 +199,9 @@ mutual
   same_braces (some_members_parse p h) (some_members_parse q k) = same_members p q brace_closes
 
 same_body : {limit : ℕ} {name : Token} {u r s : List Token} {a b : Assignment} → BodyParses limit name u a r → BodyParses limit name u b s → (a ≡ b) × (r ≡ s)
-same_body {name = name} (type_parses h d) (type_parses h' d') = let e = same_notation d d' in (ap (type_assignment name) e.0, e.1)
-same_body (type_parses h d) (value_parses h' d' k' x') = absurd (h' h)
-same_body (value_parses h' d' k' x') (type_parses h d) = absurd (h' h)
+same_body {name = name} (type_parses h k d) (type_parses h' k' d') = let e = same_notation d d' in (ap (type_assignment name) e.0, e.1)
+same_body (type_parses h k d) (value_parses h' d' k' x') = absurd (h' h)
+same_body (value_parses h' d' k' x') (type_parses h k d) = absurd (h' h)
 same_body {name = name} (value_parses {x = x} h d k b) (value_parses {v = w'} {rest = rest'} {n = n'} {x = x'} h' d' k' b') =
     let f = same_notation d d' in
     let g = some_same b (subst (λ y. value_at (drop 1 y) ≡ Some (x', rest')) (sym f.1) b') in

@@ -13,7 +13,7 @@ first_of [] = None
 first_of (t ∷ u) = Some t
 
 abbrev pub is_name : Kind → Bool
-is_name kind.Name = true
+is_name (kind.Name initial) = true
 is_name k = false
 
 -- The first token is there, and its kind passes.

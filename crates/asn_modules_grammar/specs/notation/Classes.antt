@@ -1,16 +1,21 @@
 -- Object classes and their fields (X.681), which are passed over.
-use Rattle.std.specs.Prelude.{List, [], ◌∷◌, drop, Bool, true, false, ◌&&◌, if◌then◌else◌, Option, Some, None}
+use Rattle.std.specs.Prelude.{List, [], ◌∷◌, drop, Bool, true, false, not, ◌&&◌, if◌then◌else◌, Option, Some, None}
 use Rattle.std.specs.Option.{option_and_then}
 use Rattle.asn_lexer.specs.declared.token.Token.{Token}
 use Rattle.asn_modules_grammar.specs.headers.Fronts.{first_is, is_name}
 use Rattle.asn_modules_grammar.specs.headers.Groups.{past_groups}
 use Rattle.asn_modules_grammar.specs.declared.headers.group.Group.TheVariants.{Braces}
-use Rattle.asn_modules_grammar.specs.notation.Kinds.{past, is_ampersand, is_class_word, is_of, is_open_brace, is_point, is_syntax, is_with}
+use Rattle.asn_modules_grammar.specs.notation.Kinds.{past, is_ampersand, is_class_word, is_of, is_open_brace, is_point, is_small, is_syntax, is_with}
 
 -- A point and `&` stand here: the name of a field follows.
 abbrev pub begins_field : List Token → Bool
 begins_field (p ∷ a ∷ u) = is_point p.kind && is_ampersand a.kind
 begins_field u = false
+
+-- The name of a value stands here: one that begins with a small letter, and no fields behind it.
+abbrev pub names_value : List Token → Bool
+names_value [] = false
+names_value (t ∷ u) = is_small t.kind && not (begins_field u)
 
 abbrev mutual
   -- What follows the fields that stand here, each of a point, `&` and a name.

@@ -2,6 +2,7 @@
 use Rattle.std.specs.Prelude.{List, [], ◌∷◌, drop, Bool, true, false, ◌&&◌, ◌||◌, if◌then◌else◌, Option, Some, None}
 use Rattle.std.specs.Option.{option_map}
 use Rattle.asn_lexer.specs.declared.keyword.Keyword.TheVariants as keyword
+use Rattle.asn_lexer.specs.declared.kind.Initial.TheVariants.{Small}
 use Rattle.asn_lexer.specs.declared.kind.Kind.{Kind}
 use Rattle.asn_lexer.specs.declared.kind.Kind.TheVariants as kind
 use Rattle.asn_lexer.specs.declared.token.Token.{Token}
@@ -26,9 +27,14 @@ name_at = token_at is_name
 
 -- A word, reserved or not.
 abbrev pub is_word : Kind → Bool
-is_word kind.Name = true
+is_word (kind.Name initial) = true
 is_word (kind.Reserved k) = true
 is_word k = false
+
+-- A name that begins with a small letter: that of a value, an object, a component or an element (X.680, sections 12.3 and 12.4). A type's begins with a capital letter (12.2).
+abbrev pub is_small : Kind → Bool
+is_small (kind.Name Small) = true
+is_small k = false
 
 -- A word that names a component: COMPONENTS begins COMPONENTS OF.
 abbrev pub is_component_word : Kind → Bool
@@ -38,7 +44,7 @@ is_component_word k = is_word k
 -- What stands for a number that isn't negative.
 abbrev pub is_number_or_name : Kind → Bool
 is_number_or_name kind.Number = true
-is_number_or_name kind.Name = true
+is_number_or_name (kind.Name initial) = true
 is_number_or_name k = false
 
 abbrev pub is_number : Kind → Bool
@@ -83,7 +89,7 @@ is_syntax k = false
 
 -- What names an object class behind INSTANCE OF.
 abbrev pub is_class_word : Kind → Bool
-is_class_word kind.Name = true
+is_class_word (kind.Name initial) = true
 is_class_word (kind.Reserved keyword.TypeIdentifier) = true
 is_class_word k = false
 

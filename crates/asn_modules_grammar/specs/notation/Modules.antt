@@ -7,7 +7,7 @@ use Rattle.asn_modules_grammar.specs.headers.Fronts.{first_is, is_name}
 use Rattle.asn_modules_grammar.specs.headers.Groups.{past_optional_braces}
 use Rattle.asn_modules_grammar.specs.headers.Headers.{Header, HeaderParses, names_at}
 use Rattle.asn_modules_grammar.specs.notation.Grammar.{NotationParses}
-use Rattle.asn_modules_grammar.specs.notation.Kinds.{assigned_at, first_kind, is_assignment, is_close_brace, is_definitions, is_open_brace}
+use Rattle.asn_modules_grammar.specs.notation.Kinds.{assigned_at, first_kind, is_assignment, is_close_brace, is_definitions, is_open_brace, is_small}
 use Rattle.asn_modules_grammar.specs.notation.Notation.{Notation, notation, leaf}
 use Rattle.asn_modules_grammar.specs.notation.Values.{value_at}
 use Rattle.asn_modules_grammar.specs.declared.notation.leaf.Closed.TheVariants.{Parameterized}
@@ -28,9 +28,9 @@ pub record Module : Type 0 where
   pub header : Option Header
   pub assignments : List Assignment
 
--- Without parameters, the assignment to the name goes on here, and the rest follows it. The token behind the name tells its kind.
+-- Without parameters, the assignment to the name goes on here, and the rest follows it. The token behind the name tells its kind. A type is assigned to no name that begins with a small letter.
 pub data BodyParses (limit : ℕ) (name : Token) : List Token → Assignment → List Token → Type 0 where
-  type_parses : {u rest : List Token} {n : Notation} → first_kind u ≡ Some kind.Assignment → NotationParses limit 0 (drop 1 u) n rest → BodyParses limit name u (type_assignment name n) rest
+  type_parses : {u rest : List Token} {n : Notation} → first_kind u ≡ Some kind.Assignment → is_small name.kind ≡ false → NotationParses limit 0 (drop 1 u) n rest → BodyParses limit name u (type_assignment name n) rest
   value_parses : {u v rest : List Token} {n : Notation} {x : Value} → first_kind u ≢ Some kind.Assignment → NotationParses limit 0 u n v → first_kind v ≡ Some kind.Assignment → value_at (drop 1 v) ≡ Some (x, rest)
       → BodyParses limit name u (value_assignment name n x) rest
 

@@ -20,7 +20,7 @@ negative_at u = option_map (λ p. (record { negative = true; digits = p.0 }, p.1
 
 -- What a constant is, by the kind of its first token.
 abbrev pub constant_by : Kind → Token → List Token → Option (Constant × List Token)
-constant_by kind.Name t u = Some (constant.Name t, u)
+constant_by (kind.Name initial) t u = Some (constant.Name t, u)
 constant_by kind.Number t u = Some (constant.Number (record { negative = false; digits = t }), u)
 constant_by kind.Minus t u = option_map (λ p. (constant.Number p.0, p.1)) (negative_at u)
 constant_by k t u = None
@@ -56,7 +56,7 @@ item_number_at t u =
 -- What an item is, by the kind of its first token.
 abbrev pub item_by : Kind → Token → List Token → Option (Option Item × List Token)
 item_by kind.Ellipsis t u = Some (None, u)
-item_by kind.Name t u = item_number_at t u
+item_by (kind.Name initial) t u = item_number_at t u
 item_by (kind.Reserved k) t u = item_number_at t u
 item_by k t u = None
 

@@ -8,6 +8,7 @@ use Rattle.asn_lexer.specs.declared.token.Token.{Token}
 use Rattle.asn_modules_grammar.specs.headers.Fronts.{first_is}
 use Rattle.asn_modules_grammar.specs.headers.Groups.{past_groups}
 use Rattle.asn_modules_grammar.specs.declared.headers.group.Group.TheVariants.{Parens}
+use Rattle.asn_modules_grammar.specs.notation.Classes.{names_value}
 use Rattle.asn_modules_grammar.specs.notation.Kinds.{past, token_at, is_number_or_name, is_open_paren, is_range, is_size, is_of}
 use Rattle.asn_modules_grammar.specs.notation.Lists.{Repeated}
 use Rattle.asn_modules_grammar.specs.notation.Numbers.{closed}
@@ -52,14 +53,22 @@ begins_constraint k = false
 abbrev pub ConstraintsParse : List Token → List (Option Size) → List Token → Type 0
 ConstraintsParse = Repeated begins_constraint constraint_at
 
+-- What follows the name of the elements, if they are named (X.680, sections 26.1 and 28.1). It means nothing for a text.
+abbrev pub past_element_name : List Token → List Token
+past_element_name u = if names_value u then drop 1 u else u
+
+-- What follows OF and the name of the elements.
+abbrev pub past_of : List Token → Option (List Token)
+past_of u = option_map (λ v. past_element_name v) (past is_of u)
+
 -- What stands between SEQUENCE or SET and the type of its elements, by the kind of its first token, and what follows it.
 abbrev pub of_by : Kind → List Token → Option (List Token)
-of_by (kind.Reserved keyword.Of) u = Some (drop 1 u)
-of_by (kind.Reserved keyword.Size) u = option_and_then (λ p. past is_of p.1) (constraint_at u)
-of_by kind.OpenParen u = option_and_then (λ p. past is_of p.1) (constraint_at u)
+of_by (kind.Reserved keyword.Of) u = Some (past_element_name (drop 1 u))
+of_by (kind.Reserved keyword.Size) u = option_and_then (λ p. past_of p.1) (constraint_at u)
+of_by kind.OpenParen u = option_and_then (λ p. past_of p.1) (constraint_at u)
 of_by k u = None
 
--- OF with an optional constraint before it, and what follows them.
+-- OF with an optional constraint before it and an optional name behind it, and what follows them.
 abbrev pub of_at : List Token → Option (List Token)
 of_at [] = None
 of_at (t ∷ u) = of_by t.kind (t ∷ u)

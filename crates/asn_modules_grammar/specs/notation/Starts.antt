@@ -1,16 +1,16 @@
 -- What the words that begin a type stand for.
-use Rattle.std.specs.Prelude.{List, [], ◌∷◌, drop, Bool, true, false, if◌then◌else◌, Option, Some, None}
+use Rattle.std.specs.Prelude.{List, [], ◌∷◌, drop, Bool, true, false, not, ◌&&◌, ◌||◌, if◌then◌else◌, Option, Some, None}
 use Rattle.std.specs.Option.{option_map, option_and_then}
 use Rattle.asn_lexer.specs.declared.keyword.Keyword.{Keyword}
 use Rattle.asn_lexer.specs.declared.keyword.Keyword.TheVariants as keyword
 use Rattle.asn_lexer.specs.declared.kind.Kind.{Kind}
 use Rattle.asn_lexer.specs.declared.kind.Kind.TheVariants as kind
 use Rattle.asn_lexer.specs.declared.token.Token.{Token}
-use Rattle.asn_modules_grammar.specs.headers.Fronts.{first_is}
+use Rattle.asn_modules_grammar.specs.headers.Fronts.{first_is, is_name}
 use Rattle.asn_model.specs.Shape.{SeqKind}
 use Rattle.asn_model.specs.declared.shape_type.Alphabet.TheVariants as alphabet
-use Rattle.asn_modules_grammar.specs.notation.Classes.{begins_field, past_fields, past_class, past_instance}
-use Rattle.asn_modules_grammar.specs.notation.Kinds.{past, name_at, is_by, is_defined, is_identifier, is_pdv, is_point, is_string}
+use Rattle.asn_modules_grammar.specs.notation.Classes.{begins_field, names_value, past_fields, past_class, past_instance}
+use Rattle.asn_modules_grammar.specs.notation.Kinds.{past, name_at, is_small, is_by, is_defined, is_identifier, is_pdv, is_point, is_string}
 use Rattle.asn_modules_grammar.specs.declared.notation.leaf.Closed.TheVariants as closed
 use Rattle.asn_modules_grammar.specs.declared.notation.leaf.Leaf.{Leaf}
 use Rattle.asn_modules_grammar.specs.declared.notation.leaf.Leaf.TheVariants.{Boolean, Null, OctetString, ObjectIdentifier, Text, Bmp, Teletex, UtcTime, GeneralizedTime, Date, Closed}
@@ -113,20 +113,20 @@ opened_at instance_of u = leaf_at (Closed closed.InstanceOf) (past_instance u)
 opened_at named_class u = named_class_at u
 opened_at nothing u = None
 
--- The type of this name, or that which the fields of a class of this name are, and what follows.
+-- The type of this name, or that which the fields of a class, an object or a set of them of this name are, and what follows. The name of a type begins with a capital letter (X.680, section 12.2).
 abbrev pub named_at : Option Token → Token → List Token → Option (Start × List Token)
-named_at home t u = if begins_field u then leaf_at (Closed closed.ClassField) (past_fields u) else Some (reference home t, u)
+named_at home t u = if begins_field u then leaf_at (Closed closed.ClassField) (past_fields u) else if is_small t.kind then None else Some (reference home t, u)
 
--- A reference that the name begins, and what follows it.
+-- A reference that the name begins, and what follows it. The name of a module begins with a capital letter (X.680, section 12.5).
 abbrev pub reference_at : Token → List Token → Option (Start × List Token)
 reference_at t u =
-    if begins_field u then named_at None t u
+    if is_small t.kind || begins_field u then named_at None t u
     else if first_is is_point u then option_and_then (λ p. named_at (Some t) p.0 p.1) (name_at (drop 1 u))
     else named_at None t u
 
 -- What the first token begins, by its kind, and what follows it.
 abbrev pub start_by : Kind → Token → List Token → Option (Start × List Token)
-start_by kind.Name t u = reference_at t u
+start_by (kind.Name initial) t u = reference_at t u
 start_by (kind.Reserved k) t u = opened_at (opening_of k) u
 start_by k t u = None
 
@@ -142,11 +142,16 @@ is_opening o = true
 
 -- A type begins with a token of the kind.
 abbrev pub opens_type : Kind → Bool
-opens_type kind.Name = true
+opens_type (kind.Name initial) = true
 opens_type kind.OpenBracket = true
 opens_type (kind.Reserved k) = is_opening (opening_of k)
 opens_type k = false
 
+-- So behind the name of a module.
+abbrev pub names_module_value : List Token → Bool
+names_module_value (m ∷ p ∷ u) = is_name m.kind && (is_point p.kind && names_value u)
+names_module_value u = false
+
 -- A type begins here.
 abbrev pub begins_type : List Token → Bool
-begins_type u = first_is opens_type u
+begins_type u = first_is opens_type u && not (names_value u || names_module_value u)

@@ -34,14 +34,20 @@ word_value_at t u =
     else if first_is is_point u then option_and_then (λ p. named_value_at (value.Qualified t p.0) t p.1) (name_at (drop 1 u))
     else named_value_at (value.Word t) t u
 
+-- What stands behind this minus, by the kind of its first token, and what follows it: a number, or a real number, which is some other value (X.680, section 21.6).
+abbrev pub negative_by : Option Kind → Token → List Token → Option (Value × List Token)
+negative_by (Some kind.RealNumber) t u = Some (value.Other t, drop 1 u)
+negative_by k t u = option_map (λ p. (value.Number p.0, p.1)) (negative_at u)
+
 -- What a value without `:` is, by the kind of its first token.
 abbrev pub value_by : Kind → Token → List Token → Option (Value × List Token)
 value_by kind.Number t u = Some (value.Number (record { negative = false; digits = t }), u)
-value_by kind.Minus t u = option_map (λ p. (value.Number p.0, p.1)) (negative_at u)
+value_by kind.RealNumber t u = Some (value.Other t, u)
+value_by kind.Minus t u = negative_by (first_kind u) t u
 value_by kind.Cstring t u = Some (value.Cstring t, u)
 value_by kind.Bstring t u = Some (value.Bstring t, u)
 value_by kind.Hstring t u = Some (value.Hstring t, u)
-value_by kind.Name t u = word_value_at t u
+value_by (kind.Name initial) t u = word_value_at t u
 value_by (kind.Reserved k) t u = word_value_at t u
 value_by kind.OpenBrace t u = option_map (λ v. (value.Other t, v)) (past_groups (Braces ∷ []) u)
 value_by k t u = None

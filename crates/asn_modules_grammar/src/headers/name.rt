@@ -17,7 +17,7 @@ pub(crate) fn take_name(tokens: &[Token]) -> Option<(Token, &[Token])>
 {
     match tokens {
         [first, rest @ ..] => match first.kind {
-            Kind::Name => Some((*first, rest)),
+            Kind::Name(_) => Some((*first, rest)),
             _ => None,
         },
         [] => None,

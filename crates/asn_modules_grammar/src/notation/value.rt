@@ -22,6 +22,7 @@ pub enum Value {
         /// Is the name of the value.
         name: Token,
     },
-    /// Is any other value: one of a CHOICE, or one between braces. The token is its first.
+    /// Is any other value: a real number, one of a CHOICE, or one between braces. The token is its
+    /// first.
     Other(Token),
 }

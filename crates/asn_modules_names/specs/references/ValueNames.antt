@@ -35,7 +35,7 @@ names_values (notation tags base sizes) = base_names base
 
 -- The token, where it is a name: NULL is none.
 abbrev pub if_name : Kind → Token → Option Token
-if_name kind.Name t = Some t
+if_name (kind.Name initial) t = Some t
 if_name k t = None
 
 -- The name that the value is.

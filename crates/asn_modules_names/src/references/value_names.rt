@@ -62,7 +62,7 @@ fn if_name(token: Token) -> Option<Token>
     ensures { result ≡ spec.if_name token.kind token }
 {
     match token.kind {
-        Kind::Name => Some(token),
+        Kind::Name(_) => Some(token),
         _ => None,
     }
 }

@@ -1,13 +1,14 @@
 //! Passes over object classes and their fields (X.681).
 ghost use Rattle.asn_modules_grammar.specs.headers.Fronts.{AnswersRest};
-ghost use Rattle.asn_modules_grammar.specs.notation.Classes.{begins_field, past_braces, past_class};
+ghost use Rattle.asn_modules_grammar.specs.notation.Classes.{begins_field, names_value};
+ghost use Rattle.asn_modules_grammar.specs.notation.Classes.{past_braces, past_class};
 ghost use Rattle.asn_modules_grammar.specs.notation.Classes.{past_fields, past_instance, past_names};
 ghost use Rattle.asn_modules_grammar.specs.notation.Classes.{past_syntax};
 ghost use Rattle.std.specs.Prelude.{◌≡◌, ◌<◌, ◌≤◌, IfOk, MatchOption, false, length, true};
 
 use crate::parts::group::past;
-use crate::parts::mark::{Mark, take};
-use asn_lexer::Token;
+use crate::parts::mark::{Mark, is_small, take};
+use asn_lexer::{Kind, Token};
 use asn_modules_grammar::headers::{Expected, Group, SyntaxFault, unexpected};
 use std::alloc::Global;
 
@@ -24,6 +25,28 @@ pub(crate) fn take_field(tokens: &[Token]) -> Option<&[Token]>
     match take(Mark::Ampersand, behind) {
         Some((_ampersand, rest)) => Some(rest),
         None => None,
+    }
+}
+
+/// Returns whether a point and `&` stand here.
+pub(crate) fn begins_field(tokens: &[Token]) -> bool
+    ensures { result ≡ begins_field tokens.now }
+{
+    match tokens {
+        [point, ampersand, ..] => {
+            matches!(point.kind, Kind::Point) && matches!(ampersand.kind, Kind::Ampersand)
+        }
+        _ => false,
+    }
+}
+
+/// Returns whether the name of a value stands here.
+pub(crate) fn names_value(tokens: &[Token]) -> bool
+    ensures { result ≡ names_value tokens.now }
+{
+    match tokens {
+        [first, rest @ ..] => is_small(first.kind) && !begins_field(rest),
+        [] => false,
     }
 }
 

@@ -50,7 +50,7 @@ pub fn read_item(tokens: &[Token]) -> Result<(Option<Item>, &[Token]), SyntaxFau
     };
     match first.kind {
         Kind::Ellipsis => Ok((None, rest)),
-        Kind::Name | Kind::Reserved(_) => read_item_number(*first, rest),
+        Kind::Name(_) | Kind::Reserved(_) => read_item_number(*first, rest),
         _ => Err(unexpected(tokens, Expected::Item)),
     }
 }

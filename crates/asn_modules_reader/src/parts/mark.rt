@@ -1,10 +1,10 @@
 //! Takes single tokens.
 ghost use Rattle.asn_modules_grammar.specs.headers.Fronts.{first_is};
-ghost use Rattle.asn_modules_grammar.specs.notation.Kinds.{is_component_word, token_at};
+ghost use Rattle.asn_modules_grammar.specs.notation.Kinds.{is_component_word, is_small, token_at};
 ghost use Rattle.asn_modules_reader.specs.parts.Marks.{passes};
 ghost use Rattle.std.specs.Prelude.{◌≡◌, ◌∷◌, ◌<◌, [], MatchOption, None, false, length, true};
 
-use asn_lexer::{Keyword, Kind, Token};
+use asn_lexer::{Initial, Keyword, Kind, Token};
 
 /// Names the tokens of which one may stand at a place.
 #[derive(Clone, Copy, Drop)]
@@ -63,13 +63,20 @@ pub enum Mark {
     Syntax,
 }
 
+/// Returns whether a token of the kind is a name that begins with a small letter.
+pub fn is_small(kind: Kind) -> bool
+    ensures { result ≡ is_small kind }
+{
+    matches!(kind, Kind::Name(Initial::Small))
+}
+
 /// Returns whether a token of the kind is a word that names a component.
 fn is_component_word(kind: Kind) -> bool
     ensures { result ≡ is_component_word kind }
 {
     match kind {
         Kind::Reserved(Keyword::Components) => false,
-        Kind::Name | Kind::Reserved(_) => true,
+        Kind::Name(_) | Kind::Reserved(_) => true,
         _ => false,
     }
 }
@@ -79,11 +86,11 @@ fn passes(mark: Mark, kind: Kind) -> bool
     ensures { result ≡ passes mark kind }
 {
     match mark {
-        Mark::Word => matches!(kind, Kind::Name | Kind::Reserved(_)),
+        Mark::Word => matches!(kind, Kind::Name(_) | Kind::Reserved(_)),
         Mark::ComponentWord => is_component_word(kind),
-        Mark::Name => matches!(kind, Kind::Name),
+        Mark::Name => matches!(kind, Kind::Name(_)),
         Mark::Number => matches!(kind, Kind::Number),
-        Mark::NumberOrName => matches!(kind, Kind::Number | Kind::Name),
+        Mark::NumberOrName => matches!(kind, Kind::Number | Kind::Name(_)),
         Mark::OpenParen => matches!(kind, Kind::OpenParen),
         Mark::CloseParen => matches!(kind, Kind::CloseParen),
         Mark::OpenBracket => matches!(kind, Kind::OpenBracket),
@@ -98,7 +105,12 @@ fn passes(mark: Mark, kind: Kind) -> bool
         Mark::String => matches!(kind, Kind::Reserved(Keyword::String)),
         Mark::Identifier => matches!(kind, Kind::Reserved(Keyword::Identifier)),
         Mark::Pdv => matches!(kind, Kind::Reserved(Keyword::Pdv)),
-        Mark::ClassWord => matches!(kind, Kind::Name | Kind::Reserved(Keyword::TypeIdentifier)),
+        Mark::ClassWord => {
+            matches!(
+                kind,
+                Kind::Name(_) | Kind::Reserved(Keyword::TypeIdentifier)
+            )
+        }
         Mark::OpenBrace => matches!(kind, Kind::OpenBrace),
         Mark::CloseBrace => matches!(kind, Kind::CloseBrace),
         Mark::Assignment => matches!(kind, Kind::Assignment),

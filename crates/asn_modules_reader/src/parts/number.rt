@@ -47,7 +47,7 @@ pub fn read_constant(tokens: &[Token]) -> Result<(Constant, &[Token]), SyntaxFau
         return Err(unexpected(tokens, Expected::NumberOrName));
     };
     match first.kind {
-        Kind::Name => Ok((Constant::Name(*first), rest)),
+        Kind::Name(_) => Ok((Constant::Name(*first), rest)),
         Kind::Number => {
             let number = SignedNumber {
                 negative: false,

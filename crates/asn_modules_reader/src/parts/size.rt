@@ -1,14 +1,16 @@
 //! Reads constraints, of which only sizes are kept.
 ghost use Rattle.asn_modules_grammar.specs.headers.Fronts.{Answers, AnswersRest, first_is};
 ghost use Rattle.asn_modules_grammar.specs.notation.Grammar.{sizes_of};
-ghost use Rattle.asn_modules_grammar.specs.notation.Kinds.{is_of, is_open_paren, past};
+ghost use Rattle.asn_modules_grammar.specs.notation.Kinds.{is_open_paren, past};
 ghost use Rattle.asn_modules_grammar.specs.notation.Sizes.{begins_constraint, constraint_at, of_at};
-ghost use Rattle.asn_modules_grammar.specs.notation.Sizes.{in_parens_at, size_alone, size_at, size_from};
+ghost use Rattle.asn_modules_grammar.specs.notation.Sizes.{in_parens_at, past_element_name, past_of};
+ghost use Rattle.asn_modules_grammar.specs.notation.Sizes.{size_alone, size_at, size_from};
 ghost use Rattle.asn_modules_reader.specs.parts.Reading.{Finds, Reads};
 ghost use Rattle.asn_modules_reader.specs.parts.Sizes.{SizesParse};
 ghost use Rattle.std.specs.Option.{option_and_then, option_map};
 ghost use Rattle.std.specs.Prelude.{◌≡◌, ◌<◌, ◌≤◌, ◌++◌, ◌∷◌, [], IfOk, OnOk, length};
 
+use crate::parts::class::names_value;
 use crate::parts::group::past;
 use crate::parts::mark::{Mark, take};
 use asn_lexer::{Keyword, Kind, Token};
@@ -145,24 +147,51 @@ pub fn read_sizes(alloc: Global, tokens: &[Token]) -> Result<(Vec<Size>, &[Token
     }
 }
 
-/// Returns what follows a constraint and `OF`.
+/// Returns what follows the name of the elements of SEQUENCE OF or SET OF, if they are named.
+fn past_element_name(tokens: &[Token]) -> &[Token]
+    ensures found { result.now ≡ past_element_name tokens.now }
+    ensures shorter { length result.now ≤ length tokens.now }
+{
+    if !names_value(tokens) {
+        return tokens;
+    }
+    match tokens {
+        [_name, rest @ ..] => rest,
+        [] => tokens,
+    }
+}
+
+/// Returns what follows `OF` and the name of the elements, if they are named.
+///
+/// # Errors
+///
+/// `Unexpected` where there is no `OF`.
+fn past_of(tokens: &[Token]) -> Result<&[Token], SyntaxFault>
+    ensures found { AnswersRest (past_of tokens.now) result }
+    ensures shorter { IfOk result (λ rest. length rest.now < length tokens.now) }
+{
+    match take(Mark::Of, tokens) {
+        Some((_of, rest)) => Ok(past_element_name(rest)),
+        None => Err(unexpected(tokens, Expected::Of)),
+    }
+}
+
+/// Returns what follows a constraint, `OF`, and the name of the elements, if they are named.
 ///
 /// # Errors
 ///
 /// `Unexpected` where they don't stand here, and `OutOfMemory`.
 fn read_constrained_of(alloc: Global, tokens: &[Token]) -> Result<&[Token], SyntaxFault>
-    ensures found { AnswersRest (option_and_then (λ p. past is_of p.1) (constraint_at tokens.now))
+    ensures found { AnswersRest (option_and_then (λ p. past_of p.1) (constraint_at tokens.now))
         result }
     ensures shorter { IfOk result (λ rest. length rest.now < length tokens.now) }
 {
     let (_size, behind) = read_constraint(alloc, tokens)?;
-    match take(Mark::Of, behind) {
-        Some((_of, rest)) => Ok(rest),
-        None => Err(unexpected(behind, Expected::Of)),
-    }
+    past_of(behind)
 }
 
-/// Returns what follows `OF`, which a constraint may stand before.
+/// Returns what follows `OF`, which a constraint may stand before, and the name of the elements, if
+/// they are named.
 ///
 /// # Errors
 ///
@@ -175,7 +204,7 @@ pub fn read_of(alloc: Global, tokens: &[Token]) -> Result<&[Token], SyntaxFault>
         return Err(unexpected(tokens, Expected::BraceOrOf));
     };
     match first.kind {
-        Kind::Reserved(Keyword::Of) => Ok(behind),
+        Kind::Reserved(Keyword::Of) => Ok(past_element_name(behind)),
         Kind::Reserved(Keyword::Size) | Kind::OpenParen => read_constrained_of(alloc, tokens),
         _ => Err(unexpected(tokens, Expected::BraceOrOf)),
     }

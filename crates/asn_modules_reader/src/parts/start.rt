@@ -3,6 +3,7 @@ ghost use Rattle.asn_modules_grammar.specs.headers.Fronts.{Answers};
 ghost use Rattle.asn_modules_grammar.specs.notation.Classes.{past_class, past_fields, past_instance};
 ghost use Rattle.asn_modules_grammar.specs.notation.Starts.{any_at, begins_type, is_opening, leaf_at};
 ghost use Rattle.asn_modules_grammar.specs.notation.Starts.{named_at, named_class_at, opened_at, opens_type};
+ghost use Rattle.asn_modules_grammar.specs.notation.Starts.{names_module_value};
 ghost use Rattle.asn_modules_grammar.specs.notation.Starts.{reference_at, start_at};
 ghost use Rattle.asn_modules_grammar.specs.declared.notation.leaf.Closed.TheVariants as closed;
 ghost use Rattle.asn_modules_grammar.specs.declared.notation.leaf.Leaf.TheVariants as leaf;
@@ -10,8 +11,10 @@ ghost use Rattle.asn_modules_reader.specs.parts.Marks.{passes};
 ghost use Rattle.asn_modules_reader.specs.parts.Starts.{opening_view, pair_at, start_view};
 ghost use Rattle.std.specs.Prelude.{◌≡◌, ◌<◌, ◌≤◌, IfOk, length};
 
-use crate::parts::class::{past_class, past_fields, past_instance, take_field};
-use crate::parts::mark::{Mark, take};
+use crate::parts::class::{
+    begins_field, names_value, past_class, past_fields, past_instance, take_field,
+};
+use crate::parts::mark::{Mark, is_small, take};
 use crate::parts::opening::{Opening, opening_of};
 use asn_lexer::{Kind, Token};
 use asn_model::SeqKind;
@@ -57,12 +60,13 @@ fn read_field(tokens: &[Token]) -> Result<(Start, &[Token]), SyntaxFault>
     Ok((Start::Leaf(Leaf::Closed(Closed::ClassField)), rest))
 }
 
-/// Returns the type of this name, or what the fields of a class of this name are, and what follows.
-/// `home` is the name of the module, where it is stated.
+/// Returns the type of this name, or what the fields are of a class, an object or a set of them of
+/// this name, and what follows. `home` is the name of the module, where it is stated.
 ///
 /// # Errors
 ///
-/// Those of `read_field`.
+/// `Unexpected` where a name that begins with a small letter has no fields, and those of
+/// `read_field`.
 fn read_named(
     home: Option<Token>,
     name: Token,
@@ -71,22 +75,28 @@ fn read_named(
     ensures found { Answers start_view (named_at home name tokens.now) result }
     ensures shorter { IfOk result (λ found. length found.1.now ≤ length tokens.now) }
 {
-    match take_field(tokens) {
-        Some(_naming) => read_field(tokens),
-        None => Ok((Start::Reference { module: home, name }, tokens)),
+    if let Some(_naming) = take_field(tokens) {
+        return read_field(tokens);
     }
+    if is_small(name.kind) {
+        return Err(SyntaxFault::Unexpected {
+            met: Some(name),
+            expected: Expected::Type,
+        });
+    }
+    Ok((Start::Reference { module: home, name }, tokens))
 }
 
 /// Returns what the name begins, and what follows it.
 ///
 /// # Errors
 ///
-/// `Unexpected` where no name stands behind `.`, and those of `read_field`.
+/// `Unexpected` where no name stands behind `.`, and those of `read_named`.
 fn read_reference(name: Token, tokens: &[Token]) -> Result<(Start, &[Token]), SyntaxFault>
     ensures found { Answers start_view (reference_at name tokens.now) result }
     ensures shorter { IfOk result (λ found. length found.1.now ≤ length tokens.now) }
 {
-    if let Some(_naming) = take_field(tokens) {
+    if is_small(name.kind) || begins_field(tokens) {
         return read_named(None, name, tokens);
     }
     let Some((_point, behind)) = take(Mark::Point, tokens) else {
@@ -201,7 +211,7 @@ pub fn read_start(alloc: Global, tokens: &[Token]) -> Result<(Start, &[Token]), 
         return Err(unexpected(tokens, Expected::Type));
     };
     match first.kind {
-        Kind::Name => read_reference(*first, rest),
+        Kind::Name(_) => read_reference(*first, rest),
         Kind::Reserved(keyword) => match opening_of(keyword) {
             Opening::Whole(start) => Ok((start, rest)),
             Opening::Pair(second, start) => read_pair(second, start, rest),
@@ -227,18 +237,33 @@ fn opens_type(kind: Kind) -> bool
     ensures { result ≡ opens_type kind }
 {
     match kind {
-        Kind::Name | Kind::OpenBracket => true,
+        Kind::Name(_) | Kind::OpenBracket => true,
         Kind::Reserved(keyword) => is_opening(opening_of(keyword)),
         _ => false,
     }
 }
 
-/// Returns whether a type begins here.
+/// Returns whether the name of a value in another module stands here.
+fn names_module_value(tokens: &[Token]) -> bool
+    ensures { result ≡ names_module_value tokens.now }
+{
+    match tokens {
+        [home, point, rest @ ..] => {
+            matches!(home.kind, Kind::Name(_))
+                && (matches!(point.kind, Kind::Point) && names_value(rest))
+        }
+        _ => false,
+    }
+}
+
+/// Returns whether a type begins here. The names of values begin none.
 pub fn begins_type(tokens: &[Token]) -> bool
     ensures { result ≡ begins_type tokens.now }
 {
     match tokens {
-        [first, ..] => opens_type(first.kind),
+        [first, ..] => {
+            opens_type(first.kind) && !(names_value(tokens) || names_module_value(tokens))
+        }
         [] => false,
     }
 }

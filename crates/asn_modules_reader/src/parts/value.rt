@@ -6,7 +6,8 @@ ghost use Rattle.asn_modules_grammar.specs.notation.Classes.{past_fields};
 ghost use Rattle.asn_modules_grammar.specs.notation.Kinds.{first_kind};
 ghost use Rattle.asn_modules_grammar.specs.notation.Numbers.{negative_at};
 ghost use Rattle.asn_modules_grammar.specs.notation.Values.{presence_at, presence_by, value_at};
-ghost use Rattle.asn_modules_grammar.specs.notation.Values.{named_value_at, other_at, word_value_at};
+ghost use Rattle.asn_modules_grammar.specs.notation.Values.{named_value_at, negative_by, other_at};
+ghost use Rattle.asn_modules_grammar.specs.notation.Values.{word_value_at};
 ghost use Rattle.asn_modules_grammar.specs.declared.notation.notation.Presence.TheVariants.{Default};
 ghost use Rattle.asn_modules_grammar.specs.declared.notation.value.Value.TheVariants as value;
 ghost use Rattle.asn_modules_reader.specs.parts.Values.{value_here};
@@ -111,13 +112,33 @@ fn read_word_value(
 /// # Errors
 ///
 /// `Unexpected` where no digits stand there.
-fn read_negative_value(tokens: &[Token]) -> Result<(Value, &[Token]), SyntaxFault>
+fn read_negative_number(tokens: &[Token]) -> Result<(Value, &[Token]), SyntaxFault>
     ensures found { Answers (λ value. value)
         (option_map (λ p. (value.Number p.0, p.1)) (negative_at tokens.now)) result }
     ensures shorter { IfOk result (λ found. length found.1.now ≤ length tokens.now) }
 {
     let (number, rest) = read_negative(tokens)?;
     Ok((Value::Number(number), rest))
+}
+
+/// Returns the number behind this minus as a value, and what follows it. A real number is some
+/// other value.
+///
+/// # Errors
+///
+/// `Unexpected` where no number stands there.
+fn read_negative_value(minus: Token, tokens: &[Token]) -> Result<(Value, &[Token]), SyntaxFault>
+    ensures found { Answers (λ value. value)
+        (negative_by (first_kind tokens.now) minus tokens.now) result }
+    ensures shorter { IfOk result (λ found. length found.1.now ≤ length tokens.now) }
+{
+    let [first, rest @ ..] = tokens else {
+        return read_negative_number(tokens);
+    };
+    match first.kind {
+        Kind::RealNumber => Ok((Value::Other(minus), rest)),
+        _ => read_negative_number(tokens),
+    }
 }
 
 /// Returns the value that stands here where it is none of an alternative, and what follows it.
@@ -140,11 +161,12 @@ fn read_plain_value(alloc: Global, tokens: &[Token]) -> Result<(Value, &[Token])
             };
             Ok((Value::Number(number), rest))
         }
-        Kind::Minus => read_negative_value(rest),
+        Kind::RealNumber => Ok((Value::Other(first), rest)),
+        Kind::Minus => read_negative_value(first, rest),
         Kind::Cstring => Ok((Value::Cstring(first), rest)),
         Kind::Bstring => Ok((Value::Bstring(first), rest)),
         Kind::Hstring => Ok((Value::Hstring(first), rest)),
-        Kind::Name | Kind::Reserved(_) => read_word_value(alloc, first, rest),
+        Kind::Name(_) | Kind::Reserved(_) => read_word_value(alloc, first, rest),
         Kind::OpenBrace => read_braced_value(alloc, first, rest),
         _ => Err(unexpected(tokens, Expected::Value)),
     }

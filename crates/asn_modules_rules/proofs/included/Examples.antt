@@ -1,5 +1,7 @@
 -- What COMPONENTS OF includes by example, each computed from its notation.
-use Rattle.std.proofs.Common.{◌≡◌, ℕ, suc, ◌+◌, ◌*◌, List, [], ◌∷◌, map, codes, true, Option, Some, None, refl}
+use Rattle.std.proofs.Common.{◌≡◌, ℕ, suc, ◌+◌, ◌*◌, List, [], ◌∷◌, map, codes, nat_lt, if◌then◌else◌, true, Option, Some, None, refl}
+use Rattle.asn_lexer.specs.declared.kind.Initial.{Initial}
+use Rattle.asn_lexer.specs.declared.kind.Initial.TheVariants.{Capital, Small}
 use Rattle.asn_lexer.specs.declared.kind.Kind.TheVariants as kind
 use Rattle.asn_lexer.specs.declared.token.Token.{Token}
 use Rattle.asn_model.specs.Shape.{SeqKind}
@@ -25,8 +27,12 @@ use Rattle.asn_modules_grammar.specs.declared.notation.value.Value.TheVariants a
 abbrev letters : List ℕ
 letters = codes "ABCDabcd"
 
+-- The first four are capital letters.
+abbrev initial_at : ℕ → Initial
+initial_at n = if nat_lt n 4 then Capital else Small
+
 abbrev word : ℕ → Token
-word n = record { kind = kind.Name; start = n; end = suc n }
+word n = record { kind = kind.Name (initial_at n); start = n; end = suc n }
 
 -- A type without tags and constraints, and a name.
 abbrev plain : Base → Notation
@@ -100,7 +106,7 @@ four_names : member_extent thousand (component (word 4) (plain (reference (Some 
 four_names = refl
 
 -- A name may be long.
-long_named : member_extent thousand (component (record { kind = kind.Name; start = 100; end = 900 }) null Required) ≡ extent (800 + 64) 1
+long_named : member_extent thousand (component (record { kind = kind.Name Small; start = 100; end = 900 }) null Required) ≡ extent (800 + 64) 1
 long_named = refl
 
 -- Four bytes on three levels leave none of four, and are too many for three, or too deep for two levels.

@@ -1,5 +1,6 @@
 -- Sizes by example, each computed.
 use Rattle.std.proofs.Common.{◌≡◌, ℕ, ◌+◌, ◌∷◌, [], Some, None, refl}
+use Rattle.asn_lexer.specs.declared.kind.Initial.TheVariants.{Small}
 use Rattle.asn_lexer.specs.declared.kind.Kind.TheVariants as kind
 use Rattle.asn_lexer.specs.declared.token.Token.{Token}
 use Rattle.asn_modules_grammar.specs.declared.notation.number.Constant.TheVariants as constant
@@ -9,7 +10,7 @@ use Rattle.asn_modules_rules.specs.sizes.Sizes.{items_size, name_size, numbers_s
 
 -- The name that begins there and has so many bytes.
 abbrev word : ℕ → ℕ → Token
-word start size = record { kind = kind.Name; start = start; end = start + size }
+word start size = record { kind = kind.Name Small; start = start; end = start + size }
 
 abbrev item : ℕ → ℕ → Item
 item start size = record { name = word start size; number = None }

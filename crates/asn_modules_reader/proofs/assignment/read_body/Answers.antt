@@ -1,7 +1,12 @@
+use Rattle.std.proofs.Common.{sym, ◌∙◌}
 use Rattle.std.proofs.lemmas.Result.{err_from_is_err_and}
 use Rattle.asn_modules_grammar.specs.notation.View.{notation_view}
-use Rattle.asn_modules_reader.proofs.ModulesRead.{type_read, type_none, value_read, value_untyped, value_unassigned, value_none}
+use Rattle.asn_modules_reader.proofs.ModulesRead.{small_none, type_read, type_none, value_read, value_untyped, value_unassigned, value_none}
 use Rattle.asn_modules_reader.proofs.assignment.read_body.Goals as goal
+
+pub returns-then-is_small-clause-found : goal.returns-then-is_small-clause-found
+returns-then-is_small-clause-found c = λ syntax a rest q.
+    small_none 64 c.args.name c.args.tokens.now c.in-Some.ensures.0 (sym c.is_small.ensures ∙ c.if-is_small.true) a rest q
 
 pub returns-in_err-assigned-clause-found : goal.returns-in_err-assigned-clause-found
 returns-in_err-assigned-clause-found c =
@@ -11,7 +16,7 @@ returns-in_err-assigned-clause-found c =
 
 pub returns-in-Some-clause-found : goal.returns-in-Some-clause-found
 returns-in-Some-clause-found c =
-    let r = c.in_ok-assigned in type_read 64 c.args.name c.args.tokens.now c.in-Some.inner.now r.rest.now (notation_view r.assigned) c.in-Some.ensures.0 c.in-Some.ensures.1 r.ensures.found
+    let r = c.in_ok-assigned in type_read 64 c.args.name c.args.tokens.now c.in-Some.inner.now r.rest.now (notation_view r.assigned) c.in-Some.ensures.0 (sym c.is_small.ensures ∙ c.if-is_small.false) c.in-Some.ensures.1 r.ensures.found
 
 pub returns-in_err-notation-clause-found : goal.returns-in_err-notation-clause-found
 returns-in_err-notation-clause-found c =

@@ -3,7 +3,6 @@ use Rattle.std.specs.Prelude.{ℕ, List, Bool, true, false, codes, if◌then◌e
 use Rattle.std.specs.Option.{option_and_then}
 use Rattle.asn_modules_grammar.specs.declared.headers.fault.Expected.{Expected}
 use Rattle.asn_modules_grammar.specs.declared.headers.fault.Expected.TheVariants as expected
-use Rattle.asn_lexer.specs.declared.keyword.Keyword.TheVariants as keyword
 use Rattle.asn_lexer.specs.declared.kind.Kind.{Kind}
 use Rattle.asn_lexer.specs.declared.kind.Kind.TheVariants as kind
 use Rattle.asn_modules_errors.specs.declared.left_out.LeftOut.{LeftOut}
@@ -18,7 +17,6 @@ is_too_deep e = false
 abbrev pub part_of : Kind → Option LeftOut
 part_of kind.Less = Some part.SelectionTypes
 part_of kind.Exclamation = Some part.Exceptions
-part_of (kind.Reserved keyword.Macro) = Some part.Macros
 part_of k = None
 
 -- The part that isn't read and shows where a token of the kind, or the end of the text, stands in place of what was expected.
@@ -26,7 +24,6 @@ abbrev pub left_out : Option Kind → Expected → Option LeftOut
 left_out met e = if is_too_deep e then Some part.DeepNesting else option_and_then part_of met
 
 abbrev pub left_out_text : LeftOut → List ℕ
-left_out_text part.Macros = codes "macros"
 left_out_text part.SelectionTypes = codes "selection types"
 left_out_text part.Exceptions = codes "exception specifications"
 left_out_text part.DeepNesting = codes "types nested beyond 64 levels"

@@ -40,6 +40,7 @@ pub(crate) fn expected_words(expected: Expected) -> &'static str
         Expected::Type => "a type",
         Expected::HigherType => "a type at a higher level",
         Expected::Value => "a value",
+        Expected::End => "END",
         Expected::NameOrEnd => "an assignment or END",
         Expected::NameOrNothing => "an assignment or the end of the text",
     }

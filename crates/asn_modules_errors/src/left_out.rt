@@ -2,15 +2,13 @@
 ghost use Rattle.asn_modules_errors.specs.LeftOuts.{is_too_deep, left_out, left_out_text, part_of};
 ghost use Rattle.std.specs.Prelude.{◌≡◌, Some};
 
-use asn_lexer::{Keyword, Kind};
+use asn_lexer::Kind;
 use asn_modules_grammar::headers::Expected;
 use std::fmt;
 
 /// Names a part of ASN.1 that isn't read.
 #[derive(Clone, Copy, Debug, Drop, PartialEq, Eq)]
 pub enum LeftOut {
-    /// Is macros, as earlier standards have them.
-    Macros,
     /// Is selection types (X.680, section 30).
     SelectionTypes,
     /// Is exception specifications (X.680, section 53).
@@ -33,7 +31,6 @@ fn part_of(kind: Kind) -> Option<LeftOut>
     match kind {
         Kind::Less => Some(LeftOut::SelectionTypes),
         Kind::Exclamation => Some(LeftOut::Exceptions),
-        Kind::Reserved(Keyword::Macro) => Some(LeftOut::Macros),
         _ => None,
     }
 }
@@ -58,7 +55,6 @@ impl fmt::Display for LeftOut {
 
     fn fmt<W: fmt::Write>(&self, f: &mut fmt::Formatter<W>) -> fmt::Result {
         f.write_str(match self {
-            LeftOut::Macros => "macros",
             LeftOut::SelectionTypes => "selection types",
             LeftOut::Exceptions => "exception specifications",
             LeftOut::DeepNesting => "types nested beyond 64 levels",

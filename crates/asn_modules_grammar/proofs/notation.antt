@@ -1,2 +1,3 @@
 pub mod OneText
 mod Examples
+mod MacroExamples

@@ -8,5 +8,6 @@ pub mod Values
 pub mod Starts
 pub mod Notation
 pub mod Grammar
+pub mod Macros
 pub mod Modules
 pub mod View

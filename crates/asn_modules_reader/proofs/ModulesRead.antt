@@ -9,12 +9,12 @@ use Rattle.asn_modules_grammar.specs.headers.Groups.{past_optional_braces}
 use Rattle.asn_modules_grammar.specs.headers.Headers.{Header, HeaderParses, definitions_at}
 use Rattle.asn_modules_grammar.proofs.headers.HeadersRead.{same_header}
 use Rattle.asn_modules_grammar.specs.notation.Grammar.{NotationParses}
+use Rattle.asn_modules_grammar.specs.notation.Macros.{assigned_value_at}
 use Rattle.asn_modules_grammar.specs.notation.Kinds.{assigned_at, assigns_universal, first_kind, is_open_brace, is_small, is_string_type}
-use Rattle.asn_modules_grammar.specs.notation.Modules.{Assignment, type_assignment, value_assignment, Module, BodyParses, type_parses, value_parses, parameters_at, with_parameters, assigned_by, AssignmentParses, assignment_parses, AssignmentsParse, no_assignments, next_assignment, ModulesParse, no_modules, next_module, TextParses, modules_parse, assignments_parse, begins_module}
+use Rattle.asn_modules_grammar.specs.notation.Modules.{Assignment, type_assignment, value_assignment, Module, AssignedParses, macro_at, BodyParses, type_parses, macro_parses, value_parses, parameters_at, with_parameters, assigned_by, AssignmentParses, assignment_parses, AssignmentsParse, no_assignments, next_assignment, ModulesParse, no_modules, next_module, TextParses, modules_parse, assignments_parse, begins_module}
 use Rattle.asn_modules_grammar.specs.notation.Notation.{Notation}
-use Rattle.asn_modules_grammar.specs.notation.Values.{value_at}
 use Rattle.asn_modules_grammar.specs.declared.notation.value.Value.{Value}
-use Rattle.asn_modules_grammar.proofs.notation.OneText.{same_notation, same_assignment, same_assignments}
+use Rattle.asn_modules_grammar.proofs.notation.OneText.{same_notation, assigns_no_macro, same_assignment, same_assignments}
 use Rattle.asn_modules_reader.proofs.parts.Repeats.{true_false, some_same, none_some}
 use Rattle.asn_modules_reader.proofs.parts.Runs.{Step}
 use Rattle.asn_modules_reader.specs.Modules.{ModuleParses, module_parses}
@@ -23,34 +23,49 @@ pub unnamed : (limit : ℕ) (u : List Token) → assigned_at u ≡ None → (a :
 unnamed limit u h a rest (assignment_parses n p d) = none_some h n
 
 -- What goes on behind a name and its parameters.
-pub type_read : (limit : ℕ) (name : Token) (u v rest : List Token) (n : Notation) → first_kind u ≡ Some kind.Assignment → is_small name.kind ≡ false → v ≡ drop 1 u → NotationParses limit 0 v n rest
-    → BodyParses limit name u (type_assignment name n) rest
-type_read limit name u v rest n k s f d = type_parses k s (subst (λ z. NotationParses limit 0 z n rest) f d)
+pub type_read : (limit : ℕ) (name : Token) (u v rest : List Token) (n : Notation) → first_kind u ≡ Some kind.Assignment → is_small name.kind ≡ false → v ≡ drop 1 u → AssignedParses limit v n rest → BodyParses limit name u (type_assignment name n) rest
+type_read limit name u v rest n k i f d = type_parses k i (subst (λ z. AssignedParses limit z n rest) f d)
 
-pub type_none : (limit : ℕ) (name : Token) (u v : List Token) → first_kind u ≡ Some kind.Assignment → v ≡ drop 1 u → ((n : Notation) (rest : List Token) → NotationParses limit 0 v n rest → ⊥)
+pub type_none : (limit : ℕ) (name : Token) (u v : List Token) → first_kind u ≡ Some kind.Assignment → v ≡ drop 1 u → ((n : Notation) (rest : List Token) → AssignedParses limit v n rest → ⊥)
     → (a : Assignment) (rest : List Token) → BodyParses limit name u a rest → ⊥
-type_none limit name u v k f none a rest (type_parses {n = n} j s d) = none n rest (subst (λ z. NotationParses limit 0 z n rest) (sym f) d)
-type_none limit name u v k f none a rest (value_parses j d l x) = j k
+type_none limit name u v k f none a rest (type_parses {n = n} j i d) = none n rest (subst (λ z. AssignedParses limit z n rest) (sym f) d)
+type_none limit name u v k f none a rest (macro_parses m) = assigns_no_macro name u k m
+type_none limit name u v k f none a rest (value_parses j l d h x) = j k
 
 pub small_none : (limit : ℕ) (name : Token) (u : List Token) → first_kind u ≡ Some kind.Assignment → is_small name.kind ≡ true → (a : Assignment) (rest : List Token) → BodyParses limit name u a rest → ⊥
-small_none limit name u k h a rest (type_parses j s d) = true_false (sym h ∙ s)
-small_none limit name u k h a rest (value_parses j d l x) = j k
+small_none limit name u k i a rest (type_parses j h d) = true_false (sym i ∙ h)
+small_none limit name u k i a rest (macro_parses m) = assigns_no_macro name u k m
+small_none limit name u k i a rest (value_parses j l d h x) = j k
 
-pub value_read : (limit : ℕ) (name : Token) (u v w rest : List Token) (n : Notation) (value : Value) → first_kind u ≢ Some kind.Assignment → NotationParses limit 0 u n v → first_kind v ≡ Some kind.Assignment → w ≡ drop 1 v → value_at w ≡ Some (value, rest)
-    → BodyParses limit name u (value_assignment name n value) rest
-value_read limit name u v w rest n value k d l f p = value_parses k d l (ap value_at (sym f) ∙ p)
+pub macro_read : (limit : ℕ) (name : Token) (u rest : List Token) (a : Assignment) → macro_at name u ≡ Some (Some (a, rest)) → BodyParses limit name u a rest
+macro_read limit name u rest a m = macro_parses m
 
-pub value_untyped : (limit : ℕ) (name : Token) (u : List Token) → first_kind u ≢ Some kind.Assignment → ((n : Notation) (v : List Token) → NotationParses limit 0 u n v → ⊥) → (a : Assignment) (rest : List Token) → BodyParses limit name u a rest → ⊥
-value_untyped limit name u k none a rest (type_parses j s d) = k j
-value_untyped limit name u k none a rest (value_parses {v = v} {n = n} j d l x) = none n v d
+pub macro_broken : (limit : ℕ) (name : Token) (u : List Token) → first_kind u ≢ Some kind.Assignment → macro_at name u ≡ Some None → (a : Assignment) (rest : List Token) → BodyParses limit name u a rest → ⊥
+macro_broken limit name u k m a rest (type_parses j i d) = k j
+macro_broken limit name u k m a rest (macro_parses n) = none_some refl (some_same m n)
+macro_broken limit name u k m a rest (value_parses j l d h x) = none_some l m
 
-pub value_unassigned : (limit : ℕ) (name : Token) (u v : List Token) (n : Notation) → first_kind u ≢ Some kind.Assignment → NotationParses limit 0 u n v → first_kind v ≢ Some kind.Assignment → (a : Assignment) (rest : List Token) → BodyParses limit name u a rest → ⊥
-value_unassigned limit name u v n k d l a rest (type_parses j s c) = k j
-value_unassigned limit name u v n k d l a rest (value_parses j c m x) = l (ap first_kind (same_notation d c).1 ∙ m)
+pub value_read : (limit : ℕ) (name : Token) (u v w rest : List Token) (n : Notation) (value : Value) → first_kind u ≢ Some kind.Assignment → macro_at name u ≡ None → NotationParses limit 0 u n v → first_kind v ≡ Some kind.Assignment → w ≡ drop 1 v
+    → assigned_value_at w ≡ Some (value, rest) → BodyParses limit name u (value_assignment name n value) rest
+value_read limit name u v w rest n value k m d l f p = value_parses k m d l (ap assigned_value_at (sym f) ∙ p)
 
-pub value_none : (limit : ℕ) (name : Token) (u v w : List Token) (n : Notation) → first_kind u ≢ Some kind.Assignment → NotationParses limit 0 u n v → w ≡ drop 1 v → value_at w ≡ None → (a : Assignment) (rest : List Token) → BodyParses limit name u a rest → ⊥
-value_none limit name u v w n k d f none a rest (type_parses j s c) = k j
-value_none limit name u v w n k d f none a rest (value_parses j c m p) = none_some (ap value_at (sym (f ∙ ap (drop 1) (same_notation d c).1)) ∙ none) p
+pub value_untyped : (limit : ℕ) (name : Token) (u : List Token) → first_kind u ≢ Some kind.Assignment → macro_at name u ≡ None → ((n : Notation) (v : List Token) → NotationParses limit 0 u n v → ⊥)
+    → (a : Assignment) (rest : List Token) → BodyParses limit name u a rest → ⊥
+value_untyped limit name u k m none a rest (type_parses j i d) = k j
+value_untyped limit name u k m none a rest (macro_parses n) = none_some m n
+value_untyped limit name u k m none a rest (value_parses {v = v} {n = n} j h d l x) = none n v d
+
+pub value_unassigned : (limit : ℕ) (name : Token) (u v : List Token) (n : Notation) → first_kind u ≢ Some kind.Assignment → macro_at name u ≡ None → NotationParses limit 0 u n v → first_kind v ≢ Some kind.Assignment
+    → (a : Assignment) (rest : List Token) → BodyParses limit name u a rest → ⊥
+value_unassigned limit name u v n k m d l a rest (type_parses j e c) = k j
+value_unassigned limit name u v n k m d l a rest (macro_parses c) = none_some m c
+value_unassigned limit name u v n k m d l a rest (value_parses j h c i x) = l (ap first_kind (same_notation d c).1 ∙ i)
+
+pub value_none : (limit : ℕ) (name : Token) (u v w : List Token) (n : Notation) → first_kind u ≢ Some kind.Assignment → macro_at name u ≡ None → NotationParses limit 0 u n v → w ≡ drop 1 v → assigned_value_at w ≡ None
+    → (a : Assignment) (rest : List Token) → BodyParses limit name u a rest → ⊥
+value_none limit name u v w n k m d f none a rest (type_parses j e c) = k j
+value_none limit name u v w n k m d f none a rest (macro_parses c) = none_some m c
+value_none limit name u v w n k m d f none a rest (value_parses j h c i p) = none_some (ap assigned_value_at (sym (f ∙ ap (drop 1) (same_notation d c).1)) ∙ none) p
 
 -- An assignment, by what follows its name.
 pub unclosed_parameters : (limit : ℕ) (u v : List Token) (name : Token) → assigned_at u ≡ Some (name, v) → past_optional_braces v ≡ None → (a : Assignment) (rest : List Token) → AssignmentParses limit u a rest → ⊥

@@ -9,3 +9,4 @@ pub mod EntriesSeen
 pub mod ItemsRead
 pub mod SizesRead
 pub mod NumbersRead
+pub mod Clauses

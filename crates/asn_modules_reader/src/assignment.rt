@@ -13,8 +13,9 @@ ghost use Rattle.std.specs.Prelude.{◌≡◌, ◌<◌, ◌≤◌, IfErr, IfOk, 
 ghost use Rattle.std.specs.Prelude.{map};
 
 use crate::limits::NESTING_LIMIT;
+use crate::macros::{read_assigned, read_assigned_value, read_macro};
 use crate::notation::read_notation;
-use crate::parts::{Mark, Sign, is_small, past_parameters, read_value, take, take_sign};
+use crate::parts::{Mark, Sign, is_small, past_parameters, take, take_sign};
 use asn_lexer::{Keyword, Kind, Token};
 use asn_modules_grammar::headers::{Expected, SyntaxFault, read_names, unexpected};
 use asn_modules_grammar::notation::{Assignment, Base, Closed, Leaf, Notation, Value};
@@ -79,7 +80,7 @@ fn take_assigned(tokens: &[Token]) -> Option<(Token, &[Token])>
 }
 
 /// Returns the assignment to this name without its parameters, which goes on here, and what follows
-/// it. The first token tells its kind.
+/// it. The first tokens tell its kind.
 ///
 /// # Errors
 ///
@@ -97,18 +98,22 @@ fn read_body(
         if is_small(name.kind) {
             return Err(unexpected(tokens, Expected::Type));
         }
-        let (assigned, rest) = read_notation(alloc, inner, 0)?;
+        let (assigned, rest) = read_assigned(alloc, inner)?;
         let assignment = Assignment::Type {
             name,
             notation: assigned,
         };
         return Ok((assignment, rest));
     }
+    let made = read_macro(alloc, name, tokens)?;
+    if let Some(found) = made {
+        return Ok(found);
+    }
     let (notation, assigning) = read_notation(alloc, tokens, 0)?;
     let Some(inner) = take_sign(Sign::Assignment, assigning) else {
         return Err(unexpected(assigning, Expected::Assignment));
     };
-    let (value, rest) = read_value(alloc, inner)?;
+    let (value, rest) = read_assigned_value(alloc, inner)?;
     let assignment = Assignment::Value {
         name,
         notation,

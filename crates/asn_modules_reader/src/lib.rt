@@ -6,6 +6,7 @@
 mod assignment;
 mod bases;
 pub mod limits;
+mod macros;
 mod members;
 mod module;
 mod notation;

@@ -3,6 +3,7 @@
 //! the grammar of `asn_modules_grammar`, over tokens. One token decides what stands at a place.
 
 mod class;
+mod clause;
 mod entries;
 mod group;
 mod item;
@@ -15,6 +16,7 @@ mod start;
 mod tag;
 mod value;
 
+pub(crate) use clause::{is_capital, opens_clause, past_clauses, past_definition, take_clauses};
 pub use entries::Entries;
 pub use group::{past, past_parameters};
 pub use item::{read_item, read_items};

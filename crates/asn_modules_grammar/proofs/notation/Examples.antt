@@ -12,7 +12,7 @@ use Rattle.asn_modules_grammar.specs.declared.headers.tagging.Tagging.TheVariant
 use Rattle.asn_model.specs.Shape.{SeqKind}
 use Rattle.asn_modules_grammar.specs.notation.Grammar.{NotationParses, notation_parses, leaf_parses, reference_parses, bit_string_parses, enumerated_parses, members_parse, list_parses, instance_parses, last_argument, other_arguments, component_parses, components_of_parses, marker_parses, group_parses, last_member, next_member, some_members_parse}
 use Rattle.asn_modules_grammar.specs.notation.Lists.{no_more, one_more, last_entry, next_entry}
-use Rattle.asn_modules_grammar.specs.notation.Modules.{Assignment, type_assignment, value_assignment, BodyParses, TextParses, modules_parse, assignments_parse, no_modules, next_module, no_assignments, next_assignment, assignment_parses, type_parses, value_parses, template_assignment}
+use Rattle.asn_modules_grammar.specs.notation.Modules.{Assignment, type_assignment, value_assignment, BodyParses, TextParses, modules_parse, assignments_parse, no_modules, next_module, no_assignments, next_assignment, assignment_parses, plain_parses, type_parses, macro_parses, value_parses, template_assignment}
 use Rattle.asn_modules_grammar.specs.notation.Notation.{notation, leaf, bit_string, enumerated, members, list_of, reference, instance_of, notations_of, component, components_of, group, marker, members_of}
 use Rattle.asn_modules_grammar.specs.notation.Numbers.{no_named_numbers, some_items}
 use Rattle.asn_modules_grammar.specs.notation.Sizes.{of_at}
@@ -99,8 +99,8 @@ whole_text : TextParses 64
       assignments = type_assignment (capital 4) (notation [] (leaf Boolean) []) ∷ value_assignment (small 7) (notation [] (reference None (capital 8)) []) (value.Word (capital 10)) ∷ [];
     } ∷ [])
 whole_text = modules_parse refl (next_module (record { behind_opening = _; behind_exports = _; opening = refl; exports = refl; imports = no_imports refl })
-    (next_assignment (assignment_parses refl refl (type_parses refl refl (notation_parses (fits 0 refl) (no_more refl) refl leaf_parses (no_more refl))))
-    (next_assignment (assignment_parses refl refl (value_parses (λ e. cc) (notation_parses (fits 0 refl) (no_more refl) refl (reference_parses (λ e. cc)) (no_more refl)) refl refl)) (no_assignments refl))) refl no_modules)
+    (next_assignment (assignment_parses refl refl (type_parses refl refl (plain_parses refl (notation_parses (fits 0 refl) (no_more refl) refl leaf_parses (no_more refl)))))
+    (next_assignment (assignment_parses refl refl (value_parses (λ e. cc) refl (notation_parses (fits 0 refl) (no_more refl) refl (reference_parses (λ e. cc)) (no_more refl)) refl refl)) (no_assignments refl))) refl no_modules)
 
 -- S {T} ::= BOOLEAN has a parameter, and U ::= S {BOOLEAN} one in its place.
 with_parameters : TextParses 64
@@ -112,9 +112,9 @@ with_parameters : TextParses 64
           ∷ type_assignment (capital 6) (notation [] (instance_of None (capital 8) (notations_of (notation [] (leaf Boolean) [] ∷ []))) []) ∷ [];
     } ∷ [])
 with_parameters = assignments_parse refl
-    (next_assignment (assignment_parses refl refl (type_parses refl refl (notation_parses (fits 0 refl) (no_more refl) refl leaf_parses (no_more refl))))
-    (next_assignment (assignment_parses refl refl (type_parses refl refl (notation_parses (fits 0 refl) (no_more refl) refl
-    (instance_parses refl (last_argument refl (notation_parses fits_one (no_more refl) refl leaf_parses (no_more refl)) refl)) (no_more refl)))) (no_assignments refl)))
+    (next_assignment (assignment_parses refl refl (type_parses refl refl (plain_parses refl (notation_parses (fits 0 refl) (no_more refl) refl leaf_parses (no_more refl)))))
+    (next_assignment (assignment_parses refl refl (type_parses refl refl (plain_parses refl (notation_parses (fits 0 refl) (no_more refl) refl
+    (instance_parses refl (last_argument refl (notation_parses fits_one (no_more refl) refl leaf_parses (no_more refl)) refl)) (no_more refl))))) (no_assignments refl)))
 
 -- S {1} has an actual parameter that is no type.
 with_number : NotationParses 64 0 (capital 0 ∷ at kind.OpenBrace 1 ∷ at kind.Number 2 ∷ at kind.CloseBrace 3 ∷ []) (notation [] (leaf (Closed Parameterized)) []) []
@@ -144,7 +144,8 @@ field_begins = refl
 -- Nothing is assigned by a ::= BOOLEAN.
 no_small : {a : Assignment} {rest : List Token} → BodyParses 64 (small 0) (at kind.Assignment 1 ∷ word keyword.Boolean 2 ∷ []) a rest → ⊥
 no_small (type_parses h k d) = let e : true ≡ false = k in let y : ⊥ = cc in y
-no_small (value_parses h d k x) = h refl
+no_small (macro_parses m) = let y : ⊥ = cc in y
+no_small (value_parses h m d k x) = h refl
 
 -- SET SIZE (1..4) OF a BOOLEAN has named elements, whose name means nothing.
 named_elements : NotationParses 64 0

@@ -1,23 +1,26 @@
 -- Tokens stand for at most one type and rest, and a whole text for at most one list of modules.
-use Rattle.std.proofs.Common.{◌≡◌, ◌≢◌, ℕ, suc, List, [], ◌∷◌, drop, Bool, true, false, if◌then◌else◌, Option, Some, None, refl, sym, ap, subst, ◌∙◌}
+use Rattle.std.proofs.Common.{◌≡◌, ◌≢◌, ℕ, suc, List, [], ◌∷◌, drop, Bool, true, false, ◌&&◌, if◌then◌else◌, Option, Some, None, refl, sym, ap, subst, ◌∙◌}
+use Rattle.std.specs.Option.{option_map}
 use Rattle.asn_lexer.specs.declared.keyword.Keyword.TheVariants as keyword
 use Rattle.asn_lexer.specs.declared.kind.Kind.{Kind}
 use Rattle.asn_lexer.specs.declared.kind.Kind.TheVariants as kind
 use Rattle.asn_lexer.specs.declared.token.Token.{Token}
+use Rattle.asn_modules_grammar.specs.headers.Fronts.{first_is, first_of}
 use Rattle.asn_modules_grammar.specs.headers.Groups.{past_groups, past_optional_braces}
 use Rattle.asn_modules_grammar.specs.declared.headers.group.Group.TheVariants.{Braces}
 use Rattle.asn_modules_grammar.specs.headers.Headers.{HeaderParses}
 use Rattle.asn_modules_grammar.proofs.headers.HeadersRead.{same_header}
 use Rattle.asn_modules_grammar.proofs.headers.Imports.{some_same}
 use Rattle.asn_modules_grammar.specs.notation.Grammar.{NotationParses, notation_parses, BaseParses, leaf_parses, reference_parses, instance_parses, ArgumentsParse, other_arguments, last_argument, next_argument, unlike_argument, integer_parses, bit_string_parses, enumerated_parses, members_parse, list_parses, choice_parses, MemberParses, component_parses, components_of_parses, marker_parses, group_parses, MembersParse, last_member, next_member, BracesParse, no_members_parse, some_members_parse, sizes_of}
-use Rattle.asn_modules_grammar.specs.notation.Kinds.{assigned_at, first_kind, token_at, is_component_word}
+use Rattle.asn_modules_grammar.specs.notation.Kinds.{assigned_at, first_kind, token_at, is_component_word, is_syntax}
 use Rattle.asn_modules_grammar.specs.notation.Lists.{Repeated, no_more, one_more, Listed, last_entry, next_entry}
-use Rattle.asn_modules_grammar.specs.notation.Modules.{Assignment, type_assignment, value_assignment, Module, BodyParses, type_parses, value_parses, assigned_by, AssignmentParses, assignment_parses, AssignmentsParse, no_assignments, next_assignment, ModulesParse, no_modules, next_module, TextParses, modules_parse, assignments_parse}
+use Rattle.asn_modules_grammar.specs.notation.Macros.{assigned_value_at, clauses_at, is_capital, is_macro, macro_named, macro_type, macro_value_at, opens_clause, past_definition}
+use Rattle.asn_modules_grammar.specs.notation.Modules.{Assignment, type_assignment, value_assignment, Module, AssignedParses, plain_parses, syntax_parses, clauses_parse, macro_at, BodyParses, type_parses, macro_parses, value_parses, assigned_by, AssignmentParses, assignment_parses, AssignmentsParse, no_assignments, next_assignment, ModulesParse, no_modules, next_module, TextParses, modules_parse, assignments_parse}
 use Rattle.asn_modules_grammar.specs.notation.Notation.{Notation, Base, Member, notation, integer, bit_string, enumerated, members, list_of, choice, all_types, instance_or, component, components_of, group, members_of}
 use Rattle.asn_modules_grammar.specs.notation.Numbers.{NamedNumbersParse, no_named_numbers, named_numbers, ItemsParse, no_items, some_items, item_at, item_by}
 use Rattle.asn_modules_grammar.specs.notation.Sizes.{of_at, of_by}
 use Rattle.asn_modules_grammar.specs.notation.Starts.{Start, start_at}
-use Rattle.asn_modules_grammar.specs.notation.Values.{presence_at, value_at}
+use Rattle.asn_modules_grammar.specs.notation.Values.{presence_at}
 use Rattle.asn_modules_grammar.specs.declared.notation.number.Item.{Item}
 use Rattle.asn_modules_grammar.specs.declared.notation.number.NamedNumber.{NamedNumber}
 
@@ -198,13 +201,40 @@ mutual
   same_braces (some_members_parse p h) (no_members_parse a) = absurd (members_brace p a)
   same_braces (some_members_parse p h) (some_members_parse q k) = same_members p q brace_closes
 
+-- Where clauses end, SYNTAX stands there or not.
+ends_alike : {v w : List Token} {x : Option (List Token)} {b c : Bool} (p : Kind → Bool) → x ≡ Some v → x ≡ Some w → first_is p v ≡ b → first_is p w ≡ c → b ≡ c
+ends_alike p d e h k = sym h ∙ ap (first_is p) (some_same d e) ∙ k
+
+same_assigned : {limit : ℕ} {u r s : List Token} {m n : Notation} → AssignedParses limit u m r → AssignedParses limit u n s → (m ≡ n) × (r ≡ s)
+same_assigned (plain_parses h p) (plain_parses k q) = same_notation p q
+same_assigned (plain_parses h p) (syntax_parses k f q) = absurd (none_some h k)
+same_assigned (plain_parses h p) (clauses_parse k f g) = absurd (none_some h k)
+same_assigned (syntax_parses k f q) (plain_parses h p) = absurd (none_some h k)
+same_assigned {limit = limit} {s = s} (syntax_parses h f p) (syntax_parses {n = n} k g q) = same_notation p (subst (λ y. NotationParses limit 0 (drop 1 y) n s) (sym (some_same h k)) q)
+same_assigned (syntax_parses h f p) (clauses_parse k g q) = absurd (true_false (ends_alike is_syntax h k f g))
+same_assigned (clauses_parse k g q) (plain_parses h p) = absurd (none_some h k)
+same_assigned (clauses_parse k g q) (syntax_parses h f p) = absurd (true_false (ends_alike is_syntax h k f g))
+same_assigned (clauses_parse h f p) (clauses_parse k g q) = (ap macro_named (some_same p q), some_same h k)
+
+-- `::=` is no macro.
+pub assigns_no_macro : (name : Token) (u : List Token) {x : Option (Assignment × List Token)} → first_kind u ≡ Some kind.Assignment → macro_at name u ≡ Some x → ⊥
+assigns_no_macro name [] h k = none_some refl k
+assigns_no_macro name (t ∷ u) h k =
+    let e : t.kind ≡ kind.Assignment = cc in
+    none_some (ap (λ i. if is_macro i then Some (option_map (λ v. (type_assignment name macro_type, v)) (past_definition u)) else if is_capital i && first_is opens_clause u then Some (option_map (λ p. (value_assignment name (macro_named t) p.0, p.1)) (macro_value_at name u)) else None) e) k
+
 same_body : {limit : ℕ} {name : Token} {u r s : List Token} {a b : Assignment} → BodyParses limit name u a r → BodyParses limit name u b s → (a ≡ b) × (r ≡ s)
-same_body {name = name} (type_parses h k d) (type_parses h' k' d') = let e = same_notation d d' in (ap (type_assignment name) e.0, e.1)
-same_body (type_parses h k d) (value_parses h' d' k' x') = absurd (h' h)
-same_body (value_parses h' d' k' x') (type_parses h k d) = absurd (h' h)
-same_body {name = name} (value_parses {x = x} h d k b) (value_parses {v = w'} {rest = rest'} {n = n'} {x = x'} h' d' k' b') =
+same_body {name = name} (type_parses h i d) (type_parses h' i' d') = let e = same_assigned d d' in (ap (type_assignment name) e.0, e.1)
+same_body {name = name} {u = u} (type_parses h i d) (macro_parses m) = absurd (assigns_no_macro name u h m)
+same_body (type_parses h i d) (value_parses h' l d' k' x') = absurd (h' h)
+same_body {name = name} {u = u} (macro_parses m) (type_parses h i d) = absurd (assigns_no_macro name u h m)
+same_body (macro_parses m) (macro_parses n) = let e = some_same refl (some_same m n) in (ap (λ y. y.0) e, ap (λ y. y.1) e)
+same_body (macro_parses m) (value_parses h l d k x) = absurd (none_some l m)
+same_body (value_parses h' l d' k' x') (type_parses h i d) = absurd (h' h)
+same_body (value_parses h l d k x) (macro_parses m) = absurd (none_some l m)
+same_body {name = name} (value_parses {x = x} h l d k b) (value_parses {v = w'} {rest = rest'} {n = n'} {x = x'} h' l' d' k' b') =
     let f = same_notation d d' in
-    let g = some_same b (subst (λ y. value_at (drop 1 y) ≡ Some (x', rest')) (sym f.1) b') in
+    let g = some_same b (subst (λ y. assigned_value_at (drop 1 y) ≡ Some (x', rest')) (sym f.1) b') in
     (ap (λ y. value_assignment name y x) f.0 ∙ ap (λ y. value_assignment name n' y.0) g, ap (λ y. y.1) g)
 
 pub same_assignment : {limit : ℕ} {u r s : List Token} {a b : Assignment} → AssignmentParses limit u a r → AssignmentParses limit u b s → (a ≡ b) × (r ≡ s)

@@ -1,15 +1,16 @@
--- The grammar of modules (X.680, section 13): which modules tokens stand for.
+-- The grammar of modules (X.680, section 13, with the macros of X.208): which modules tokens stand for.
 use Rattle.std.specs.Prelude.{ℕ, ◌≡◌, ◌≢◌, List, [], ◌∷◌, drop, Bool, true, false, not, ◌&&◌, ◌||◌, if◌then◌else◌, Option, Some, None}
+use Rattle.std.specs.Option.{option_map}
 use Rattle.asn_lexer.specs.declared.keyword.Keyword.TheVariants as keyword
 use Rattle.asn_lexer.specs.declared.kind.Kind.TheVariants as kind
 use Rattle.asn_lexer.specs.declared.token.Token.{Token}
-use Rattle.asn_modules_grammar.specs.headers.Fronts.{first_is, is_name}
+use Rattle.asn_modules_grammar.specs.headers.Fronts.{first_is, first_of, is_name}
 use Rattle.asn_modules_grammar.specs.headers.Groups.{past_optional_braces}
 use Rattle.asn_modules_grammar.specs.headers.Headers.{Header, HeaderParses, names_at}
 use Rattle.asn_modules_grammar.specs.notation.Grammar.{NotationParses}
-use Rattle.asn_modules_grammar.specs.notation.Kinds.{assigned_at, first_kind, is_assignment, is_close_brace, is_definitions, is_open_brace, is_small}
+use Rattle.asn_modules_grammar.specs.notation.Kinds.{assigned_at, first_kind, is_assignment, is_close_brace, is_definitions, is_open_brace, is_small, is_syntax}
+use Rattle.asn_modules_grammar.specs.notation.Macros.{assigned_value_at, clauses_at, is_capital, is_macro, macro_named, macro_type, macro_value_at, opens_clause, past_definition}
 use Rattle.asn_modules_grammar.specs.notation.Notation.{Notation, notation, leaf}
-use Rattle.asn_modules_grammar.specs.notation.Values.{value_at}
 use Rattle.asn_modules_grammar.specs.declared.notation.leaf.Closed.TheVariants.{Parameterized}
 use Rattle.asn_modules_grammar.specs.declared.notation.leaf.Leaf.TheVariants.{Closed}
 use Rattle.asn_modules_grammar.specs.declared.notation.value.Value.{Value}
@@ -28,10 +29,25 @@ pub record Module : Type 0 where
   pub header : Option Header
   pub assignments : List Assignment
 
--- Without parameters, the assignment to the name goes on here, and the rest follows it. The token behind the name tells its kind. A type is assigned to no name that begins with a small letter.
+-- The type is assigned here behind `::=`. Behind the name of a macro and its clauses it is the type behind SYNTAX, or else that of the macro.
+pub data AssignedParses (limit : ℕ) : List Token → Notation → List Token → Type 0 where
+  plain_parses : {u rest : List Token} {n : Notation} → clauses_at u ≡ None → NotationParses limit 0 u n rest → AssignedParses limit u n rest
+  syntax_parses : {u v rest : List Token} {n : Notation} → clauses_at u ≡ Some v → first_is is_syntax v ≡ true → NotationParses limit 0 (drop 1 v) n rest → AssignedParses limit u n rest
+  clauses_parse : {u v : List Token} {t : Token} → clauses_at u ≡ Some v → first_is is_syntax v ≡ false → first_of u ≡ Some t → AssignedParses limit u (macro_named t) v
+
+-- What is assigned to the name by a macro: MACRO and what defines one stands here, or the name of a macro and clauses of its notation. `None` where neither does.
+abbrev pub macro_at : Token → List Token → Option (Option (Assignment × List Token))
+macro_at name [] = None
+macro_at name (t ∷ u) =
+    if is_macro t.kind then Some (option_map (λ v. (type_assignment name macro_type, v)) (past_definition u))
+    else if is_capital t.kind && first_is opens_clause u then Some (option_map (λ p. (value_assignment name (macro_named t) p.0, p.1)) (macro_value_at name u))
+    else None
+
+-- Without parameters, the assignment to the name goes on here, and the rest follows it. The first tokens tell its kind. Behind `::=` a type is assigned to no name that begins with a small letter.
 pub data BodyParses (limit : ℕ) (name : Token) : List Token → Assignment → List Token → Type 0 where
-  type_parses : {u rest : List Token} {n : Notation} → first_kind u ≡ Some kind.Assignment → is_small name.kind ≡ false → NotationParses limit 0 (drop 1 u) n rest → BodyParses limit name u (type_assignment name n) rest
-  value_parses : {u v rest : List Token} {n : Notation} {x : Value} → first_kind u ≢ Some kind.Assignment → NotationParses limit 0 u n v → first_kind v ≡ Some kind.Assignment → value_at (drop 1 v) ≡ Some (x, rest)
+  type_parses : {u rest : List Token} {n : Notation} → first_kind u ≡ Some kind.Assignment → is_small name.kind ≡ false → AssignedParses limit (drop 1 u) n rest → BodyParses limit name u (type_assignment name n) rest
+  macro_parses : {u rest : List Token} {a : Assignment} → macro_at name u ≡ Some (Some (a, rest)) → BodyParses limit name u a rest
+  value_parses : {u v rest : List Token} {n : Notation} {x : Value} → first_kind u ≢ Some kind.Assignment → macro_at name u ≡ None → NotationParses limit 0 u n v → first_kind v ≡ Some kind.Assignment → assigned_value_at (drop 1 v) ≡ Some (x, rest)
       → BodyParses limit name u (value_assignment name n x) rest
 
 -- A type with parameters that aren't all types, which has no values.

@@ -71,6 +71,8 @@ pub enum Expected {
     HigherType,
     /// A value.
     Value,
+    /// `END`.
+    End,
     /// A name or `END`.
     NameOrEnd,
     /// A name or the end of the text.

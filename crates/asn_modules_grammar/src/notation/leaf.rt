@@ -61,6 +61,8 @@ pub enum Closed {
     ClassField,
     /// Is an object class.
     ObjectClass,
+    /// Is a macro (X.208, Annex A).
+    Macro,
     /// Is INSTANCE OF.
     InstanceOf,
 }

@@ -3,6 +3,7 @@ use Rattle.std.specs.Prelude.{Bool}
 use Rattle.asn_modules_grammar.specs.headers.Fronts.{is_name}
 use Rattle.asn_lexer.specs.declared.kind.Kind.{Kind}
 use Rattle.asn_modules_grammar.specs.notation.Kinds.{is_word, is_component_word, is_number, is_number_or_name, is_open_paren, is_close_paren, is_open_bracket, is_close_bracket, is_colon, is_point, is_range, is_size, is_of, is_by, is_defined, is_string, is_identifier, is_pdv, is_class_word, is_open_brace, is_close_brace, is_assignment, is_ampersand, is_with, is_syntax}
+use Rattle.asn_modules_grammar.specs.notation.Macros.{is_begin}
 use Rattle.asn_modules_reader.specs.declared.parts.mark.Mark.{Mark}
 use Rattle.asn_modules_reader.specs.declared.parts.mark.Mark.TheVariants as mark
 
@@ -34,3 +35,4 @@ passes mark.Assignment k = is_assignment k
 passes mark.Ampersand k = is_ampersand k
 passes mark.With k = is_with k
 passes mark.Syntax k = is_syntax k
+passes mark.Begin k = is_begin k

@@ -61,6 +61,8 @@ pub enum Mark {
     With,
     /// Is `SYNTAX`.
     Syntax,
+    /// Is `BEGIN`.
+    Begin,
 }
 
 /// Returns whether a token of the kind is a name that begins with a small letter.
@@ -117,6 +119,7 @@ fn passes(mark: Mark, kind: Kind) -> bool
         Mark::Ampersand => matches!(kind, Kind::Ampersand),
         Mark::With => matches!(kind, Kind::Reserved(Keyword::With)),
         Mark::Syntax => matches!(kind, Kind::Reserved(Keyword::Syntax)),
+        Mark::Begin => matches!(kind, Kind::Reserved(Keyword::Begin)),
     }
 }
 

@@ -3,7 +3,8 @@ use Rattle.std.specs.Prelude.{ℕ, zero, suc, List, [], ◌∷◌, Bool, ◌&&�
 use Rattle.avn_grammar.specs.Chars.{starts_with}
 use Rattle.asn_lexer.specs.Fronts.{begins}
 
--- White space of one byte: a tab, a line feed, a vertical tab, a form feed, a carriage return or a space.
+-- White space of one byte: a tab, a line feed, a vertical tab, a form feed, a carriage return or a
+-- space.
 abbrev pub is_white : ℕ → Bool
 is_white c = (nat_le 9 c && nat_le c 13) || (c == 32)
 
@@ -28,7 +29,8 @@ past_spaced p (c ∷ d ∷ u) =
 abbrev pub ends_line : ℕ → Bool
 ends_line c = nat_le 10 c && nat_le c 13
 
--- What follows a comment whose `--` was read: it ends with the next `--` or before the end of the line.
+-- What follows a comment whose `--` was read: it ends with the next `--` or before the end of the
+-- line.
 abbrev pub past_line_comment : List ℕ → List ℕ
 past_line_comment [] = []
 past_line_comment (c ∷ u) =
@@ -36,7 +38,8 @@ past_line_comment (c ∷ u) =
     else if ends_line c then c ∷ u
     else past_line_comment u
 
--- What follows a comment whose `/*` was read, and `inner` more of them within it, each of which ends with a `*/` of its own.
+-- What follows a comment whose `/*` was read, and `inner` more of them within it, each of which
+-- ends with a `*/` of its own.
 abbrev pub past_block_comment : ℕ → List ℕ → Option (List ℕ)
 past_block_comment inner [] = None
 past_block_comment inner (c ∷ []) = None

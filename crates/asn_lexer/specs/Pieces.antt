@@ -31,14 +31,18 @@ word_kind word = option_map_or (λ k. Reserved k) (keyword_named word) (Name (in
 abbrev pub as_token : Kind × List ℕ → Piece × List ℕ
 as_token found = (Token found.0, found.1)
 
--- What stands at the front of a text, and what follows it: white space, a comment or the longest token. There is none at the end of the text, before a comment, string or digits without an end, and before any other character.
+-- What stands at the front of a text, and what follows it: white space, a comment or the longest
+-- token. There is none at the end of the text, before a comment, string or digits without an end,
+-- and before any other character.
 unfoldable pub piece_at : List ℕ → Option (Piece × List ℕ)
 piece_at u =
     if begins_white u then Some (Blank, past_spaced is_white u)
     else if starts_with is_letter u then Some (Token (word_kind (word_front u)), past_word u)
     else if starts_with is_digit u then Some (as_token (number_at u))
     else if begins (codes "--") u then Some (Blank, past_line_comment (drop 2 u))
-    else if begins (codes "/*") u then option_map (λ v. (Blank, v)) (past_block_comment 0 (drop 2 u))
-    else if starts_with (λ c. c == 34) u then option_map (λ v. (Token Cstring, v)) (past_string (drop 1 u))
+    else if begins (codes "/*") u
+    then option_map (λ v. (Blank, v)) (past_block_comment 0 (drop 2 u))
+    else if starts_with (λ c. c == 34) u
+    then option_map (λ v. (Token Cstring, v)) (past_string (drop 1 u))
     else if starts_with (λ c. c == 39) u then option_map as_token (quoted_at (drop 1 u))
     else option_map as_token (sign_at u)

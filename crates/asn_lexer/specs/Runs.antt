@@ -10,7 +10,8 @@ use Rattle.asn_lexer.specs.declared.run.Run.TheVariants as run
 abbrev pub is_bit_or_white : ℕ → Bool
 is_bit_or_white c = is_bit c || is_white c
 
--- A hexadecimal digit, whose letters are capitals, or white space of one byte (X.680, section 12.12).
+-- A hexadecimal digit, whose letters are capitals, or white space of one byte (X.680, section
+-- 12.12).
 abbrev pub is_hex_or_white : ℕ → Bool
 is_hex_or_white c = is_digit c || (nat_le 65 c && nat_le c 70) || is_white c
 

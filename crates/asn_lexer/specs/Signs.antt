@@ -7,14 +7,19 @@ use Rattle.asn_lexer.specs.declared.kind.Kind.TheVariants as kind
 
 -- The signs of several characters and their kinds. Each stands before those that it begins with.
 abbrev pub long_signs : List (List ℕ × Kind)
-long_signs = (codes "::=", kind.Assignment) ∷ (codes "...", kind.Ellipsis) ∷ (codes "..", kind.Range) ∷ (codes "[[", kind.OpenVersion) ∷ (codes "]]", kind.CloseVersion) ∷ []
+long_signs =
+    (codes "::=", kind.Assignment) ∷ (codes "...", kind.Ellipsis) ∷ (codes "..", kind.Range)
+    ∷ (codes "[[", kind.OpenVersion) ∷ (codes "]]", kind.CloseVersion) ∷ []
 
 -- The signs of one character and their kinds: { } ( ) [ ] , ; : . | ^ < > @ ! & * / + = -
 abbrev pub short_signs : List (ℕ × Kind)
 short_signs =
-    (123, kind.OpenBrace) ∷ (125, kind.CloseBrace) ∷ (40, kind.OpenParen) ∷ (41, kind.CloseParen) ∷ (91, kind.OpenBracket) ∷ (93, kind.CloseBracket) ∷ (44, kind.Comma) ∷ (59, kind.Semicolon)
-    ∷ (58, kind.Colon) ∷ (46, kind.Point) ∷ (124, kind.Bar) ∷ (94, kind.Caret) ∷ (60, kind.Less) ∷ (62, kind.Greater) ∷ (64, kind.At) ∷ (33, kind.Exclamation) ∷ (38, kind.Ampersand)
-    ∷ (42, kind.Asterisk) ∷ (47, kind.Slash) ∷ (43, kind.Plus) ∷ (61, kind.Equals) ∷ (45, kind.Minus) ∷ []
+    (123, kind.OpenBrace) ∷ (125, kind.CloseBrace) ∷ (40, kind.OpenParen) ∷ (41, kind.CloseParen)
+    ∷ (91, kind.OpenBracket) ∷ (93, kind.CloseBracket) ∷ (44, kind.Comma) ∷ (59, kind.Semicolon)
+    ∷ (58, kind.Colon) ∷ (46, kind.Point) ∷ (124, kind.Bar) ∷ (94, kind.Caret) ∷ (60, kind.Less)
+    ∷ (62, kind.Greater) ∷ (64, kind.At) ∷ (33, kind.Exclamation) ∷ (38, kind.Ampersand)
+    ∷ (42, kind.Asterisk) ∷ (47, kind.Slash) ∷ (43, kind.Plus) ∷ (61, kind.Equals)
+    ∷ (45, kind.Minus) ∷ []
 
 -- The kind of the first of these signs that the text begins with, and what follows it.
 abbrev pub sign_among : List (List ℕ × Kind) → List ℕ → Option (Kind × List ℕ)

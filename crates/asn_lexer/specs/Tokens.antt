@@ -9,12 +9,16 @@ use Rattle.asn_lexer.specs.declared.token.Token.{Token}
 abbrev pub place_before : ℕ → List ℕ → ℕ
 place_before total rest = total - length rest
 
--- From u, a rest of a text of this length, these tokens stand up to the rest w, with blanks and comments between.
+-- From u, a rest of a text of this length, these tokens stand up to the rest w, with blanks and
+-- comments between.
 pub data Reads (total : ℕ) : List ℕ → List Token → List ℕ → Type 0 where
   reads_none : {u : List ℕ} → Reads total u [] u
-  reads_blank : {u v w : List ℕ} {ts : List Token} → piece_at u ≡ Some (piece.Blank, v) → Reads total v ts w → Reads total u ts w
-  reads_token : {u v w : List ℕ} {ts : List Token} {k : Kind} → piece_at u ≡ Some (piece.Token k, v) → Reads total v ts w
-      → Reads total u (record { kind = k; start = place_before total u; end = place_before total v } ∷ ts) w
+  reads_blank : {u v w : List ℕ} {ts : List Token} → piece_at u ≡ Some (piece.Blank, v)
+      → Reads total v ts w → Reads total u ts w
+  reads_token : {u v w : List ℕ} {ts : List Token} {k : Kind} → piece_at u ≡ Some (piece.Token k, v)
+      → Reads total v ts w
+      → Reads total u
+      (record { kind = k; start = place_before total u; end = place_before total v } ∷ ts) w
 
 -- The text has these tokens: it is nothing but them, blanks and comments.
 abbrev pub HasTokens : List ℕ → List Token → Type 0

@@ -12,7 +12,8 @@ use Rattle.asn_lexer.specs.declared.kind.Kind.TheVariants.{Number, RealNumber, B
 abbrev pub is_word_char : ℕ → Bool
 is_word_char c = is_letter c || is_digit c || (c == 95)
 
--- The word goes on with the first character: a letter, a digit, `_`, or a `-` that one of these follows.
+-- The word goes on with the first character: a letter, a digit, `_`, or a `-` that one of these
+-- follows.
 abbrev pub continues_word : List ℕ → Bool
 continues_word [] = false
 continues_word (c ∷ u) = is_word_char c || ((c == 45) && starts_with is_word_char u)
@@ -41,24 +42,30 @@ past_sign u = if starts_with (λ c. (c == 43) || (c == 45)) u then drop 1 u else
 
 -- The text begins with an exponent: `e` or `E`, an optional sign and a digit.
 abbrev pub begins_exponent : List ℕ → Bool
-begins_exponent u = starts_with (λ c. (c == 101) || (c == 69)) u && starts_with is_digit (past_sign (drop 1 u))
+begins_exponent u =
+    starts_with (λ c. (c == 101) || (c == 69)) u && starts_with is_digit (past_sign (drop 1 u))
 
 -- What follows an optional exponent.
 abbrev pub past_exponent : List ℕ → List ℕ
 past_exponent u = if begins_exponent u then skip_while is_digit (past_sign (drop 1 u)) else u
 
--- What a number is whose digits were read, and what follows it. With a point or an exponent behind the digits it is a real number (X.680, section 12.9), whose point needs no digits behind it.
+-- What a number is whose digits were read, and what follows it. With a point or an exponent after
+-- the digits it is a real number (X.680, section 12.9), whose point needs no digits after it.
 abbrev pub behind_digits : List ℕ → Kind × List ℕ
 behind_digits u =
     if begins_fraction u then (RealNumber, past_exponent (skip_while is_digit (drop 1 u)))
     else if begins_exponent u then (RealNumber, past_exponent u)
     else (Number, u)
 
--- What a number is, and what follows it: digits with what goes on behind them, or `0x` and hexadecimal digits.
+-- What a number is, and what follows it: digits with what goes on after them, or `0x` and
+-- hexadecimal digits.
 unfoldable pub number_at : List ℕ → Kind × List ℕ
-number_at u = if begins_hex u then (Number, skip_while is_hex (drop 2 u)) else behind_digits (skip_while is_digit u)
+number_at u =
+    if begins_hex u then (Number, skip_while is_hex (drop 2 u))
+    else behind_digits (skip_while is_digit u)
 
--- What follows a string whose opening quote was read: it ends with the first quote that isn't one of two.
+-- What follows a string whose opening quote was read: it ends with the first quote that isn't one
+-- of two.
 abbrev pub past_string : List ℕ → Option (List ℕ)
 past_string [] = None
 past_string (c ∷ []) = if begins (34 ∷ []) (c ∷ []) then Some [] else None
@@ -67,9 +74,12 @@ past_string (c ∷ d ∷ u) =
     else if begins (34 ∷ []) (c ∷ d ∷ u) then Some (d ∷ u)
     else past_string (d ∷ u)
 
--- What the digits behind an apostrophe are, and what follows them: `'B` ends bits, and `'H` hexadecimal digits.
+-- What the digits after an apostrophe are, and what follows them: `'B` ends bits, and `'H`
+-- hexadecimal digits.
 unfoldable pub quoted_at : List ℕ → Option (Kind × List ℕ)
 quoted_at u =
-    if begins (codes "'B") (past_spaced is_bit_or_white u) then Some (Bstring, drop 2 (past_spaced is_bit_or_white u))
-    else if begins (codes "'H") (past_spaced is_hex_or_white u) then Some (Hstring, drop 2 (past_spaced is_hex_or_white u))
+    if begins (codes "'B") (past_spaced is_bit_or_white u)
+    then Some (Bstring, drop 2 (past_spaced is_bit_or_white u))
+    else if begins (codes "'H") (past_spaced is_hex_or_white u)
+    then Some (Hstring, drop 2 (past_spaced is_hex_or_white u))
     else None

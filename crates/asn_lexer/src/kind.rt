@@ -21,7 +21,7 @@ pub enum Kind {
     Reserved(Keyword),
     /// Is a number: digits, or `0x` and hexadecimal digits.
     Number,
-    /// Is a real number (X.680, section 12.9): digits and a point, digits behind it or none, and an
+    /// Is a real number (X.680, section 12.9): digits and a point, digits after it or none, and an
     /// exponent or none, as `1.5`, `1.` and `1.5e-3`; or digits and an exponent, as `15E2`.
     RealNumber,
     /// Is a string between quotes, in which a quote is written twice.

@@ -18,7 +18,7 @@ fn begins_char(byte: u8) -> bool
     byte < 128 || byte >= 192
 }
 
-/// Returns the place behind the byte at the place.
+/// Returns the place after the byte at the place.
 #[tactic(auto, using(crate::proofs::Places::place_steps))]
 fn behind(place: Place, byte: u8) -> Place
     requires line_fits { place.line < 2 ^ 63 }

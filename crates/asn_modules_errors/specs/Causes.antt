@@ -17,7 +17,8 @@ rule_text rule.NumberNotRising = codes "has a number below that of an addition b
 rule_text rule.BitTwice = codes "has the number of another bit"
 rule_text rule.BitNegative = codes "has a negative number"
 rule_text rule.NotExported = codes "isn't exported by its module"
-rule_text rule.NotHeld = codes "is neither assigned nor imported by the module that it is imported from"
+rule_text rule.NotHeld =
+    codes "is neither assigned nor imported by the module that it is imported from"
 rule_text rule.OwnImport = codes "is imported by a module from itself"
 rule_text rule.NotAssigned = codes "is neither assigned nor imported"
 rule_text rule.NoValue = codes "leads to no value"
@@ -25,7 +26,11 @@ rule_text rule.TooLarge = codes "is too large for COMPONENTS OF"
 
 abbrev pub cause_text : Cause → List ℕ
 cause_text (cause.NoToken fault) = no_token_text fault
-cause_text (cause.Unexpected (Some met) expected) = codes "expected " ++ (expected_text expected ++ (codes ", met `" ++ (string_bytes met ++ codes "`")))
-cause_text (cause.Unexpected None expected) = codes "expected " ++ (expected_text expected ++ codes ", met the end of the text")
+cause_text (cause.Unexpected (Some met) expected) =
+    codes "expected "
+    ++ (expected_text expected ++ (codes ", met `" ++ (string_bytes met ++ codes "`")))
+cause_text (cause.Unexpected None expected) =
+    codes "expected " ++ (expected_text expected ++ codes ", met the end of the text")
 cause_text (cause.LeftOut part) = left_out_text part ++ codes " aren't read"
-cause_text (cause.Name rule name) = codes "`" ++ (string_bytes name ++ (codes "` " ++ rule_text rule))
+cause_text (cause.Name rule name) =
+    codes "`" ++ (string_bytes name ++ (codes "` " ++ rule_text rule))

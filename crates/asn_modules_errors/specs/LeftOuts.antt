@@ -19,7 +19,8 @@ part_of kind.Less = Some part.SelectionTypes
 part_of kind.Exclamation = Some part.Exceptions
 part_of k = None
 
--- The part that isn't read and shows where a token of the kind, or the end of the text, stands in place of what was expected.
+-- The part that isn't read and shows where a token of the kind, or the end of the text, stands in
+-- place of what was expected.
 abbrev pub left_out : Option Kind → Expected → Option LeftOut
 left_out met e = if is_too_deep e then Some part.DeepNesting else option_and_then part_of met
 

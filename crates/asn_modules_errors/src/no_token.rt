@@ -12,7 +12,7 @@ pub enum NoToken {
     OpenComment,
     /// A string has no closing quote.
     OpenString,
-    /// Digits behind an apostrophe don't end with `'B` or `'H`.
+    /// Digits after an apostrophe don't end with `'B` or `'H`.
     OpenDigits,
     /// No token begins with this character.
     OtherChar,

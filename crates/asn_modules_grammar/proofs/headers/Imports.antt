@@ -43,7 +43,7 @@ pub optional_le : (u : List Token) → AtMost (length u) (past_optional_braces u
 optional_le [] = omega arith
 optional_le (t ∷ u) = chosen (AtMost (suc (length u))) (opens Braces t.kind) _ _ (more _ (past_groups (Braces ∷ []) u) (groups_le (Braces ∷ []) u)) (omega arith)
 
--- None are added behind an identifier, or behind WITH.
+-- None are added after an identifier, or after WITH.
 wider : (n m : ℕ) (o : Option (List Token)) → n ≤ m → AtMost n o → AtMost m o
 wider n m None l h = tt
 wider n m (Some v) l h = omega (arith, l, h)

@@ -17,7 +17,7 @@ more_in_front : (ns ms : List Token) (t : Token) (found : Option (List Token × 
 more_in_front ns ms t None e = refl
 more_in_front ns ms t (Some p) e = ap (λ l. Some (l, p.1)) (sym (append_assoc ns (t ∷ []) p.0) ∙ ap (λ l. l ++ p.0) (sym e))
 
--- Past one name, and the braces behind it.
+-- Past one name, and the braces after it.
 behind_past : (t : Token) (u : List Token) → names_past t u ≡ option_and_then (names_behind t) (closed_here u)
 behind_past t [] = refl
 behind_past t (c ∷ u) = split (closes Braces c.kind)

@@ -70,7 +70,7 @@ items : NotationParses 64 0
     (notation [] (enumerated (Some (record { name = small 2; number = None }) ∷ Some (record { name = small 4; number = Some (constant.Number (record { negative = true; digits = at kind.Number 7 })) }) ∷ None ∷ [])) []) []
 items = notation_parses (fits 0 refl) (no_more refl) refl (enumerated_parses refl (some_items (next_entry refl refl (next_entry refl refl (last_entry refl refl))) refl)) (no_more refl)
 
--- { a BOOLEAN DEFAULT x, ..., [[ 2: b BOOLEAN OPTIONAL ]], ..., COMPONENTS OF T } behind SEQUENCE
+-- { a BOOLEAN DEFAULT x, ..., [[ 2: b BOOLEAN OPTIONAL ]], ..., COMPONENTS OF T } after SEQUENCE
 fields : NotationParses 64 0
     (word keyword.Sequence 0 ∷ at kind.OpenBrace 1 ∷ small 2 ∷ word keyword.Boolean 3 ∷ word keyword.Default 4 ∷ small 5 ∷ at kind.Comma 6 ∷ at kind.Ellipsis 7 ∷ at kind.Comma 8
     ∷ at kind.OpenVersion 9 ∷ at kind.Number 10 ∷ at kind.Colon 11 ∷ small 12 ∷ word keyword.Boolean 13 ∷ word keyword.Optional 14 ∷ at kind.CloseVersion 15 ∷ at kind.Comma 16

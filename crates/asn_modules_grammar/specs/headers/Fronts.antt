@@ -26,8 +26,10 @@ abbrev pub IsSyntax : SyntaxFault → Type 0
 IsSyntax (fault.Unexpected met expected) = Unit {0}
 IsSyntax fault.OutOfMemory = ⊥
 
--- The answer is what was expected, seen through this view, and what follows it; or there is none, unless memory ran out.
-abbrev pub Answers : {A B : Type 0} → (A → B) → Option (B × List Token) → Result (A × Bor (List Token)) SyntaxFault → Type 0
+-- The answer is what was expected, seen through this view, and what follows it; or there is none,
+-- unless memory ran out.
+abbrev pub Answers : {A B : Type 0} → (A → B) → Option (B × List Token)
+    → Result (A × Bor (List Token)) SyntaxFault → Type 0
 Answers view expected (Ok found) = expected ≡ Some (view found.0, found.1.now)
 Answers view expected (Err e) = IsSyntax e → expected ≡ None
 

@@ -1,4 +1,5 @@
--- Groups of tokens between braces or parentheses, which are passed over. Square brackets are no groups, since two that close two may stand as one token.
+-- Groups of tokens between braces or parentheses, which are passed over. Square brackets are no
+-- groups, since two that close two may stand as one token.
 use Rattle.std.specs.Prelude.{List, [], ◌∷◌, Bool, true, false, ◌||◌, if◌then◌else◌, Option, Some, None}
 use Rattle.asn_lexer.specs.declared.kind.Kind.{Kind}
 use Rattle.asn_lexer.specs.declared.kind.Kind.TheVariants as kind
@@ -18,7 +19,8 @@ closes Braces kind.CloseBrace = true
 closes Parens kind.CloseParen = true
 closes g k = false
 
--- What follows the groups that are open, the innermost first: each ends with the token that closes it, and those that open within it end before.
+-- What follows the groups that are open, the innermost first: each ends with the token that closes
+-- it, and those that open within it end before.
 abbrev pub past_groups : List Group → List Token → Option (List Token)
 past_groups [] u = Some u
 past_groups (g ∷ gs) [] = None
@@ -32,4 +34,5 @@ past_groups (g ∷ gs) (t ∷ u) =
 -- What follows an optional group in braces.
 abbrev pub past_optional_braces : List Token → Option (List Token)
 past_optional_braces [] = Some []
-past_optional_braces (t ∷ u) = if opens Braces t.kind then past_groups (Braces ∷ []) u else Some (t ∷ u)
+past_optional_braces (t ∷ u) =
+    if opens Braces t.kind then past_groups (Braces ∷ []) u else Some (t ∷ u)

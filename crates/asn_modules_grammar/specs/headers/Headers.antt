@@ -25,7 +25,7 @@ past_empty_braces [] = Some []
 past_empty_braces (t ∷ u) = if opens Braces t.kind then closed_here u else Some (t ∷ u)
 
 abbrev mutual
-  -- Names with commas between them, and what follows them. Behind each, empty braces may stand.
+  -- Names with commas between them, and what follows them. After each, empty braces may stand.
   pub names_at : List Token → Option (List Token × List Token)
   names_at [] = None
   names_at (t ∷ u) = if is_name t.kind then names_from t u else None
@@ -38,15 +38,17 @@ abbrev mutual
       else if is_mark mark.Comma c.kind then option_map (λ p. (t ∷ p.0, p.1)) (names_at u)
       else Some (t ∷ [], c ∷ u)
 
-  -- So behind an opening brace.
+  -- So after an opening brace.
   pub names_past : Token → List Token → Option (List Token × List Token)
   names_past t [] = None
   names_past t (c ∷ u) = if closes Braces c.kind then names_behind t u else None
 
-  -- So behind the braces.
+  -- So after the braces.
   pub names_behind : Token → List Token → Option (List Token × List Token)
   names_behind t [] = Some (t ∷ [], [])
-  names_behind t (c ∷ u) = if is_mark mark.Comma c.kind then option_map (λ p. (t ∷ p.0, p.1)) (names_at u) else Some (t ∷ [], c ∷ u)
+  names_behind t (c ∷ u) =
+      if is_mark mark.Comma c.kind then option_map (λ p. (t ∷ p.0, p.1)) (names_at u)
+      else Some (t ∷ [], c ∷ u)
 
 -- The tagging that a reserved word begins.
 abbrev pub tagging_of : Kind → Option Tagging
@@ -59,7 +61,8 @@ abbrev pub is_tags : Kind → Bool
 is_tags (kind.Reserved keyword.Tags) = true
 is_tags k = false
 
--- TAGS behind the word of a tagging, if there is one; else tags are explicit, and nothing stands here.
+-- TAGS after the word of a tagging, if there is one; else tags are explicit, and nothing stands
+-- here.
 abbrev pub tags_behind : Option Tagging → List Token → List Token → Option (Tagging × List Token)
 tags_behind None tokens u = Some (tagging.Explicit, tokens)
 tags_behind (Some d) tokens [] = None
@@ -91,11 +94,13 @@ implied_at (t ∷ u) = if is_extensibility t.kind then implied_behind u else Som
 abbrev pub ended : {A : Type 0} → A → List Token → Option (A × List Token)
 ended x u = if first_is (is_mark mark.Semicolon) u then Some (x, drop 1 u) else None
 
-abbrev pub names_ended : Option (List Token × List Token) → Option (Option (List Token) × List Token)
+abbrev pub names_ended : Option (List Token × List Token)
+    → Option (Option (List Token) × List Token)
 names_ended None = None
 names_ended (Some p) = ended (Some p.0) p.1
 
--- What stands behind EXPORTS, and what follows it: ALL, names or nothing, and a semicolon. All is the same as no list.
+-- What stands after EXPORTS, and what follows it: ALL, names or nothing, and a semicolon. All is
+-- the same as no list.
 abbrev pub exported_at : List Token → Option (Option (List Token) × List Token)
 exported_at u =
     if first_is (is_mark mark.All) u then ended None (drop 1 u)
@@ -106,13 +111,16 @@ exported_at u =
 abbrev pub exports_at : List Token → Option (Option (List Token) × List Token)
 exports_at u = if first_is (is_mark mark.Exports) u then exported_at (drop 1 u) else Some (None, u)
 
--- Behind one of the names that are imported stands a comma, FROM or a brace.
+-- After one of the names that are imported stands a comma, FROM or a brace.
 abbrev pub follows_imported : Kind → Bool
 follows_imported k = is_mark mark.Comma k || (is_mark mark.From k || opens Braces k)
 
--- What follows the optional identifier of a module: the name of a value, which is none of the names that are imported next, or a group in braces.
+-- What follows the optional identifier of a module: the name of a value, which is none of the names
+-- that are imported next, or a group in braces.
 abbrev pub past_identifier : List Token → Option (List Token)
-past_identifier u = if first_is is_name u && not (first_is follows_imported (drop 1 u)) then Some (drop 1 u) else past_optional_braces u
+past_identifier u =
+    if first_is is_name u && not (first_is follows_imported (drop 1 u)) then Some (drop 1 u)
+    else past_optional_braces u
 
 -- What follows WITH SUCCESSORS or WITH DESCENDANTS, if one of them stands here.
 abbrev pub past_selection : List Token → Option (List Token)
@@ -124,11 +132,16 @@ past_selection u =
 -- The module that names are imported from, and what follows it.
 abbrev pub from_at : List Token → List Token → Option ((List Token × Token) × List Token)
 from_at names [] = None
-from_at names (t ∷ u) = if is_name t.kind then option_map (λ v. ((names, t), v)) (option_and_then past_selection (past_identifier u)) else None
+from_at names (t ∷ u) =
+    if is_name t.kind
+    then option_map (λ v. ((names, t), v)) (option_and_then past_selection (past_identifier u))
+    else None
 
-abbrev pub names_from_module : Option (List Token × List Token) → Option ((List Token × Token) × List Token)
+abbrev pub names_from_module : Option (List Token × List Token)
+    → Option ((List Token × Token) × List Token)
 names_from_module None = None
-names_from_module (Some p) = if first_is (is_mark mark.From) p.1 then from_at p.0 (drop 1 p.1) else None
+names_from_module (Some p) =
+    if first_is (is_mark mark.From) p.1 then from_at p.0 (drop 1 p.1) else None
 
 -- Names and the module that they are imported from, and what follows them.
 abbrev pub import_at : List Token → Option ((List Token × Token) × List Token)
@@ -137,29 +150,40 @@ import_at u = names_from_module (names_at u)
 -- From u these imports stand up to v, none of which begins with a semicolon.
 pub data ImportsReach : List Token → List (List Token × Token) → List Token → Type 0 where
   reaches_here : {u : List Token} → ImportsReach u [] u
-  reaches_next : {u v w : List Token} {i : List Token × Token} {is : List (List Token × Token)} → first_is (is_mark mark.Semicolon) u ≡ false → import_at u ≡ Some (i, v) → ImportsReach v is w → ImportsReach u (i ∷ is) w
+  reaches_next : {u v w : List Token} {i : List Token × Token} {is : List (List Token × Token)}
+      → first_is (is_mark mark.Semicolon) u ≡ false → import_at u ≡ Some (i, v)
+      → ImportsReach v is w → ImportsReach u (i ∷ is) w
 
--- Where IMPORTS stands here, these imports do and a semicolon, which the rest follows; else there are none.
+-- Where IMPORTS stands here, these imports do and a semicolon, which the rest follows; else there
+-- are none.
 pub data ImportsParse : List Token → List (List Token × Token) → List Token → Type 0 where
   no_imports : {u : List Token} → first_is (is_mark mark.Imports) u ≡ false → ImportsParse u [] u
-  imports_parse : {u v : List Token} {is : List (List Token × Token)} → first_is (is_mark mark.Imports) u ≡ true → ImportsReach (drop 1 u) is v → first_is (is_mark mark.Semicolon) v ≡ true → ImportsParse u is (drop 1 v)
+  imports_parse : {u v : List Token} {is : List (List Token × Token)}
+      → first_is (is_mark mark.Imports) u ≡ true → ImportsReach (drop 1 u) is v
+      → first_is (is_mark mark.Semicolon) v ≡ true → ImportsParse u is (drop 1 v)
 
 -- `::=` and BEGIN, and what follows them.
 abbrev pub begun_at : Opening → List Token → Option (Opening × List Token)
-begun_at o u = if first_is (is_mark mark.Assignment) u && first_is (is_mark mark.Begin) (drop 1 u) then Some (o, drop 1 (drop 1 u)) else None
+begun_at o u =
+    if first_is (is_mark mark.Assignment) u && first_is (is_mark mark.Begin) (drop 1 u)
+    then Some (o, drop 1 (drop 1 u)) else None
 
--- What follows DEFINITIONS to BEGIN, behind the name of a module.
+-- What follows DEFINITIONS to BEGIN, after the name of a module.
 abbrev pub defined_at : Token → List Token → Option (Opening × List Token)
 defined_at name u =
-    option_and_then (λ t. option_and_then (λ i. begun_at (record { name = name; tagging = t.0; extensible = i.0 }) i.1) (implied_at t.1)) (tags_at u)
+    option_and_then
+    (λ t. option_and_then (λ i. begun_at (record { name = name; tagging = t.0; extensible = i.0 }) i.1) (implied_at t.1))
+    (tags_at u)
 
 abbrev pub definitions_at : Token → List Token → Option (Opening × List Token)
-definitions_at name u = if first_is (is_mark mark.Definitions) u then defined_at name (drop 1 u) else None
+definitions_at name u =
+    if first_is (is_mark mark.Definitions) u then defined_at name (drop 1 u) else None
 
 -- What stands in a module up to BEGIN, and what follows that.
 abbrev pub opening_at : List Token → Option (Opening × List Token)
 opening_at [] = None
-opening_at (t ∷ u) = if is_name t.kind then option_and_then (definitions_at t) (past_optional_braces u) else None
+opening_at (t ∷ u) =
+    if is_name t.kind then option_and_then (definitions_at t) (past_optional_braces u) else None
 
 -- What stands in a module before its assignments.
 pub record Header : Type 0 where

@@ -12,4 +12,5 @@ import_view i = (i.names.items, i.module)
 
 -- What stands in a module before its assignments.
 abbrev pub header_view : Header → spec.Header
-header_view h = record { opening = h.opening; exports = option_map (λ names. names.items) h.exports; imports = map import_view h.imports.items }
+header_view h =
+    record { opening = h.opening; exports = option_map (λ names. names.items) h.exports; imports = map import_view h.imports.items }

@@ -12,7 +12,7 @@ abbrev pub begins_field : List Token → Bool
 begins_field (p ∷ a ∷ u) = is_point p.kind && is_ampersand a.kind
 begins_field u = false
 
--- The name of a value stands here: one that begins with a small letter, and no fields behind it.
+-- The name of a value stands here: one that begins with a small letter, and no fields after it.
 abbrev pub names_value : List Token → Bool
 names_value [] = false
 names_value (t ∷ u) = is_small t.kind && not (begins_field u)
@@ -20,10 +20,11 @@ names_value (t ∷ u) = is_small t.kind && not (begins_field u)
 abbrev mutual
   -- What follows the fields that stand here, each of a point, `&` and a name.
   pub past_fields : List Token → Option (List Token)
-  past_fields (p ∷ a ∷ u) = if is_point p.kind && is_ampersand a.kind then past_names u else Some (p ∷ a ∷ u)
+  past_fields (p ∷ a ∷ u) =
+      if is_point p.kind && is_ampersand a.kind then past_names u else Some (p ∷ a ∷ u)
   past_fields u = Some u
 
-  -- So behind the point and `&` of one.
+  -- So after the point and `&` of one.
   pub past_names : List Token → Option (List Token)
   past_names [] = None
   past_names (t ∷ u) = if is_name t.kind then past_fields u else None
@@ -34,9 +35,10 @@ past_braces u = option_and_then (past_groups (Braces ∷ [])) (past is_open_brac
 
 -- What follows the syntax of a class, if WITH stands here.
 abbrev pub past_syntax : List Token → Option (List Token)
-past_syntax u = if first_is is_with u then option_and_then past_braces (past is_syntax (drop 1 u)) else Some u
+past_syntax u =
+    if first_is is_with u then option_and_then past_braces (past is_syntax (drop 1 u)) else Some u
 
--- What follows an object class behind CLASS.
+-- What follows an object class after CLASS.
 abbrev pub past_class : List Token → Option (List Token)
 past_class u = option_and_then past_syntax (past_braces u)
 

@@ -31,7 +31,8 @@ is_word (kind.Name initial) = true
 is_word (kind.Reserved k) = true
 is_word k = false
 
--- A name that begins with a small letter: that of a value, an object, a component or an element (X.680, sections 12.3 and 12.4). A type's begins with a capital letter (12.2).
+-- A name that begins with a small letter: that of a value, an object, a component or an element
+-- (X.680, sections 12.3 and 12.4). A type's begins with a capital letter (12.2).
 abbrev pub is_small : Kind → Bool
 is_small (kind.Name Small) = true
 is_small k = false
@@ -87,7 +88,7 @@ abbrev pub is_syntax : Kind → Bool
 is_syntax (kind.Reserved keyword.Syntax) = true
 is_syntax k = false
 
--- What names an object class behind INSTANCE OF.
+-- What names an object class after INSTANCE OF.
 abbrev pub is_class_word : Kind → Bool
 is_class_word (kind.Name initial) = true
 is_class_word (kind.Reserved keyword.TypeIdentifier) = true
@@ -163,10 +164,13 @@ is_string_type k = false
 
 -- A type with a universal tag is assigned here.
 abbrev pub assigns_universal : List Token → Bool
-assigns_universal (a ∷ b ∷ c ∷ u) = is_assignment a.kind && (is_open_bracket b.kind && is_universal c.kind)
+assigns_universal (a ∷ b ∷ c ∷ u) =
+    is_assignment a.kind && (is_open_bracket b.kind && is_universal c.kind)
 assigns_universal u = false
 
--- What something is assigned to, and what follows it: a name; or the word of a type of character strings, to which modules assign what is built in, by its universal tag.
+-- What something is assigned to, and what follows it: a name; or the word of a type of character
+-- strings, to which modules assign what is built in, by its universal tag.
 abbrev pub assigned_at : List Token → Option (Token × List Token)
 assigned_at [] = None
-assigned_at (t ∷ u) = if is_name t.kind || (is_string_type t.kind && assigns_universal u) then Some (t, u) else None
+assigned_at (t ∷ u) =
+    if is_name t.kind || (is_string_type t.kind && assigns_universal u) then Some (t, u) else None

@@ -1,4 +1,5 @@
--- Macros (X.208, Annex A), which X.680 has left out: their definitions, and the notation that they define. What a macro makes of its notation is not read.
+-- Macros (X.208, Annex A), which X.680 has left out: their definitions, and the notation that they
+-- define. What a macro makes of its notation is not read.
 use Rattle.std.specs.Prelude.{List, [], ◌∷◌, drop, Bool, true, false, ◌&&◌, ◌||◌, if◌then◌else◌, Option, Some, None}
 use Rattle.std.specs.Option.{option_map, option_and_then}
 use Rattle.asn_lexer.specs.declared.keyword.Keyword.TheVariants as keyword
@@ -40,14 +41,15 @@ abbrev pub is_cstring : Kind → Bool
 is_cstring kind.Cstring = true
 is_cstring k = false
 
--- What follows END, which may stand behind any other tokens.
+-- What follows END, which may stand after any other tokens.
 abbrev pub past_end : List Token → Option (List Token)
 past_end [] = None
 past_end (t ∷ u) = if is_end t.kind then Some u else past_end u
 
--- What follows the definition of a macro behind its MACRO: `::=`, and BEGIN to END (X.208, A.2).
+-- What follows the definition of a macro after its MACRO: `::=`, and BEGIN to END (X.208, A.2).
 abbrev pub past_definition : List Token → Option (List Token)
-past_definition u = option_and_then past_end (option_and_then (past is_begin) (past is_assignment u))
+past_definition u =
+    option_and_then past_end (option_and_then (past is_begin) (past is_assignment u))
 
 -- A macro has no values.
 abbrev pub macro_type : Notation
@@ -57,19 +59,23 @@ macro_type = notation [] (leaf (Closed Macro)) []
 abbrev pub macro_named : Token → Notation
 macro_named t = notation [] (reference None t) []
 
--- A word that a macro's notation has behind its name. Behind the name of a type only SIZE may stand there, before the assignment is done.
+-- A word that a macro's notation has after its name. After the name of a type only SIZE may stand
+-- there, before the assignment is done.
 abbrev pub opens_clause : Kind → Bool
 opens_clause (kind.Name Capital) = true
 opens_clause (kind.Reserved keyword.Size) = false
 opens_clause (kind.Reserved k) = true
 opens_clause k = false
 
--- What follows the clauses of a macro's notation and the `::=` behind them. The module doesn't end before.
+-- What follows the clauses of a macro's notation and the `::=` after them. The module doesn't end
+-- before.
 abbrev pub past_clauses : List Token → Option (List Token)
 past_clauses [] = None
-past_clauses (t ∷ u) = if is_assignment t.kind then Some u else if is_end t.kind then None else past_clauses u
+past_clauses (t ∷ u) =
+    if is_assignment t.kind then Some u else if is_end t.kind then None else past_clauses u
 
--- A name and a number stand here: an alternative of a CHOICE and its value, as X.208 has it, without `:`.
+-- A name and a number stand here: an alternative of a CHOICE and its value, as X.208 has it,
+-- without `:`.
 abbrev pub begins_numbered : List Token → Bool
 begins_numbered (t ∷ n ∷ u) = is_name t.kind && is_number n.kind
 begins_numbered u = false
@@ -79,17 +85,22 @@ abbrev pub numbered_at : List Token → Option (Value × List Token)
 numbered_at [] = None
 numbered_at (t ∷ u) = Some (Other t, drop 1 u)
 
--- The value that is assigned behind `::=`, and what follows it.
+-- The value that is assigned after `::=`, and what follows it.
 abbrev pub assigned_value_at : List Token → Option (Value × List Token)
 assigned_value_at u = if begins_numbered u then numbered_at u else value_at u
 
--- What is assigned to this name behind the clauses of a macro's notation, as far as it is known: a value of any type stands behind `::=`.
+-- What is assigned to this name after the clauses of a macro's notation, as far as it is known: a
+-- value of any type stands after `::=`.
 abbrev pub macro_value_at : Token → List Token → Option (Value × List Token)
-macro_value_at name u = option_map (λ p. (Other name, p.1)) (option_and_then assigned_value_at (past_clauses u))
+macro_value_at name u =
+    option_map (λ p. (Other name, p.1)) (option_and_then assigned_value_at (past_clauses u))
 
--- In a type a clause of a macro begins here: a word, and a string or two words. Where no macro's notation goes on, an assignment begins with a word.
+-- In a type a clause of a macro begins here: a word, and a string or two words. Where no macro's
+-- notation goes on, an assignment begins with a word.
 abbrev pub begins_clause : List Token → Bool
-begins_clause (a ∷ b ∷ c ∷ u) = is_capital a.kind && (is_cstring b.kind || (is_name b.kind && (is_name c.kind || opens_clause c.kind)))
+begins_clause (a ∷ b ∷ c ∷ u) =
+    is_capital a.kind
+    && (is_cstring b.kind || (is_name b.kind && (is_name c.kind || opens_clause c.kind)))
 begins_clause u = false
 
 -- A type, or a macro, is assigned here to a name.
@@ -104,14 +115,16 @@ begins_value_assigned u = false
 
 -- An OBJECT IDENTIFIER is assigned here to a name.
 abbrev pub begins_identifier_assigned : List Token → Bool
-begins_identifier_assigned (t ∷ o ∷ i ∷ a ∷ u) = is_small t.kind && (is_object o.kind && (is_identifier i.kind && is_assignment a.kind))
+begins_identifier_assigned (t ∷ o ∷ i ∷ a ∷ u) =
+    is_small t.kind && (is_object o.kind && (is_identifier i.kind && is_assignment a.kind))
 begins_identifier_assigned u = false
 
--- An assignment begins here, behind the clauses of a macro.
+-- An assignment begins here, after the clauses of a macro.
 abbrev pub begins_assigned : List Token → Bool
-begins_assigned u = begins_type_assigned u || (begins_value_assigned u || begins_identifier_assigned u)
+begins_assigned u =
+    begins_type_assigned u || (begins_value_assigned u || begins_identifier_assigned u)
 
--- SYNTAX, with the type behind it, or END stands here, or an assignment begins.
+-- SYNTAX, with the type after it, or END stands here, or an assignment begins.
 abbrev pub ends_clauses : List Token → Bool
 ends_clauses u = first_is is_syntax u || (first_is is_end u || begins_assigned u)
 
@@ -120,7 +133,7 @@ abbrev pub behind_clauses : List Token → List Token
 behind_clauses [] = []
 behind_clauses (t ∷ u) = if ends_clauses (t ∷ u) then t ∷ u else behind_clauses u
 
--- Where the clauses end behind the name of a macro, if that stands here with clauses behind it.
+-- Where the clauses end after the name of a macro, if that stands here with clauses after it.
 abbrev pub clauses_at : List Token → Option (List Token)
 clauses_at [] = None
 clauses_at (t ∷ u) = if is_capital t.kind && begins_clause u then Some (behind_clauses u) else None

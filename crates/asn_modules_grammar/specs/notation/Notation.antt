@@ -13,7 +13,8 @@ use Rattle.asn_modules_grammar.specs.declared.notation.size.Size.{Size}
 use Rattle.asn_modules_grammar.specs.declared.notation.tag.TagNotation.{TagNotation}
 
 mutual
-  -- What stands for a type: its tags, the outermost first, what they tag, and the sizes that its constraints state.
+  -- What stands for a type: its tags, the outermost first, what they tag, and the sizes that its
+  -- constraints state.
   pub data Notation : Type 0 where
     notation : List TagNotation → Base → List Size → Notation
 
@@ -33,7 +34,7 @@ mutual
     list_of : SeqKind → Notation → Base
     -- CHOICE, with its alternatives.
     choice : Members → Base
-    -- The name of a type, behind that of its module where it is stated.
+    -- The name of a type, after that of its module where it is stated.
     reference : Option Token → Token → Base
     -- The name of a type with parameters, so, and the types that stand for them.
     instance_of : Option Token → Token → Notations → Base

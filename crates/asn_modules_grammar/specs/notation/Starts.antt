@@ -24,14 +24,14 @@ pub data Start : Type 0 where
   -- SEQUENCE or SET.
   members : SeqKind → Start
   choice : Start
-  -- The name of a type, behind that of its module where it is stated.
+  -- The name of a type, after that of its module where it is stated.
   reference : Option Token → Token → Start
 
 -- What a reserved word is, where a type may begin.
 pub data Opening : Type 0 where
   -- It stands for this alone.
   whole : Start → Opening
-  -- It stands for this with a word behind it that passes.
+  -- It stands for this with a word after it that passes.
   pair : (Kind → Bool) → Start → Opening
   -- It is ANY.
   any : Opening
@@ -89,10 +89,12 @@ opening_of keyword.TypeIdentifier = named_class
 opening_of keyword.AbstractSyntax = named_class
 opening_of k = nothing
 
--- ANY behind its word, and what follows it: DEFINED BY and a name may.
+-- ANY after its word, and what follows it: DEFINED BY and a name may.
 abbrev pub any_at : List Token → Option (Start × List Token)
 any_at u =
-    if first_is is_defined u then option_map (λ p. (leaf (Closed closed.Any), p.1)) (option_and_then (λ v. name_at v) (past is_by (drop 1 u)))
+    if first_is is_defined u
+    then option_map (λ p. (leaf (Closed closed.Any), p.1))
+    (option_and_then (λ v. name_at v) (past is_by (drop 1 u)))
     else Some (leaf (Closed closed.Any), u)
 
 -- A type without parts, and what follows it.
@@ -101,7 +103,9 @@ leaf_at l = option_map (λ v. (leaf l, v))
 
 -- A class that a reserved word names, or the type that its fields name, and what follows.
 abbrev pub named_class_at : List Token → Option (Start × List Token)
-named_class_at u = if begins_field u then leaf_at (Closed closed.ClassField) (past_fields u) else Some (leaf (Closed closed.ObjectClass), u)
+named_class_at u =
+    if begins_field u then leaf_at (Closed closed.ClassField) (past_fields u)
+    else Some (leaf (Closed closed.ObjectClass), u)
 
 -- What a reserved word begins, and what follows it.
 abbrev pub opened_at : Opening → List Token → Option (Start × List Token)
@@ -113,15 +117,21 @@ opened_at instance_of u = leaf_at (Closed closed.InstanceOf) (past_instance u)
 opened_at named_class u = named_class_at u
 opened_at nothing u = None
 
--- The type of this name, or that which the fields of a class, an object or a set of them of this name are, and what follows. The name of a type begins with a capital letter (X.680, section 12.2).
+-- The type of this name, or that which the fields of a class, an object or a set of them of this
+-- name are, and what follows. The name of a type begins with a capital letter (X.680, section
+-- 12.2).
 abbrev pub named_at : Option Token → Token → List Token → Option (Start × List Token)
-named_at home t u = if begins_field u then leaf_at (Closed closed.ClassField) (past_fields u) else if is_small t.kind then None else Some (reference home t, u)
+named_at home t u =
+    if begins_field u then leaf_at (Closed closed.ClassField) (past_fields u)
+    else if is_small t.kind then None else Some (reference home t, u)
 
--- A reference that the name begins, and what follows it. The name of a module begins with a capital letter (X.680, section 12.5).
+-- A reference that the name begins, and what follows it. The name of a module begins with a capital
+-- letter (X.680, section 12.5).
 abbrev pub reference_at : Token → List Token → Option (Start × List Token)
 reference_at t u =
     if is_small t.kind || begins_field u then named_at None t u
-    else if first_is is_point u then option_and_then (λ p. named_at (Some t) p.0 p.1) (name_at (drop 1 u))
+    else if first_is is_point u
+    then option_and_then (λ p. named_at (Some t) p.0 p.1) (name_at (drop 1 u))
     else named_at None t u
 
 -- What the first token begins, by its kind, and what follows it.
@@ -147,7 +157,7 @@ opens_type kind.OpenBracket = true
 opens_type (kind.Reserved k) = is_opening (opening_of k)
 opens_type k = false
 
--- So behind the name of a module.
+-- So after the name of a module.
 abbrev pub names_module_value : List Token → Bool
 names_module_value (m ∷ p ∷ u) = is_name m.kind && (is_point p.kind && names_value u)
 names_module_value u = false

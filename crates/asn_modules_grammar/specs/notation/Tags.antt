@@ -13,7 +13,8 @@ use Rattle.asn_modules_grammar.specs.declared.notation.tag.TagMode.{TagMode}
 use Rattle.asn_modules_grammar.specs.declared.notation.tag.TagMode.TheVariants.{Implicit, Explicit}
 use Rattle.asn_modules_grammar.specs.declared.notation.tag.TagNotation.{TagNotation}
 
--- The class that the first token states, and what follows it; else the class is that of the context.
+-- The class that the first token states, and what follows it; else the class is that of the
+-- context.
 abbrev pub class_by : Option Kind → List Token → Class × List Token
 class_by (Some (kind.Reserved keyword.Universal)) u = (Universal, drop 1 u)
 class_by (Some (kind.Reserved keyword.Application)) u = (Application, drop 1 u)
@@ -26,13 +27,16 @@ mode_by (Some (kind.Reserved keyword.Implicit)) u = (Some Implicit, drop 1 u)
 mode_by (Some (kind.Reserved keyword.Explicit)) u = (Some Explicit, drop 1 u)
 mode_by k u = (None, u)
 
--- The tag of the class and number, and what follows it, by what stands behind its bracket.
+-- The tag of the class and number, and what follows it, by what stands after its bracket.
 abbrev pub moded : Class → Token → List Token → TagNotation × List Token
-moded c n u = (record { class = c; number = n; mode = (mode_by (first_kind u) u).0 }, (mode_by (first_kind u) u).1)
+moded c n u =
+    (record { class = c; number = n; mode = (mode_by (first_kind u) u).0 }, (mode_by (first_kind u) u).1)
 
--- A tag of the class behind the word of that, and what follows it.
+-- A tag of the class after the word of that, and what follows it.
 abbrev pub numbered_at : Class × List Token → Option (TagNotation × List Token)
-numbered_at c = option_and_then (λ n. option_map (λ v. moded c.0 n.0 v) (past is_close_bracket n.1)) (token_at is_number_or_name c.1)
+numbered_at c =
+    option_and_then (λ n. option_map (λ v. moded c.0 n.0 v) (past is_close_bracket n.1))
+    (token_at is_number_or_name c.1)
 
 -- A tag whose bracket is the first token, and what follows it.
 abbrev pub tag_at : List Token → Option (TagNotation × List Token)

@@ -27,14 +27,18 @@ named_value_at x t u =
     else if first_is is_open_brace u then other_at t (past_braces u)
     else Some (x, u)
 
--- The value that a word begins, and what follows it: with `.` and a name behind it, it is the name of a module.
+-- The value that a word begins, and what follows it: with `.` and a name after it, it is the name
+-- of a module.
 abbrev pub word_value_at : Token → List Token → Option (Value × List Token)
 word_value_at t u =
     if begins_field u then named_value_at (value.Word t) t u
-    else if first_is is_point u then option_and_then (λ p. named_value_at (value.Qualified t p.0) t p.1) (name_at (drop 1 u))
+    else if first_is is_point u
+    then option_and_then (λ p. named_value_at (value.Qualified t p.0) t p.1)
+    (name_at (drop 1 u))
     else named_value_at (value.Word t) t u
 
--- What stands behind this minus, by the kind of its first token, and what follows it: a number, or a real number, which is some other value (X.680, section 21.6).
+-- What stands after this minus, by the kind of its first token, and what follows it: a number, or
+-- a real number, which is some other value (X.680, section 21.6).
 abbrev pub negative_by : Option Kind → Token → List Token → Option (Value × List Token)
 negative_by (Some kind.RealNumber) t u = Some (value.Other t, drop 1 u)
 negative_by k t u = option_map (λ p. (value.Number p.0, p.1)) (negative_at u)
@@ -52,16 +56,21 @@ value_by (kind.Reserved k) t u = word_value_at t u
 value_by kind.OpenBrace t u = option_map (λ v. (value.Other t, v)) (past_groups (Braces ∷ []) u)
 value_by k t u = None
 
--- A value, and what follows it. A word with `:` behind it is the alternative of a CHOICE, whose value follows.
+-- A value, and what follows it. A word with `:` after it is the alternative of a CHOICE, whose
+-- value follows.
 abbrev pub value_at : List Token → Option (Value × List Token)
 value_at [] = None
 value_at (t ∷ []) = value_by t.kind t []
-value_at (t ∷ c ∷ u) = if is_word t.kind && is_colon c.kind then option_map (λ p. (value.Other t, p.1)) (value_at u) else value_by t.kind t (c ∷ u)
+value_at (t ∷ c ∷ u) =
+    if is_word t.kind && is_colon c.kind then option_map (λ p. (value.Other t, p.1)) (value_at u)
+    else value_by t.kind t (c ∷ u)
 
--- Whether a component may be absent, by the kind of the token behind its type, and what follows that.
+-- Whether a component may be absent, by the kind of the token after its type, and what follows
+-- that.
 abbrev pub presence_by : Option Kind → List Token → Option (Presence × List Token)
 presence_by (Some (kind.Reserved keyword.Optional)) u = Some (Optional, drop 1 u)
-presence_by (Some (kind.Reserved keyword.Default)) u = option_map (λ p. (Default p.0, p.1)) (value_at (drop 1 u))
+presence_by (Some (kind.Reserved keyword.Default)) u =
+    option_map (λ p. (Default p.0, p.1)) (value_at (drop 1 u))
 presence_by k u = Some (Required, u)
 
 -- So where it may be stated; an alternative of a CHOICE may not be absent.

@@ -10,7 +10,7 @@ use crate::headers::name::read_names;
 use asn_lexer::Token;
 use std::alloc::Global;
 
-/// Returns the names behind `EXPORTS`, or `None` for `ALL`, and what follows their semicolon.
+/// Returns the names after `EXPORTS`, or `None` for `ALL`, and what follows their semicolon.
 ///
 /// # Errors
 ///

@@ -55,7 +55,7 @@ fn past_identifier(alloc: Global, tokens: &[Token]) -> Result<&[Token], SyntaxFa
 ///
 /// # Errors
 ///
-/// `Unexpected` where another token stands behind `WITH`.
+/// `Unexpected` where another token stands after `WITH`.
 fn past_selection(tokens: &[Token]) -> Result<&[Token], SyntaxFault>
     ensures { AnswersRest (past_selection tokens.now) result }
 {
@@ -76,7 +76,7 @@ fn past_selection(tokens: &[Token]) -> Result<&[Token], SyntaxFault>
 /// # Errors
 ///
 /// `Unexpected` where no name or `FROM` stands where one has to, a brace isn't closed, or another
-/// word than `SUCCESSORS` and `DESCENDANTS` stands behind `WITH`, and `OutOfMemory`.
+/// word than `SUCCESSORS` and `DESCENDANTS` stands after `WITH`, and `OutOfMemory`.
 fn read_import(alloc: Global, tokens: &[Token]) -> Result<(Import, &[Token]), SyntaxFault>
     ensures { Answers import_view (import_at tokens.now) result }
 {

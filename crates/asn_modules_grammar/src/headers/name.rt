@@ -1,4 +1,4 @@
-//! Reads lists of names, behind each of which empty braces may stand (X.680, section 13.1; X.683,
+//! Reads lists of names, after each of which empty braces may stand (X.680, section 13.1; X.683,
 //! section 8.3).
 ghost use Rattle.asn_modules_grammar.specs.headers.Fronts.{Answers, AnswersRest, first_is, is_name};
 ghost use Rattle.asn_modules_grammar.specs.headers.Headers.{names_at, past_empty_braces};
@@ -28,7 +28,7 @@ pub(crate) fn take_name(tokens: &[Token]) -> Option<(Token, &[Token])>
 ///
 /// # Errors
 ///
-/// `Unexpected` where something stands behind the opening brace, or nothing does.
+/// `Unexpected` where something stands after the opening brace, or nothing does.
 fn past_empty_braces(tokens: &[Token]) -> Result<&[Token], SyntaxFault>
     ensures { AnswersRest (past_empty_braces tokens.now) result }
 {
@@ -41,12 +41,12 @@ fn past_empty_braces(tokens: &[Token]) -> Result<&[Token], SyntaxFault>
     }
 }
 
-/// Returns names with commas between them, and what follows them. Behind each, empty braces may
+/// Returns names with commas between them, and what follows them. After each, empty braces may
 /// stand.
 ///
 /// # Errors
 ///
-/// `Unexpected` where no name stands first or behind a comma, or braces aren't empty, and
+/// `Unexpected` where no name stands first or after a comma, or braces aren't empty, and
 /// `OutOfMemory`.
 #[tactic(auto, using(crate::proofs::headers::Names::name_steps))]
 pub fn read_names(alloc: Global, tokens: &[Token]) -> Result<(Vec<Token>, &[Token]), SyntaxFault>

@@ -22,7 +22,7 @@ pub struct Opening {
     pub extensible: bool,
 }
 
-/// Returns what stands behind `DEFINITIONS`, in a module of the name, and what follows `BEGIN`.
+/// Returns what stands after `DEFINITIONS`, in a module of the name, and what follows `BEGIN`.
 ///
 /// # Errors
 ///

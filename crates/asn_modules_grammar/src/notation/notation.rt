@@ -74,13 +74,13 @@ pub struct Members {
     pub extension: Option<Extension>,
 }
 
-/// Holds what stands behind an extension marker.
+/// Holds what stands after an extension marker.
 #[cycle(notation)]
 #[derive(Drop)]
 pub struct Extension {
     /// Lists the extension additions.
     pub additions: Vec<Member>,
-    /// Lists what stands behind the second marker, and belongs to the root; `None` where there is
+    /// Lists what stands after the second marker, and belongs to the root; `None` where there is
     /// no second marker.
     pub tail: Option<Vec<Member>>,
 }

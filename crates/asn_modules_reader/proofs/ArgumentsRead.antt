@@ -23,7 +23,7 @@ all_given : (ns : List Notation) → all_types (given ns) ≡ Some ns
 all_given [] = refl
 all_given (n ∷ ns) = ap (option_map (λ ms. n ∷ ms)) (all_given ns)
 
--- With something else behind them they aren't all.
+-- With something else after them they aren't all.
 not_all : (ns : List Notation) (ms : List (Option Notation)) → all_types ms ≡ None → all_types (given ns ++ ms) ≡ None
 not_all [] ms e = e
 not_all (n ∷ ns) ms e = ap (option_map (λ ms. n ∷ ms)) (not_all ns ms e)

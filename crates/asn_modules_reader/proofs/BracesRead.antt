@@ -38,7 +38,7 @@ map_join : {A B : Type 0} (f : A → B) (xs ys : List A) → map f (xs ++ ys) �
 map_join f [] ys = refl
 map_join f (x ∷ xs) ys = ap (λ l. f x ∷ l) (map_join f xs ys)
 
--- What was read has the entry behind the others.
+-- What was read has the entry after the others.
 pub more_seen : (seen more : List (Option Member)) (m : Option Member) → more ≡ seen ++ m ∷ [] → map member_seen more ≡ map member_seen seen ++ member_seen m ∷ []
 more_seen seen more m e = ap (map member_seen) e ∙ map_join member_seen seen (m ∷ [])
 

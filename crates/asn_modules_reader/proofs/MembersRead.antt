@@ -29,7 +29,7 @@ pub component_read : (limit level : ℕ) (fields : Bool) (closing : Kind) (u v w
     → NotationParses limit level v n w → presence_at fields w ≡ Some (presence, rest) → MemberParses limit level fields closing u (component name n presence) rest
 component_read limit level fields closing u v w rest name n presence e h d p = component_parses (word_here u v name e h) d p
 
--- Behind a component's word no other entry begins.
+-- After a component's word no other entry begins.
 word_other : {t : Token} {u v : List Token} {k : Kind} → u ≡ t ∷ v → is_component_word t.kind ≡ true → first_kind u ≡ Some k → is_component_word k ≡ false → ⊥
 word_other {t = t} {u = u} {v = v} {k = k} e h f n = true_false (sym h ∙ ap is_component_word (kind_first u v t k e f) ∙ n)
 

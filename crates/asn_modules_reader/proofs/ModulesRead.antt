@@ -22,7 +22,7 @@ use Rattle.asn_modules_reader.specs.Modules.{ModuleParses, module_parses}
 pub unnamed : (limit : ℕ) (u : List Token) → assigned_at u ≡ None → (a : Assignment) (rest : List Token) → AssignmentParses limit u a rest → ⊥
 unnamed limit u h a rest (assignment_parses n p d) = none_some h n
 
--- What goes on behind a name and its parameters.
+-- What goes on after a name and its parameters.
 pub type_read : (limit : ℕ) (name : Token) (u v rest : List Token) (n : Notation) → first_kind u ≡ Some kind.Assignment → is_small name.kind ≡ false → v ≡ drop 1 u → AssignedParses limit v n rest → BodyParses limit name u (type_assignment name n) rest
 type_read limit name u v rest n k i f d = type_parses k i (subst (λ z. AssignedParses limit z n rest) f d)
 
@@ -177,7 +177,7 @@ pub bare_unended : (limit : ℕ) (u rest : List Token) (xs : List Assignment) �
 bare_unended limit u rest xs b p n all (modules_parse c q) = true_false (sym c ∙ b)
 bare_unended limit u rest xs b p n all (assignments_parse c q) = n (same_assignments p q).1
 
--- Braces behind the first name aren't closed.
+-- Braces after the first name aren't closed.
 headless : (limit : ℕ) (t : Token) (v : List Token) → is_name t.kind ≡ true → past_optional_braces v ≡ None → (all : List Module) → ModulesParse limit (t ∷ v) all → ⊥
 headless limit t v n h all (next_module p q k r) =
     none_some (ap (λ b. if b then option_and_then (definitions_at t) (past_optional_braces v) else None) n ∙ ap (option_and_then (definitions_at t)) h) p.opening

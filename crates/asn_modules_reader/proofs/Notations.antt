@@ -87,7 +87,7 @@ fields_none limit level next u v seq l h e none b rest (members_parse {ms = ms} 
     none ms rest (subst (λ z. BracesParse limit z true v ms rest) (sym l) (subst (λ z. BracesParse limit (suc level) true z ms rest) (sym e) p))
 fields_none limit level next u v seq l h e none b rest (list_parses a p) = none_some (of_brace u h) a
 
--- Elements behind OF.
+-- Elements after OF.
 pub list_read : (limit level next : ℕ) (u v rest : List Token) (seq : SeqKind) (n : Notation) → next ≡ suc level → of_at u ≡ Some v → NotationParses limit next v n rest → BaseParses limit level (Start.members seq) u (list_of seq n) rest
 list_read limit level next u v rest seq n l a p = list_parses a (subst (λ z. NotationParses limit z v n rest) l p)
 

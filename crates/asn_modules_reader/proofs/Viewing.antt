@@ -78,7 +78,7 @@ notation_viewed tags base sizes = fold-roll-Notation spec.Base spec.Member spec.
 abbrev extension_view : Extension → List spec.Member
 extension_view = fold-Extension spec.Base spec.Member spec.Member (List spec.Member) (List spec.Member) spec.Notation base_step component_step member_step extension_step members_step notation_step
 
--- What stands behind the second marker, with it.
+-- What stands after the second marker, with it.
 abbrev tail_seen : Option (Vec Member) → List spec.Member
 tail_seen None = []
 tail_seen (Some ms) = spec.marker ∷ map member_view ms.items

@@ -12,6 +12,9 @@ use Rattle.asn_modules_grammar.specs.declared.notation.notation.Notation.{Notati
 abbrev pub arguments_view : Option (Vec Notation) → Option (List spec.Notation)
 arguments_view = option_map (λ ns. map notation_view ns.items)
 
--- Looked for at the level, actual parameters stand at the front of the tokens, which are these types, or not all types.
+-- Looked for at the level, actual parameters stand at the front of the tokens, which are these
+-- types, or not all types.
 abbrev pub AreArguments : ℕ → ℕ → List Token → Option (List spec.Notation) → List Token → Type 0
-AreArguments limit level u found rest = (ns : List (Option spec.Notation)) × ArgumentsParse limit level u ns rest × (found ≡ spec.all_types ns)
+AreArguments limit level u found rest =
+    (ns : List (Option spec.Notation)) × ArgumentsParse limit level u ns rest
+    × (found ≡ spec.all_types ns)

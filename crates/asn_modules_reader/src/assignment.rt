@@ -197,7 +197,7 @@ fn with_parameters(
     }
 }
 
-/// Returns an assignment, and what follows it. Its parameters stand behind its name.
+/// Returns an assignment, and what follows it. Its parameters stand after its name.
 ///
 /// # Errors
 ///

@@ -43,7 +43,7 @@ fn macro_named(alloc: Global, name: Token) -> Notation
     }
 }
 
-/// Returns a name and what follows a number behind it, if they stand here: an alternative of a
+/// Returns a name and what follows a number after it, if they stand here: an alternative of a
 /// CHOICE and its value, as X.208 has it.
 fn take_numbered(tokens: &[Token]) -> Option<(Token, &[Token])>
     ensures { MatchOption result (begins_numbered tokens.now ≡ false) (λ found.
@@ -63,7 +63,7 @@ fn take_numbered(tokens: &[Token]) -> Option<(Token, &[Token])>
     }
 }
 
-/// Returns the value that is assigned behind `::=`, and what follows it.
+/// Returns the value that is assigned after `::=`, and what follows it.
 ///
 /// # Errors
 ///
@@ -81,12 +81,12 @@ pub(crate) fn read_assigned_value(
     }
 }
 
-/// Returns what is assigned to this name behind the clauses of a macro's notation, and what follows
+/// Returns what is assigned to this name after the clauses of a macro's notation, and what follows
 /// it.
 ///
 /// # Errors
 ///
-/// `Unexpected` where no `::=` and value stand behind them, and `OutOfMemory`.
+/// `Unexpected` where no `::=` and value stand after them, and `OutOfMemory`.
 fn read_macro_value(
     alloc: Global,
     name: Token,
@@ -100,7 +100,7 @@ fn read_macro_value(
     Ok((Value::Other(name), rest))
 }
 
-/// Returns whether the first token is a word that a macro's notation has behind its name.
+/// Returns whether the first token is a word that a macro's notation has after its name.
 fn begins_clauses(tokens: &[Token]) -> bool
     ensures { result ≡ first_is opens_clause tokens.now }
 {
@@ -111,7 +111,7 @@ fn begins_clauses(tokens: &[Token]) -> bool
 }
 
 /// Returns what is assigned to the name by a macro, and what follows it: by its definition, or by
-/// its name and clauses behind it. `None` where neither stands here.
+/// its name and clauses after it. `None` where neither stands here.
 ///
 /// # Errors
 ///
@@ -146,8 +146,8 @@ pub(crate) fn read_macro(
     Ok(None)
 }
 
-/// Returns the type that is assigned here behind `::=`, and what follows it. Behind the name of a
-/// macro and its clauses it is the type behind `SYNTAX`, or else that of the macro.
+/// Returns the type that is assigned here after `::=`, and what follows it. After the name of a
+/// macro and its clauses it is the type after `SYNTAX`, or else that of the macro.
 ///
 /// # Errors
 ///

@@ -97,7 +97,7 @@ fn read_bare(alloc: Global, tokens: &[Token]) -> Result<Vec<Module>, SyntaxFault
     Ok(modules)
 }
 
-/// Returns whether a module goes on here behind a name: with `DEFINITIONS`, or braces behind which
+/// Returns whether a module goes on here after a name: with `DEFINITIONS`, or braces after which
 /// nothing is assigned.
 ///
 /// # Errors
@@ -127,7 +127,7 @@ fn names_module(alloc: Global, tokens: &[Token]) -> Result<bool, SyntaxFault>
 ///
 /// # Errors
 ///
-/// `Unexpected` where braces behind a name aren't closed, and `OutOfMemory`.
+/// `Unexpected` where braces after a name aren't closed, and `OutOfMemory`.
 fn begins_module(alloc: Global, tokens: &[Token]) -> Result<bool, SyntaxFault>
     ensures ok { IfOk result (λ listed. listed ≡ begins_module tokens.now) }
     ensures none { IfErr result (λ e. IsSyntax e → (modules : List spec.Module)

@@ -93,7 +93,7 @@ fn read_component(
     Ok((component, rest))
 }
 
-/// Reads the components between version brackets, behind the opening one and the number of the
+/// Reads the components between version brackets, after the opening one and the number of the
 /// version, to the closing one. Their types are looked for at the level.
 ///
 /// # Errors
@@ -155,7 +155,7 @@ fn read_member(
     Ok((Some(Member::One(component)), rest))
 }
 
-/// Reads the entries between braces, behind the opening one, to the closing one. Their types are
+/// Reads the entries between braces, after the opening one, to the closing one. Their types are
 /// looked for at the level.
 ///
 /// # Errors
@@ -196,7 +196,7 @@ fn read_braces(
     }
 }
 
-/// Reads what stands behind SEQUENCE or SET at the level: entries between braces, or OF and the
+/// Reads what stands after SEQUENCE or SET at the level: entries between braces, or OF and the
 /// type of the elements.
 ///
 /// # Errors
@@ -224,7 +224,7 @@ fn read_members(
     Ok((list, rest))
 }
 
-/// Reads what stands behind CHOICE at the level: alternatives between braces.
+/// Reads what stands after CHOICE at the level: alternatives between braces.
 ///
 /// # Errors
 ///
@@ -247,7 +247,7 @@ fn read_choice(
     Ok((Base::Choice(members), rest))
 }
 
-/// Reads what stands behind ENUMERATED: items between braces.
+/// Reads what stands after ENUMERATED: items between braces.
 ///
 /// # Errors
 ///
@@ -265,7 +265,7 @@ fn read_enumerated(alloc: Global, tokens: &[Token]) -> Result<(Base, &[Token]), 
     Ok((Base::Enumerated { items: root, added }, rest))
 }
 
-/// Reads the actual parameters of a type, behind the opening brace, to the closing one. Types are
+/// Reads the actual parameters of a type, after the opening brace, to the closing one. Types are
 /// looked for at the level. `None` is returned where some are no types: those are passed over.
 ///
 /// # Errors
@@ -301,7 +301,7 @@ fn read_arguments(
     }
 }
 
-/// Reads what stands behind the name of a type at the level: actual parameters in braces, or none.
+/// Reads what stands after the name of a type at the level: actual parameters in braces, or none.
 /// `home` is the name of the module, where it is stated.
 ///
 /// # Errors
@@ -327,7 +327,7 @@ fn read_named(
     Ok((instance_or(home, name, arguments), rest))
 }
 
-/// Reads what stands behind the words that begin a type at the level.
+/// Reads what stands after the words that begin a type at the level.
 ///
 /// # Errors
 ///

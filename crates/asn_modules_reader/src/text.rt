@@ -1,5 +1,5 @@
 //! Reads texts of modules whole: their tokens, and the modules that these stand for. What is
-//! refused is told with its line and column. The names in them are not compared.
+//! refused is reported with its line and column. The names in them are not compared.
 
 mod read;
 mod source;

@@ -54,7 +54,7 @@ one_more_counted xs x = sum_by_push marks xs x
 pub room : {A : Type 0} (xs : List (Option A)) (x : Option A) (n m : ℕ) (b : Bool) → m ≡ count_by is_marker xs → b ≡ nat_le (m + marks x) n → b ≡ nat_le (count_by is_marker (xs ++ x ∷ [])) n
 room xs x n m b e f = f ∙ ap (λ k. nat_le k n) (ap (λ k. k + marks x) e ∙ sym (one_more_counted xs x))
 
--- The entry behind the others.
+-- The entry after the others.
 pub marked_first : {A : Type 0} (root v : Vec A) (added tail : Option (Vec A)) → added ≡ None → v.items ≡ []
     → map (λ x. Some x) root.items ++ behind_first (Some v) None ≡ (map (λ x. Some x) root.items ++ behind_first added tail) ++ None ∷ []
 marked_first root v added tail e n =

@@ -17,7 +17,7 @@ some_same {x = x} {y = y} a b = let e : Some x ≡ Some y = sym a ∙ b in cc
 pub none_some : {A : Type 0} {x : A} {o : Option A} → o ≡ None → o ≡ Some x → ⊥
 none_some {A = A} {x = x} a b = let e : ◌≡◌ {A = Option A} None (Some x) = sym a ∙ b in let y : ⊥ = cc in y
 
--- What stands behind the same entry.
+-- What stands after the same entry.
 pub moved : {A : Type 0} {o : Option (A × List Token)} {x y : A} {v w : List Token} {k : Kind} → o ≡ Some (x, v) → o ≡ Some (y, w) → first_kind w ≡ Some k → first_kind v ≡ Some k
 moved {k = k} a b h = subst (λ z. first_kind z ≡ Some k) (sym (ap (λ p. p.1) (some_same a b))) h
 

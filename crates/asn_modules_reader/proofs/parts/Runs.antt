@@ -1,4 +1,4 @@
--- Lists whose entries stand one behind another, read from the first on.
+-- Lists whose entries stand one after another, read from the first on.
 use Rattle.std.proofs.Common.{◌≡◌, List, [], ◌∷◌, ◌++◌, refl, sym, ap, subst, ◌∙◌, append_assoc, append-nil}
 use Rattle.asn_lexer.specs.declared.token.Token.{Token}
 

@@ -1,4 +1,4 @@
--- Values behind the identifiers of alternatives.
+-- Values after the identifiers of alternatives.
 use Rattle.std.proofs.Common.{◌≡◌, List, [], ◌∷◌, Bool, true, false, ◌&&◌, if◌then◌else◌, Option, Some, None, refl, sym, ap, subst, ◌∙◌}
 use Rattle.std.specs.Option.{option_and_then, option_map}
 use Rattle.asn_lexer.specs.declared.token.Token.{Token}
@@ -54,7 +54,7 @@ last_alternative s v e = ap (option_map (λ p. (value.Other s, p.1))) e
 pub braced_here : (t : Token) (u v : List Token) → v ≡ t ∷ u → t.kind ≡ kind.OpenBrace → value_here v ≡ option_map (λ w. (value.Other t, w)) (past_groups (Braces ∷ []) u)
 braced_here t u v e h = ap value_here e ∙ ap (λ k. value_by k t u) h
 
--- A name with a brace behind it.
+-- A name with a brace after it.
 pub braced_name : (x : Value) (t b : Token) (u v : List Token) → u ≡ b ∷ v → is_open_brace b.kind ≡ true → begins_field u ≡ false → named_value_at x t u ≡ option_map (λ w. (value.Other t, w)) (past_groups (Braces ∷ []) v)
 braced_name x t b u v e h n =
     ap (λ z. if z then other_at t (past_fields u) else if first_is is_open_brace u then other_at t (past_braces u) else Some (x, u)) n

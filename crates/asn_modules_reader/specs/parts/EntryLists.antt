@@ -8,12 +8,12 @@ abbrev pub is_marker : {A : Type 0} → Option A → Bool
 is_marker None = true
 is_marker (Some x) = false
 
--- What stands behind the second marker, with it.
+-- What stands after the second marker, with it.
 abbrev pub behind_second : {A : Type 0} → Option (Vec A) → List (Option A)
 behind_second None = []
 behind_second (Some xs) = None ∷ map (λ x. Some x) xs.items
 
--- What stands behind the first marker, with it.
+-- What stands after the first marker, with it.
 abbrev pub behind_first : {A : Type 0} → Option (Vec A) → Option (Vec A) → List (Option A)
 behind_first None tail = []
 behind_first (Some xs) tail = None ∷ (map (λ x. Some x) xs.items ++ behind_second tail)

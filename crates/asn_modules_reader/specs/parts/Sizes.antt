@@ -7,4 +7,5 @@ use Rattle.asn_modules_grammar.specs.declared.notation.size.Size.{Size}
 
 -- Constraints with these sizes stand at the front of the tokens, and the rest follows them.
 abbrev pub SizesParse : List Token → List Size → List Token → Type 0
-SizesParse u sizes rest = (cs : List (Option Size)) × ConstraintsParse u cs rest × (sizes ≡ sizes_of cs)
+SizesParse u sizes rest =
+    (cs : List (Option Size)) × ConstraintsParse u cs rest × (sizes ≡ sizes_of cs)

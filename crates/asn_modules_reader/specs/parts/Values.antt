@@ -1,4 +1,4 @@
--- Values behind the identifiers of alternatives.
+-- Values after the identifiers of alternatives.
 use Rattle.std.specs.Prelude.{List, [], ◌∷◌, Option, None}
 use Rattle.asn_lexer.specs.declared.token.Token.{Token}
 use Rattle.asn_modules_grammar.specs.notation.Values.{value_by}

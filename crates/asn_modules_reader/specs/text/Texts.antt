@@ -26,7 +26,8 @@ pub record HasNoTokens (text : List ℕ) (place : Place) (why : NoToken) : Type 
   pub here : place ≡ place_at text offset
   pub reason : why ≡ no_token_of (drop offset text)
 
--- The tokens of the text stand for no modules. At the place is the token, or the end of the text, that was met in place of what was expected.
+-- The tokens of the text stand for no modules. At the place is the token, or the end of the text,
+-- that was met in place of what was expected.
 pub record HasNoModules (limit : ℕ) (text : List ℕ) (place : Place) (why : Cause) : Type 0 where
   pub tokens : List Token
   pub split : HasTokens text tokens

@@ -54,7 +54,7 @@ pub(crate) fn names_value(tokens: &[Token]) -> bool
 ///
 /// # Errors
 ///
-/// `Unexpected` where no name stands behind `&`.
+/// `Unexpected` where no name stands after `&`.
 #[tactic(auto, using(crate::proofs::parts::Fields::name_steps))]
 pub(crate) fn past_fields(tokens: &[Token]) -> Result<&[Token], SyntaxFault>
     ensures found { AnswersRest (past_fields tokens.now) result }
@@ -105,7 +105,7 @@ fn past_syntax(alloc: Global, tokens: &[Token]) -> Result<&[Token], SyntaxFault>
     }
 }
 
-/// Returns what follows an object class behind `CLASS`.
+/// Returns what follows an object class after `CLASS`.
 ///
 /// # Errors
 ///
@@ -118,7 +118,7 @@ pub(crate) fn past_class(alloc: Global, tokens: &[Token]) -> Result<&[Token], Sy
     past_syntax(alloc, behind)
 }
 
-/// Returns what follows `OF` and the name of a class behind `INSTANCE`.
+/// Returns what follows `OF` and the name of a class after `INSTANCE`.
 ///
 /// # Errors
 ///

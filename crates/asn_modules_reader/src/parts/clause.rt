@@ -21,7 +21,7 @@ pub(crate) fn is_capital(kind: Kind) -> bool
     matches!(kind, Kind::Name(Initial::Capital))
 }
 
-/// Returns whether a token of the kind is a word that a macro's notation has behind its name.
+/// Returns whether a token of the kind is a word that a macro's notation has after its name.
 pub(crate) fn opens_clause(kind: Kind) -> bool
     ensures { result ≡ opens_clause kind }
 {
@@ -47,7 +47,7 @@ fn is_assignment(kind: Kind) -> bool
     matches!(kind, Kind::Assignment)
 }
 
-/// Returns what follows `END`, which may stand behind any other tokens.
+/// Returns what follows `END`, which may stand after any other tokens.
 ///
 /// # Errors
 ///
@@ -69,11 +69,11 @@ fn past_end(tokens: &[Token]) -> Result<&[Token], SyntaxFault>
     }
 }
 
-/// Returns what follows the definition of a macro behind its `MACRO`.
+/// Returns what follows the definition of a macro after its `MACRO`.
 ///
 /// # Errors
 ///
-/// `Unexpected` where no `::=` and `BEGIN` stand here, or no `END` behind them.
+/// `Unexpected` where no `::=` and `BEGIN` stand here, or no `END` after them.
 pub(crate) fn past_definition(tokens: &[Token]) -> Result<&[Token], SyntaxFault>
     ensures found { AnswersRest (past_definition tokens.now) result }
     ensures shorter { IfOk result (λ rest. length rest.now ≤ length tokens.now) }
@@ -87,7 +87,7 @@ pub(crate) fn past_definition(tokens: &[Token]) -> Result<&[Token], SyntaxFault>
     }
 }
 
-/// Returns what follows the clauses of a macro's notation and the `::=` behind them.
+/// Returns what follows the clauses of a macro's notation and the `::=` after them.
 ///
 /// # Errors
 ///
@@ -172,7 +172,7 @@ fn begins_identifier_assigned(tokens: &[Token]) -> bool
     }
 }
 
-/// Returns whether an assignment begins here, behind the clauses of a macro.
+/// Returns whether an assignment begins here, after the clauses of a macro.
 fn begins_assigned(tokens: &[Token]) -> bool
     ensures { result ≡ begins_assigned tokens.now }
 {

@@ -11,9 +11,9 @@ use std::alloc::{AllocError, Global};
 pub struct Entries<T: Drop> {
     /// Lists those of the root.
     pub root: Vec<T>,
-    /// Lists those behind the first extension marker, if it was read.
+    /// Lists those after the first extension marker, if it was read.
     pub added: Option<Vec<T>>,
-    /// Lists those behind the second one, if that was read. It means nothing without the first.
+    /// Lists those after the second one, if that was read. It means nothing without the first.
     pub tail: Option<Vec<T>>,
 }
 
@@ -58,7 +58,7 @@ impl<T: Drop> Entries<T> {
         }
     }
 
-    /// Adds an extension marker behind the others.
+    /// Adds an extension marker after the others.
     fn mark(&mut self, alloc: Global)
         requires { count_by is_marker (entries_of self.old) ≤ 1 }
         ensures { entries_of self.new ≡ entries_of self.old ++ None ∷ [] }
@@ -71,7 +71,7 @@ impl<T: Drop> Entries<T> {
         }
     }
 
-    /// Adds an entry that is no extension marker behind the others.
+    /// Adds an entry that is no extension marker after the others.
     ///
     /// # Errors
     ///
@@ -89,7 +89,7 @@ impl<T: Drop> Entries<T> {
         Ok(())
     }
 
-    /// Adds an entry, or an extension marker, behind the others.
+    /// Adds an entry, or an extension marker, after the others.
     ///
     /// # Errors
     ///

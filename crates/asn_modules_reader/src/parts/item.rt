@@ -55,7 +55,7 @@ pub fn read_item(tokens: &[Token]) -> Result<(Option<Item>, &[Token]), SyntaxFau
     }
 }
 
-/// Returns the items of an ENUMERATED behind the opening brace, and what follows the closing one.
+/// Returns the items of an ENUMERATED after the opening brace, and what follows the closing one.
 ///
 /// # Errors
 ///

@@ -13,7 +13,7 @@ use asn_modules_grammar::headers::{Expected, SyntaxFault, unexpected};
 use asn_modules_grammar::notation::{Constant, NamedNumber, SignedNumber};
 use std::alloc::Global;
 
-/// Returns the number behind a minus, and what follows it.
+/// Returns the number after a minus, and what follows it.
 ///
 /// # Errors
 ///

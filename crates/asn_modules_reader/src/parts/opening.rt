@@ -14,7 +14,7 @@ use asn_modules_grammar::notation::{Closed, Leaf};
 pub(crate) enum Opening {
     /// It stands for this alone.
     Whole(Start),
-    /// It stands for this with this word behind it.
+    /// It stands for this with this word after it.
     Pair(Mark, Start),
     /// It is ANY.
     Any,

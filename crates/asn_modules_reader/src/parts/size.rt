@@ -31,7 +31,7 @@ fn take_high(low: Token, tokens: &[Token]) -> Option<(Size, &[Token])>
     }
 }
 
-/// Returns the size behind an opening parenthesis, and what follows the closing one, if a size is
+/// Returns the size after an opening parenthesis, and what follows the closing one, if a size is
 /// all that stands between them.
 fn take_size(tokens: &[Token]) -> Option<(Size, &[Token])>
     ensures { Finds (size_at tokens.now) result }
@@ -42,7 +42,7 @@ fn take_size(tokens: &[Token]) -> Option<(Size, &[Token])>
     Some((size, rest))
 }
 
-/// Returns the size behind `SIZE (`, if that is all that stands up to `)`.
+/// Returns the size after `SIZE (`, if that is all that stands up to `)`.
 fn size_within(tokens: &[Token]) -> Option<Size>
     ensures { result ≡ option_map (λ p. p.0) (size_at tokens.now) }
 {
@@ -50,7 +50,7 @@ fn size_within(tokens: &[Token]) -> Option<Size>
     Some(size)
 }
 
-/// Returns the size behind `(`, if `SIZE` and its parentheses are all that stands up to `)`.
+/// Returns the size after `(`, if `SIZE` and its parentheses are all that stands up to `)`.
 fn size_alone(tokens: &[Token]) -> Option<Size>
     ensures { result ≡ size_alone tokens.now }
 {
@@ -71,7 +71,7 @@ fn begins_constraint(tokens: &[Token]) -> bool
     }
 }
 
-/// Returns the size that stands behind `SIZE`, if it is one, and what follows its parentheses.
+/// Returns the size that stands after `SIZE`, if it is one, and what follows its parentheses.
 ///
 /// # Errors
 ///

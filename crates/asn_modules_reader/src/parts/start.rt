@@ -50,7 +50,7 @@ pub enum Start {
 ///
 /// # Errors
 ///
-/// `Unexpected` where no name stands behind `&`.
+/// `Unexpected` where no name stands after `&`.
 fn read_field(tokens: &[Token]) -> Result<(Start, &[Token]), SyntaxFault>
     ensures found { Answers start_view
         (leaf_at (leaf.Closed closed.ClassField) (past_fields tokens.now)) result }
@@ -91,7 +91,7 @@ fn read_named(
 ///
 /// # Errors
 ///
-/// `Unexpected` where no name stands behind `.`, and those of `read_named`.
+/// `Unexpected` where no name stands after `.`, and those of `read_named`.
 fn read_reference(name: Token, tokens: &[Token]) -> Result<(Start, &[Token]), SyntaxFault>
     ensures found { Answers start_view (reference_at name tokens.now) result }
     ensures shorter { IfOk result (λ found. length found.1.now ≤ length tokens.now) }
@@ -112,7 +112,7 @@ fn read_reference(name: Token, tokens: &[Token]) -> Result<(Start, &[Token]), Sy
 ///
 /// # Errors
 ///
-/// `Unexpected` where no `BY` and name stand behind `DEFINED`.
+/// `Unexpected` where no `BY` and name stand after `DEFINED`.
 fn read_any(tokens: &[Token]) -> Result<(Start, &[Token]), SyntaxFault>
     ensures found { Answers start_view (any_at tokens.now) result }
     ensures shorter { IfOk result (λ found. length found.1.now ≤ length tokens.now) }
@@ -155,7 +155,7 @@ fn read_pair(second: Mark, start: Start, tokens: &[Token]) -> Result<(Start, &[T
     }
 }
 
-/// Returns the object class behind `CLASS`, and what follows it.
+/// Returns the object class after `CLASS`, and what follows it.
 ///
 /// # Errors
 ///

@@ -46,7 +46,7 @@ fn read_braced_value(
 ///
 /// # Errors
 ///
-/// `Unexpected` where no name stands behind `&`.
+/// `Unexpected` where no name stands after `&`.
 fn read_field_value(word: Token, tokens: &[Token]) -> Result<(Value, &[Token]), SyntaxFault>
     ensures found { Answers (λ value. value) (other_at word (past_fields tokens.now)) result }
     ensures shorter { IfOk result (λ found. length found.1.now ≤ length tokens.now) }
@@ -60,7 +60,7 @@ fn read_field_value(word: Token, tokens: &[Token]) -> Result<(Value, &[Token]), 
 ///
 /// # Errors
 ///
-/// `Unexpected` where a group isn't closed or no name stands behind `&`, and `OutOfMemory`.
+/// `Unexpected` where a group isn't closed or no name stands after `&`, and `OutOfMemory`.
 fn read_named_value(
     alloc: Global,
     value: Value,
@@ -83,7 +83,7 @@ fn read_named_value(
 ///
 /// # Errors
 ///
-/// `Unexpected` where no name stands behind `.`, and those of `read_named_value`.
+/// `Unexpected` where no name stands after `.`, and those of `read_named_value`.
 fn read_word_value(
     alloc: Global,
     word: Token,
@@ -107,7 +107,7 @@ fn read_word_value(
     }
 }
 
-/// Returns the number behind a minus as a value, and what follows it.
+/// Returns the number after a minus as a value, and what follows it.
 ///
 /// # Errors
 ///
@@ -121,7 +121,7 @@ fn read_negative_number(tokens: &[Token]) -> Result<(Value, &[Token]), SyntaxFau
     Ok((Value::Number(number), rest))
 }
 
-/// Returns the number behind this minus as a value, and what follows it. A real number is some
+/// Returns the number after this minus as a value, and what follows it. A real number is some
 /// other value.
 ///
 /// # Errors
@@ -244,7 +244,7 @@ pub fn read_value(alloc: Global, tokens: &[Token]) -> Result<(Value, &[Token]), 
     read_alternative(alloc, word, rest)
 }
 
-/// Returns the value of a DEFAULT behind its word, and what follows it.
+/// Returns the value of a DEFAULT after its word, and what follows it.
 ///
 /// # Errors
 ///

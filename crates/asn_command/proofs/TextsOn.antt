@@ -6,10 +6,12 @@ use Rattle.std.proofs.lemmas.List.{drop_all, drop_more, flat_map_more, map-appen
 use Rattle.asn_model.specs.Shape as spec
 use Rattle.asn_model.specs.ShapeView.{shape_view}
 use Rattle.asn_model.specs.declared.shape_type.Shape.{Shape}
+use Rattle.asn_modules.specs.Missing.{missing_view}
+use Rattle.asn_modules.specs.declared.missing.MissingModule.{MissingModule}
 use Rattle.asn_modules.specs.Names as names
 use Rattle.asn_modules.specs.Names.{type_name_view}
 use Rattle.asn_modules.specs.declared.names.TypeName.{TypeName}
-use Rattle.asn_command.specs.Listings.{for_each, valueless_line}
+use Rattle.asn_command.specs.Listings.{for_each, missing_line, valueless_line}
 
 -- One more line on a part.
 pub parts_more : (name now line after : List ℕ) (parts : List (String Global)) (i : ℕ) (part : String Global) → now ≡ flat_map (valueless_line name) (map string_bytes (take i parts)) → i < length parts → part ≡ get_or parts i part
@@ -18,6 +20,14 @@ parts_more name now line after parts i part n inside is l a =
     let next : take (i + 1) parts ≡ take i parts ++ part ∷ [] = take_more parts i part inside ∙ ap (λ x. take i parts ++ x ∷ []) (sym is) in
     a ∙ ap₂ (λ x y. x ++ y) n l ∙ flat_map_more (valueless_line name) [] (map string_bytes (take i parts)) (string_bytes part)
     ∙ ap (flat_map (valueless_line name)) (sym (ap (map string_bytes) next ∙ map-append string_bytes (take i parts) (part ∷ [])))
+
+-- One more line on a module that isn't given.
+pub missing_more : (now line after : List ℕ) (modules : List MissingModule) (i : ℕ) (m : MissingModule) → now ≡ flat_map missing_line (map missing_view (take i modules)) → i < length modules → m ≡ get_or modules i m
+    → line ≡ missing_line (missing_view m) → after ≡ now ++ line → after ≡ flat_map missing_line (map missing_view (take (i + 1) modules))
+missing_more now line after modules i m n inside is l a =
+    let next : take (i + 1) modules ≡ take i modules ++ m ∷ [] = take_more modules i m inside ∙ ap (λ x. take i modules ++ x ∷ []) (sym is) in
+    a ∙ ap₂ (λ x y. x ++ y) n l ∙ flat_map_more missing_line [] (map missing_view (take i modules)) (missing_view m)
+    ∙ ap (flat_map missing_line) (sym (ap (map missing_view) next ∙ map-append missing_view (take i modules) (m ∷ [])))
 
 module _ (f : names.TypeName → spec.Shape → List ℕ) where
   -- The texts on the types from a place on.

@@ -3,6 +3,7 @@ use Rattle.std.specs.Prelude.{ℕ, ◌==◌, List, [], ◌∷◌, ◌++◌, code
 use Rattle.std.specs.List.{flat_map}
 use Rattle.asn_model.specs.Shape.{Shape}
 use Rattle.asn_modules.specs.Empty.{is_without_values}
+use Rattle.asn_modules.specs.Missing.{MissingModule}
 use Rattle.asn_modules.specs.Modules.{Modules}
 use Rattle.asn_modules.specs.Names.{TypeName}
 use Rattle.asn_type_printing.specs.words.Words.{kind_word}
@@ -48,6 +49,10 @@ valueless_line name part = name ++ (codes ": " ++ (part ++ codes ": no value of 
 abbrev pub valueless_lines : TypeName → Shape → List ℕ
 valueless_lines t s = flat_map (valueless_line (full_name t)) (map path_text (valueless_paths s))
 
--- How many types the modules have, and their parts without values.
+-- The line on a module that is imported from and isn't given: where it is named first after FROM.
+abbrev pub missing_line : MissingModule → List ℕ
+missing_line m = m.file ++ (codes ":" ++ (decimal m.place.line ++ (codes ":" ++ (decimal m.place.column ++ (codes ": module " ++ (m.name ++ codes " isn't given\n"))))))
+
+-- How many types the modules have, their parts without values, and the modules that aren't given.
 abbrev pub check_text : Modules → List ℕ
-check_text m = count_line (length m.names) ++ for_each valueless_lines m.names m.types
+check_text m = count_line (length m.names) ++ (for_each valueless_lines m.names m.types ++ flat_map missing_line m.missing)

@@ -12,7 +12,8 @@ use asn_replies::Reply;
 use std::alloc::Global;
 
 /// Returns how many types the modules of these texts have, each text behind the name of its file,
-/// and which parts of them have no values; or why the texts are refused.
+/// which parts of them have no values, and which modules aren't given that they import from; or why
+/// the texts are refused.
 ///
 /// # Errors
 ///

@@ -1,3 +1,4 @@
+mod Absent
 mod Naming
 mod Opening
 mod Reading

@@ -4,6 +4,7 @@
 #![tactic(auto)]
 
 mod empty;
+mod missing;
 mod modules;
 mod names;
 mod read;
@@ -11,6 +12,7 @@ mod read;
 pub use asn_linked::Place;
 pub use asn_modules_reader::text::ModuleError;
 pub use empty::is_without_values;
+pub use missing::MissingModule;
 pub use modules::Modules;
 pub use names::TypeName;
 pub use read::read_modules;

@@ -3,10 +3,12 @@ ghost use Rattle.asn_linked.specs.Places.{place_shape};
 ghost use Rattle.asn_linked_types.specs.Linked.{are_linked};
 ghost use Rattle.asn_model.specs.Readable.{is_readable};
 ghost use Rattle.asn_model.specs.ShapeView.{shape_view};
+ghost use Rattle.asn_modules.specs.Missing.{missing_view};
 ghost use Rattle.asn_modules.specs.Names.{number_named, type_name_view};
 ghost use Rattle.std.specs.Prelude.{◌≡◌, ◌<◌, [], IfSome, MatchOption, None, Some, length, map, true};
 
 use crate::empty::is_without_values;
+use crate::missing::MissingModule;
 use crate::names::{TypeName, number_named};
 use asn_linked::Place;
 use asn_model::Shape;
@@ -19,6 +21,8 @@ pub struct Modules {
     /// Lists the types, each at the place of its name: `Shape::Back` of a number names the type of
     /// that number.
     types: Vec<Shape>,
+    /// Lists the modules that are imported from and aren't given.
+    missing: Vec<MissingModule>,
     /// By each type, values can be read and written.
     ghost linked: { are_linked (map shape_view types.items) ≡ true },
     /// Each type has a name.
@@ -29,14 +33,23 @@ pub struct Modules {
 impl Modules {
     ghost use Rattle.asn_modules.specs.Modules.{has_no_values, modules_view, shape_named};
 
-    /// Returns the types with these names.
-    pub(crate) fn new(names: Vec<TypeName>, types: Vec<Shape>) -> Modules
+    /// Returns the types with these names, and the modules that aren't given.
+    pub(crate) fn new(
+        names: Vec<TypeName>,
+        types: Vec<Shape>,
+        missing: Vec<MissingModule>,
+    ) -> Modules
         requires linked { are_linked (map shape_view types.items) ≡ true }
         requires named { length names.items ≡ length types.items }
         ensures names { result.names ≡ names }
         ensures types { result.types ≡ types }
+        ensures missing { result.missing ≡ missing }
     {
-        Modules { names, types }
+        Modules {
+            names,
+            types,
+            missing,
+        }
     }
 
     /// Returns the names of the types, in the order in which they are assigned.
@@ -54,6 +67,14 @@ impl Modules {
         ensures linked { are_linked (map shape_view result.now) ≡ true }
     {
         self.types.as_slice()
+    }
+
+    /// Returns the modules that are imported from and aren't given, each once, in the order in which
+    /// they are named after FROM. Nothing is known of what they assign.
+    pub fn missing(&self) -> &[MissingModule]
+        ensures { map missing_view result.now ≡ (modules_view self.now).missing }
+    {
+        self.missing.as_slice()
     }
 
     /// Returns the number of the type that the text names, in the order of `names`: by its name, if

@@ -5,6 +5,7 @@ ghost use Rattle.asn_modules_names.specs.sources.Reading.{named_view};
 ghost use Rattle.asn_modules_reader.specs.text.Texts.{IsRefused};
 ghost use Rattle.std.specs.Prelude.{IfErr, IfOk, map};
 
+use crate::missing::missing_in;
 use crate::modules::Modules;
 use crate::names::type_names;
 use asn_modules_names::lookup::{Sort, index_of};
@@ -34,8 +35,9 @@ pub fn read_modules(alloc: Global, texts: &[(&str, &str)]) -> Result<Modules, Mo
     check_all(alloc, sources.as_slice())?;
     let index = index_of(alloc, Sort::Types, sources.as_slice())?;
     let names = type_names(alloc, sources.as_slice())?;
+    let missing = missing_in(alloc, sources.as_slice())?;
     match linked_types(alloc, sources.as_slice(), &index) {
-        Ok(types) => Ok(Modules::new(names, types)),
+        Ok(types) => Ok(Modules::new(names, types, missing)),
         Err(_fault) => Err(ModuleError::OutOfMemory),
     }
 }

@@ -1,3 +1,4 @@
 pub mod Founds
 pub mod Repeating
 pub mod Naming
+pub mod Origins

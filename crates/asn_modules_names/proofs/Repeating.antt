@@ -96,3 +96,10 @@ new_passed old new ms i m k added h known e a t updates was =
       knows_more old new (names_before ms i) (names_before ms (i + 1)) k (name_of (mention_view n)) known e (before_more ms i n h here) updates,
       was ∙ repeated_later ms i n h here (was_new old (names_before ms i) k (name_of (mention_view n)) added known e a t),
     )
+
+-- Past a name, the set has it.
+pub name_kept : {S : Type 0} (old new : HashSet (Bor (List ℕ)) S) (ms : List code.Mention) (i : ℕ) (m : code.Mention) (k : Bor (List ℕ)) → i < length ms → Knows old (names_before ms i) → k.now ≡ name_of (mention_view (get_or ms i m))
+    → UpdatesBy (λ x y. bytes_eq x.now y.now) (λ y. bytes_eq k.now y.now) old new true → Knows new (names_before ms (i + 1))
+name_kept old new ms i m k h known e updates =
+    let n = get_or ms i m in
+    knows_more old new (names_before ms i) (names_before ms (i + 1)) k (name_of (mention_view n)) known e (before_more ms i n h (get_or-same ms i m n h)) updates

@@ -3,6 +3,7 @@ pub mod Faults
 pub mod Repeats
 pub mod Assigned
 pub mod Names
+pub mod Missing
 pub mod lookup
 pub mod imports
 pub mod references

@@ -50,7 +50,7 @@ fn add_names<'t>(
 /// # Errors
 ///
 /// Where memory runs out.
-fn names_of<'t>(alloc: Global, sources: &[Source<'t>]) -> Result<Vec<Mention<'t>>, AllocError>
+pub fn names_of<'t>(alloc: Global, sources: &[Source<'t>]) -> Result<Vec<Mention<'t>>, AllocError>
     ensures { IfOk result (λ names.
         map mention_view names.items ≡ all_module_names (map source_view sources.now)) }
 {

@@ -10,6 +10,7 @@ mod headed;
 pub mod imports;
 pub mod lookup;
 mod mention;
+mod missing;
 pub mod references;
 pub mod sources;
 
@@ -17,3 +18,4 @@ pub use check::check_names;
 pub use distinct::check_distinct;
 pub use errors::broken;
 pub use mention::{Mention, mention_of};
+pub use missing::missing_modules;

@@ -1,6 +1,7 @@
 mod Examples
 mod Ascii
 mod Strings
+pub mod Joining
 mod Listing
 mod Tagged
 mod Naming

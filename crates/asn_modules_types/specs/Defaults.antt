@@ -12,6 +12,7 @@ use Rattle.asn_modules_grammar.specs.declared.notation.value.Value.{Value}
 use Rattle.asn_modules_grammar.specs.declared.notation.value.Value.TheVariants as value
 use Rattle.asn_modules_types.specs.Numbers.{number_at}
 use Rattle.asn_modules_types.specs.Scopes.{Scope, ascii_of, name_in}
+use Rattle.asn_modules_types.specs.Strings.{joined}
 use Rattle.asn_modules_types.specs.declared.limits.TheConstants.{DEFAULT_STRING_LIMIT}
 
 abbrev pub boolean_named : List ℕ → Option Plain
@@ -23,17 +24,21 @@ word_plain Shape.boolean word = boolean_named word
 word_plain (Shape.enum items added) word = Some (Plain.item (ascii_of word))
 word_plain s word = None
 
--- A character that stands for itself in a string: no quote, and none that ends a line.
+-- A character that is itself in a string: no quote, and no control character.
 abbrev pub is_verbatim : ℕ → Bool
 is_verbatim c = nat_le 32 c && not (nat_eq c 34)
 
--- The bytes, if they are few and UTF-8, and each is of a character that stands for itself.
+-- The bytes, if they are UTF-8, and each is of a character that is itself.
 abbrev pub verbatim : List ℕ → Option (List ℕ)
-verbatim bytes = if nat_le (length bytes) DEFAULT_STRING_LIMIT && (list_all is_verbatim bytes && is_utf8 bytes) then Some bytes else None
+verbatim bytes = if list_all is_verbatim bytes && is_utf8 bytes then Some bytes else None
 
--- The characters of a string between its quotes. A long one, or one with a quote in it or over several lines, isn't understood.
+-- These bytes with their lines joined, if they are few.
+abbrev pub if_short : List ℕ → Option (List ℕ)
+if_short bytes = if nat_le (length bytes) DEFAULT_STRING_LIMIT then verbatim (joined false bytes) else None
+
+-- The characters of a string between its quotes, with its lines joined. A long one, or one with a quote in it, isn't understood.
 abbrev pub string_in : List ℕ → Token → Option (List ℕ)
-string_in text t = verbatim (slice_range (text_of text t) 1 (length (text_of text t) - 1))
+string_in text t = if_short (slice_range (text_of text t) 1 (length (text_of text t) - 1))
 
 -- What these characters are as a value of the shape.
 abbrev pub string_plain : Shape → Option (List ℕ) → Option Plain

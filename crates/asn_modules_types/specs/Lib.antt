@@ -3,6 +3,8 @@ pub mod Numbers
 pub mod Sizes
 pub mod Lists
 pub mod Leaves
+pub mod Strings
+pub mod Joining
 pub mod Defaults
 pub mod Templates
 pub mod Types

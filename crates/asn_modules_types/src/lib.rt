@@ -10,6 +10,7 @@ mod defaults;
 mod fault;
 mod leaves;
 mod limits;
+mod lines;
 mod linked;
 pub mod named_numbers;
 mod names;

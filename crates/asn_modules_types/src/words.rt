@@ -5,6 +5,7 @@ ghost use Rattle.std.specs.List.{list_all, slice_range};
 ghost use Rattle.std.specs.Prelude.{◌≡◌, ◌-◌, IfOk, length, nat_le, nat_lt, option_map, string_bytes};
 
 use crate::limits::DEFAULT_STRING_LIMIT;
+use crate::lines::join_lines;
 use asn_lexer::Token;
 use asn_modules_errors::text_of;
 use std::alloc::{AllocError, Global};
@@ -63,14 +64,14 @@ fn inner(bytes: &[u8]) -> &[u8]
     &bytes[1..bytes.len() - 1]
 }
 
-/// Returns whether the byte is of a character that stands for itself in a string.
+/// Returns whether the byte is of a character that is itself in a string.
 fn is_verbatim(byte: u8) -> bool
     ensures { result ≡ is_verbatim byte }
 {
     byte >= b' ' && byte != b'"'
 }
 
-/// Returns whether each byte is of a character that stands for itself in a string.
+/// Returns whether each byte is of a character that is itself in a string.
 fn are_verbatim(bytes: &[u8]) -> bool
     ensures { result ≡ list_all is_verbatim bytes.now }
 {
@@ -84,8 +85,8 @@ fn is_short(bytes: &[u8]) -> bool
     bytes.len() <= DEFAULT_STRING_LIMIT
 }
 
-/// Returns the characters of a string between its quotes, or `None` where they take more bytes than
-/// the limit, or a quote or the end of a line is among them.
+/// Returns the characters of a string between its quotes, with its lines joined, or `None` where
+/// they take more bytes than the limit, or a quote or a control character is among them.
 ///
 /// # Errors
 ///
@@ -97,11 +98,9 @@ pub fn string_in(alloc: Global, text: &str, token: Token) -> Result<Option<Strin
     if !is_short(bytes) {
         return Ok(None);
     }
-    if !are_verbatim(bytes) {
+    let joined = join_lines(alloc, bytes)?;
+    if !are_verbatim(joined.as_slice()) {
         return Ok(None);
     }
-    match str::from_utf8(bytes) {
-        Ok(string) => Ok(Some(String::from_str(alloc, string)?)),
-        Err(_fault) => Ok(None),
-    }
+    Ok(String::from_utf8(joined).ok())
 }

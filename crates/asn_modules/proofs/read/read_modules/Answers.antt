@@ -19,4 +19,4 @@ returns-in_err-check_all-clause-none c =
 pub new-requires-clause-named : goal.new-requires-clause-named
 new-requires-clause-named c =
     named-counted (map source_view c.in_ok-sources.sources.items) c.in_ok-names.names.items c.in-Ok.types.items (c.in_ok-names.ensures ∙ ap (λ l. type_names (map source_view l)) c.as_slice-3.ensures.value)
-    (c.in-Ok.ensures.types ∙ ap (λ l. linked_types (map source_view l)) c.as_slice-4.ensures.value)
+    (c.in-Ok.ensures.types ∙ ap (λ l. linked_types (map source_view l)) c.as_slice-5.ensures.value)

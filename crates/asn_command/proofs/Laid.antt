@@ -33,7 +33,7 @@ module _ (all : Option (List ℕ)) (now : List ℕ) (place : Within) (text : Lis
   pub laid_stop : Stop ≡ step_of place b → all ≡ None
   laid_stop s = e ∙ ap (put now) (one_more place text i b h is ∙ ap (λ t. joined t (laid (behind place b) (drop (i + 1) text))) (sym s))
 
--- Behind the last byte there is none.
+-- After the last byte there is none.
 pub laid_end : (all : Option (List ℕ)) (now : List ℕ) (place : Within) (text : List ℕ) (i : ℕ) → length text ≤ i → all ≡ put now (laid place (drop i text)) → all ≡ Some now
 laid_end all now place text i h e = e ∙ ap (λ l. put now (laid place l)) (drop_all i text h) ∙ ap (λ l. Some l) (append-nil now)
 

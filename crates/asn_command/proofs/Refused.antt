@@ -11,7 +11,7 @@ use Rattle.asn_model.specs.Shape.{Shape}
 use Rattle.asn_value_refusals.specs.Lines.{IsRefusalLines}
 use Rattle.asn_value_refusals.specs.declared.origin.Origin.{Origin}
 
--- A refusal for an error that isn't want of memory.
+-- A refusal for an error that isn't out of memory.
 pub refused_so : (from to : Codec) (s : Shape) (o : Origin) (explain : Bool) (text due : List ℕ) (e : ConvertError)
     → IsMemoryRefusal from to (convert_refusal_of e) ⊎ Refuses LEVEL_LIMIT from to s text (convert_refusal_of e)
     → (IsConvertible LEVEL_LIMIT from to s text → is_refusal_out_of_memory (convert_refusal_of e) ≡ true)

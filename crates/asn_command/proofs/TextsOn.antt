@@ -38,7 +38,7 @@ module _ (f : names.TypeName → spec.Shape → List ℕ) where
   none_behind [] = refl
   none_behind (t ∷ ts) = refl
 
-  -- Behind the last one there is none.
+  -- After the last one there is none.
   pub texts_end : (ns : List TypeName) (ss : List Shape) (i : ℕ) → min (length ns) (length ss) ≤ i → texts_from ns ss i ≡ []
   texts_end ns ss i h = by (nat_le (length ns) i) refl
     where

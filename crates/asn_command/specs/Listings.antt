@@ -10,12 +10,12 @@ use Rattle.asn_type_printing.specs.words.Words.{kind_word}
 use Rattle.asn_version_reports.specs.Paths.{path_text}
 use Rattle.asn_version_reports.specs.Valueless.{valueless_paths}
 
--- The name behind that of the module, where it is in one.
+-- The name after that of the module, where it is in one.
 abbrev pub name_behind : List ℕ → List ℕ → List ℕ
 name_behind [] name = name
 name_behind home name = home ++ (codes "." ++ name)
 
--- The name of a type, behind that of its module and a point where it is in one.
+-- The name of a type, after that of its module and a point where it is in one.
 abbrev pub full_name : TypeName → List ℕ
 full_name t = name_behind t.home t.name
 
@@ -51,8 +51,12 @@ valueless_lines t s = flat_map (valueless_line (full_name t)) (map path_text (va
 
 -- The line on a module that is imported from and isn't given: where it is named first after FROM.
 abbrev pub missing_line : MissingModule → List ℕ
-missing_line m = m.file ++ (codes ":" ++ (decimal m.place.line ++ (codes ":" ++ (decimal m.place.column ++ (codes ": module " ++ (m.name ++ codes " isn't given\n"))))))
+missing_line m =
+    m.file
+    ++ (codes ":" ++ (decimal m.place.line ++ (codes ":" ++ (decimal m.place.column ++ (codes ": module " ++ (m.name ++ codes " isn't given\n"))))))
 
 -- How many types the modules have, their parts without values, and the modules that aren't given.
 abbrev pub check_text : Modules → List ℕ
-check_text m = count_line (length m.names) ++ (for_each valueless_lines m.names m.types ++ flat_map missing_line m.missing)
+check_text m =
+    count_line (length m.names)
+    ++ (for_each valueless_lines m.names m.types ++ flat_map missing_line m.missing)

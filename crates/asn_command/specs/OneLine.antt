@@ -10,13 +10,16 @@ use Rattle.asn_command.specs.declared.one_line.Within.TheVariants.{Line, Indenta
 abbrev pub HasNoFeed : List ℕ → Type 0
 HasNoFeed bytes = All (λ b. b ≢ 10) bytes
 
--- Where the byte behind this one stands. A quote begins or ends a string.
+-- Where the byte after this one stands. A quote begins or ends a string.
 abbrev pub behind : Within → ℕ → Within
 behind Line b = if b == 34 then Text else (if b == 10 then Indentation else Line)
-behind Indentation b = if b == 34 then Text else (if b == 10 then Indentation else (if b == 32 then Indentation else Line))
+behind Indentation b =
+    if b == 34 then Text
+    else (if b == 10 then Indentation else (if b == 32 then Indentation else Line))
 behind Text b = if b == 34 then Line else Text
 
--- What becomes of a byte: a blank for a line feed, which a string may not have, and nothing for a blank behind it.
+-- What becomes of a byte: a blank for a line feed, which a string may not have, and nothing for a
+-- blank after it.
 abbrev pub step_of : Within → ℕ → Step
 step_of Line b = if b == 10 then Put 32 else Put b
 step_of Indentation b = if b == 10 then Put 32 else (if b == 32 then Skip else Put b)
@@ -39,5 +42,6 @@ one_line_text text = laid Line text
 
 -- The text was laid out so, or can't be.
 abbrev pub IsLaidOut : List ℕ → Option (String Global) → Type 0
-IsLaidOut text (Some line) = (one_line_text text ≡ Some (string_bytes line)) × HasNoFeed (string_bytes line)
+IsLaidOut text (Some line) =
+    (one_line_text text ≡ Some (string_bytes line)) × HasNoFeed (string_bytes line)
 IsLaidOut text None = (bytes : List ℕ) → one_line_text text ≡ Some bytes → IsUtf8 bytes → ⊥

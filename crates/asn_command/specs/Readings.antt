@@ -1,4 +1,4 @@
--- What is told of modules that are refused.
+-- What is reported of modules that are refused.
 use Rattle.std.specs.Prelude.{◌≡◌, ◌≢◌, ◌⊎◌, ℕ, List, ◌++◌, codes, string_bytes}
 use Rattle.asn_modules.specs.Modules.{Modules}
 use Rattle.asn_modules.specs.Reading.{AreModules, IsModulesRefusal}
@@ -13,7 +13,8 @@ use Rattle.asn_replies.specs.declared.status.Status.TheVariants.{Refused}
 -- The reply refuses texts for the error, by its text and a line feed.
 abbrev pub IsReplyTo : ModuleError → Reply → Type 0
 IsReplyTo e (Answer due) = ⊥
-IsReplyTo e (Refusal status line) = (e ≢ OutOfMemory) × ((status ≡ Refused) × (string_bytes line ≡ error_text e ++ codes "\n"))
+IsReplyTo e (Refusal status line) =
+    (e ≢ OutOfMemory) × ((status ≡ Refused) × (string_bytes line ≡ error_text e ++ codes "\n"))
 
 -- The reply refuses these texts for an error of theirs.
 pub record IsModulesReply (texts : List Named) (reply : Reply) : Type 0 where
@@ -22,7 +23,8 @@ pub record IsModulesReply (texts : List Named) (reply : Reply) : Type 0 where
   pub told : IsReplyTo error reply
 
 -- The bytes are what this says of the modules that the texts are.
-pub record IsModulesText (text : Modules → List ℕ) (texts : List Named) (due : List ℕ) : Type 0 where
+pub record IsModulesText (text : Modules → List ℕ) (texts : List Named) (due : List ℕ)
+    : Type 0 where
   pub modules : Modules
   pub read : AreModules texts modules
   pub is : due ≡ text modules

@@ -45,14 +45,19 @@ IsTold file errors NotText = Appends errors.bytes_before errors.bytes_after (no_
 IsTold file errors status = ⊤
 
 -- The lines refuse the text of the file by R, or say why it isn't read.
-abbrev pub IsWholeRefusal : (List ℕ → List ℕ → Type 0) → List ℕ → Transfer → List ℕ → Status → Type 0
+abbrev pub IsWholeRefusal : (List ℕ → List ℕ → Type 0) → List ℕ → Transfer → List ℕ → Status
+    → Type 0
 IsWholeRefusal R file source lines Refused = ReadWhole source (λ input. R input lines)
-IsWholeRefusal R file source lines ReadFault = Increased source.faults_before source.faults_after × (lines ≡ fault_line file)
+IsWholeRefusal R file source lines ReadFault =
+    Increased source.faults_before source.faults_after × (lines ≡ fault_line file)
 IsWholeRefusal R file source lines TooLong = ReadPastLimit source × (lines ≡ length_line file)
-IsWholeRefusal R file source lines NotText = ReadWhole source (λ input. IsUtf8 input → ⊥) × (lines ≡ no_text_line file)
+IsWholeRefusal R file source lines NotText =
+    ReadWhole source (λ input. IsUtf8 input → ⊥) × (lines ≡ no_text_line file)
 IsWholeRefusal R file source lines status = ⊥
 
 -- The reply answers the text of the file by A, or refuses it by R, or says why it isn't read.
-abbrev pub IsWholeReply : (List ℕ → List ℕ → Type 0) → (List ℕ → List ℕ → Type 0) → List ℕ → Transfer → Reply → Type 0
+abbrev pub IsWholeReply : (List ℕ → List ℕ → Type 0) → (List ℕ → List ℕ → Type 0) → List ℕ
+    → Transfer → Reply → Type 0
 IsWholeReply A R file source (Answer due) = ReadWhole source (λ input. A input (string_bytes due))
-IsWholeReply A R file source (Refusal told lines) = IsWholeRefusal R file source (string_bytes lines) told
+IsWholeReply A R file source (Refusal told lines) =
+    IsWholeRefusal R file source (string_bytes lines) told

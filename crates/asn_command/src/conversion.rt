@@ -56,7 +56,7 @@ pub fn converted<P: Part>(
 }
 
 /// Returns the canonical text of the value that the text of this origin stands for, with a line
-/// feed behind it, or the lines that say why it is refused.
+/// feed after it, or the lines that say why it is refused.
 ///
 /// # Errors
 ///

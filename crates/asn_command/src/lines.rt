@@ -131,7 +131,7 @@ fn line_reply<P: Part>(
 }
 
 /// Answers a line by a text of its value on one line, the canonical one in JSON, or refuses it
-/// behind the name of the file and its number.
+/// after the name of the file and its number.
 impl<P: Part> LineWork for ConvertLines<'_, P> {
     ghost answers = { λ work number bytes reply. IsLineConversion work.conversion.from
         work.conversion.to (P.shape [] work.conversion.part) work.file work.conversion.explain

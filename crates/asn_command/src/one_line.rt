@@ -30,7 +30,7 @@ enum Step {
 
 /// Finds out what becomes of a byte.
 impl Within {
-    /// Returns where the byte behind this one stands.
+    /// Returns where the byte after this one stands.
     fn behind(self, byte: u8) -> Within
         ensures { result ≡ behind self byte }
     {
@@ -57,7 +57,7 @@ impl Within {
     }
 }
 
-/// Returns the bytes with one blank in place of each line feed and the blanks behind it, or `None`
+/// Returns the bytes with one blank in place of each line feed and the blanks after it, or `None`
 /// where a line feed stands in a string.
 ///
 /// # Errors
@@ -80,7 +80,7 @@ fn laid(alloc: Global, text: &[u8]) -> Result<Option<Vec<u8>>, OutOfMemory>
     Ok(Some(bytes))
 }
 
-/// Returns the text with one blank in place of each line feed and the blanks behind it, or `None`
+/// Returns the text with one blank in place of each line feed and the blanks after it, or `None`
 /// where a line feed stands in a string.
 ///
 /// # Errors

@@ -10,7 +10,7 @@ use asn_modules::{ModuleError, Modules, read_modules};
 use asn_replies::Reply;
 use std::alloc::Global;
 
-/// Returns the types of the modules of these texts, each behind the name of its file.
+/// Returns the types of the modules of these texts, each after the name of its file.
 ///
 /// # Errors
 ///

@@ -11,7 +11,7 @@ use asn_core::OutOfMemory;
 use asn_replies::Reply;
 use std::alloc::Global;
 
-/// Returns how many types the modules of these texts have, each text behind the name of its file,
+/// Returns how many types the modules of these texts have, each text after the name of its file,
 /// which parts of them have no values, and which modules aren't given that they import from; or why
 /// the texts are refused.
 ///

@@ -11,7 +11,7 @@ use asn_modules::{Modules, TypeName, is_without_values};
 use asn_type_printing::words::kind_word;
 use std::alloc::Global;
 
-/// Returns the name of the type behind that of its module and a point, or alone where it is in no
+/// Returns the name of the type after that of its module and a point, or alone where it is in no
 /// module.
 ///
 /// # Errors

@@ -20,7 +20,7 @@ use asn_value_refusals::Origin;
 use std::alloc::Global;
 
 /// Reads the file to its end, and returns the canonical text of the value that its text stands for,
-/// with a line feed behind it, or why there is none.
+/// with a line feed after it, or why there is none.
 ///
 /// # Errors
 ///
@@ -45,7 +45,7 @@ fn whole_reply<P: Part, S: Source>(
 }
 
 /// Reads the file to its end, and writes the canonical text of the value that its text stands for,
-/// with a line feed behind it, to the output, or to the errors the lines that say why there is
+/// with a line feed after it, to the output, or to the errors the lines that say why there is
 /// none.
 pub fn convert_whole<P: Part, S: Source, K: Sink, E: Sink>(
     alloc: Global,

@@ -44,12 +44,12 @@ pub fn texts_of(rt: &HostRuntime, names: &[&str]) -> Result<Vec<String>, Ended> 
     Ok(texts)
 }
 
-/// Returns the text behind the byte order mark that some editors put first.
+/// Returns the text after the byte order mark that some editors put first.
 fn past_mark(text: &str) -> &str {
     text.strip_prefix('\u{feff}').unwrap_or(text)
 }
 
-/// Returns each text behind the name of its file.
+/// Returns each text after the name of its file.
 ///
 /// # Errors
 ///
@@ -66,7 +66,7 @@ pub fn named<'a>(
     Ok(pairs)
 }
 
-/// Returns the types of the modules of these texts, each behind the name of its file, or the reply
+/// Returns the types of the modules of these texts, each after the name of its file, or the reply
 /// on them.
 ///
 /// # Errors

@@ -64,7 +64,7 @@ const ROWS: [Row; 14] = [
         errors: "f: isn't UTF-8\n",
         status: Status::NotText,
     },
-    // A read fails behind the first bytes.
+    // A read fails after the first bytes.
     Row {
         lines: false,
         input: "{\"number\":7}",

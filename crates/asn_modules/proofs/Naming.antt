@@ -25,7 +25,7 @@ tail-same : (p xs ys : List ℕ) → p ++ xs ≡ p ++ ys → xs ≡ ys
 tail-same [] xs ys e = e
 tail-same (x ∷ p) xs ys e = tail-same p xs ys (cc e)
 
--- Texts are compared by what stands behind the same front.
+-- Texts are compared by what stands after the same front.
 pub behind_home : (text home rest other : List ℕ) → text ≡ home ++ rest → bytes_eq text (home ++ other) ≡ bytes_eq rest other
 behind_home text home rest other e =
     same_from_decides (bytes_eq text (home ++ other)) (bytes_eq rest other)

@@ -11,7 +11,7 @@ use Rattle.asn_modules_names.specs.sources.Reading.{AreRead, Named}
 use Rattle.asn_modules_names.proofs.sources.Same.{same_sources}
 use Rattle.asn_modules_reader.specs.text.Texts.{IsRefused}
 
--- Where nothing is told, nothing is refused.
+-- Where nothing is reported, nothing is refused.
 nothing_told : (e : ModuleError) → Tells None e → IsRefused e → ⊥
 nothing_told (error.Refused file place why) told r = told
 nothing_told error.OutOfMemory told r = r

@@ -17,7 +17,8 @@ abbrev pub missing_view : code.MissingModule → MissingModule
 missing_view m = record { file = string_bytes m.file; place = m.place; name = string_bytes m.name }
 
 abbrev pub missing_of : Mention → MissingModule
-missing_of m = record { file = m.file; place = place_at m.text m.token.start; name = name_in m.text m.token }
+missing_of m =
+    record { file = m.file; place = place_at m.text m.token.start; name = name_in m.text m.token }
 
 -- Those of these texts, in their order.
 abbrev pub missing_in : List Source → List MissingModule

@@ -9,14 +9,16 @@ use Rattle.asn_modules.specs.Missing.{MissingModule, missing_view}
 use Rattle.asn_modules.specs.Names.{TypeName, number_named, type_name_view}
 use Rattle.asn_modules.specs.declared.modules.Modules as code
 
--- Types with their names: a `back` of a number in one is the type of that number. And the modules that are imported from and aren't given.
+-- Types with their names: a `back` of a number in one is the type of that number. And the modules
+-- that are imported from and aren't given.
 pub record Modules : Type 0 where
   pub names : List TypeName
   pub types : List Shape
   pub missing : List MissingModule
 
 abbrev pub modules_view : code.Modules → Modules
-modules_view m = record { names = map type_name_view m.names.items; types = map shape_view m.types.items; missing = map missing_view m.missing.items }
+modules_view m =
+    record { names = map type_name_view m.names.items; types = map shape_view m.types.items; missing = map missing_view m.missing.items }
 
 -- The shape of the type of the number, in which each name is expanded.
 abbrev pub shape_of : Modules → ℕ → Shape

@@ -27,7 +27,8 @@ abbrev pub home_name : Home → List ℕ
 home_name h = headed_by h.source.text h.parsed.header
 
 abbrev pub type_name_of : Assigned → TypeName
-type_name_of a = record { home = home_name a.home; name = name_in a.home.source.text (assigned_name a.assignment) }
+type_name_of a =
+    record { home = home_name a.home; name = name_in a.home.source.text (assigned_name a.assignment) }
 
 -- The names of the types that are assigned, in the order of their numbers.
 abbrev pub type_names : List Source → List TypeName
@@ -40,7 +41,8 @@ is_named t text = bytes_eq text t.name || bytes_eq text (t.home ++ 46 ∷ t.name
 -- The numbers of the types that the bytes name, of which the first has number n.
 abbrev pub numbers_named : ℕ → List TypeName → List ℕ → List ℕ
 numbers_named n [] text = []
-numbers_named n (t ∷ ts) text = if is_named t text then n ∷ numbers_named (suc n) ts text else numbers_named (suc n) ts text
+numbers_named n (t ∷ ts) text =
+    if is_named t text then n ∷ numbers_named (suc n) ts text else numbers_named (suc n) ts text
 
 -- What stands alone in a list.
 abbrev pub the_one : List ℕ → Option ℕ

@@ -10,7 +10,8 @@ use Rattle.asn_modules_names.specs.Mentions.{Source}
 use Rattle.asn_modules_names.specs.sources.Reading.{AreRead, IsFirstRefused, Named}
 use Rattle.asn_modules_types.specs.Linked.{linked_types}
 
--- The texts are these types: they are read, no name or number in them breaks a rule, the types are those that they assign, and the modules are missing that they import from and don't have.
+-- The texts are these types: they are read, no name or number in them breaks a rule, the types are
+-- those that they assign, and the modules are missing that they import from and don't have.
 pub record AreModules (texts : List Named) (m : Modules) : Type 0 where
   pub sources : List Source
   pub read : AreRead texts sources
@@ -25,6 +26,7 @@ pub record Breaks (texts : List Named) (e : ModuleError) : Type 0 where
   pub read : AreRead texts sources
   pub tells : Tells (first_broken sources) e
 
--- The error tells the first text that is refused, or else the first rule that is broken, unless memory ran out.
+-- The error tells the first text that is refused, or else the first rule that is broken, unless
+-- memory ran out.
 abbrev pub IsModulesRefusal : List Named → ModuleError → Type 0
 IsModulesRefusal texts e = IsFirstRefused texts e ⊎ Breaks texts e

@@ -15,7 +15,7 @@ use asn_modules_rules::checks::check_all;
 use asn_modules_types::linked_types;
 use std::alloc::Global;
 
-/// Returns the types that the modules of these texts assign. Each text stands behind its name, as
+/// Returns the types that the modules of these texts assign. Each text stands after its name, as
 /// that of its file, and may hold several modules. A part of a type that isn't read is refused
 /// where a value reaches it.
 ///

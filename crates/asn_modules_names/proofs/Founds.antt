@@ -24,7 +24,7 @@ pushed f old new x v e w = ap (map f) e ∙ map-append f old (x ∷ []) ∙ ap (
 pub listed_all : {A : Type 0} (all before rest : List A) → all ≡ before ++ rest → rest ≡ [] → all ≡ before
 listed_all all before rest was e = was ∙ ap (λ l. before ++ l) e ∙ append-nil before
 
--- Want of memory tells nothing, and so suits each fault.
+-- Out of memory tells nothing, and so suits each fault.
 pub memory_tells : (o : Option Fault) → Tells o error.OutOfMemory
 memory_tells None = tt
 memory_tells (Some f) = tt
@@ -35,7 +35,7 @@ tells_first (Some f) p e h = h
 tells_first None p (error.Refused file place c) h = absurd h
 tells_first None p error.OutOfMemory h = memory_tells p
 
--- A check behind one that found nothing.
+-- A check after one that found nothing.
 pub checks_second : {A : Type 0} (o p : Option Fault) (r : Result A ModuleError) → o ≡ None → Checks p r → Checks (option_or o p) r
 checks_second o p r e h = subst (λ x. Checks (option_or x p) r) (sym e) h
 
@@ -53,6 +53,6 @@ module _ {A B : Type 0} (f : B → Option Fault) (g : A → B) (xs : List A) whe
   pub found_nowhere : (o : Option Fault) (i : ℕ) → length xs ≤ i → o ≡ first_found f (map g (drop i xs)) → o ≡ None
   found_nowhere o i h was = was ∙ ap (λ l. first_found f (map g l)) (drop_all i xs h)
 
--- What is told of a list is told of another that it is.
+-- What is reported of a list is reported of another that it is.
 pub tells_at : {A : Type 0} (f : List A → Option Fault) (xs ys : List A) (e : ModuleError) → xs ≡ ys → Tells (f xs) e → Tells (f ys) e
 tells_at f xs ys e s h = subst (λ l. Tells (f l) e) s h

@@ -20,12 +20,16 @@ fault_of r m = record { rule = r; name = m }
 
 -- The cause is that this name breaks the rule.
 abbrev pub IsNameCause : Fault → Cause → Type 0
-IsNameCause f (cause.Name rule name) = (rule ≡ f.rule) × (IsUtf8 (name_of f.name) → string_bytes name ≡ name_of f.name)
+IsNameCause f (cause.Name rule name) =
+    (rule ≡ f.rule) × (IsUtf8 (name_of f.name) → string_bytes name ≡ name_of f.name)
 IsNameCause f c = ⊥
 
--- The error tells the fault where it stands, unless memory ran out. Where there is none, memory did.
+-- The error tells the fault where it stands, unless memory ran out. Where there is none, memory
+-- did.
 abbrev pub Tells : Option Fault → ModuleError → Type 0
-Tells (Some f) e = Refuses f.name.file (λ place c. (place ≡ place_at f.name.text f.name.token.start) × IsNameCause f c) e
+Tells (Some f) e =
+    Refuses f.name.file
+    (λ place c. (place ≡ place_at f.name.text f.name.token.start) × IsNameCause f c) e
 Tells None (error.Refused file place c) = ⊥
 Tells None error.OutOfMemory = Unit {0}
 

@@ -14,7 +14,8 @@ pub record Source : Type 0 where
   pub modules : List Module
 
 abbrev pub source_view : code_source.Source → Source
-source_view s = record { file = s.file.now; text = s.text.now; modules = map module_view s.modules.items }
+source_view s =
+    record { file = s.file.now; text = s.text.now; modules = map module_view s.modules.items }
 
 -- A name that stands in a text.
 pub record Mention : Type 0 where

@@ -1,4 +1,5 @@
--- The modules that modules import from and that none of the texts has. What stands after FROM names another module (X.680, section 13); modules are found only by their names.
+-- The modules that modules import from and that none of the texts has. What stands after FROM names
+-- another module (X.680, section 13); modules are found only by their names.
 use Rattle.std.specs.Prelude.{ℕ, List, [], ◌∷◌, ◌++◌, map, if◌then◌else◌}
 use Rattle.asn_lexer.specs.declared.token.Token.{Token}
 use Rattle.asn_model.specs.Shape.{is_item}
@@ -19,8 +20,11 @@ origins_of (h ∷ hs) = origins_in h.source (imports_of h.parsed.header) ++ orig
 -- Those of the names that are none of the known ones, each where it stands first.
 abbrev pub new_names : List (List ℕ) → List Mention → List Mention
 new_names known [] = []
-new_names known (m ∷ ms) = if is_item known (name_of m) then new_names known ms else m ∷ new_names (known ++ name_of m ∷ []) ms
+new_names known (m ∷ ms) =
+    if is_item known (name_of m) then new_names known ms
+    else m ∷ new_names (known ++ name_of m ∷ []) ms
 
--- The modules that modules of these texts import from and that none of the texts has, each where it is named first after FROM.
+-- The modules that modules of these texts import from and that none of the texts has, each where it
+-- is named first after FROM.
 abbrev pub missing_modules : List Source → List Mention
 missing_modules ss = new_names (map name_of (all_module_names ss)) (origins_of (homes ss))

@@ -9,7 +9,8 @@ use Rattle.asn_modules_names.specs.Mentions.{Mention, name_of}
 -- The first of the names that is one of those before it, some of which are given.
 abbrev pub repeated_behind : List (List ℕ) → List Mention → Option Mention
 repeated_behind before [] = None
-repeated_behind before (m ∷ ms) = if is_item before (name_of m) then Some m else repeated_behind (before ++ name_of m ∷ []) ms
+repeated_behind before (m ∷ ms) =
+    if is_item before (name_of m) then Some m else repeated_behind (before ++ name_of m ∷ []) ms
 
 -- The first of the names that is one of those before it, which breaks the rule.
 abbrev pub repeated : NameRule → List Mention → Option Fault

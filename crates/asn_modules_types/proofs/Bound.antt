@@ -96,7 +96,7 @@ module _ (ss : List Source) (limit k : ℕ) (h : Home) (within : Bool) (home : O
       instance_taken bs held s e b is v =
           v ∙ ap (notation_shape no_roots (template_scope ss t bs)) is ∙ ap made (b ∙ ap (bindings (found_in Types ss k h) (parameters_of t.assignment)) (sym (all_listed ns))) ∙ by_taking true e
 
-  -- A name behind COMPONENTS OF, by where it stands.
+  -- A name after COMPONENTS OF, by where it stands.
   pub roots_found : (place : Place) → option_and_then (λ n. type_roots ss limit n place) (included_number ss k h within home name) ≡ (roots_where ss limit k h within).components place home name
   roots_found place = by within
     where

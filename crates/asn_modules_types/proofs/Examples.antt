@@ -67,7 +67,7 @@ word n = at (kind.Name Small) n
 abbrev plain : Base → Notation
 plain b = notation [] b []
 
--- Entries before the first marker and behind the second one are the root.
+-- Entries before the first marker and after the second one are the root.
 roots : root_of {A = ℕ} (Some 1 ∷ Some 2 ∷ None ∷ Some 3 ∷ None ∷ Some 4 ∷ []) ≡ 1 ∷ 2 ∷ 4 ∷ []
 roots = refl
 
@@ -218,6 +218,6 @@ no_parameter = refl
 no_type : bound_find letters ((word 2, None) ∷ []) (λ home name. Some 2) None (word 2) ≡ None
 no_type = refl
 
--- Behind the name of a module stands no parameter.
+-- After the name of a module stands no parameter.
 behind_module : bound_find letters one_bound (λ home name. Some 2) (Some (word 0)) (word 2) ≡ Some 2
 behind_module = refl

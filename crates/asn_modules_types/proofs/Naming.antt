@@ -25,7 +25,7 @@ named_past s ns i word d h e =
 pub named_none : (s : Scope) (ns : List NamedNumber) (i : ℕ) (word : List ℕ) → length ns ≤ i → named_number s (drop i ns) word ≡ None
 named_none s ns i word h = ap (λ l. named_number s l word) (drop_all i ns h)
 
--- The items behind the extension marker of an ENUMERATED.
+-- The items after the extension marker of an ENUMERATED.
 module _ (text : List ℕ) (extensible : Bool) (items : Vec Item) (o : Option (Vec Item)) (made : Option (Vec (String Global))) where
   abbrev texts : Option (Vec (String Global)) → Option (List (List ℕ))
   texts x = option_map (λ v. map string_bytes v.items) x

@@ -188,7 +188,7 @@ module _ (roots : Roots) (s : Scope) where
     held_unmarked : (ms : List code_member.Member) → behind (held ms) ≡ None
     held_unmarked ms = entries_unmarked place member_view (member_unmarked place) ms
 
-    -- The root stands before the first marker and behind the second one.
+    -- The root stands before the first marker and after the second one.
     tail_root : (tail : Option (Vec code_member.Member)) → front_of (behind (seen (tail_seen tail))) ≡ front (held (items_of tail))
     tail_root None = refl
     tail_root (Some ms) = refl

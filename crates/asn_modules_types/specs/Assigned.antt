@@ -17,7 +17,8 @@ pub record Assigned : Type 0 where
 
 -- The assignment in the module of number k, where it is of the sort.
 abbrev pub assigned_as : Sort → ℕ → Home → Assignment → Option Assigned
-assigned_as sort k h a = option_map (λ t. record { number = k; home = h; assignment = a }) (name_as sort a)
+assigned_as sort k h a =
+    option_map (λ t. record { number = k; home = h; assignment = a }) (name_as sort a)
 
 -- Those of the sort among the assignments of a module.
 abbrev pub assigned_in : Sort → ℕ → Home → List Assignment → List Assigned
@@ -26,7 +27,8 @@ assigned_in sort k h assignments = filter_map (assigned_as sort k h) assignments
 -- Those of these modules, of which the first has number k.
 abbrev pub assigned_of : Sort → ℕ → List Home → List Assigned
 assigned_of sort k [] = []
-assigned_of sort k (h ∷ hs) = assigned_in sort k h h.parsed.assignments ++ assigned_of sort (suc k) hs
+assigned_of sort k (h ∷ hs) =
+    assigned_in sort k h h.parsed.assignments ++ assigned_of sort (suc k) hs
 
 -- The types or values that are assigned, each at the place of its number.
 abbrev pub assigned : Sort → List Source → List Assigned

@@ -16,7 +16,9 @@ use Rattle.asn_modules_types.specs.Strings.{joined}
 use Rattle.asn_modules_types.specs.declared.limits.TheConstants.{DEFAULT_STRING_LIMIT}
 
 abbrev pub boolean_named : List ℕ → Option Plain
-boolean_named word = if bytes_eq word (codes "TRUE") then Some (Plain.boolean true) else if bytes_eq word (codes "FALSE") then Some (Plain.boolean false) else None
+boolean_named word =
+    if bytes_eq word (codes "TRUE") then Some (Plain.boolean true)
+    else if bytes_eq word (codes "FALSE") then Some (Plain.boolean false) else None
 
 -- What a word is as a value of the shape: TRUE or FALSE, or an item.
 abbrev pub word_plain : Shape → List ℕ → Option Plain
@@ -34,9 +36,11 @@ verbatim bytes = if list_all is_verbatim bytes && is_utf8 bytes then Some bytes 
 
 -- These bytes with their lines joined, if they are few.
 abbrev pub if_short : List ℕ → Option (List ℕ)
-if_short bytes = if nat_le (length bytes) DEFAULT_STRING_LIMIT then verbatim (joined false bytes) else None
+if_short bytes =
+    if nat_le (length bytes) DEFAULT_STRING_LIMIT then verbatim (joined false bytes) else None
 
--- The characters of a string between its quotes, with its lines joined. A long one, or one with a quote in it, isn't understood.
+-- The characters of a string between its quotes, with its lines joined. A long one, or one with a
+-- quote in it, isn't understood.
 abbrev pub string_in : List ℕ → Token → Option (List ℕ)
 string_in text t = if_short (slice_range (text_of text t) 1 (length (text_of text t) - 1))
 
@@ -65,7 +69,8 @@ abbrev pub number_or : Option (Option ℤ) → Option ℤ → Option ℤ
 number_or None other = other
 number_or (Some n) other = n
 
--- The number that a DEFAULT states: one of the named numbers of the component's type, which alone governs the word of the DEFAULT, else the number that its value leads to.
+-- The number that a DEFAULT states: one of the named numbers of the component's type, which alone
+-- governs the word of the DEFAULT, else the number that its value leads to.
 abbrev pub number_default : Scope → (List ℕ → Option (Option ℤ)) → Value → Option ℤ
 number_default s numbers v = number_or (number_said numbers s.text v) (number_at s v)
 
@@ -76,7 +81,9 @@ abbrev pub is_numeric : Shape → Bool
 is_numeric (Shape.int least greatest width) = true
 is_numeric s = false
 
--- The value of the shape that a DEFAULT states: its number, or of the values that its value leads to, the first that is one of the shape.
+-- The value of the shape that a DEFAULT states: its number, or of the values that its value leads
+-- to, the first that is one of the shape.
 abbrev pub default_of : Scope → (List ℕ → Option (Option ℤ)) → Shape → Value → Option Plain
 default_of s numbers shape v =
-    if is_numeric shape then suited shape (number_plain (number_default s numbers v)) else first_found (λ x. suited shape (plain_in shape x.0 x.1)) (s.values false v)
+    if is_numeric shape then suited shape (number_plain (number_default s numbers v))
+    else first_found (λ x. suited shape (plain_in shape x.0 x.1)) (s.values false v)

@@ -33,7 +33,8 @@ use Rattle.asn_modules_types.specs.declared.scope.Scope.{Scope}
 use Rattle.asn_modules_types.specs.declared.values.StatedValue.{StatedValue}
 
 abbrev pub assigned_view : Assigned → spec.Assigned
-assigned_view a = record { number = a.number; home = home_view a.home; assignment = assignment_view a.assignment.now }
+assigned_view a =
+    record { number = a.number; home = home_view a.home; assignment = assignment_view a.assignment.now }
 
 abbrev pub stated_view : StatedValue → values.StatedValue
 stated_view v = record { number = v.number; home = home_view v.home; value = v.value }
@@ -42,7 +43,8 @@ stated_view v = record { number = v.number; home = home_view v.home; value = v.v
 abbrev pub sources_of : Names → List Source
 sources_of names = map source_view names.sources.now
 
--- The tables are those of the texts, and so are the types and values, and the named numbers are those of the types; there are fewer types than the limit.
+-- The tables are those of the texts, and so are the types and values, and the named numbers are
+-- those of the types; there are fewer types than the limit.
 pub record KnowsNames (names : Names) : Type 0 where
   pub type_index : IsIndexOf Types (sources_of names) names.type_index.now
   pub value_index : IsIndexOf Values (sources_of names) names.value_index.now
@@ -50,28 +52,33 @@ pub record KnowsNames (names : Names) : Type 0 where
   pub values : map assigned_view names.values.now ≡ spec.assigned Values (sources_of names)
   pub template_index : IsIndexOf Templates (sources_of names) names.template_index.now
   pub templates : map assigned_view names.templates.now ≡ spec.assigned Templates (sources_of names)
-  pub numbers : AreNumbersOf (map spec.stated_type (spec.assigned Types (sources_of names))) names.numbers.now
+  pub numbers : AreNumbersOf
+      (map spec.stated_type (spec.assigned Types (sources_of names))) names.numbers.now
   pub few : length names.types.now < TYPE_LIMIT
 
 abbrev pub binding_view : Binding → Token × Option ℕ
 binding_view b = (b.name, b.number)
 
--- The number of the type that a name stands for in the module of number k: within a type with parameters, these have those in their places.
+-- The number of the type that a name stands for in the module of number k: within a type with
+-- parameters, these have those in their places.
 abbrev pub finder : List Source → ℕ → Home → Bool → Bindings → Finder
 finder ss k h false bs = found_in Types ss k h
 finder ss k h true bs = bound_find h.source.text bs (found_in Types ss k h)
 
--- Where a type stands, with names of types followed past at most so many others.
+-- Where a type stands, with names of types followed past at most this number of others.
 abbrev pub scope_view : ℕ → Scope → scopes.Scope
 scope_view limit s =
-    scope_in (sources_of s.names.now) s.number (home_view s.home) (finder (sources_of s.names.now) s.number (home_view s.home) s.within (map binding_view s.bindings.now)) (named_type (sources_of s.names.now) limit) (number_word (sources_of s.names.now) limit)
+    scope_in (sources_of s.names.now) s.number (home_view s.home)
+    (finder (sources_of s.names.now) s.number (home_view s.home) s.within (map binding_view s.bindings.now))
+    (named_type (sources_of s.names.now) limit) (number_word (sources_of s.names.now) limit)
 
--- What is known of types that stand in others in the module of number k, within a type with parameters or outside.
+-- What is known of types that stand in others in the module of number k, within a type with
+-- parameters or outside.
 abbrev pub roots_where : List Source → ℕ → ℕ → Home → Bool → types.Roots
 roots_where ss limit k h false = roots_of ss limit k h
 roots_where ss limit k h true = no_roots
 
--- The number of the type of a name behind COMPONENTS OF there, if it is understood.
+-- The number of the type of a name after COMPONENTS OF there, if it is understood.
 abbrev pub included_number : List Source → ℕ → Home → Bool → Option Token → Token → Option ℕ
 included_number ss k h false home name = found_in Types ss k h home name
 included_number ss k h true home name = None
@@ -84,7 +91,8 @@ abbrev pub place_view : Place → types.Place
 place_view p = record { kind = kind_view p.kind; grouped = p.grouped }
 
 abbrev pub part_view : Part → types.Part
-part_view p = record { name = string_bytes p.name; presence = presence_view p.presence; shape = shape_view p.shape }
+part_view p =
+    record { name = string_bytes p.name; presence = presence_view p.presence; shape = shape_view p.shape }
 
 abbrev pub parts_view : Vec Part → List types.Part
 parts_view ps = map part_view ps.items
@@ -94,14 +102,15 @@ abbrev pub lists_view : Lists → List types.Part × Option (List types.Part)
 lists_view l = (parts_view l.root, option_map parts_view l.added)
 
 -- What entries without a marker among them are, if each of their parts is understood.
-abbrev pub known_parts : types.Roots → scopes.Scope → types.Place → List notation.Member → Option (List types.Part)
+abbrev pub known_parts : types.Roots → scopes.Scope → types.Place → List notation.Member
+    → Option (List types.Part)
 known_parts roots s place ms = all_known (front (types.parts roots s place (members_of ms)))
 
 abbrev pub items_of : Option (Vec Member) → List Member
 items_of None = []
 items_of (Some ms) = ms.items
 
--- The entries behind the second extension marker, if there is one.
+-- The entries after the second extension marker, if there is one.
 abbrev pub tail_of : Option Extension → List Member
 tail_of None = []
 tail_of (Some e) = items_of (out-Extension e).tail

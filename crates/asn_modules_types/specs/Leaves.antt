@@ -39,6 +39,9 @@ integer_shape = Shape.int (negsuc (2 ^ 127 - 1)) (pos (2 ^ 127 - 1)) 128
 abbrev pub item_names : List ℕ → List Item → List (List ℕ)
 item_names text items = map (λ i. name_in text i.name) items
 
--- ENUMERATED, by its text, whether extensibility is implied there, and its items, of which `None` is the extension marker. Their numbers have no meaning.
+-- ENUMERATED, by its text, whether extensibility is implied there, and its items, of which `None`
+-- is the extension marker. Their numbers have no meaning.
 abbrev pub enumerated_shape : List ℕ → Bool → List (Option Item) → Shape
-enumerated_shape text extensible items = Shape.enum (item_names text (root_of items)) (option_map (item_names text) (implied extensible (added_of items)))
+enumerated_shape text extensible items =
+    Shape.enum (item_names text (root_of items))
+    (option_map (item_names text) (implied extensible (added_of items)))

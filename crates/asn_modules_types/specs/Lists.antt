@@ -1,4 +1,5 @@
--- Lists with extension markers among them (X.680, section 25): an entry is `None` where a marker stands.
+-- Lists with extension markers among them (X.680, section 25): an entry is `None` where a marker
+-- stands.
 use Rattle.std.specs.Prelude.{List, [], ◌∷◌, ◌++◌, Bool, if◌then◌else◌, Option, Some, None}
 use Rattle.std.specs.Option.{option_and_then, option_map}
 use Rattle.asn_expansion.specs.Expansion.{of_both}
@@ -9,7 +10,7 @@ front [] = []
 front (None ∷ xs) = []
 front (Some x ∷ xs) = x ∷ front xs
 
--- What stands behind the first marker, if there is one.
+-- What stands after the first marker, if there is one.
 abbrev pub behind : {A : Type 0} → List (Option A) → Option (List (Option A))
 behind [] = None
 behind (None ∷ xs) = Some xs
@@ -20,11 +21,12 @@ abbrev pub front_of : {A : Type 0} → Option (List (Option A)) → List A
 front_of None = []
 front_of (Some xs) = front xs
 
--- The root: what stands before the first marker, and behind the second one.
+-- The root: what stands before the first marker, and after the second one.
 abbrev pub root_of : {A : Type 0} → List (Option A) → List A
 root_of xs = front xs ++ front_of (option_and_then behind (behind xs))
 
--- The extension additions: what stands between the markers, or behind the only one. There are none without a marker.
+-- The extension additions: what stands between the markers, or after the only one. There are none
+-- without a marker.
 abbrev pub added_of : {A : Type 0} → List (Option A) → Option (List A)
 added_of xs = option_map front (behind xs)
 
@@ -38,7 +40,8 @@ abbrev pub all_known : {A : Type 0} → List (Option A) → Option (List A)
 all_known [] = Some []
 all_known (o ∷ os) = of_both (λ x xs. x ∷ xs) o (all_known os)
 
--- What f gives of a list that is behind a marker, if it gives anything; where there is no marker, that there is none.
+-- What f gives of a list that is after a marker, if it gives anything; where there is no marker,
+-- that there is none.
 abbrev pub if_marked : {A B : Type 0} → (A → Option B) → Option A → Option (Option B)
 if_marked f None = Some None
 if_marked f (Some x) = option_map (λ y. Some y) (f x)

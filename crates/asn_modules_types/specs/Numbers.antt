@@ -40,4 +40,6 @@ constant_in s (constant.Name t) = number_at s (value.Word t)
 -- The first of the named numbers that the word names, if there is one, and its number is known.
 abbrev pub named_number : Scope → List NamedNumber → List ℕ → Option (Option ℤ)
 named_number s [] word = None
-named_number s (n ∷ ns) word = if bytes_eq (text_of s.text n.name) word then Some (constant_in s n.number) else named_number s ns word
+named_number s (n ∷ ns) word =
+    if bytes_eq (text_of s.text n.name) word then Some (constant_in s n.number)
+    else named_number s ns word

@@ -12,13 +12,17 @@ pub record Scope : Type 0 where
   pub text : List ℕ
   -- Whether EXTENSIBILITY IMPLIED stands in its header.
   pub extensible : Bool
-  -- What the name of a type stands for, behind that of its module where it is stated.
+  -- What the name of a type stands for, after that of its module where it is stated.
   pub type_named : Option Token → Token → Shape
-  -- What a component with DEFAULT has in the place of the number of its type: a copy of that type, if it is an ENUMERATED of few items; else the number.
+  -- What a component with DEFAULT has in the place of the number of its type: a copy of that type,
+  -- if it is an ENUMERATED of few items; else the number.
   pub copied : ℕ → Shape
-  -- The number that a word names in the type of that name, where it is an INTEGER, if it names one; `Some None` is a number that isn't known.
+  -- The number that a word names in the type of that name, where it is an INTEGER, if it names one;
+  -- `Some None` is a number that isn't known.
   pub number_named : Option Token → Token → List ℕ → Option (Option ℤ)
-  -- The values that a value here leads to, each with its text: itself, and where it is a name, those that the value leads to that is assigned to it. Where numbers alone are looked for, they end before a word that its type may give a meaning of its own.
+  -- The values that a value here leads to, each with its text: itself, and where it is a name,
+  -- those that the value leads to that is assigned to it. Where numbers alone are looked for, they
+  -- end before a word that its type may give a meaning of its own.
   pub values : Bool → Value → List (List ℕ × Value)
 
 -- These bytes, if they are ASCII, and else none.

@@ -27,18 +27,21 @@ size_end s k t = option_and_then size_of (number_at s (value.Word t))
 abbrev pub only_between : ℕ → ℕ → Option ℕ
 only_between low high = if nat_eq low high then Some low else None
 
--- What the size says, if both of its ends are known: the number that it admits alone, or that it admits several.
+-- What the size says, if both of its ends are known: the number that it admits alone, or that it
+-- admits several.
 abbrev pub fixed_by : Scope → Size → Option (Option ℕ)
 fixed_by s z = of_both only_between (size_end s z.low.kind z.low) (size_end s z.high.kind z.high)
 
--- The shape by what the size says. Only that of a BIT STRING has a size, on which the form of its values in JSON depends (X.697): where an end isn't known, there are none.
+-- The shape by what the size says. Only that of a BIT STRING has a size, on which the form of its
+-- values in JSON depends (X.697): where an end isn't known, there are none.
 abbrev pub shape_fixed : Option (Option ℕ) → Shape → Shape
 shape_fixed None (Shape.bits fixed) = no_values
 shape_fixed None shape = shape
 shape_fixed (Some None) shape = shape
 shape_fixed (Some (Some n)) shape = shape_under (Some n) shape
 
--- The shape under these sizes, the innermost first. The outermost one that admits one number alone fixes it.
+-- The shape under these sizes, the innermost first. The outermost one that admits one number alone
+-- fixes it.
 abbrev pub sized : Scope → List Size → Shape → Shape
 sized s [] shape = shape
 sized s (z ∷ zs) shape = sized s zs (shape_fixed (fixed_by s z) shape)

@@ -11,7 +11,9 @@ abbrev pub ends_soon : List ℕ → Bool
 ends_soon [] = false
 ends_soon (c ∷ u) = if ends_line c then true else if is_spacing c then ends_soon u else false
 
--- The characters without the ends of lines, and without the spacing characters before and after each (X.680, section 12.14.1). `begun` states that a line ended before these, with spacing characters alone between.
+-- The characters without the ends of lines, and without the spacing characters before and after
+-- each (X.680, section 12.14.1). `begun` states that a line ended before these, with spacing
+-- characters alone between.
 abbrev pub joined : Bool → List ℕ → List ℕ
 joined begun [] = []
 joined begun (c ∷ u) =

@@ -6,11 +6,12 @@ use Rattle.asn_modules_errors.specs.Slices.{text_of}
 use Rattle.asn_modules_grammar.specs.notation.Notation.{Base, Notation, Notations, another_notation, no_notations, notation, reference}
 use Rattle.asn_modules_grammar.specs.declared.notation.size.Size.{Size}
 
--- The number of the type that a name stands for, behind that of its module where it is stated.
+-- The number of the type that a name stands for, after that of its module where it is stated.
 abbrev pub Finder : Type 0
 Finder = Option Token → Token → Option ℕ
 
--- The names of parameters, each with the number of the type that stands in its place; `None` where no name of a known type does.
+-- The names of parameters, each with the number of the type that stands in its place; `None` where
+-- no name of a known type does.
 abbrev pub Bindings : Type 0
 Bindings = List (Token × Option ℕ)
 
@@ -33,7 +34,8 @@ unconstrained (s ∷ ss) = false
 
 -- That of an actual parameter: one with a size is no name.
 abbrev pub argument_number : Finder → Notation → Option ℕ
-argument_number find (notation tags base sizes) = if unconstrained sizes then base_number find base else None
+argument_number find (notation tags base sizes) =
+    if unconstrained sizes then base_number find base else None
 
 -- Actual parameters as a list.
 abbrev pub listed : Notations → List Notation
@@ -49,13 +51,15 @@ bindings find (p ∷ ps) (n ∷ ns) = (p, argument_number find n) ∷ bindings f
 -- What stands in the place of the name, where it is that of a parameter.
 abbrev pub bound : List ℕ → Bindings → Token → Option (Option ℕ)
 bound text [] name = None
-bound text (b ∷ bs) name = if bytes_eq (text_of text b.0) (text_of text name) then Some b.1 else bound text bs name
+bound text (b ∷ bs) name =
+    if bytes_eq (text_of text b.0) (text_of text name) then Some b.1 else bound text bs name
 
 abbrev pub bound_or : Option (Option ℕ) → Option ℕ → Option ℕ
 bound_or None other = other
 bound_or (Some n) other = n
 
--- What names stand for where parameters have these in their places: a name without a module is first that of a parameter.
+-- What names stand for where parameters have these in their places: a name without a module is
+-- first that of a parameter.
 abbrev pub bound_find : List ℕ → Bindings → Finder → Finder
 bound_find text bs find None name = bound_or (bound text bs name) (find None name)
 bound_find text bs find (Some home) name = find (Some home) name

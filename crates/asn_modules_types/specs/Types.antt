@@ -23,7 +23,8 @@ pub record Part : Type 0 where
 -- The fields, with tags from this number on.
 abbrev pub fields_from : ℕ → List Part → Fields
 fields_from tag [] = Fields.no_fields
-fields_from tag (p ∷ ps) = Fields.field p.name (context_tag tag) p.presence p.shape (fields_from (suc tag) ps)
+fields_from tag (p ∷ ps) =
+    Fields.field p.name (context_tag tag) p.presence p.shape (fields_from (suc tag) ps)
 
 abbrev pub added_fields_from : ℕ → Option (List Part) → FieldAdditions
 added_fields_from tag None = FieldAdditions.closed_fields
@@ -32,57 +33,73 @@ added_fields_from tag (Some ps) = FieldAdditions.extended_fields (fields_from ta
 -- The alternatives, with tags from this number on.
 abbrev pub alternatives_from : ℕ → List Part → Alternatives
 alternatives_from tag [] = Alternatives.no_alternatives
-alternatives_from tag (p ∷ ps) = Alternatives.alternative p.name (context_tag tag) p.shape (alternatives_from (suc tag) ps)
+alternatives_from tag (p ∷ ps) =
+    Alternatives.alternative p.name (context_tag tag) p.shape (alternatives_from (suc tag) ps)
 
 abbrev pub added_alternatives_from : ℕ → Option (List Part) → AlternativeAdditions
 added_alternatives_from tag None = AlternativeAdditions.closed_alternatives
-added_alternatives_from tag (Some ps) = AlternativeAdditions.extended_alternatives (alternatives_from tag ps)
+added_alternatives_from tag (Some ps) =
+    AlternativeAdditions.extended_alternatives (alternatives_from tag ps)
 
 -- A part that is stated as required, and may be absent where it is an extension addition.
 abbrev pub if_required : Presence → Presence
 if_required Presence.required = Presence.optional
 if_required p = p
 
--- The part as an extension addition: it may be absent, since a sender of an older version of the type leaves it out (X.680, section 6).
+-- The part as an extension addition: it may be absent, since a sender of an older version of the
+-- type leaves it out (X.680, section 6).
 abbrev pub relaxed : Part → Part
 relaxed p = record { name = p.name; presence = if_required p.presence; shape = p.shape }
 
--- The root and the extension additions, of which there are none without a marker, by what entries between braces are. There are no such lists where a part of them isn't understood.
+-- The root and the extension additions, of which there are none without a marker, by what entries
+-- between braces are. There are no such lists where a part of them isn't understood.
 abbrev pub lists_of : Bool → List (Option (Option Part)) → Option (List Part × Option (List Part))
-lists_of extensible ps = of_both (λ root added. (root, option_map (map relaxed) added)) (all_known (root_of ps)) (if_marked all_known (implied extensible (added_of ps)))
+lists_of extensible ps =
+    of_both (λ root added. (root, option_map (map relaxed) added)) (all_known (root_of ps))
+    (if_marked all_known (implied extensible (added_of ps)))
 
 -- SEQUENCE or SET, by these lists: tags are by place, those of the root first.
 abbrev pub members_shape : SeqKind → Option (List Part × Option (List Part)) → Shape
 members_shape kind None = no_values
-members_shape kind (Some lists) = Shape.seq kind (fields_from 0 lists.0) (added_fields_from (length lists.0) lists.1)
+members_shape kind (Some lists) =
+    Shape.seq kind (fields_from 0 lists.0) (added_fields_from (length lists.0) lists.1)
 
 -- CHOICE, in the same way.
 abbrev pub choice_shape : Option (List Part × Option (List Part)) → Shape
 choice_shape None = no_values
-choice_shape (Some lists) = Shape.choice (alternatives_from 0 lists.0) (added_alternatives_from (length lists.0) lists.1)
+choice_shape (Some lists) =
+    Shape.choice (alternatives_from 0 lists.0) (added_alternatives_from (length lists.0) lists.1)
 
--- The number that a word names in the type, if it names one. It isn't known where it is by a value that leads to none.
+-- The number that a word names in the type, if it names one. It isn't known where it is by a value
+-- that leads to none.
 abbrev pub number_in_type : Scope → Notation → List ℕ → Option (Option ℤ)
 number_in_type s (notation tags (integer ns) sizes) word = named_number s ns word
 number_in_type s (notation tags (reference home name) sizes) word = s.number_named home name word
 number_in_type s (notation tags base sizes) word = None
 
--- The shape of a component, by that of its type, where numbers are copied so: the value of a DEFAULT is one of a shape, and not of a number.
+-- The shape of a component, by that of its type, where numbers are copied so: the value of a
+-- DEFAULT is one of a shape, and not of a number.
 abbrev pub component_shape : (ℕ → Shape) → stated.Presence → Shape → Shape
 component_shape copied (Default v) (Shape.back n) = copied n
 component_shape copied presence shape = shape
 
--- Whether a part may be absent: one between version brackets may, since they may be absent as a whole. There is no presence where its DEFAULT isn't understood.
+-- Whether a part may be absent: one between version brackets may, since they may be absent as a
+-- whole. There is no presence where its DEFAULT isn't understood.
 abbrev pub presence_of : Scope → Bool → Notation → Shape → stated.Presence → Option Presence
-presence_of s grouped n shape Required = Some (if grouped then Presence.optional else Presence.required)
+presence_of s grouped n shape Required =
+    Some (if grouped then Presence.optional else Presence.required)
 presence_of s grouped n shape Optional = Some Presence.optional
-presence_of s grouped n shape (Default v) = option_map (λ p. Presence.default p) (default_of s (number_in_type s n) shape v)
+presence_of s grouped n shape (Default v) =
+    option_map (λ p. Presence.default p) (default_of s (number_in_type s n) shape v)
 
 -- The part that a component with the shape is, if its presence is understood.
 abbrev pub part_of : Scope → Bool → Token → Notation → stated.Presence → Shape → Option Part
-part_of s grouped name n presence shape = option_map (λ p. record { name = name_in s.text name; presence = p; shape = shape }) (presence_of s grouped n shape presence)
+part_of s grouped name n presence shape =
+    option_map (λ p. record { name = name_in s.text name; presence = p; shape = shape })
+    (presence_of s grouped n shape presence)
 
--- Where components stand: in a SEQUENCE or a SET, and whether between version brackets there. In a CHOICE it doesn't matter: alternatives have no presence, and there is no COMPONENTS OF.
+-- Where components stand: in a SEQUENCE or a SET, and whether between version brackets there. In a
+-- CHOICE it doesn't matter: alternatives have no presence, and there is no COMPONENTS OF.
 pub record Place : Type 0 where
   pub kind : SeqKind
   pub grouped : Bool
@@ -93,7 +110,8 @@ outside_brackets kind = record { kind = kind; grouped = false }
 abbrev pub between_brackets : Place → Place
 between_brackets place = record { kind = place.kind; grouped = true }
 
--- What is known of types that stand in others, each by its name, behind that of its module where it is stated.
+-- What is known of types that stand in others, each by its name, after that of its module where it
+-- is stated.
 pub record Roots : Type 0 where
   -- The components that COMPONENTS OF the name is there, if they are understood.
   pub components : Place → Option Token → Token → Option (List Part)
@@ -122,28 +140,36 @@ abbrev mutual
   base_shape roots s (integer ns) = integer_shape
   base_shape roots s (bit_string ns) = Shape.bits None
   base_shape roots s (enumerated items) = enumerated_shape s.text s.extensible items
-  base_shape roots s (members kind ms) = members_shape kind (lists_of s.extensible (parts roots s (outside_brackets kind) ms))
+  base_shape roots s (members kind ms) =
+      members_shape kind (lists_of s.extensible (parts roots s (outside_brackets kind) ms))
   base_shape roots s (list_of kind n) = list_shape kind (notation_shape roots s n)
-  base_shape roots s (choice ms) = choice_shape (lists_of s.extensible (parts roots s (outside_brackets SeqKind.sequence) ms))
+  base_shape roots s (choice ms) =
+      choice_shape (lists_of s.extensible (parts roots s (outside_brackets SeqKind.sequence) ms))
   base_shape roots s (reference home name) = s.type_named home name
   base_shape roots s (instance_of home name ns) = roots.instance home name ns
 
-  -- What entries between braces are: parts, of which `None` is one that isn't understood, and extension markers, which are `None` in their place.
+  -- What entries between braces are: parts, of which `None` is one that isn't understood, and
+  -- extension markers, which are `None` in their place.
   pub parts : Roots → Scope → Place → Members → List (Option (Option Part))
   parts roots s place no_members = []
   parts roots s place (member m ms) = entry_parts roots s place m ++ parts roots s place ms
 
   pub entry_parts : Roots → Scope → Place → Member → List (Option (Option Part))
-  entry_parts roots s place (component name n presence) = Some (part_of s place.grouped name n presence (component_shape s.copied presence (notation_shape roots s n))) ∷ []
+  entry_parts roots s place (component name n presence) =
+      Some
+      (part_of s place.grouped name n presence (component_shape s.copied presence (notation_shape roots s n)))
+      ∷ []
   entry_parts roots s place (components_of n) = included (notation_roots roots s place n)
   entry_parts roots s place (group ms) = parts roots s (between_brackets place) ms
   entry_parts roots s place marker = None ∷ []
 
-  -- What COMPONENTS OF a type is there: the components of its root (X.680, sections 25.4 and 25.5, 27.2), if it is a SEQUENCE in a SEQUENCE or a SET in a SET, and they are understood.
+  -- What COMPONENTS OF a type is there: the components of its root (X.680, sections 25.4 and 25.5,
+  -- 27.2), if it is a SEQUENCE in a SEQUENCE or a SET in a SET, and they are understood.
   pub notation_roots : Roots → Scope → Place → Notation → Option (List Part)
   notation_roots roots s place (notation tags base sizes) = base_roots roots s place base
 
   pub base_roots : Roots → Scope → Place → Base → Option (List Part)
-  base_roots roots s place (members kind ms) = of_kind place.kind kind (all_known (root_of (parts roots s place ms)))
+  base_roots roots s place (members kind ms) =
+      of_kind place.kind kind (all_known (root_of (parts roots s place ms)))
   base_roots roots s place (reference home name) = roots.components place home name
   base_roots roots s place base = None

@@ -17,14 +17,14 @@ pub struct Allowance {
 /// States how deep what is made may still be.
 #[derive(Clone, Copy, Drop)]
 pub struct Depth {
-    /// Is how many names may be followed behind COMPONENTS OF, one after another.
+    /// Is how many names may be followed after COMPONENTS OF, one after another.
     pub names: usize,
     /// Is how many levels of types may nest.
     pub levels: usize,
 }
 
 /// Takes a type off those that may still be made, and returns the levels that are left within it.
-/// Where a name behind COMPONENTS OF was followed, it is one of those that are included.
+/// Where a name after COMPONENTS OF was followed, it is one of those that are included.
 ///
 /// # Errors
 ///

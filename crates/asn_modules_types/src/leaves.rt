@@ -64,7 +64,7 @@ fn item_names(alloc: Global, text: &str, items: &[Item]) -> Result<Vec<String>, 
     Ok(names)
 }
 
-/// Returns the shape of an ENUMERATED of these items, and of `added` behind the extension marker,
+/// Returns the shape of an ENUMERATED of these items, and of `added` after the extension marker,
 /// if there is one.
 ///
 /// # Errors

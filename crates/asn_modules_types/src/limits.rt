@@ -4,7 +4,7 @@ ghost use Rattle.std.specs.Prelude.{◌≡◌};
 use asn_modules_reader::limits::NESTING_LIMIT;
 
 /// Limits the names of types or of values that stand for one another in a row, as `A ::= B`, and
-/// those behind COMPONENTS OF. A name of a type that leads past more of them has no values, and so
+/// those after COMPONENTS OF. A name of a type that leads past more of them has no values, and so
 /// has one that leads to itself.
 pub const NAME_LIMIT: usize = asn_modules_rules::included::NAME_LIMIT;
 
@@ -22,7 +22,7 @@ pub const DEFAULT_STRING_LIMIT: usize = 1_024;
 pub const INCLUDED_LIMIT: usize = asn_modules_rules::included::INCLUDED_SIZE_LIMIT
     / asn_modules_rules::included::TYPE_SIZE;
 
-/// Limits the levels to which types, and names behind COMPONENTS OF, nest: those of a text, below
+/// Limits the levels to which types, and names after COMPONENTS OF, nest: those of a text, below
 /// them those of what COMPONENTS OF includes, and below them those of a type with parameters.
 pub const LEVEL_LIMIT: usize = NESTING_LIMIT
     + asn_modules_rules::included::INCLUDED_LEVEL_LIMIT

@@ -125,7 +125,7 @@ fn alternative_of(part: Part, tag: u32) -> AlternativeShape
     }
 }
 
-/// Returns the parts as fields, with tags from this number on, which is left behind them.
+/// Returns the parts as fields, with tags from this number on, which is left after them.
 ///
 /// # Errors
 ///
@@ -147,7 +147,7 @@ pub fn fields_of(
     Ok(fields)
 }
 
-/// Returns the parts as alternatives, with tags from this number on, which is left behind them.
+/// Returns the parts as alternatives, with tags from this number on, which is left after them.
 ///
 /// # Errors
 ///

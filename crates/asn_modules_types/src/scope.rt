@@ -95,7 +95,7 @@ pub fn find(scope: &Scope<'_, '_, '_>, module_name: Option<Token>, name: Token) 
     }
 }
 
-/// Returns the number of the type of a name behind COMPONENTS OF here, or `None` where it is
+/// Returns the number of the type of a name after COMPONENTS OF here, or `None` where it is
 /// missing, or stands within a type with parameters.
 pub fn included_number(
     scope: &Scope<'_, '_, '_>,

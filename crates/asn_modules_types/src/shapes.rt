@@ -277,7 +277,7 @@ fn lists_of(
     Ok(Some(Lists { root, added }))
 }
 
-/// Returns the entries behind the second extension marker.
+/// Returns the entries after the second extension marker.
 fn tail_of(extension: &Option<Extension>) -> &[Member]
     ensures { result.now ≡ tail_of extension.now }
 {
@@ -290,7 +290,7 @@ fn tail_of(extension: &Option<Extension>) -> &[Member]
     }
 }
 
-/// Returns the parts of the root of a type: those before the first extension marker and behind the
+/// Returns the parts of the root of a type: those before the first extension marker and after the
 /// second one, or `None` where one of them isn't understood.
 ///
 /// # Errors

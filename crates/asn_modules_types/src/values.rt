@@ -32,7 +32,7 @@ pub struct StatedValue<'s, 't> {
 }
 
 /// Returns the number of the type or value that a name stands for in the module of the number,
-/// behind the name of its module where that is stated, or `None` where it is missing.
+/// after the name of its module where that is stated, or `None` where it is missing.
 pub fn found_in<'t>(
     index: &Index<'t>,
     number: usize,

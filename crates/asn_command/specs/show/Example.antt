@@ -22,10 +22,13 @@ large_line name = codes "asn: the type `" ++ (name ++ codes "` is too large for 
 abbrev pub valueless_line : List ℕ → List ℕ
 valueless_line name = codes "asn: no value of the type `" ++ (name ++ codes "` is read\n")
 
--- The reply is the canonical text of the value and a line feed, or refuses one that the notation can't write.
+-- The reply is the canonical text of the value and a line feed, or refuses one that the notation
+-- can't write.
 abbrev pub IsExampleText : Codec → Value → Reply → Type 0
-IsExampleText notation v (Answer due) = string_bytes due ≡ canonical_text (notation_of notation) v ++ 10 ∷ []
-IsExampleText notation v (Refusal status line) = (status ≡ Refused) × (IsText (notation_of notation) → Writable (notation_of notation) v → ⊥)
+IsExampleText notation v (Answer due) =
+    string_bytes due ≡ canonical_text (notation_of notation) v ++ 10 ∷ []
+IsExampleText notation v (Refusal status line) =
+    (status ≡ Refused) × (IsText (notation_of notation) → Writable (notation_of notation) v → ⊥)
 
 -- The reply has the text of the example of the shape, which is one of its values.
 pub record HasExample (s : Shape) (full : Bool) (notation : Codec) (reply : Reply) : Type 0 where
@@ -50,4 +53,6 @@ IsLarge s name reply = IsTooLarge s × IsRefusal Refused (large_line name) reply
 -- The reply is on the one type of the name, and there is a reply where there is one.
 abbrev pub IsExampleOf : Modules → List ℕ → Bool → Codec → Option Reply → Type 0
 IsExampleOf m name full notation None = shape_named m name ≡ None
-IsExampleOf m name full notation (Some reply) = (s : Shape) × (shape_named m name ≡ Some s) × (IsExample s full notation name reply ⊎ IsLarge s name reply)
+IsExampleOf m name full notation (Some reply) =
+    (s : Shape) × (shape_named m name ≡ Some s)
+    × (IsExample s full notation name reply ⊎ IsLarge s name reply)

@@ -6,7 +6,7 @@ use Rattle.asn_replies.specs.declared.reply.Reply.{Reply}
 use Rattle.asn_replies.specs.declared.reply.Reply.TheVariants.{Answer, Refusal}
 use Rattle.asn_type_printing.specs.Printed.{types_text}
 
--- The name itself where it is found by that, and else behind that of its module and a point.
+-- The name itself where it is found by that, and else after that of its module and a point.
 abbrev pub name_or_full : TypeName → Option ℕ → List ℕ
 name_or_full t (Some number) = t.name
 name_or_full t None = t.home ++ 46 ∷ t.name
@@ -21,10 +21,12 @@ shown_names ts = map (shown_name ts) ts
 
 -- The reply is the printed text of the type of the number, with the types that it reaches.
 abbrev pub IsTypeText : Modules → ℕ → Reply → Type 0
-IsTypeText m number (Answer text) = string_bytes text ≡ types_text (shown_names m.names) m.types number
+IsTypeText m number (Answer text) =
+    string_bytes text ≡ types_text (shown_names m.names) m.types number
 IsTypeText m number (Refusal status line) = ⊥
 
 -- It is that of the one type of the name, and there is a reply where there is one.
 abbrev pub IsShown : Modules → List ℕ → Option Reply → Type 0
 IsShown m name None = number_named m.names name ≡ None
-IsShown m name (Some reply) = (number : ℕ) × (number_named m.names name ≡ Some number) × IsTypeText m number reply
+IsShown m name (Some reply) =
+    (number : ℕ) × (number_named m.names name ≡ Some number) × IsTypeText m number reply

@@ -39,7 +39,7 @@ impl<'a> KeepLines<'a> {
 }
 
 /// Answers a line by the JSON text of what the older version knows of its value, or refuses it
-/// behind the name of the file and its number.
+/// after the name of the file and its number.
 impl LineWork for KeepLines<'_> {
     ghost answers = { λ work number line reply. IsLineKept work.from
         (shape_view work.versions.now.older) (shape_view work.versions.now.newer)

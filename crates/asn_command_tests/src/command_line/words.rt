@@ -151,7 +151,7 @@ const REFUSED: [(&str, &str); 21] = [
     ("asn completions zsh", "invalid value 'zsh'"),
 ];
 
-/// Returns what is said of a command line, behind which of the three it is.
+/// Returns what is said of a command line, after which of the three it is.
 fn told(alloc: Global, line: &str) -> Result<String, Fail> {
     let words: Vec<&str> = line.split(' ').collect(alloc)?;
     match read_command_line(alloc, words.as_slice()) {
@@ -184,7 +184,7 @@ fn help_is_shown(rt: HostRuntime) -> Result<(), Fail> {
     Ok(())
 }
 
-/// Each wrong command line is told what is wrong.
+/// Each wrong command line is reported what is wrong.
 #[test]
 fn mistakes_are_told(rt: HostRuntime) -> Result<(), Fail> {
     for row in REFUSED.iter() {

@@ -4,7 +4,7 @@ use std::alloc::Global;
 use std::process::Abort;
 use std::test::Fail;
 
-/// Splits the text, and compares its tokens, each as it stands in the text, with a bar behind it.
+/// Splits the text, and compares its tokens, each as it stands in the text, with a bar after it.
 fn splits(rt: &impl Abort, alloc: Global, text: &str, expected: &str) -> Result<(), Fail> {
     let mut shown = String::new(alloc);
     match tokens(alloc, text) {

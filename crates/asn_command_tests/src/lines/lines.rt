@@ -17,7 +17,7 @@ const ROWS: [(&str, &str, &str, u64); 12] = [
     // A carriage return stays part of its line.
     ("ab\r\ncd\r\n", "AB\r\nCD\r\n", "", 2),
     ("\r", "\r\n", "", 1),
-    // Lines that are refused are told by their numbers.
+    // Lines that are refused are reported by their numbers.
     ("x", "", "1: x\n", 1),
     ("ab\nxc\n\nxyz\nde", "AB\n\nDE\n", "2: xc\n4: xyz\n", 5),
     ("xa\nxb\n", "", "1: xa\n2: xb\n", 2),

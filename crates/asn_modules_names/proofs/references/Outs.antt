@@ -9,12 +9,12 @@ use Rattle.asn_modules_grammar.specs.declared.notation.notation.Member.{Member}
 use Rattle.asn_modules_grammar.specs.declared.notation.notation.Members.{Members, roll-Members, out-Members}
 use Rattle.asn_modules_reader.specs.Views.{member_view}
 
--- Entries behind the second extension marker, with it.
+-- Entries after the second extension marker, with it.
 abbrev pub tail_seen : Option (Vec Member) → List spec.Member
 tail_seen None = []
 tail_seen (Some ms) = spec.marker ∷ map member_view ms.items
 
--- Entries behind the first extension marker, with it.
+-- Entries after the first extension marker, with it.
 abbrev pub extension_seen : Option Extension → List spec.Member
 extension_seen None = []
 extension_seen (Some e) = spec.marker ∷ (map member_view (out-Extension e).additions.items ++ tail_seen (out-Extension e).tail)

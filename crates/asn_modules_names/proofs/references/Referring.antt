@@ -32,7 +32,7 @@ extension_is (Some e) =
     references_join (map member_view (out-Extension e).additions.items) (tail_seen (out-Extension e).tail)
     ∙ ap (λ l. entries_references (out-Extension e).additions.items ++ l) (tail_is (out-Extension e).tail)
 
--- Of members: those of their root, and those behind the extension marker.
+-- Of members: those of their root, and those after the extension marker.
 pub members_references_out : (m : Members) → members_references (members_of (members_view m)) ≡ entries_references (out-Members m).root.items ++ extension_references (out-Members m).extension
 members_references_out m =
     ap (λ l. members_references (members_of l)) (members_out m)
@@ -79,7 +79,7 @@ none_added new old o e n = e ∙ sym (append-nil old) ∙ ap (λ x. old ++ cons_
 pub one_added : (new old : List Token) (o : Option Token) (t : Token) → new ≡ old ++ t ∷ [] → o ≡ Some t → new ≡ old ++ cons_option o []
 one_added new old o t e n = e ∙ ap (λ x. old ++ cons_option x []) (sym n)
 
--- Those of the root and then of what stands behind the extension marker are those of the members.
+-- Those of the root and then of what stands after the extension marker are those of the members.
 pub both_added : (m : Members) (old between new : List Token) (e : Extension) → between ≡ old ++ entries_references (out-Members m).root.items → (out-Members m).extension ≡ Some e → new ≡ between ++ extension_references (Some e)
     → new ≡ old ++ members_references (members_of (members_view m))
 both_added m old between new e b s n =

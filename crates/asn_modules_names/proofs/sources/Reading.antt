@@ -34,7 +34,7 @@ module _ (texts : List (Bor (List ℕ) × Bor (List ℕ))) (i : ℕ) (d : Bor (L
   abbrev pub text_at : Named
   text_at = named_view (get_or texts i d)
 
-  -- All texts, with what stands before the place, at it, and behind it.
+  -- All texts, with what stands before the place, at it, and after it.
   parted : map named_view texts ≡ map named_view (take i texts) ++ text_at ∷ map named_view (drop (i + 1) texts)
   parted = ap (map named_view) (sym (take-append-drop i texts) ∙ ap (λ l. take i texts ++ l) (drop_more texts i d here)) ∙ map-append named_view (take i texts) (get_or texts i d ∷ drop (i + 1) texts)
 

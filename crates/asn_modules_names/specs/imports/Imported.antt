@@ -73,7 +73,8 @@ abbrev pub imported_names : Home → List (List Token × Token) → List (List �
 imported_names h [] = []
 imported_names h (i ∷ is) = map (bytes_in h) i.0 ++ imported_names h is
 
--- The names that the module assigns or imports, of which another module may import each (X.680, section 13).
+-- The names that the module assigns or imports, of which another module may import each (X.680,
+-- section 13).
 abbrev pub held_names : Home → List (List ℕ)
 held_names h = assigned_by h h.parsed.assignments ++ imported_names h (imports_of h.parsed.header)
 
@@ -85,18 +86,26 @@ is_held_by (Some h) name = is_item (held_names h) name
 abbrev pub held_rule : Option Home → List ℕ → Option NameRule
 held_rule named name = if is_held_by named name then None else Some NotHeld
 
--- The rule that a module breaks by importing the name from itself, or from the module of the name that it states, if there is one, all modules being these: that one exports the name, and so does the only one that assigns it; and that one assigns it, or imports it itself.
+-- The rule that a module breaks by importing the name from itself, or from the module of the name
+-- that it states, if there is one, all modules being these: that one exports the name, and so does
+-- the only one that assigns it; and that one assigns it, or imports it itself.
 abbrev pub import_rule : List Home → Bool → Option Home → List ℕ → Option NameRule
 import_rule all true named name = Some OwnImport
-import_rule all false named name = if is_exported_by named name && is_exported_by (only_assigning all name) name then held_rule named name else Some NotExported
+import_rule all false named name =
+    if is_exported_by named name && is_exported_by (only_assigning all name) name
+    then held_rule named name else Some NotExported
 
 -- What breaks a rule in importing these.
 abbrev pub import_fault : List Home → Home → Bool → Option Home → Token → Option Fault
-import_fault all h is_own named t = option_map (λ r. fault_of r (mention_in h.source t)) (import_rule all is_own named (bytes_in h t))
+import_fault all h is_own named t =
+    option_map (λ r. fault_of r (mention_in h.source t))
+    (import_rule all is_own named (bytes_in h t))
 
 -- The first of the names that the module imports from this one.
 abbrev pub names_fault : List Home → Home → List Token × Token → Option Fault
-names_fault all h i = first_found (import_fault all h (is_named h (bytes_in h i.1)) (module_named all (bytes_in h i.1))) i.0
+names_fault all h i =
+    first_found
+    (import_fault all h (is_named h (bytes_in h i.1)) (module_named all (bytes_in h i.1))) i.0
 
 -- The first of those that the module imports.
 abbrev pub imports_fault : List Home → Home → Option Fault

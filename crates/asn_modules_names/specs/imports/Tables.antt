@@ -60,8 +60,17 @@ module_at index number = option_and_then (slice_get (modules_of index)) number
 
 -- The tables are those of the modules.
 pub record IsExportIndex (index : ExportIndex) : Type 0 where
-  pub titles : (q : Bor (List ℕ)) → get same_name index.titles q ≡ last_of bytes_eq (reverse (entries_of Title (modules_of index))) q.now
-  pub first : (q : Bor (List ℕ)) → get same_name index.first q ≡ last_of bytes_eq (reverse (entries_of Assigned (modules_of index))) q.now
-  pub last : (q : Bor (List ℕ)) → get same_name index.last q ≡ last_of bytes_eq (entries_of Assigned (modules_of index)) q.now
-  pub exported : (q : Bor (List ℕ) × ℕ) → contains same_entry index.exported q ≡ is_member same_named (entries_of Exported (modules_of index)) (entry_view q)
-  pub held : (q : Bor (List ℕ) × ℕ) → contains same_entry index.held q ≡ is_member same_named (entries_of Held (modules_of index)) (entry_view q)
+  pub titles : (q : Bor (List ℕ))
+      → get same_name index.titles q
+      ≡ last_of bytes_eq (reverse (entries_of Title (modules_of index))) q.now
+  pub first : (q : Bor (List ℕ))
+      → get same_name index.first q
+      ≡ last_of bytes_eq (reverse (entries_of Assigned (modules_of index))) q.now
+  pub last : (q : Bor (List ℕ))
+      → get same_name index.last q ≡ last_of bytes_eq (entries_of Assigned (modules_of index)) q.now
+  pub exported : (q : Bor (List ℕ) × ℕ)
+      → contains same_entry index.exported q
+      ≡ is_member same_named (entries_of Exported (modules_of index)) (entry_view q)
+  pub held : (q : Bor (List ℕ) × ℕ)
+      → contains same_entry index.held q
+      ≡ is_member same_named (entries_of Held (modules_of index)) (entry_view q)

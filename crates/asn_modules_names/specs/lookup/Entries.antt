@@ -13,7 +13,9 @@ use Rattle.asn_modules_grammar.specs.notation.Modules.{Assignment, type_assignme
 -- The names of modules, each with the number of its module; the first has number k.
 abbrev pub module_entries : ℕ → List Home → List (List ℕ × ℕ)
 module_entries k [] = []
-module_entries k (h ∷ hs) = cons_option (option_map (λ t. (bytes_in h t, k)) (module_name h.parsed)) (module_entries (suc k) hs)
+module_entries k (h ∷ hs) =
+    cons_option (option_map (λ t. (bytes_in h t, k)) (module_name h.parsed))
+    (module_entries (suc k) hs)
 
 -- The name that is assigned, where the assignment is of the sort.
 abbrev pub name_as : Sort → Assignment → Option Token
@@ -24,9 +26,11 @@ name_as Values a = None
 name_as Templates (template_assignment name ps n) = Some name
 name_as Templates a = None
 
--- The names that these assignments of a module assign, of those of the sort, each behind the number of the module.
+-- The names that these assignments of a module assign, of those of the sort, each after the number
+-- of the module.
 abbrev pub keys_in : Sort → ℕ → Home → List Assignment → List (ℕ × List ℕ)
-keys_in sort k h assignments = filter_map (λ a. option_map (λ t. (k, bytes_in h t)) (name_as sort a)) assignments
+keys_in sort k h assignments =
+    filter_map (λ a. option_map (λ t. (k, bytes_in h t)) (name_as sort a)) assignments
 
 -- Those of these modules, of which the first has number k.
 abbrev pub keys_of : Sort → ℕ → List Home → List (ℕ × List ℕ)
@@ -43,7 +47,8 @@ abbrev pub imports_of : Option Header → List (List Token × Token)
 imports_of None = []
 imports_of (Some h) = h.imports
 
--- These names, imported by the module of the number, each with the name of the module that it is imported from.
+-- These names, imported by the module of the number, each with the name of the module that it is
+-- imported from.
 abbrev pub imported_in : ℕ → Home → Token → List Token → List ((ℕ × List ℕ) × List ℕ)
 imported_in k h from names = map (λ t. ((k, bytes_in h t), bytes_in h from)) names
 

@@ -22,8 +22,14 @@ same_pair k q = nat_eq k.0 q.0 && bytes_eq k.1.now q.1.now
 
 -- The tables are those of the assignments of the sort in these texts.
 pub record IsIndexOf (sort : Sort) (ss : List Source) (index : Index) : Type 0 where
-  pub modules : (q : Bor (List ℕ)) → get same_name index.modules q ≡ last_of bytes_eq (module_entries 0 (homes ss)) q.now
-  pub assigned : (q : ℕ × Bor (List ℕ)) → get same_pair index.assigned q ≡ last_of same_key (assigned sort ss) (key_view q)
-  pub last : (q : Bor (List ℕ)) → get same_name index.last q ≡ last_of bytes_eq (named sort ss) q.now
-  pub first : (q : Bor (List ℕ)) → get same_name index.first q ≡ last_of bytes_eq (reverse (named sort ss)) q.now
-  pub imports : (q : ℕ × Bor (List ℕ)) → option_map (λ n. n.now) (get same_pair index.imports q) ≡ last_of same_key (import_entries 0 (homes ss)) (key_view q)
+  pub modules : (q : Bor (List ℕ))
+      → get same_name index.modules q ≡ last_of bytes_eq (module_entries 0 (homes ss)) q.now
+  pub assigned : (q : ℕ × Bor (List ℕ))
+      → get same_pair index.assigned q ≡ last_of same_key (assigned sort ss) (key_view q)
+  pub last : (q : Bor (List ℕ))
+      → get same_name index.last q ≡ last_of bytes_eq (named sort ss) q.now
+  pub first : (q : Bor (List ℕ))
+      → get same_name index.first q ≡ last_of bytes_eq (reverse (named sort ss)) q.now
+  pub imports : (q : ℕ × Bor (List ℕ))
+      → option_map (λ n. n.now) (get same_pair index.imports q)
+      ≡ last_of same_key (import_entries 0 (homes ss)) (key_view q)

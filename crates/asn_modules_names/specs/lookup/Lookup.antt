@@ -16,7 +16,8 @@ last_of same (e ∷ es) q = option_or (last_of same es q) (if same e.0 q then So
 abbrev pub same_key : ℕ × List ℕ → ℕ × List ℕ → Bool
 same_key k q = nat_eq k.0 q.0 && bytes_eq k.1 q.1
 
--- The names that assignments of the sort assign, each with its number: it is the place among all of them.
+-- The names that assignments of the sort assign, each with its number: it is the place among all of
+-- them.
 abbrev pub assigned : Sort → List Source → List ((ℕ × List ℕ) × ℕ)
 assigned sort ss = numbered 0 (keys_of sort 0 (homes ss))
 
@@ -31,21 +32,33 @@ if_same m n = None
 
 -- The number of the one type or value of this name in all modules: it is the first and the last.
 abbrev pub only : Sort → List Source → List ℕ → Option ℕ
-only sort ss name = if_same (last_of bytes_eq (named sort ss) name) (last_of bytes_eq (reverse (named sort ss)) name)
+only sort ss name =
+    if_same (last_of bytes_eq (named sort ss) name)
+    (last_of bytes_eq (reverse (named sort ss)) name)
 
 -- The number of the one of this name in the module of this name.
 abbrev pub in_module : Sort → List Source → List ℕ → List ℕ → Option ℕ
-in_module sort ss home name = option_and_then (λ k. last_of same_key (assigned sort ss) (k, name)) (last_of bytes_eq (module_entries 0 (homes ss)) home)
+in_module sort ss home name =
+    option_and_then (λ k. last_of same_key (assigned sort ss) (k, name))
+    (last_of bytes_eq (module_entries 0 (homes ss)) home)
 
--- The number of the one that the module of number k imports by this name: the one in the module that it is imported from, else the only one of this name.
+-- The number of the one that the module of number k imports by this name: the one in the module
+-- that it is imported from, else the only one of this name.
 abbrev pub imported : Sort → List Source → ℕ → List ℕ → Option ℕ
-imported sort ss k name = option_and_then (λ home. option_or (in_module sort ss home name) (only sort ss name)) (last_of same_key (import_entries 0 (homes ss)) (k, name))
+imported sort ss k name =
+    option_and_then (λ home. option_or (in_module sort ss home name) (only sort ss name))
+    (last_of same_key (import_entries 0 (homes ss)) (k, name))
 
--- The number of the one that a name stands for in the module of number k: behind the name of a module, the one of that module; else its own, else the one that it imports. There is none where it is missing.
+-- The number of the one that a name stands for in the module of number k: after the name of a
+-- module, the one of that module; else its own, else the one that it imports. There is none where
+-- it is missing.
 abbrev pub found : Sort → List Source → ℕ → Option (List ℕ) → List ℕ → Option ℕ
 found sort ss k (Some home) name = in_module sort ss home name
-found sort ss k None name = option_or (last_of same_key (assigned sort ss) (k, name)) (imported sort ss k name)
+found sort ss k None name =
+    option_or (last_of same_key (assigned sort ss) (k, name)) (imported sort ss k name)
 
 -- The module of number k assigns this name to one of the sort, or imports the name.
 abbrev pub is_known : Sort → List Source → ℕ → List ℕ → Bool
-is_known sort ss k name = is_some (last_of same_key (assigned sort ss) (k, name)) || is_some (last_of same_key (import_entries 0 (homes ss)) (k, name))
+is_known sort ss k name =
+    is_some (last_of same_key (assigned sort ss) (k, name))
+    || is_some (last_of same_key (import_entries 0 (homes ss)) (k, name))

@@ -18,4 +18,5 @@ tail_references (Some ms) = entries_references ms.items
 
 abbrev pub extension_references : Option Extension → List Token
 extension_references None = []
-extension_references (Some e) = entries_references (out-Extension e).additions.items ++ tail_references (out-Extension e).tail
+extension_references (Some e) =
+    entries_references (out-Extension e).additions.items ++ tail_references (out-Extension e).tail

@@ -38,7 +38,8 @@ abbrev mutual
   members_references no_members = []
   members_references (member m ms) = member_references m ++ members_references ms
 
--- Those that an assignment refers to, with the type of a value. A type with parameters may name those.
+-- Those that an assignment refers to, with the type of a value. A type with parameters may name
+-- those.
 abbrev pub assignment_references : Assignment → List Token
 assignment_references (type_assignment name n) = references n
 assignment_references (value_assignment name n value) = references n
@@ -56,9 +57,14 @@ all_references sort (a ∷ more) = references_as sort a ++ all_references sort m
 
 -- The name in the module of number k, where it isn't known there.
 abbrev pub unknown : Sort → List Source → ℕ → Home → Token → Option Fault
-unknown sort ss k h t = if is_known sort ss k (bytes_in h t) then None else Some (fault_of NotAssigned (mention_in h.source t))
+unknown sort ss k h t =
+    if is_known sort ss k (bytes_in h t) then None
+    else Some (fault_of NotAssigned (mention_in h.source t))
 
--- The first name of a type, or of a value, that a module, of which the first has number k, refers to and neither assigns nor imports.
+-- The first name of a type, or of a value, that a module, of which the first has number k, refers
+-- to and neither assigns nor imports.
 abbrev pub first_unknown : Sort → List Source → ℕ → List Home → Option Fault
 first_unknown sort ss k [] = None
-first_unknown sort ss k (h ∷ hs) = option_or (first_found (unknown sort ss k h) (all_references sort h.parsed.assignments)) (first_unknown sort ss (suc k) hs)
+first_unknown sort ss k (h ∷ hs) =
+    option_or (first_found (unknown sort ss k h) (all_references sort h.parsed.assignments))
+    (first_unknown sort ss (suc k) hs)

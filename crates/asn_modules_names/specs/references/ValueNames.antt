@@ -21,7 +21,8 @@ leaf_names Boolean = true
 leaf_names (Closed c) = true
 leaf_names l = false
 
--- The type may give names to values: it has named numbers or items, its values have names, or it is a name itself.
+-- The type may give names to values: it has named numbers or items, its values have names, or it is
+-- a name itself.
 abbrev pub base_names : Base → Bool
 base_names (leaf l) = leaf_names l
 base_names (integer ns) = has_named ns

@@ -40,5 +40,6 @@ pub record RefusesFirst (texts : List Named) (e : ModuleError) : Type 0 where
 
 -- The error tells the first text that is refused, unless memory ran out.
 abbrev pub IsFirstRefused : List Named → ModuleError → Type 0
-IsFirstRefused texts (error.Refused file place cause) = RefusesFirst texts (error.Refused file place cause)
+IsFirstRefused texts (error.Refused file place cause) =
+    RefusesFirst texts (error.Refused file place cause)
 IsFirstRefused texts error.OutOfMemory = Unit {0}

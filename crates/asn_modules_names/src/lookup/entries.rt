@@ -14,7 +14,7 @@ use asn_modules_errors::text_of;
 use asn_modules_grammar::notation::{Assignment, Module};
 use std::alloc::{AllocError, Global};
 
-/// Is a name behind the number of its module.
+/// Is a name after the number of its module.
 pub type Key<'t> = (usize, &'t [u8]);
 
 /// Returns the name of the module, if it has one.

@@ -94,7 +94,7 @@ impl<'t> Index<'t> {
     }
 
     /// Returns the number of the type or value that a name stands for in the module of the number,
-    /// or `None` where it is missing. Behind the name of a module, it is the one of that module;
+    /// or `None` where it is missing. After the name of a module, it is the one of that module;
     /// else the module's own, else the one that it imports: of the module that it imports it from,
     /// or where that has none, the only one of this name in all modules.
     pub fn find(&self, number: usize, home: Option<&'t [u8]>, name: &'t [u8]) -> Option<usize>

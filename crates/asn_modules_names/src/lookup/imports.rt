@@ -14,7 +14,7 @@ use asn_modules_errors::text_of;
 use asn_modules_grammar::headers::{Header, Import};
 use std::alloc::{AllocError, Global};
 
-/// Is an imported name behind the number of the module that imports it, with the name of the module
+/// Is an imported name after the number of the module that imports it, with the name of the module
 /// that it is imported from.
 pub type ImportEntry<'t> = (Key<'t>, &'t [u8]);
 

@@ -52,7 +52,7 @@ fn add_members(names: &mut Vec<Token>, members: &Members) -> Result<(), AllocErr
     Ok(())
 }
 
-/// Appends those that what stands behind an extension marker refers to.
+/// Appends those that what stands after an extension marker refers to.
 ///
 /// # Errors
 ///

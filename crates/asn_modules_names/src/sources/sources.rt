@@ -7,7 +7,7 @@ ghost use Rattle.std.specs.Prelude.{IfErr, IfOk, List, map};
 use asn_modules_reader::text::{ModuleError, Source, read_source};
 use std::alloc::Global;
 
-/// Returns the texts with their modules, in order. Each text stands behind its name, as that of its
+/// Returns the texts with their modules, in order. Each text stands after its name, as that of its
 /// file.
 ///
 /// # Errors

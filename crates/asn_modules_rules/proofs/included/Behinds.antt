@@ -1,4 +1,4 @@
--- The names that stand behind COMPONENTS OF in what is held.
+-- The names that stand after COMPONENTS OF in what is held.
 use Rattle.std.proofs.Common.{◌≡◌, refl, ap, ◌∙◌, List, [], ◌++◌, map, Option, Some, None, append_assoc}
 use Rattle.std.specs.List.{cons_option}
 use Rattle.asn_modules_rules.specs.included.Behind.{behind, members_behind, name_of}

@@ -67,11 +67,11 @@ five = refl
 four : included_extent thousand both_markers ≡ extent (4 * 64 + 2) 3
 four = refl
 
--- SEQUENCE { a NULL, ..., c SEQUENCE OF NULL } has no root behind its only marker.
+-- SEQUENCE { a NULL, ..., c SEQUENCE OF NULL } has no root after its only marker.
 one_marker : included_extent thousand (sequence (part 4 null ∷ marker ∷ part 6 (plain (list_of SeqKind.sequence null)) ∷ [])) ≡ extent (2 * 64 + 1) 2
 one_marker = refl
 
--- A name is one type where it stands for a component, and with what it includes behind COMPONENTS OF.
+-- A name is one type where it stands for a component, and with what it includes after COMPONENTS OF.
 component_named : type_extent thousand (sequence (part 4 (named 1) ∷ [])) ≡ extent (2 * 64 + 2) 2
 component_named = refl
 
@@ -141,7 +141,7 @@ texts = source ∷ []
 abbrev types : List AssignedType
 types = types_of texts 0 (homes texts)
 
--- C is B, and A is D, so A's name behind COMPONENTS OF stands in A and in D, and C's in C and in B.
+-- C is B, and A is D, so A's name after COMPONENTS OF stands in A and in D, and C's in C and in B.
 places : map (λ x. x.name) (counted_of types types) ≡ name 1 ∷ name 3 ∷ name 3 ∷ name 1 ∷ []
 unfolding stands_for
 places = refl
@@ -173,7 +173,7 @@ fits : too_large_from short both 194 (counted_of both both) ≡ None
 unfolding included stands_for
 fits = refl
 
--- It is too large where a byte less is left, and is told where it stands behind COMPONENTS OF.
+-- It is too large where a byte less is left, and is reported where it stands after COMPONENTS OF.
 told : too_large_from short both 193 (counted_of both both) ≡ Some (fault_of TooLarge (record { file = codes "f"; text = letters; token = word 1 }))
 unfolding included stands_for
 told = refl

@@ -65,7 +65,7 @@ left_nothing left levels = fits nothing left levels (omega arith) (omega arith) 
 pub left_size : (n left levels : ℕ) → left_behind (of_size n) left levels ≡ past left n
 left_size n left levels = ap (λ b. if leb n left && b then Some (left - n) else None) (le-leb 0 levels (omega arith)) ∙ some_of (leb n left) (left - n)
 
--- Behind these, what is left behind others.
+-- After these, what is left after others.
 behind_fit : (a b : Extent) (left levels : ℕ) → Fits a left levels → Fits b (left - a.size) levels ⊎ Exceeds b (left - a.size) levels → left_behind (beside a b) left levels ≡ left_behind b (left - a.size) levels
 behind_fit a b left levels f (inl g) =
     fits (beside a b) left levels (omega (arith, f, g)) (omega (arith, f, g)) ∙ ap Some (omega arith) ∙ sym (fits b (left - a.size) levels g.0 g.1)
@@ -84,7 +84,7 @@ beside_by a b left levels (inr h) = beside_exceeds a b left levels h ∙ ap (opt
 pub left_beside : (a b : Extent) (left levels : ℕ) → left_behind (beside a b) left levels ≡ option_and_then (λ l. left_behind b l levels) (left_behind a left levels)
 left_beside a b left levels = beside_by a b left levels (fits_or a left levels)
 
--- Behind a size, what is left behind others.
+-- After a size, what is left after others.
 pub sized_on : (n : ℕ) (e : Extent) (left rest levels : ℕ) (r : Option ℕ) → Some rest ≡ past left n → r ≡ left_behind e rest levels → r ≡ left_behind (beside (of_size n) e) left levels
 sized_on n e left rest levels r some is =
     is ∙ ap (option_and_then (λ l. left_behind e l levels)) (some ∙ sym (left_size n left levels)) ∙ sym (left_beside (of_size n) e left levels)

@@ -62,7 +62,7 @@ module _ (f : Inclusions) (levels : ℕ) where
   abbrev pub past_entries : List code.Member → ℕ → Option ℕ
   past_entries = past_all member_view
 
-  -- Of what stands behind the second marker, and behind the first one.
+  -- Of what stands after the second marker, and after the first one.
   abbrev pub past_tail : Option (Vec code.Member) → ℕ → Option ℕ
   past_tail None left = Some left
   past_tail (Some ms) left = past_entries ms.items left
@@ -141,7 +141,7 @@ module _ (f : Inclusions) (levels : ℕ) where
       ∙ then_same (λ l. option_and_then (past_second x) (past_first x l)) (λ l. option_and_then (past_first x) (past_second x l)) root (second_first x)
       ∙ sym (then_twice (past_first x) (past_second x) root) ∙ ap (option_and_then (past_first x)) (sym (root_past m left))
 
-  -- The root, by what is left behind the entries before the first marker.
+  -- The root, by what is left after the entries before the first marker.
   pub root_none : (m : Members) (left : ℕ) → None ≡ past_entries (out-Members m).root.items left → None ≡ left_behind (front_extent f (members_of (members_view m))) left levels
   root_none m left none = ap (option_and_then (past_second (out-Members m).extension)) none ∙ sym (root_past m left)
 
@@ -150,7 +150,7 @@ module _ (f : Inclusions) (levels : ℕ) where
   root_on m x left rest r some is e =
       e ∙ ap (λ y. past_second y rest) (sym is) ∙ ap (option_and_then (past_second (out-Members m).extension)) some ∙ sym (root_past m left)
 
-  -- All entries, by what is left behind the root.
+  -- All entries, by what is left after the root.
   pub members_none : (m : Members) (left : ℕ) → None ≡ left_behind (front_extent f (members_of (members_view m))) left levels → None ≡ left_behind (members_extent f (members_of (members_view m))) left levels
   members_none m left none = ap (option_and_then (past_first (out-Members m).extension)) none ∙ sym (members_past m left)
 
@@ -162,7 +162,7 @@ module _ (f : Inclusions) (levels : ℕ) where
 notation_out : (n : code_notation.Notation) → notation_view n ≡ spec.notation (code_notation.out-Notation n).tags.items (base_view (code_notation.out-Notation n).base) (code_notation.out-Notation n).sizes.items
 notation_out n = fold_out-Notation spec.Base spec.Member spec.Member (List spec.Member) (List spec.Member) spec.Notation base_step component_step member_step extension_step members_step notation_step n
 
--- A type, by what is left behind what it holds.
+-- A type, by what is left after what it holds.
 module _ (g : ℕ → Inclusions) (names fewer : ℕ) (n : code_notation.Notation) (left inner levels deeper : ℕ) (r : Option ℕ) (same : fewer ≡ names) (there : TYPE_SIZE ≤ left) (one : inner ≡ left - TYPE_SIZE) (level : levels ≡ deeper + 1) where
   around_on : (held : Inclusions → Extent) → r ≡ left_behind (held (g fewer)) inner deeper → r ≡ left_behind (around (held (g names))) left levels
   around_on held e =

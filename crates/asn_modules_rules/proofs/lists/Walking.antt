@@ -40,7 +40,7 @@ module _ {X : Type 0} (one : Member → List X) (all : Members → List X) (none
       ap (λ l. all (members_of l)) (members_out m) ∙ join (map member_view (out-Members m).root.items) (extension_seen (out-Members m).extension)
       ∙ ap (λ l. of_entries (out-Members m).root.items ++ l) (extension_is (out-Members m).extension)
 
-  -- What the root holds, and then what stands behind the extension marker.
+  -- What the root holds, and then what stands after the extension marker.
   pub both_added : (m : code_members.Members) (old between new : List X) (e : Extension) → between ≡ old ++ of_entries (out-Members m).root.items → (out-Members m).extension ≡ Some e → new ≡ between ++ in_extension of_entries (Some e)
       → new ≡ old ++ all (members_of (members_view m))
   both_added m old between new e b s n =

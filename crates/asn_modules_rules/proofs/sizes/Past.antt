@@ -1,4 +1,4 @@
--- What is left behind one size after another.
+-- What is left after one size after another.
 use Rattle.std.proofs.Common.{◌≡◌, ◌≤◌, ◌<◌, ◌+◌, ◌-◌, ℕ, List, [], ◌∷◌, map, drop, get_or, length, if◌then◌else◌, Option, Some, None, inl, inr, ◌⊎◌, refl, sym, ap, ◌∙◌, arith}
 use Rattle.std.proofs.lemmas.Bool.{le-leb, lt-leb}
 use Rattle.std.proofs.lemmas.Bool.Decides.{leb_tells}
@@ -32,7 +32,7 @@ both_by : (left a b : ℕ) → (a ≤ left) ⊎ (left < a) → past left (a + b)
 both_by left a b (inl f) = both_fit left a b f (told b (left - a)) ∙ ap (option_and_then (λ l. past l b)) (sym (fits left a f))
 both_by left a b (inr f) = many left (a + b) (omega (arith, f)) ∙ ap (option_and_then (λ l. past l b)) (sym (many left a f))
 
--- Behind both is what the second leaves of what the first leaves.
+-- After both is what the second leaves of what the first leaves.
 pub past_both : (left a b : ℕ) → past left (a + b) ≡ option_and_then (λ l. past l b) (past left a)
 past_both left a b = both_by left a b (told a left)
 
@@ -62,7 +62,7 @@ items_all [] = refl
 items_all (i ∷ is) =
     sum_by-cons item_size (Some i) (map (λ i. Some i) is) ∙ ap (λ n. entry_size i.name + n) (items_all is) ∙ sym (sum_by-cons (λ i. entry_size i.name) i is)
 
--- Items behind a marker, if there is one.
+-- Items after a marker, if there is one.
 abbrev pub added_size : Option (Vec Item) → ℕ
 added_size None = 0
 added_size (Some added) = sum_by (λ i. entry_size i.name) added.items
@@ -76,7 +76,7 @@ split items (Some added) =
     sum_by-append item_size (map (λ i. Some i) items.items) (None ∷ map (λ i. Some i) added.items)
     ∙ ap (λ n. items_size (map (λ i. Some i) items.items) + n) (marked added.items) ∙ ap (λ n. n + added_size (Some added)) (items_all items.items)
 
--- Items before the marker, and those behind it.
+-- Items before the marker, and those after it.
 past_parts : (items : Vec Item) (added : Option (Vec Item)) (left : ℕ) → past left (items_size (items_view items added)) ≡ option_and_then (λ l. past l (added_size added)) (past_all (λ i. entry_size i.name) items.items left)
 past_parts items added left = ap (past left) (split items added) ∙ past_both left (sum_by (λ i. entry_size i.name) items.items) (added_size added)
 

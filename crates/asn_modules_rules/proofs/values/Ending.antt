@@ -40,7 +40,7 @@ endless_same : (f g : ℕ → Bool) (n : ℕ) (ls : List spec.ValueLink) → ((k
 endless_same f g n [] e = refl
 endless_same f g n (l ∷ ls) e = ap (λ b. option_or (if b then Some (fault_of NoValue l.name) else None) (endless_from f (suc n) ls)) (e n) ∙ ap (option_or (if g n then Some (fault_of NoValue l.name) else None)) (endless_same f g (suc n) ls e)
 
--- What is told by the list of where values lead in the end.
+-- What is reported by the list of where values lead in the end.
 pub told_by_ends : (links : List ValueLink) (ends : List (Option ℕ)) (all : List spec.ValueLink) (r : Result Unit ModuleError) → map link_view links ≡ all
     → ((n : ℕ) → next_at ends n ≡ leads (map (λ l. l.next) (map link_view links)) (length links) n) → Checks (endless_from (λ n. is_some (next_at ends n)) 0 (map link_view links)) r → Checks (first_endless_in all) r
 told_by_ends links ends all r a h checks =

@@ -51,7 +51,7 @@ halved_odd m e = omega (arith, e)
 pub halved_even : (m : ℕ) → m ≢ 0 → m % 2 ≢ 1 → m ≡ suc (0 + suc ((m - 1) / 2 + (m - 1) / 2))
 halved_even m z e = omega (arith, z, e)
 
--- By two lists, one behind the other.
+-- By two lists, one after the other.
 pub leads_both : (nexts first second both : List (Option ℕ)) (a b c : ℕ) → ((n : ℕ) → next_at first n ≡ leads nexts a n) → ((n : ℕ) → next_at second n ≡ leads nexts b n) → both ≡ map (option_and_then (next_at second)) first → c ≡ suc (a + b)
     → (n : ℕ) → next_at both n ≡ leads nexts c n
 leads_both nexts first second both a b c f s e h n =

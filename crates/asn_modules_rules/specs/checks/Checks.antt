@@ -13,7 +13,8 @@ use Rattle.asn_modules_rules.specs.numbers.Faults.{first_number_fault}
 use Rattle.asn_modules_names.specs.references.References.{first_unknown}
 use Rattle.asn_modules_rules.specs.values.ValueLinks.{first_endless}
 
--- The first name of a value that is neither assigned nor imported, else the first that leads to no value.
+-- The first name of a value that is neither assigned nor imported, else the first that leads to no
+-- value.
 abbrev pub first_in_values : List Source → Option Fault
 first_in_values ss = option_or (first_unknown Values ss 0 (homes ss)) (first_endless ss)
 
@@ -21,14 +22,18 @@ first_in_values ss = option_or (first_unknown Values ss 0 (homes ss)) (first_end
 abbrev pub first_in_assigned : List Source → Option Fault
 first_in_assigned ss = option_or (first_in_values ss) (first_too_large ss)
 
--- The first name that is imported against a rule, else the first name of a type that is neither assigned nor imported, else the first that breaks a rule on what is assigned.
+-- The first name that is imported against a rule, else the first name of a type that is neither
+-- assigned nor imported, else the first that breaks a rule on what is assigned.
 abbrev pub first_missing : List Source → Option Fault
-first_missing ss = option_or (first_import_fault (homes ss)) (option_or (first_unknown Types ss 0 (homes ss)) (first_in_assigned ss))
+first_missing ss =
+    option_or (first_import_fault (homes ss))
+    (option_or (first_unknown Types ss 0 (homes ss)) (first_in_assigned ss))
 
 -- The first name or number in a list that breaks a rule.
 abbrev pub first_in_lists : List Source → Option Fault
 first_in_lists ss = option_or (first_listed_twice ss) (first_number_fault ss)
 
--- The first name or number that breaks a rule: in the names of modules and those that they assign, else in a list, else in what is imported, referred to or included.
+-- The first name or number that breaks a rule: in the names of modules and those that they assign,
+-- else in a list, else in what is imported, referred to or included.
 abbrev pub first_broken : List Source → Option Fault
 first_broken ss = option_or (first_fault ss) (option_or (first_in_lists ss) (first_missing ss))

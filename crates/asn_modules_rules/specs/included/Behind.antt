@@ -1,4 +1,4 @@
--- The names that stand behind COMPONENTS OF.
+-- The names that stand after COMPONENTS OF.
 use Rattle.std.specs.Prelude.{List, [], ◌++◌, map, Option, Some, None}
 use Rattle.std.specs.List.{cons_option}
 use Rattle.asn_modules_rules.specs.declared.included.names.TypeName.{TypeName}

@@ -26,11 +26,13 @@ around e = record { size = TYPE_SIZE + e.size; levels = suc e.levels }
 abbrev pub beside : Extent → Extent → Extent
 beside e f = record { size = e.size + f.size; levels = max e.levels f.levels }
 
--- How many of so many bytes are left behind these, where there are as many and the levels are enough.
+-- How many of so many bytes are left after these, where there are as many and the levels are
+-- enough.
 abbrev pub left_behind : Extent → ℕ → ℕ → Option ℕ
-left_behind e left levels = if nat_le e.size left && nat_le e.levels levels then Some (left - e.size) else None
+left_behind e left levels =
+    if nat_le e.size left && nat_le e.levels levels then Some (left - e.size) else None
 
--- What names behind COMPONENTS OF include, each behind that of its module where it is stated.
+-- What names after COMPONENTS OF include, each after that of its module where it is stated.
 abbrev pub Inclusions : Type 0
 Inclusions = Option Token → Token → Extent
 
@@ -39,9 +41,10 @@ abbrev pub named_extent : Inclusions → Option Token → Token → Extent
 named_extent f home name = beside (of_size (reference_size home name)) (f home name)
 
 abbrev mutual
-  -- A type with all that stands within it, where names behind COMPONENTS OF include these.
+  -- A type with all that stands within it, where names after COMPONENTS OF include these.
   pub type_extent : Inclusions → Notation → Extent
-  type_extent f (notation tags base sizes) = around (beside (of_size (constraints_size sizes)) (base_extent f base))
+  type_extent f (notation tags base sizes) =
+      around (beside (of_size (constraints_size sizes)) (base_extent f base))
 
   pub base_extent : Inclusions → Base → Extent
   base_extent f (integer ns) = of_size (numbers_size ns)
@@ -54,7 +57,8 @@ abbrev mutual
   base_extent f base = nothing
 
   pub member_extent : Inclusions → Member → Extent
-  member_extent f (component name n presence) = beside (of_size (name_size name + presence_size presence)) (type_extent f n)
+  member_extent f (component name n presence) =
+      beside (of_size (name_size name + presence_size presence)) (type_extent f n)
   member_extent f (components_of n) = included_extent f n
   member_extent f (group ms) = members_extent f ms
   member_extent f marker = nothing
@@ -63,7 +67,8 @@ abbrev mutual
   members_extent f no_members = nothing
   members_extent f (member m ms) = beside (member_extent f m) (members_extent f ms)
 
-  -- A type behind COMPONENTS OF with what it includes: the components of its root, or of that of the type that it is the name of (X.680, section 25.4).
+  -- A type after COMPONENTS OF with what it includes: the components of its root, or of that of
+  -- the type that it is the name of (X.680, section 25.4).
   pub included_extent : Inclusions → Notation → Extent
   included_extent f (notation tags base sizes) = around (root_extent f base)
 
@@ -72,13 +77,13 @@ abbrev mutual
   root_extent f (reference home name) = named_extent f home name
   root_extent f base = nothing
 
-  -- The root: what stands before the first extension marker, and behind the second one.
+  -- The root: what stands before the first extension marker, and after the second one.
   pub front_extent : Inclusions → Members → Extent
   front_extent f no_members = nothing
   front_extent f (member marker ms) = tail_extent f ms
   front_extent f (member m ms) = beside (member_extent f m) (front_extent f ms)
 
-  -- Behind the first marker: extension additions are passed over up to the second one.
+  -- After the first marker: extension additions are passed over up to the second one.
   pub tail_extent : Inclusions → Members → Extent
   tail_extent f no_members = nothing
   tail_extent f (member marker ms) = members_extent f ms

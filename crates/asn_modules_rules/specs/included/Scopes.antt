@@ -1,4 +1,4 @@
--- What contracts see of where names behind COMPONENTS OF stand.
+-- What contracts see of where names after COMPONENTS OF stand.
 use Rattle.std.specs.Prelude.{ℕ, List, map}
 use Rattle.asn_modules_rules.specs.included.Extents.{Extent, Inclusions, members_extent}
 use Rattle.asn_modules_rules.specs.included.TooLarge.{included, inclusions}
@@ -12,7 +12,8 @@ use Rattle.asn_modules_reader.specs.Views.{member_view}
 
 -- What names there include, past at most so many names.
 abbrev pub inclusions_in : List Source → Scope → ℕ → Inclusions
-inclusions_in ss s names = inclusions ss s.number (home_view s.home) (included ss (map type_view s.types.now) names)
+inclusions_in ss s names =
+    inclusions ss s.number (home_view s.home) (included ss (map type_view s.types.now) names)
 
 -- What is within these entries.
 abbrev pub entries_extent : Inclusions → List Member → Extent

@@ -13,7 +13,8 @@ use Rattle.asn_modules_grammar.specs.notation.Modules.{Assignment, type_assignme
 use Rattle.asn_modules_grammar.specs.notation.Notation.{Notation}
 use Rattle.asn_modules_grammar.specs.notation.View.{notation_view}
 
--- A type that is assigned, with its module and the number of that; the names behind COMPONENTS OF in it; and the number of the type that it is the name of, if it is one.
+-- A type that is assigned, with its module and the number of that; the names after COMPONENTS OF
+-- in it; and the number of the type that it is the name of, if it is one.
 pub record AssignedType : Type 0 where
   pub number : ℕ
   pub home : Home
@@ -22,7 +23,8 @@ pub record AssignedType : Type 0 where
   pub next : Option ℕ
 
 abbrev pub type_view : code.AssignedType → AssignedType
-type_view t = record { number = t.number; home = home_view t.home; notation = notation_view t.notation.now; behind = t.behind.items; next = t.next }
+type_view t =
+    record { number = t.number; home = home_view t.home; notation = notation_view t.notation.now; behind = t.behind.items; next = t.next }
 
 -- The number of the type of the name in the module of number k, if it is known there.
 abbrev pub type_named : List Source → ℕ → Home → TypeName → Option ℕ
@@ -30,7 +32,9 @@ type_named ss k h x = found Types ss k (option_map (bytes_in h) x.home) (bytes_i
 
 -- What is assigned in the module of number k, where it is a type.
 abbrev pub type_as : List Source → ℕ → Home → Assignment → Option AssignedType
-type_as ss k h (type_assignment name n) = Some (record { number = k; home = h; notation = n; behind = behind n; next = option_and_then (type_named ss k h) (name_of n) })
+type_as ss k h (type_assignment name n) =
+    Some
+    (record { number = k; home = h; notation = n; behind = behind n; next = option_and_then (type_named ss k h) (name_of n) })
 type_as ss k h a = None
 
 -- The types among the assignments of a module.
@@ -46,7 +50,8 @@ types_of ss k (h ∷ hs) = types_in ss k h h.parsed.assignments ++ types_of ss (
 abbrev pub next_type : List AssignedType → AssignedType → Option AssignedType
 next_type ts t = option_and_then (slice_get ts) t.next
 
--- The type that this one stands for: itself, and where it is a name, the type of that name, past at most so many names.
+-- The type that this one stands for: itself, and where it is a name, the type of that name, past at
+-- most so many names.
 unfoldable pub stands_for : List AssignedType → ℕ → AssignedType → AssignedType
 stands_for ts zero t = t
 stands_for ts (suc more) t = unwrap_or (option_map (stands_for ts more) (next_type ts t)) t

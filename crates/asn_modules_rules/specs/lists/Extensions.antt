@@ -10,15 +10,16 @@ use Rattle.asn_modules_grammar.specs.declared.notation.notation.Extension.{Exten
 use Rattle.asn_modules_grammar.specs.declared.notation.notation.Member as code
 use Rattle.asn_modules_reader.specs.Views.{member_view}
 
--- Of what entries hold, that of the entries behind a second extension marker, if there is one.
+-- Of what entries hold, that of the entries after a second extension marker, if there is one.
 abbrev pub in_tail : {X : Type 0} → (List code.Member → List X) → Option (Vec code.Member) → List X
 in_tail of_entries None = []
 in_tail of_entries (Some ms) = of_entries ms.items
 
--- That of the entries behind an extension marker, if there is one.
+-- That of the entries after an extension marker, if there is one.
 abbrev pub in_extension : {X : Type 0} → (List code.Member → List X) → Option Extension → List X
 in_extension of_entries None = []
-in_extension of_entries (Some e) = of_entries (out-Extension e).additions.items ++ in_tail of_entries (out-Extension e).tail
+in_extension of_entries (Some e) =
+    of_entries (out-Extension e).additions.items ++ in_tail of_entries (out-Extension e).tail
 
 -- The types that stand in these entries of the text.
 abbrev pub entries_written : Source → List code.Member → List Written

@@ -14,7 +14,8 @@ use Rattle.asn_modules_grammar.specs.declared.notation.number.Item.{Item}
 use Rattle.asn_modules_grammar.specs.declared.notation.number.NamedNumber.{NamedNumber}
 
 abbrev mutual
-  -- The name of an entry between braces; those between version brackets belong to the list around them.
+  -- The name of an entry between braces; those between version brackets belong to the list around
+  -- them.
   pub member_names : Member → List Token
   member_names (component name n presence) = name ∷ []
   member_names (components_of n) = []

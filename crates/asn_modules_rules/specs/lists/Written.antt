@@ -47,7 +47,8 @@ written_view w = written_in (source_view w.source.now) (base_view w.base.now)
 -- The types that stand in these assignments of the text, in order.
 abbrev pub assignments_written : Source → List Assignment → List Written
 assignments_written s [] = []
-assignments_written s (a ∷ more) = map (written_in s) (bases (assigned_type a)) ++ assignments_written s more
+assignments_written s (a ∷ more) =
+    map (written_in s) (bases (assigned_type a)) ++ assignments_written s more
 
 -- Those of these modules of the text.
 abbrev pub modules_written : Source → List Module → List Written

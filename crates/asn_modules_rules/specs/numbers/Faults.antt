@@ -25,7 +25,9 @@ first_negative (x ∷ xs) = if is_negative x.number then Some x.name else first_
 -- The first name whose number is that of one before it; some numbers before it are given.
 abbrev pub first_repeated : List ℤ → List Numbered → Option Token
 first_repeated before [] = None
-first_repeated before (x ∷ xs) = if is_member int_eq before x.number then Some x.name else first_repeated (before ++ x.number ∷ []) xs
+first_repeated before (x ∷ xs) =
+    if is_member int_eq before x.number then Some x.name
+    else first_repeated (before ++ x.number ∷ []) xs
 
 -- The first name whose number is below the one before it; the last one before them is given.
 abbrev pub first_below : ℤ → List Numbered → Option Token
@@ -42,18 +44,24 @@ breaks rule name = option_map (λ t. (rule, t)) name
 
 -- What breaks a rule in bits with these numbers.
 abbrev pub bits_fault : List Numbered → Option (NameRule × Token)
-bits_fault bits = option_or (breaks BitNegative (first_negative bits)) (breaks BitTwice (first_repeated [] bits))
+bits_fault bits =
+    option_or (breaks BitNegative (first_negative bits)) (breaks BitTwice (first_repeated [] bits))
 
 -- What does in items with these numbers, those of the root and of extension additions.
 abbrev pub items_fault : List Numbered → List Numbered → Option (NameRule × Token)
-items_fault root added = option_or (breaks NumberTwice (first_repeated [] (root ++ added))) (breaks NumberNotRising (first_falling added))
+items_fault root added =
+    option_or (breaks NumberTwice (first_repeated [] (root ++ added)))
+    (breaks NumberNotRising (first_falling added))
 
 -- What does in these items, unless one of their numbers isn't known.
 abbrev pub added_fault : List ℕ → List Item → List Numbered → Option (NameRule × Token)
-added_fault text added root = option_and_then (items_fault root) (numbered_items true text (numbers_of root) added)
+added_fault text added root =
+    option_and_then (items_fault root) (numbered_items true text (numbers_of root) added)
 
 abbrev pub enumerated_fault : List ℕ → List Item → List Item → Option (NameRule × Token)
-enumerated_fault text root added = option_and_then (added_fault text added) (numbered_items false text (stated_numbers text root) root)
+enumerated_fault text root added =
+    option_and_then (added_fault text added)
+    (numbered_items false text (stated_numbers text root) root)
 
 -- The items before the extension marker.
 abbrev pub root_items : List (Option Item) → List Item
@@ -61,7 +69,7 @@ root_items [] = []
 root_items (None ∷ items) = []
 root_items (Some i ∷ items) = i ∷ root_items items
 
--- The items behind it.
+-- The items after it.
 abbrev pub added_items : List (Option Item) → List Item
 added_items [] = []
 added_items (None ∷ items) = filter_map (λ i. i) items
@@ -74,7 +82,8 @@ number_fault text (enumerated items) = enumerated_fault text (root_items items) 
 number_fault text base = None
 
 abbrev pub numbers_fault : Written → Option Fault
-numbers_fault w = option_map (λ p. fault_of p.0 (mention_in w.source p.1)) (number_fault w.source.text w.base)
+numbers_fault w =
+    option_map (λ p. fault_of p.0 (mention_in w.source p.1)) (number_fault w.source.text w.base)
 
 -- The first that one of the types in these texts has.
 abbrev pub first_number_fault : List Source → Option Fault

@@ -15,10 +15,11 @@ use Rattle.asn_modules_rules.specs.declared.numbers.numbered.Numbered.{Numbered}
 pub record Holds {S : Type 0} (set : HashSet ℤ S) (numbers : List ℤ) : Type 0 where
   pub has : (n : ℤ) → contains int_eq set n ≡ is_member int_eq numbers n
 
--- The first of n and so many numbers behind it that isn't taken; the last where all are.
+-- The first of n and so many numbers after it that isn't taken; the last where all are.
 abbrev pub first_free : ℕ → List ℤ → ℤ → ℤ
 first_free zero taken n = n
-first_free (suc more) taken n = if is_member int_eq taken n then first_free more taken (n +ℤ pos 1) else n
+first_free (suc more) taken n =
+    if is_member int_eq taken n then first_free more taken (n +ℤ pos 1) else n
 
 -- The first number from n on that isn't taken: one of so many successive ones isn't.
 abbrev pub free_from : List ℤ → ℤ → ℤ
@@ -33,16 +34,20 @@ number_or_free taken next None = free_from taken next
 abbrev pub above : ℤ → ℤ
 above n = if is_negative n then pos 0 else n +ℤ pos 1
 
--- The least number that the items behind one of this number may be given. Items that state theirs count for that in additions alone.
+-- The least number that the items after one of this number may be given. Items that state theirs
+-- count for that in additions alone.
 abbrev pub next_behind : Bool → ℤ → ℤ → Option ℤ → ℤ
 next_behind added next n number = if added || not (is_some number) then above n else next
 
--- Items with their numbers, in order. Those that state none are given the least ones that aren't taken, in the root from 0 on, and in additions above the one before (X.680, sections 20.5 and 20.7).
+-- Items with their numbers, in order. Those that state none are given the least ones that aren't
+-- taken, in the root from 0 on, and in additions above the one before (X.680, sections 20.5 and
+-- 20.7).
 abbrev pub numbered_from : Bool → List ℕ → List ℤ → ℤ → List Item → List Numbered
 numbered_from added text taken next [] = []
 numbered_from added text taken next (i ∷ is) =
     record { name = i.name; number = number_or_free taken next (item_number text i) }
-    ∷ numbered_from added text taken (next_behind added next (number_or_free taken next (item_number text i)) (item_number text i)) is
+    ∷ numbered_from added text taken
+    (next_behind added next (number_or_free taken next (item_number text i)) (item_number text i)) is
 
 -- The numbers, if all are below 2^64.
 abbrev pub if_small : List Numbered → Option (List Numbered)
@@ -56,9 +61,11 @@ numbers_of ns = map (λ x. x.number) ns
 abbrev pub stated_numbers : List ℕ → List Item → List ℤ
 stated_numbers text items = filter_map (item_number text) items
 
--- The items with their numbers, where these numbers are taken; none where one states a number that isn't known, or one has a number of more than 64 bits.
+-- The items with their numbers, where these numbers are taken; none where one states a number that
+-- isn't known, or one has a number of more than 64 bits.
 abbrev pub numbered_items : Bool → List ℕ → List ℤ → List Item → Option (List Numbered)
-numbered_items added text taken items = if are_plain text items then if_small (numbered_from added text taken (pos 0) items) else None
+numbered_items added text taken items =
+    if are_plain text items then if_small (numbered_from added text taken (pos 0) items) else None
 
 -- The bits whose numbers are stated in digits, with them.
 abbrev pub numbered_bit : List ℕ → NamedNumber → Option Numbered

@@ -16,9 +16,11 @@ within_bits bits (Some n) = if nat_lt n (2 ^ bits) then Some n else None
 abbrev pub signed : Bool → ℕ → ℤ
 signed negative n = if negative then neg_ℤ (pos n) else pos n
 
--- The number that the constant states in decimal digits, if they have at most 64 bits. The name of a value states none.
+-- The number that the constant states in decimal digits, if they have at most 64 bits. The name of
+-- a value states none.
 abbrev pub stated : List ℕ → Constant → Option ℤ
-stated text (constant.Number n) = option_map (signed n.negative) (within_bits 64 (digits (text_of text n.digits)))
+stated text (constant.Number n) =
+    option_map (signed n.negative) (within_bits 64 (digits (text_of text n.digits)))
 stated text (constant.Name t) = None
 
 -- The number that the item states so.

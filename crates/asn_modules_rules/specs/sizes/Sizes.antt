@@ -6,7 +6,7 @@ use Rattle.asn_modules_grammar.specs.declared.notation.number.Item.{Item}
 use Rattle.asn_modules_grammar.specs.declared.notation.number.NamedNumber.{NamedNumber}
 use Rattle.asn_modules_rules.specs.declared.sizes.sizes.TheConstants.{ENTRY_SIZE}
 
--- What is left of so many bytes behind the size, if there are as many.
+-- What is left of so many bytes after the size, if there are as many.
 abbrev pub past : ℕ → ℕ → Option ℕ
 past left size = if nat_le size left then Some (left - size) else None
 

@@ -11,7 +11,7 @@ joined (Some next) = next
 abbrev pub next_at : List (Option ℕ) → ℕ → Option ℕ
 next_at nexts n = joined (slice_get nexts n)
 
--- Where it leads past so many others.
+-- Where it leads past this number of others.
 unfoldable pub leads : List (Option ℕ) → ℕ → ℕ → Option ℕ
 leads nexts zero n = next_at nexts n
 leads nexts (suc others) n = option_and_then (leads nexts others) (next_at nexts n)

@@ -12,7 +12,8 @@ use Rattle.asn_modules_names.specs.references.ValueNames.{value_name}
 use Rattle.asn_modules_rules.specs.values.Leads.{leads}
 use Rattle.asn_modules_rules.specs.declared.values.links.ValueLink as code
 
--- A value that is assigned: its name, and the number of the value that it is the name of, if it is one.
+-- A value that is assigned: its name, and the number of the value that it is the name of, if it is
+-- one.
 pub record ValueLink : Type 0 where
   pub name : Mention
   pub next : Option ℕ
@@ -28,7 +29,9 @@ next_of ss k h a = option_and_then (λ t. found Values ss k None (bytes_in h t))
 abbrev pub link_as : List Source → ℕ → Home → Assignment → Option ValueLink
 link_as ss k h (type_assignment name n) = None
 link_as ss k h (template_assignment name ps n) = None
-link_as ss k h (value_assignment name n v) = Some (record { name = mention_in h.source name; next = next_of ss k h (value_assignment name n v) })
+link_as ss k h (value_assignment name n v) =
+    Some
+    (record { name = mention_in h.source name; next = next_of ss k h (value_assignment name n v) })
 
 -- The values among the assignments of a module.
 abbrev pub links_in : List Source → ℕ → Home → List Assignment → List ValueLink
@@ -42,7 +45,8 @@ links_of ss k (h ∷ hs) = links_in ss k h h.parsed.assignments ++ links_of ss (
 -- The first of these values, whose numbers begin with n, whose number passes.
 abbrev pub endless_from : (ℕ → Bool) → ℕ → List ValueLink → Option Fault
 endless_from f n [] = None
-endless_from f n (l ∷ ls) = option_or (if f n then Some (fault_of NoValue l.name) else None) (endless_from f (suc n) ls)
+endless_from f n (l ∷ ls) =
+    option_or (if f n then Some (fault_of NoValue l.name) else None) (endless_from f (suc n) ls)
 
 -- The first value whose names go on past as many others as there are values, and so without an end.
 abbrev pub first_endless_in : List ValueLink → Option Fault

@@ -58,7 +58,7 @@ fn check_value_names<'t>(
 ///
 /// # Errors
 ///
-/// What is told of the names of values, else the first name that is too large for COMPONENTS OF,
+/// What is reported of the names of values, else the first name that is too large for COMPONENTS OF,
 /// and `OutOfMemory`.
 fn check_in_assigned<'t>(
     alloc: Global,
@@ -80,7 +80,7 @@ fn check_in_assigned<'t>(
 /// # Errors
 ///
 /// The first name that is imported against a rule, else the first name of a type that its module
-/// neither assigns nor imports, else what is told of the names of values, else the first name that
+/// neither assigns nor imports, else what is reported of the names of values, else the first name that
 /// is too large for COMPONENTS OF, and `OutOfMemory`.
 fn check_missing(alloc: Global, sources: &[Source<'_>]) -> Result<(), ModuleError>
     ensures { Checks (first_missing (map source_view sources.now)) result }

@@ -45,8 +45,8 @@ pub fn is_small<'t>(
     past_type(&scope, depth, INSTANCE_SIZE, notation).is_some()
 }
 
-/// Checks the names behind COMPONENTS OF in the type, where so many bytes are left, and returns how
-/// many are left behind them.
+/// Checks the names after COMPONENTS OF in the type, where so many bytes are left, and returns how
+/// many are left after them.
 ///
 /// # Errors
 ///
@@ -83,7 +83,7 @@ fn check_type(
     Ok(rest)
 }
 
-/// Checks the names behind COMPONENTS OF in these types.
+/// Checks the names after COMPONENTS OF in these types.
 ///
 /// # Errors
 ///
@@ -109,7 +109,7 @@ fn check_types(
 ///
 /// # Errors
 ///
-/// The first name behind COMPONENTS OF that is too large, and `OutOfMemory`.
+/// The first name after COMPONENTS OF that is too large, and `OutOfMemory`.
 pub fn check_included<'t>(
     alloc: Global,
     index: &Index<'t>,

@@ -20,7 +20,7 @@ use crate::included::types::{type_at, type_named};
 use crate::sizes::{past_items, past_name, past_numbers};
 use asn_modules_grammar::notation::{Base, Component, Member, Members, Notation};
 
-/// Returns how many of so many bytes are left behind the type, or `None` where there aren't as
+/// Returns how many of so many bytes are left after the type, or `None` where there aren't as
 /// many, or it nests too deep. This and the others below count a type with all that stands in it.
 #[cycle(count)]
 pub fn past_type(
@@ -39,7 +39,7 @@ pub fn past_type(
     past_base(scope, within, rest, &notation.base)
 }
 
-/// Returns how many are left behind what stands in a type without its tags and constraints.
+/// Returns how many are left after what stands in a type without its tags and constraints.
 #[cycle(count)]
 fn past_base(scope: &Scope<'_, '_, '_>, depth: Depth, left: usize, base: &Base) -> Option<usize>
     ensures { (ss : List Source) → IsIndexOf Types ss scope.now.index.now → result ≡ left_behind
@@ -61,7 +61,7 @@ fn past_base(scope: &Scope<'_, '_, '_>, depth: Depth, left: usize, base: &Base) 
     }
 }
 
-/// Returns how many are left behind members.
+/// Returns how many are left after members.
 #[cycle(count)]
 fn past_members(
     scope: &Scope<'_, '_, '_>,
@@ -80,8 +80,8 @@ fn past_members(
     }
 }
 
-/// Returns how many are left behind the root: what stands before the first extension marker, and
-/// behind the second one.
+/// Returns how many are left after the root: what stands before the first extension marker, and
+/// after the second one.
 #[cycle(count)]
 fn past_root(
     scope: &Scope<'_, '_, '_>,
@@ -103,7 +103,7 @@ fn past_root(
     }
 }
 
-/// Returns how many are left behind entries between braces.
+/// Returns how many are left after entries between braces.
 #[cycle(count)]
 fn past_entries(
     scope: &Scope<'_, '_, '_>,
@@ -122,7 +122,7 @@ fn past_entries(
     Some(rest)
 }
 
-/// Returns how many are left behind an entry.
+/// Returns how many are left after an entry.
 #[cycle(count)]
 fn past_entry(scope: &Scope<'_, '_, '_>, depth: Depth, left: usize, entry: &Member) -> Option<usize>
     ensures { (ss : List Source) → IsIndexOf Types ss scope.now.index.now → result ≡ left_behind
@@ -135,7 +135,7 @@ fn past_entry(scope: &Scope<'_, '_, '_>, depth: Depth, left: usize, entry: &Memb
     }
 }
 
-/// Returns how many are left behind components or alternatives.
+/// Returns how many are left after components or alternatives.
 #[cycle(count)]
 fn past_components(
     scope: &Scope<'_, '_, '_>,
@@ -154,7 +154,7 @@ fn past_components(
     Some(rest)
 }
 
-/// Returns how many are left behind a component or alternative.
+/// Returns how many are left after a component or alternative.
 #[cycle(count)]
 fn past_component(
     scope: &Scope<'_, '_, '_>,
@@ -180,7 +180,7 @@ fn past_component(
     }
 }
 
-/// Returns how many are left behind a type behind COMPONENTS OF, with what it includes.
+/// Returns how many are left after a type after COMPONENTS OF, with what it includes.
 #[cycle(count)]
 fn past_included(
     scope: &Scope<'_, '_, '_>,
@@ -215,7 +215,7 @@ fn past_included(
     }
 }
 
-/// Returns how many are left behind the name behind COMPONENTS OF, with what it includes.
+/// Returns how many are left after the name after COMPONENTS OF, with what it includes.
 #[cycle(count)]
 fn past_named(scope: &Scope<'_, '_, '_>, depth: Depth, left: usize, name: TypeName) -> Option<usize>
     ensures { (ss : List Source) → IsIndexOf Types ss scope.now.index.now → result ≡ left_behind
@@ -226,7 +226,7 @@ fn past_named(scope: &Scope<'_, '_, '_>, depth: Depth, left: usize, name: TypeNa
     past_inclusion(scope, depth, rest, name)
 }
 
-/// Returns how many are left behind what the name behind COMPONENTS OF includes.
+/// Returns how many are left after what the name after COMPONENTS OF includes.
 #[cycle(count)]
 fn past_inclusion(
     scope: &Scope<'_, '_, '_>,
@@ -259,7 +259,7 @@ fn past_inclusion(
     past_included(&there, past, left, named.notation)
 }
 
-/// Returns how many of so many bytes are left behind the name behind COMPONENTS OF, with what it
+/// Returns how many of so many bytes are left after the name after COMPONENTS OF, with what it
 /// includes, or `None` where there aren't as many, or it nests too deep.
 pub fn past_type_name(
     scope: &Scope<'_, '_, '_>,

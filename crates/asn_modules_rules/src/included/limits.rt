@@ -1,11 +1,11 @@
 //! Sets the limits that COMPONENTS OF keeps.
 ghost use Rattle.std.specs.Prelude.{◌≡◌};
 
-/// Limits the names of types that are followed in a row: those behind COMPONENTS OF, and those that
+/// Limits the names of types that are followed in a row: those after COMPONENTS OF, and those that
 /// stand for one another, as `A ::= B`.
 pub const NAME_LIMIT: usize = 64;
 
-/// Is what a type counts besides what stands in it, in bytes. So does a name behind COMPONENTS OF.
+/// Is what a type counts besides what stands in it, in bytes. So does a name after COMPONENTS OF.
 pub const TYPE_SIZE: usize = 64;
 
 /// Is what a type with actual parameters counts besides: no less than the type with parameters that
@@ -16,7 +16,7 @@ pub const INSTANCE_SIZE: usize = 16_384;
 /// and copied. 64 types, of which each includes the next one twice, would include 2^64.
 pub const INCLUDED_SIZE_LIMIT: usize = 4_194_304;
 
-/// Limits the levels to which the types that COMPONENTS OF includes nest, with the names behind it.
+/// Limits the levels to which the types that COMPONENTS OF includes nest, with the names after it.
 /// A text alone has at most 64, but types that include others have those of each, and every level
 /// takes room on the stack.
 pub const INCLUDED_LEVEL_LIMIT: usize = 192;

@@ -1,4 +1,4 @@
-//! Collects the names that stand behind COMPONENTS OF.
+//! Collects the names that stand after COMPONENTS OF.
 ghost use Rattle.asn_modules_rules.specs.included.Behind.{behind, entries_behind, member_behind};
 ghost use Rattle.asn_modules_rules.specs.included.Behind.{members_behind, name_of};
 ghost use Rattle.asn_modules_rules.specs.lists.Extensions.{in_extension};
@@ -102,7 +102,7 @@ fn add_members(names: &mut Vec<TypeName>, members: &Members) -> Result<(), Alloc
     Ok(())
 }
 
-/// Appends those within what stands behind an extension marker.
+/// Appends those within what stands after an extension marker.
 ///
 /// # Errors
 ///
@@ -182,7 +182,7 @@ fn add_component(names: &mut Vec<TypeName>, component: &Component) -> Result<(),
     }
 }
 
-/// Appends the type behind COMPONENTS OF, if it is a name, and those within it.
+/// Appends the type after COMPONENTS OF, if it is a name, and those within it.
 ///
 /// # Errors
 ///

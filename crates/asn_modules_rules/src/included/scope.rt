@@ -1,4 +1,4 @@
-//! Says where names behind COMPONENTS OF stand, and how deep.
+//! Says where names after COMPONENTS OF stand, and how deep.
 ghost use Rattle.std.specs.Prelude.{◌≡◌, ◌+◌, MatchOption};
 
 use crate::included::types::AssignedType;
@@ -20,7 +20,7 @@ pub struct Scope<'a, 's, 't> {
 /// States how deep what is counted may still be.
 #[derive(Clone, Copy, Drop)]
 pub struct Depth {
-    /// Is how many names may be followed behind COMPONENTS OF, one after another.
+    /// Is how many names may be followed after COMPONENTS OF, one after another.
     pub names: usize,
     /// Is how many levels of types may nest.
     pub levels: usize,

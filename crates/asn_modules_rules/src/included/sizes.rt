@@ -9,7 +9,7 @@ use crate::sizes::{ENTRY_SIZE, past_name};
 use asn_lexer::Token;
 use asn_modules_grammar::notation::{Presence, Size, Value};
 
-/// Returns how many of so many bytes are left behind the two names, or `None` where there aren't as
+/// Returns how many of so many bytes are left after the two names, or `None` where there aren't as
 /// many. It is the same with the others below.
 fn past_both(left: usize, first: Token, second: Token) -> Option<usize>
     ensures { result ≡ past left (name_size first + name_size second) }
@@ -18,7 +18,7 @@ fn past_both(left: usize, first: Token, second: Token) -> Option<usize>
     past_name(rest, second)
 }
 
-/// Returns how many are left behind the name of a type, with that of its module where it is stated.
+/// Returns how many are left after the name of a type, with that of its module where it is stated.
 pub fn past_reference(left: usize, home: Option<Token>, name: Token) -> Option<usize>
     ensures { result ≡ past left (reference_size home name) }
 {
@@ -28,14 +28,14 @@ pub fn past_reference(left: usize, home: Option<Token>, name: Token) -> Option<u
     }
 }
 
-/// Returns how many are left behind a type with actual parameters.
+/// Returns how many are left after a type with actual parameters.
 pub fn past_instance(left: usize) -> Option<usize>
     ensures { result ≡ past left INSTANCE_SIZE }
 {
     left.checked_sub(INSTANCE_SIZE)
 }
 
-/// Returns how many are left behind the value.
+/// Returns how many are left after the value.
 fn past_value(left: usize, value: Value) -> Option<usize>
     ensures { result ≡ past left (value_size value) }
 {
@@ -50,7 +50,7 @@ fn past_value(left: usize, value: Value) -> Option<usize>
     }
 }
 
-/// Returns how many are left behind the DEFAULT, if there is one.
+/// Returns how many are left after the DEFAULT, if there is one.
 pub fn past_presence(left: usize, presence: Presence) -> Option<usize>
     ensures { result ≡ past left (presence_size presence) }
 {
@@ -61,7 +61,7 @@ pub fn past_presence(left: usize, presence: Presence) -> Option<usize>
     }
 }
 
-/// Returns how many are left behind the size that a constraint states.
+/// Returns how many are left after the size that a constraint states.
 fn past_constraint(left: usize, size: Size) -> Option<usize>
     ensures { result ≡ past left (constraint_size size) }
 {
@@ -69,7 +69,7 @@ fn past_constraint(left: usize, size: Size) -> Option<usize>
     past_both(rest, size.low, size.high)
 }
 
-/// Returns how many are left behind the sizes that constraints state.
+/// Returns how many are left after the sizes that constraints state.
 pub fn past_constraints(left: usize, sizes: &[Size]) -> Option<usize>
     ensures { result ≡ past left (constraints_size sizes.now) }
 {

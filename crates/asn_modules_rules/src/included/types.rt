@@ -26,7 +26,7 @@ pub struct AssignedType<'s, 't> {
     pub home: Home<'s, 't>,
     /// Describes the type.
     pub notation: &'s Notation,
-    /// Lists the names behind COMPONENTS OF in it, in order.
+    /// Lists the names after COMPONENTS OF in it, in order.
     pub behind: Vec<TypeName>,
     /// Is the number of the type that it is the name of; `None` where it is no name, or that type
     /// is missing.

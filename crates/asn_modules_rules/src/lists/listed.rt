@@ -41,7 +41,7 @@ fn add_items(names: &mut Vec<Token>, items: &[Item]) -> Result<(), AllocError>
     Ok(())
 }
 
-/// Appends the names of the items, and of those behind the extension marker.
+/// Appends the names of the items, and of those after the extension marker.
 ///
 /// # Errors
 ///

@@ -73,7 +73,7 @@ fn add_entries(names: &mut Vec<Token>, entries: &[Member]) -> Result<(), AllocEr
     Ok(())
 }
 
-/// Appends the names of what stands behind an extension marker.
+/// Appends the names of what stands after an extension marker.
 ///
 /// # Errors
 ///

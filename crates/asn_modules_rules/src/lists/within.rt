@@ -61,7 +61,7 @@ fn add_members<'s, 't>(
     Ok(())
 }
 
-/// Appends the types within what stands behind an extension marker.
+/// Appends the types within what stands after an extension marker.
 ///
 /// # Errors
 ///

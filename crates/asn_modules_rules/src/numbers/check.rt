@@ -19,7 +19,7 @@ use asn_modules_names::{broken, mention_of};
 use asn_modules_reader::text::Source;
 use std::alloc::{AllocError, Global};
 
-/// Returns the items behind the extension marker.
+/// Returns the items after the extension marker.
 fn added_items(added: &Option<Vec<Item>>) -> &[Item]
     ensures { (items : Vec spec.Item) → result.now ≡ added_items (items_view items added.now) }
 {

@@ -61,7 +61,7 @@ fn above(number: i128) -> i128
     if number < 0 { 0 } else { number + 1 }
 }
 
-/// Returns the least number that the items behind one of this number may be given, where `next` was
+/// Returns the least number that the items after one of this number may be given, where `next` was
 /// the least for it.
 pub fn next_behind(is_added: bool, next: i128, number: i128, stated: Option<i128>) -> i128
     requires small { number <ℤ pos (2 ^ 64) }

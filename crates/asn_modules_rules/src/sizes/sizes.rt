@@ -11,7 +11,7 @@ use asn_modules_grammar::notation::{Item, NamedNumber};
 /// Is what an item or a named number counts besides its name, in bytes.
 pub const ENTRY_SIZE: usize = 64;
 
-/// Returns how many of so many bytes are left behind the name, or `None` where there aren't as
+/// Returns how many of so many bytes are left after the name, or `None` where there aren't as
 /// many. This and the others below count what stands in a text, and not where.
 pub fn past_name(left: usize, name: Token) -> Option<usize>
     ensures { result ≡ past left (name_size name) }
@@ -19,14 +19,14 @@ pub fn past_name(left: usize, name: Token) -> Option<usize>
     left.checked_sub(name.end.saturating_sub(name.start))
 }
 
-/// Returns how many are left behind an item or a named number of the name.
+/// Returns how many are left after an item or a named number of the name.
 fn past_entry(left: usize, name: Token) -> Option<usize>
     ensures { result ≡ past left (entry_size name) }
 {
     past_name(left.checked_sub(ENTRY_SIZE)?, name)
 }
 
-/// Returns how many are left behind named numbers.
+/// Returns how many are left after named numbers.
 pub fn past_numbers(left: usize, named: &[NamedNumber]) -> Option<usize>
     ensures { result ≡ past left (numbers_size named.now) }
 {
@@ -37,7 +37,7 @@ pub fn past_numbers(left: usize, named: &[NamedNumber]) -> Option<usize>
     Some(rest)
 }
 
-/// Returns how many are left behind items without an extension marker among them.
+/// Returns how many are left after items without an extension marker among them.
 fn past_list(left: usize, items: &[Item]) -> Option<usize>
     ensures { result ≡ past left (sum_by (λ i. entry_size i.name) items.now) }
 {
@@ -48,7 +48,7 @@ fn past_list(left: usize, items: &[Item]) -> Option<usize>
     Some(rest)
 }
 
-/// Returns how many are left behind the items of an ENUMERATED, and `added` behind its extension
+/// Returns how many are left after the items of an ENUMERATED, and `added` after its extension
 /// marker, if there is one.
 pub fn past_items(left: usize, items: &Vec<Item>, added: &Option<Vec<Item>>) -> Option<usize>
     ensures { result ≡ past left (items_size (items_view items.now added.now)) }

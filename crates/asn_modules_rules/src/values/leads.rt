@@ -60,7 +60,7 @@ fn copy_of(alloc: Global, nexts: &[Option<usize>]) -> Result<Vec<Option<usize>>,
     Ok(copy)
 }
 
-/// Returns where each number leads past so many others.
+/// Returns where each number leads past this number of others.
 ///
 /// # Errors
 ///

@@ -73,7 +73,7 @@ first_in n text (e ∷ es) k word =
 abbrev named_by : List ℕ → StatedType → Option Constant
 named_by word t = first_named t.text (numbers_in t.notation) word
 
--- Types behind the one of the number don't matter, nor do those before it.
+-- Types after the one of the number don't matter, nor do those before it.
 first_before : (n k : ℕ) (word : List ℕ) (ts : List StatedType) → k < n → first_of same_key (entries_of n ts) (k, word) ≡ None
 first_before n k word [] h = refl
 first_before n k word (t ∷ ts) h =

@@ -21,8 +21,10 @@ numbers_in (notation tags base sizes) = []
 -- What stands for the number that the word names first among these.
 abbrev pub first_named : List ℕ → List NamedNumber → List ℕ → Option Constant
 first_named text [] word = None
-first_named text (n ∷ ns) word = if bytes_eq (text_of text n.name) word then Some n.number else first_named text ns word
+first_named text (n ∷ ns) word =
+    if bytes_eq (text_of text n.name) word then Some n.number else first_named text ns word
 
 -- What stands for the number that the word names first in the type of number n.
 abbrev pub constant_named : List StatedType → ℕ → List ℕ → Option Constant
-constant_named types n word = option_and_then (λ t. first_named t.text (numbers_in t.notation) word) (slice_get types n)
+constant_named types n word =
+    option_and_then (λ t. first_named t.text (numbers_in t.notation) word) (slice_get types n)

@@ -8,4 +8,5 @@ use Rattle.asn_modules_types.specs.declared.named_numbers.numbers.NamedNumbers.{
 
 -- The table is that of the named numbers of these types.
 pub record AreNumbersOf (types : List StatedType) (numbers : NamedNumbers) : Type 0 where
-  pub first : (q : ℕ × Bor (List ℕ)) → get same_pair numbers.first q ≡ constant_named types q.0 q.1.now
+  pub first : (q : ℕ × Bor (List ℕ))
+      → get same_pair numbers.first q ≡ constant_named types q.0 q.1.now

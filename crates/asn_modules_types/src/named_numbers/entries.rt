@@ -18,7 +18,7 @@ pub struct StatedType<'s, 't> {
     pub notation: &'s Notation,
 }
 
-/// Is the name of a number behind the number of its type.
+/// Is the name of a number after the number of its type.
 pub type Key<'t> = (usize, &'t [u8]);
 
 /// Returns the named numbers of an INTEGER, and none of another type.

@@ -1,4 +1,4 @@
--- Behind the last type there is no text.
+-- After the last type there is no text.
 use Rattle.std.proofs.Common.{◌≤◌, arith, length, min, rules, string_bytes}
 use Rattle.asn_command.proofs.TextsOn.{texts_all}
 use Rattle.asn_command.proofs.listing.texts_of.Goals as goal

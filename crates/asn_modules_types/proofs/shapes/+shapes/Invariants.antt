@@ -5,7 +5,7 @@ use Rattle.asn_modules_types.specs.Known.{known_parts, parts_view, place_view, r
 use Rattle.asn_modules_types.specs.declared.limits.TheConstants.{NAME_LIMIT}
 use Rattle.asn_modules_types.proofs.shapes.+shapes.Given as goal
 
--- Each type, and each name behind COMPONENTS OF, takes one of those that may still be made.
+-- Each type, and each name after COMPONENTS OF, takes one of those that may still be made.
 abbrev pub decreases-shape_of : goal.decreases-shape_of
 decreases-shape_of l = 8 * l.left.now.types
 

@@ -8,7 +8,7 @@ use Rattle.asn_modules_grammar.specs.notation.View.{component_view}
 use Rattle.asn_modules_reader.specs.Views.{member_view}
 use Rattle.asn_modules_rules.proofs.included.count.+count.Given as goal
 
--- Each type, and each name behind COMPONENTS OF, takes a level.
+-- Each type, and each name after COMPONENTS OF, takes a level.
 abbrev pub decreases-past_type : goal.decreases-past_type
 decreases-past_type l = 8 * l.depth.levels
 

@@ -91,7 +91,7 @@ fn no_line(alloc: Global, origin: Origin<'_>) -> Result<String, OutOfMemory>
 /// # Errors
 ///
 /// `OutOfMemory` alone.
-fn laid_reply<P: Part>(
+fn lay_out_reply<P: Part>(
     alloc: Global,
     part: P,
     origin: Origin<'_>,
@@ -124,7 +124,7 @@ fn line_reply<P: Part>(
 {
     if let Codec::Avn = conversion.to {
         if written.contains('\n') {
-            return Ok(laid_reply(alloc, conversion.part, origin, &written)?);
+            return Ok(lay_out_reply(alloc, conversion.part, origin, &written)?);
         }
     }
     Ok(LineReply::Answer(with_feed(written)?))

@@ -2,4 +2,4 @@
 
 mod sizes;
 
-pub use sizes::{ENTRY_SIZE, past_items, past_name, past_numbers};
+pub use sizes::{ENTRY_SIZE, take_items, take_name, take_numbers};

@@ -15,20 +15,20 @@ use crate::names::Names;
 use crate::scope::Scope;
 use asn_model::Shape;
 use asn_modules_grammar::notation::{Base, Presence};
-use asn_modules_rules::sizes::past_items;
+use asn_modules_rules::sizes::take_items;
 
 /// Returns a copy of the type of the number, by what it is without tags and sizes, if it is an
 /// ENUMERATED whose items take few bytes, else the number.
 ///
 /// # Errors
 ///
-/// `OutOfMemory` alone.
+/// Only `OutOfMemory`.
 fn copied_base(scope: &Scope<'_, '_, '_>, number: u32, base: &Base) -> Result<Shape, LinkFault>
     ensures { IfOk result (λ s. shape_view s
         ≡ copied_base number (home_view scope.now.home) (base_view base.now)) }
 {
     match base {
-        Base::Enumerated { items, added } => match past_items(DEFAULT_ITEMS_LIMIT, items, added) {
+        Base::Enumerated { items, added } => match take_items(DEFAULT_ITEMS_LIMIT, items, added) {
             Some(_) => Ok(enumerated_shape(scope, items, added)?),
             None => Ok(Shape::Back(number)),
         },
@@ -49,7 +49,7 @@ fn copied_base(scope: &Scope<'_, '_, '_>, number: u32, base: &Base) -> Result<Sh
 ///
 /// # Errors
 ///
-/// `OutOfMemory` alone.
+/// Only `OutOfMemory`.
 fn copied_type(names: &Names<'_, '_>, number: u32) -> Result<Shape, LinkFault>
     requires known { KnowsNames names.now }
     ensures { IfOk result (λ s. shape_view s ≡ copied_type (sources_of names.now) number) }
@@ -75,7 +75,7 @@ fn copied_type(names: &Names<'_, '_>, number: u32) -> Result<Shape, LinkFault>
 ///
 /// # Errors
 ///
-/// `OutOfMemory` alone.
+/// Only `OutOfMemory`.
 pub fn component_shape(
     names: &Names<'_, '_>,
     presence: Presence,

@@ -141,7 +141,7 @@ fn boolean_named(word: &[u8]) -> Option<Plain>
 ///
 /// # Errors
 ///
-/// `OutOfMemory` alone.
+/// Only `OutOfMemory`.
 fn word_plain(alloc: Global, shape: &Shape, word: &[u8]) -> Result<Option<Plain>, LinkFault>
     ensures { IfOk result (λ o. option_map plain_view o
         ≡ word_plain (shape_view shape.now) word.now) }
@@ -157,7 +157,7 @@ fn word_plain(alloc: Global, shape: &Shape, word: &[u8]) -> Result<Option<Plain>
 ///
 /// # Errors
 ///
-/// `OutOfMemory` alone.
+/// Only `OutOfMemory`.
 fn string_plain(
     alloc: Global,
     shape: &Shape,
@@ -181,7 +181,7 @@ fn string_plain(
 ///
 /// # Errors
 ///
-/// `OutOfMemory` alone.
+/// Only `OutOfMemory`.
 fn plain_in(
     alloc: Global,
     shape: &Shape,
@@ -219,7 +219,7 @@ fn suited(shape: &Shape, plain: Option<Plain>) -> Option<Plain>
 ///
 /// # Errors
 ///
-/// `OutOfMemory` alone.
+/// Only `OutOfMemory`.
 fn suited_in(
     alloc: Global,
     shape: &Shape,
@@ -238,7 +238,7 @@ fn suited_in(
 ///
 /// # Errors
 ///
-/// `OutOfMemory` alone.
+/// Only `OutOfMemory`.
 #[cycle(defaults)]
 fn default_from<'s, 't>(
     scope: &Scope<'_, 's, 't>,
@@ -320,7 +320,7 @@ fn suited_number(shape: &Shape, number: Option<i128>) -> Option<Plain>
 ///
 /// # Errors
 ///
-/// `OutOfMemory` alone.
+/// Only `OutOfMemory`.
 fn default_of(
     scope: &Scope<'_, '_, '_>,
     notation: &Notation,
@@ -344,7 +344,7 @@ fn default_of(
 ///
 /// # Errors
 ///
-/// `OutOfMemory` alone.
+/// Only `OutOfMemory`.
 pub fn presence_of(
     scope: &Scope<'_, '_, '_>,
     grouped: bool,

@@ -47,7 +47,7 @@ pub struct Names<'s, 't> {
 ///
 /// # Errors
 ///
-/// `OutOfMemory` alone.
+/// Only `OutOfMemory`.
 #[cycle(follow)]
 pub fn named_type(names: &Names<'_, '_>, more: usize, number: usize) -> Result<Shape, LinkFault>
     requires known { KnowsNames names.now }
@@ -81,7 +81,7 @@ pub fn named_type(names: &Names<'_, '_>, more: usize, number: usize) -> Result<S
 ///
 /// # Errors
 ///
-/// `OutOfMemory` alone.
+/// Only `OutOfMemory`.
 #[cycle(follow)]
 pub fn unit_shape(
     scope: &Scope<'_, '_, '_>,

@@ -169,7 +169,7 @@ fn instance_shape(
 ///
 /// # Errors
 ///
-/// `OutOfMemory` alone.
+/// Only `OutOfMemory`.
 fn unnumbered_shape(scope: &Scope<'_, '_, '_>, base: &Base) -> Result<Shape, LinkFault>
     requires known { KnowsNames scope.now.names.now }
     requires unit { is_numbered (base_view base.now) ≡ false }

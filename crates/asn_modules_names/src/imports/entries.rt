@@ -45,7 +45,7 @@ fn name_of(assignment: &Assignment) -> Token
 }
 
 /// Returns the names that the header lists as exports: none where it exports all.
-fn listed_exports(header: &Option<Header>) -> &[Token]
+fn exports_of(header: &Option<Header>) -> &[Token]
     ensures { result.now
         ≡ names_in (exports_of (option_map headers.header_view header.now)) }
 {
@@ -159,7 +159,7 @@ fn add_listed<'t>(
         Listed::Assigned => {
             add_assigned(entries, number, home, home.parsed.assignments.as_slice())
         }
-        Listed::Exported => add_names(entries, number, home, listed_exports(&home.parsed.header)),
+        Listed::Exported => add_names(entries, number, home, exports_of(&home.parsed.header)),
         Listed::Held => add_held(entries, number, home),
     }
 }

@@ -17,7 +17,7 @@ use crate::included::names::TypeName;
 use crate::included::scope::{Depth, Scope};
 use crate::included::sizes::{past_constraints, past_instance, past_presence, past_reference};
 use crate::included::types::{type_at, type_named};
-use crate::sizes::{past_items, past_name, past_numbers};
+use crate::sizes::{take_items, take_name, take_numbers};
 use asn_modules_grammar::notation::{Base, Component, Member, Members, Notation};
 
 /// Returns how many of so many bytes are left after the type, or `None` where there aren't as
@@ -52,8 +52,8 @@ fn past_base(scope: &Scope<'_, '_, '_>, depth: Depth, left: usize, base: &Base) 
         Base::SequenceOf(element) => past_type(scope, depth, left, element),
         Base::SetOf(element) => past_type(scope, depth, left, element),
         Base::Choice(alternatives) => past_members(scope, depth, left, alternatives),
-        Base::Integer(named) => past_numbers(left, named),
-        Base::Enumerated { items, added } => past_items(left, items, added),
+        Base::Integer(named) => take_numbers(left, named),
+        Base::Enumerated { items, added } => take_items(left, items, added),
         Base::Reference { module, name } => past_reference(left, *module, *name),
         Base::Instance { .. } => past_instance(left),
         Base::Leaf(_) => Some(left),
@@ -172,7 +172,7 @@ fn past_component(
             notation,
             presence,
         } => {
-            let named = past_name(left, *name)?;
+            let named = take_name(left, *name)?;
             let rest = past_presence(named, *presence)?;
             past_type(scope, depth, rest, notation)
         }

@@ -5,7 +5,7 @@ ghost use Rattle.asn_modules_rules.specs.sizes.Sizes.{name_size, past};
 ghost use Rattle.std.specs.Prelude.{◌≡◌, ◌+◌};
 
 use crate::included::limits::INSTANCE_SIZE;
-use crate::sizes::{ENTRY_SIZE, past_name};
+use crate::sizes::{ENTRY_SIZE, take_name};
 use asn_lexer::Token;
 use asn_modules_grammar::notation::{Presence, Size, Value};
 
@@ -14,8 +14,8 @@ use asn_modules_grammar::notation::{Presence, Size, Value};
 fn past_both(left: usize, first: Token, second: Token) -> Option<usize>
     ensures { result ≡ past left (name_size first + name_size second) }
 {
-    let rest = past_name(left, first)?;
-    past_name(rest, second)
+    let rest = take_name(left, first)?;
+    take_name(rest, second)
 }
 
 /// Returns how many are left after the name of a type, with that of its module where it is stated.
@@ -24,7 +24,7 @@ pub fn past_reference(left: usize, home: Option<Token>, name: Token) -> Option<u
 {
     match home {
         Some(home) => past_both(left, home, name),
-        None => past_name(left, name),
+        None => take_name(left, name),
     }
 }
 
@@ -40,13 +40,13 @@ fn past_value(left: usize, value: Value) -> Option<usize>
     ensures { result ≡ past left (value_size value) }
 {
     match value {
-        Value::Number(number) => past_name(left, number.digits),
-        Value::Cstring(token) => past_name(left, token),
-        Value::Bstring(token) => past_name(left, token),
-        Value::Hstring(token) => past_name(left, token),
-        Value::Word(token) => past_name(left, token),
+        Value::Number(number) => take_name(left, number.digits),
+        Value::Cstring(token) => take_name(left, token),
+        Value::Bstring(token) => take_name(left, token),
+        Value::Hstring(token) => take_name(left, token),
+        Value::Word(token) => take_name(left, token),
         Value::Qualified { module, name } => past_both(left, module, name),
-        Value::Other(token) => past_name(left, token),
+        Value::Other(token) => take_name(left, token),
     }
 }
 

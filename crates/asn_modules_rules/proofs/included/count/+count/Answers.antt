@@ -53,15 +53,15 @@ past_base-returns-in-Choice t c = λ ss is.
 pub past_base-returns-in-Integer : goal.past_base-returns-in-Integer
 past_base-returns-in-Integer t c = λ ss is.
     let named = c.in-Integer.named in
-    base_on (inclusions_in ss c.args.scope.now c.args.depth.names) c.args.base.now (integer named.items) c.args.left c.args.depth.levels c.past_numbers.result (ap base_view c.in-Integer.is ∙ integer_viewed named)
-    (c.past_numbers.ensures ∙ ap (λ l. past c.args.left (numbers_size l)) c.deref-in-Integer.ensures.value ∙ sym (left_size (numbers_size named.items) c.args.left c.args.depth.levels))
+    base_on (inclusions_in ss c.args.scope.now c.args.depth.names) c.args.base.now (integer named.items) c.args.left c.args.depth.levels c.take_numbers.result (ap base_view c.in-Integer.is ∙ integer_viewed named)
+    (c.take_numbers.ensures ∙ ap (λ l. past c.args.left (numbers_size l)) c.deref-in-Integer.ensures.value ∙ sym (left_size (numbers_size named.items) c.args.left c.args.depth.levels))
 
 pub past_base-returns-in-Enumerated : goal.past_base-returns-in-Enumerated
 past_base-returns-in-Enumerated t c = λ ss is.
     let items = c.in-Enumerated.items in
     let added = c.in-Enumerated.added in
-    base_on (inclusions_in ss c.args.scope.now c.args.depth.names) c.args.base.now (enumerated (items_view items added)) c.args.left c.args.depth.levels c.past_items.result (ap base_view c.in-Enumerated.is ∙ enumerated_viewed items added)
-    (c.past_items.ensures ∙ sym (left_size (items_size (items_view items added)) c.args.left c.args.depth.levels))
+    base_on (inclusions_in ss c.args.scope.now c.args.depth.names) c.args.base.now (enumerated (items_view items added)) c.args.left c.args.depth.levels c.take_items.result (ap base_view c.in-Enumerated.is ∙ enumerated_viewed items added)
+    (c.take_items.ensures ∙ sym (left_size (items_size (items_view items added)) c.args.left c.args.depth.levels))
 
 pub past_base-returns-in-Reference : goal.past_base-returns-in-Reference
 past_base-returns-in-Reference t c = λ ss is.

@@ -1,7 +1,7 @@
 use Rattle.std.proofs.Common.{◌≡◌, drop}
 use Rattle.asn_modules_rules.specs.sizes.Sizes.{entry_size}
 use Rattle.asn_modules_rules.proofs.sizes.Past.{past_all}
-use Rattle.asn_modules_rules.proofs.sizes.sizes.past_list.Given as goal
+use Rattle.asn_modules_rules.proofs.sizes.sizes.take_list.Given as goal
 
 -- The items that are left leave of the rest what all leave.
 abbrev pub invariant-loop-item : goal.invariant-loop-item

@@ -60,6 +60,19 @@ fn read_field(tokens: &[Token]) -> Result<(Start, &[Token]), SyntaxFault>
     Ok((Start::Leaf(Leaf::Closed(Closed::ClassField)), rest))
 }
 
+/// Returns the refusal of a name that begins with a small letter, where a type is expected. With `<`
+/// after it, it begins a selection type (X.680, section 30), which isn't read.
+fn refuse_small(name: Token, tokens: &[Token]) -> SyntaxFault {
+    let met = match tokens {
+        [sign, ..] if matches!(sign.kind, Kind::Less) => *sign,
+        _ => name,
+    };
+    SyntaxFault::Unexpected {
+        met: Some(met),
+        expected: Expected::Type,
+    }
+}
+
 /// Returns the type of this name, or what the fields are of a class, an object or a set of them of
 /// this name, and what follows. `home` is the name of the module, where it is stated.
 ///
@@ -79,10 +92,7 @@ fn read_named(
         return read_field(tokens);
     }
     if is_small(name.kind) {
-        return Err(SyntaxFault::Unexpected {
-            met: Some(name),
-            expected: Expected::Type,
-        });
+        return Err(refuse_small(name, tokens));
     }
     Ok((Start::Reference { module: home, name }, tokens))
 }

@@ -5,4 +5,5 @@ pub mod BasesRead
 pub mod MembersRead
 pub mod BracesRead
 pub mod HeadersShorter
-pub mod ModulesRead
+pub mod MacrosRead
+mod ModulesRead

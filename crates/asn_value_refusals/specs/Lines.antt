@@ -19,18 +19,18 @@ use Rattle.asn_lexer.specs.Places.{column_after, line_after}
 use Rattle.asn_value_refusals.specs.declared.origin.Origin.{Origin}
 use Rattle.serde_json.specs.Read.{read as read_text}
 
--- The number of a line behind a colon, if there is one.
+-- The number of a line after a colon, if there is one.
 abbrev pub line_text : Option ℕ → List ℕ
 line_text None = []
 line_text (Some n) = codes ":" ++ decimal n
 
--- A step behind this text: the name of a field or an alternative, or the place of an element.
+-- A step after this text: the name of a field or an alternative, or the place of an element.
 abbrev pub step_text : List ℕ → Step → List ℕ
 step_text point (Field n) = point ++ string_bytes n
 step_text point (Alternative n) = point ++ string_bytes n
 step_text point (Element i) = codes "[" ++ (decimal i ++ codes "]")
 
--- The steps on the way, as `head.list[2].item`, and a colon and a blank behind them.
+-- The steps on the way, as `head.list[2].item`, and a colon and a blank after them.
 abbrev pub path_text : List Step → List ℕ
 path_text [] = []
 path_text (s ∷ ss) = (step_text [] s ++ flat_map (step_text (codes ".")) ss) ++ codes ": "
@@ -40,7 +40,7 @@ abbrev pub reason_text : ConvertError → List ℕ
 reason_text (Read e) = path_text e.path.items ++ dyn_kind_text e.kind
 reason_text (Write e) = encode_kind_text e.kind
 
--- What a text comes from: the file, and the number of the line behind it in a stream of lines.
+-- What a text comes from: the file, and the number of the line after it in a stream of lines.
 abbrev pub origin_text : Origin → List ℕ
 origin_text o = o.file.now ++ line_text o.line
 
@@ -52,7 +52,8 @@ line_origin file number = record { file = file; line = Some number }
 abbrev pub not_text_line : Origin → List ℕ
 not_text_line o = origin_text o ++ codes ": isn't UTF-8\n"
 
--- A character as it is shown: a blank in place of one that controls a terminal, a line feed among them.
+-- A character as it is shown: a blank in place of one that controls a terminal, a line feed among
+-- them.
 abbrev pub visible : ℕ → ℕ
 visible c = if is_control c then 32 else c
 
@@ -60,7 +61,8 @@ visible c = if is_control c then 32 else c
 abbrev pub on_one_line : List ℕ → List ℕ
 on_one_line text = encode_utf8_all (map visible (chars text))
 
--- A text is refused with this since it is no JSON, or no value notation: the text itself is at fault, and not its value.
+-- A text is refused with this since it is no JSON, or no value notation: the text itself is at
+-- fault, and not its value.
 abbrev pub is_syntax_kind : List ℕ → DecodeErrorKind → Bool
 is_syntax_kind text (Parser msg) = not (is_some (read_text text))
 is_syntax_kind text (CodecSpecific (Avn (UnexpectedToken found))) = true
@@ -74,16 +76,18 @@ abbrev pub is_text_at_fault : List ℕ → ConvertError → Bool
 is_text_at_fault text (Read e) = is_syntax_fault text e.kind
 is_text_at_fault text (Write e) = false
 
--- The line of a place behind this front of a text: in a stream of lines, that of the stream.
+-- The line of a place after this front of a text: in a stream of lines, that of the stream.
 abbrev pub line_from : Option ℕ → List ℕ → ℕ
 line_from None front = line_after front
 line_from (Some n) front = n
 
--- The file, and the line and the column of the place behind this front of a text.
+-- The file, and the line and the column of the place after this front of a text.
 abbrev pub place_text : Origin → List ℕ → List ℕ
-place_text o front = o.file.now ++ (codes ":" ++ (decimal (line_from o.line front) ++ (codes ":" ++ decimal (column_after front))))
+place_text o front =
+    o.file.now
+    ++ (codes ":" ++ (decimal (line_from o.line front) ++ (codes ":" ++ decimal (column_after front))))
 
--- A line of a text is shown, and below it a caret behind blanks.
+-- A line of a text is shown, and below it a caret after blanks.
 pub record IsExcerpt (bytes : List ℕ) : Type 0 where
   pub line : List ℕ
   pub blanks : List ℕ
@@ -93,12 +97,15 @@ pub record IsExcerpt (bytes : List ℕ) : Type 0 where
 abbrev pub IsExplanation : Bool → List ℕ → Type 0
 IsExplanation explain more = MatchBool explain (IsExcerpt more) (more ≡ [])
 
--- The line of a refusal for its reason, behind what the text comes from.
+-- The line of a refusal for its reason, after what the text comes from.
 abbrev pub refusal_line : List ℕ → ConvertError → List ℕ
 refusal_line front e = on_one_line (front ++ (codes ": " ++ reason_text e)) ++ codes "\n"
 
--- The lines of a refusal of a text that is at fault itself: behind a place in the text, with what stands there if that is asked for.
-pub record IsTextRefusal (o : Origin) (e : ConvertError) (text : List ℕ) (explain : Bool) (lines : List ℕ) : Type 0 where
+-- The lines of a refusal of a text that is at fault itself: after a place in the text, with what
+-- stands there if that is asked for.
+pub record IsTextRefusal (o : Origin) (e : ConvertError) (text : List ℕ) (explain : Bool)
+    (lines : List ℕ)
+    : Type 0 where
   pub offset : ℕ
   pub more : List ℕ
   pub shown : IsExplanation explain more
@@ -106,4 +113,6 @@ pub record IsTextRefusal (o : Origin) (e : ConvertError) (text : List ℕ) (expl
 
 -- The lines that say why the text of this origin is refused with this error.
 abbrev pub IsRefusalLines : Origin → ConvertError → List ℕ → Bool → List ℕ → Type 0
-IsRefusalLines o e text explain lines = MatchBool (is_text_at_fault text e) (IsTextRefusal o e text explain lines) (lines ≡ refusal_line (origin_text o) e)
+IsRefusalLines o e text explain lines =
+    MatchBool (is_text_at_fault text e) (IsTextRefusal o e text explain lines)
+    (lines ≡ refusal_line (origin_text o) e)

@@ -11,7 +11,7 @@ use asn_dynamic::{ConvertError, Step};
 use asn_lexer::place_of;
 use std::alloc::Global;
 
-/// Returns a step on the way: the name of a field or an alternative behind `point`, or the place of
+/// Returns a step on the way: the name of a field or an alternative after `point`, or the place of
 /// an element in brackets.
 ///
 /// # Errors
@@ -27,7 +27,7 @@ fn step_text(alloc: Global, point: &str, step: &Step) -> Result<String, OutOfMem
     }
 }
 
-/// Returns the steps on the way, as `head.list[2].item`, and a colon and a blank behind them; it is
+/// Returns the steps on the way, as `head.list[2].item`, and a colon and a blank after them; it is
 /// empty where there are none.
 ///
 /// # Errors
@@ -69,7 +69,7 @@ fn reason_of(alloc: Global, error: &ConvertError) -> Result<String, OutOfMemory>
     }
 }
 
-/// Returns the line of a refusal for its reason, with a line feed behind it.
+/// Returns the line of a refusal for its reason, with a line feed after it.
 ///
 /// # Errors
 ///
@@ -84,7 +84,7 @@ fn line_of(alloc: Global, front: &str, reason: &str) -> Result<String, OutOfMemo
     Ok(line)
 }
 
-/// Returns the line and the column of the offset in the text of this origin, behind the file. In a
+/// Returns the line and the column of the offset in the text of this origin, after the file. In a
 /// stream of lines the line is that of the stream.
 ///
 /// # Errors
@@ -129,7 +129,7 @@ fn explanation(
 }
 
 /// Returns the lines for an error by which a text of this origin isn't converted, the first of
-/// which has no character that controls a terminal: the file and the line behind it, the way to
+/// which has no character that controls a terminal: the file and the line after it, the way to
 /// what is refused, as `head.list[2].item: `, and the reason. Where the text is
 /// none of its notation, the file stands there with the line and the column, and with `explain` two
 /// more lines show that place.

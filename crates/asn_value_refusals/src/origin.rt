@@ -15,7 +15,7 @@ pub struct Origin<'a> {
     pub line: Option<u64>,
 }
 
-/// Returns the name of the file, and behind a colon the number of the line, if there is one.
+/// Returns the name of the file, and after a colon the number of the line, if there is one.
 ///
 /// # Errors
 ///

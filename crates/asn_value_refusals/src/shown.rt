@@ -8,7 +8,7 @@ use std::alloc::Global;
 /// Limits the characters of a line that are shown on either side of the place.
 const MOST_SHOWN: usize = 38;
 
-/// Returns what stands behind the last line feed of a text.
+/// Returns what stands after the last line feed of a text.
 fn last_line(text: &str) -> &str {
     match text.rsplit_once('\n') {
         Some((_lines, line)) => line,

@@ -42,7 +42,7 @@ impl Braces {
         })
     }
 
-    /// Returns the braces behind a value of theirs, which is an integer or not.
+    /// Returns the braces after a value of theirs, which is an integer or not.
     pub fn behind_value(self, is_integer: bool) -> Braces {
         Braces {
             named: self.named,

@@ -39,7 +39,7 @@ const FAULTS: [&str; 33] = [
     "{ 1.5 |2 }",
 ];
 
-/// Each text is told at its bar, which is left out.
+/// Each text is reported at its bar, which is left out.
 #[test]
 fn faults_are_told_at_their_place(rt: HostRuntime) -> Result<(), Fail> {
     for marked in FAULTS {

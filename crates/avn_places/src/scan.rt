@@ -11,7 +11,7 @@ use std::alloc::Global;
 enum Expected {
     /// Is a value.
     Value,
-    /// Is an item of braces: a value, or one behind its name.
+    /// Is an item of braces: a value, or one after its name.
     Item,
     /// Is what follows a value, an integer or another one.
     Behind { is_integer: bool },
@@ -79,7 +79,7 @@ fn item<'t>(open: &mut Vec<Braces>, text: &'t str) -> Result<Step<'t>, OutOfMemo
     Ok(Step::On(rest, expected))
 }
 
-/// Passes what stands behind a value: a comma or a closing brace, or nothing before a number that
+/// Passes what stands after a value: a comma or a closing brace, or nothing before a number that
 /// follows other numbers, or the end of the text.
 ///
 /// # Errors

@@ -26,7 +26,7 @@ pub fn past_name(text: &str) -> Option<&str> {
 /// Is a value that is no braces: what follows it in the text, and whether it is an integer.
 #[derive(Clone, Copy, Drop)]
 pub struct Simple<'t> {
-    /// Is the text behind it.
+    /// Is the text after it.
     pub rest: &'t str,
     /// States whether it is an integer.
     pub is_integer: bool,

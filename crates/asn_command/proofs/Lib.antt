@@ -1,4 +1,5 @@
 mod Delivering
+mod Feedless
 mod Laid
 mod Refused
 mod TextsOn

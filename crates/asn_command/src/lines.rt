@@ -1,9 +1,10 @@
 //! Converts a stream of texts, one a line.
 ghost use Rattle.asn_command.specs.Conversions.{IsLineConversion, IsLineOf, IsSameLine};
 ghost use Rattle.asn_command.specs.Conversions.{no_line_line};
+ghost use Rattle.asn_command.specs.OneLine.{HasNoFeed};
 ghost use Rattle.asn_core.specs.declared.codec.Codec.TheVariants as codec;
 ghost use Rattle.asn_model.specs.Readable.{is_readable};
-ghost use Rattle.std.specs.Prelude.{◌≡◌, [], IfOk, string_bytes, true};
+ghost use Rattle.std.specs.Prelude.{◌≡◌, ◌≢◌, [], IfOk, string_bytes, true};
 
 use crate::conversion::{Conversion, converted};
 use crate::one_line::one_line;
@@ -107,7 +108,7 @@ fn laid_reply<P: Part>(
 }
 
 /// Returns what a line of this origin comes to that is converted to this text: itself, or where it
-/// has line feeds, as value notation has, a text of the same value on one line.
+/// has line feeds, as value notation alone has, a text of the same value on one line.
 ///
 /// # Errors
 ///
@@ -118,7 +119,8 @@ fn line_reply<P: Part>(
     origin: Origin<'_>,
     written: String,
 ) -> Result<LineReply, OutOfMemory>
-    requires { is_readable (P.shape [] conversion.part) ≡ true }
+    requires readable { is_readable (P.shape [] conversion.part) ≡ true }
+    requires line { conversion.to ≢ codec.Avn → HasNoFeed (string_bytes written) }
     ensures { IfOk result (IsLineOf conversion.to (P.shape [] conversion.part)
         origin.entry (string_bytes written)) }
 {

@@ -1,6 +1,9 @@
 -- The canonical text of a value in JSON has no line feed.
-use Rattle.std.proofs.Common.{◌≡◌, ◌≢◌, ◌/◌, ◌%◌, ◌+◌, ◌<◌, ◌⊎◌, inl, inr, ◌∙◌, ℕ, zero, suc, ℤ, pos, negsuc, List, [], ◌∷◌, ◌++◌, Bool, true, false, cond, nat_lt, ◌==◌, ◌||◌, if◌then◌else◌, get_or, length, decimal, refl, sym, ap, subst, arith}
+use Rattle.std.proofs.Common.{◌≤◌, Some, None, ◌≡◌, ◌≢◌, ◌/◌, ◌%◌, ◌+◌, ◌<◌, ◌⊎◌, inl, inr, ◌∙◌, ℕ, zero, suc, ℤ, pos, negsuc, List, [], ◌∷◌, ◌++◌, Bool, true, false, cond, nat_lt, ◌==◌, ◌||◌, if◌then◌else◌, get_or, length, decimal, refl, sym, ap, subst, arith}
 use Rattle.std.proofs.lemmas.Bool.{cases_eq}
+use Rattle.std.proofs.lemmas.Str.Pattern.{contains_char}
+use Rattle.std.specs.Bool.{MatchBool}
+use Rattle.std.specs.Str.Pattern.{FindsChar}
 use Rattle.std.proofs.lemmas.List.Elements.{All-append, All-cons, All-from_get_or, All-nil}
 use Rattle.std.specs.Char.{digit_char}
 use Rattle.std.specs.Fmt.{digit_glyph, digits, digits_onto, signed_decimal}
@@ -157,3 +160,7 @@ converted_feedless from to s text output c n = subst HasNoFeed (sym c.text) (fee
 -- A text in which none was found.
 pub without_feed : (text : List ℕ) (found : Bool) → ((i : ℕ) → i < length text → get_or text i 0 ≡ 10 → found ≡ true) → found ≡ false → HasNoFeed text
 without_feed text found any e = All-from_get_or IsPlain text 0 (λ i inside h. let no : true ≡ false = sym (any i inside h) ∙ e in cc no)
+
+-- The clause of `contains` at a line feed.
+pub none_found : (text : List ℕ) (found : Bool) → MatchBool found ((i : ℕ) × (j : ℕ) × FindsChar 10 text (Some (i, j)) × (i ≤ j) × (j ≤ length text)) (FindsChar 10 text None) → found ≡ false → HasNoFeed text
+none_found text found h e = without_feed text found (contains_char 10 text found h (omega arith)).1 e

@@ -113,6 +113,7 @@ fn laid_reply<P: Part>(
 /// # Errors
 ///
 /// `OutOfMemory` alone.
+#[tactic(auto, using(crate::proofs::Feedless::none_found))]
 fn line_reply<P: Part>(
     alloc: Global,
     conversion: Conversion<P>,
@@ -139,6 +140,7 @@ impl<P: Part> LineWork for ConvertLines<'_, P> {
         work.conversion.to (P.shape [] work.conversion.part) work.file work.conversion.explain
         number bytes reply };
 
+    #[tactic(auto, using(crate::proofs::Feedless::converted_feedless))]
     fn answer(&self, alloc: Global, number: u64, line: &[u8]) -> Result<LineReply, OutOfMemory> {
         let origin = Origin {
             file: self.file,

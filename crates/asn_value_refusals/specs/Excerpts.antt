@@ -37,4 +37,4 @@ pub record IsExcerpt (text : List ℕ) (offset : ℕ) (bytes : List ℕ) : Type 
   pub after : List ℕ
   pub begins : IsLastLine (take offset text) before
   pub ends : IsFirstLine (drop offset text) after
-  pub is : bytes ≡ codes "  " ++ (shown_text (shown_before (chars before)) ++ (shown_text (take MOST_SHOWN (chars after)) ++ (codes "\n  " ++ (blanks (shown_before (chars before)) ++ codes "^\n"))))
+  pub is : bytes ≡ codes "  " ++ ((shown_text (shown_before (chars before)) ++ shown_text (take MOST_SHOWN (chars after))) ++ (codes "\n  " ++ (blanks (shown_before (chars before)) ++ codes "^\n")))

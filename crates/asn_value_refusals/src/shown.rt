@@ -11,7 +11,7 @@ use std::alloc::Global;
 pub const MOST_SHOWN: usize = 38;
 
 /// Returns what stands behind the last line feed of a text.
-#[tactic(auto, using(crate::proofs::Excerpts::last_line_splits))]
+#[tactic(auto, using(crate::proofs::Excerpts::last_lines))]
 fn last_line(text: &str) -> &str
     ensures { IsLastLine text.now result.now }
 {
@@ -22,7 +22,7 @@ fn last_line(text: &str) -> &str
 }
 
 /// Returns what stands before the first line feed of a text.
-#[tactic(auto, using(crate::proofs::Excerpts::first_line_splits))]
+#[tactic(auto, using(crate::proofs::Excerpts::first_lines))]
 fn first_line(text: &str) -> &str
     ensures { IsFirstLine text.now result.now }
 {
@@ -78,6 +78,7 @@ fn add_after(line: &mut String, text: &str) -> Result<(), OutOfMemory>
 /// # Errors
 ///
 /// `OutOfMemory` alone.
+#[tactic(auto, using(crate::proofs::Excerpts::excerpt_shown))]
 pub fn shown(alloc: Global, text: &str, offset: usize) -> Result<String, OutOfMemory>
     requires { IsCharBoundary text.now offset }
     ensures { IfOk result (λ s. IsExcerpt text.now offset (string_bytes s)) }

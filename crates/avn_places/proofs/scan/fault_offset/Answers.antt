@@ -1,4 +1,4 @@
-use Rattle.std.proofs.Common.{◌≡◌, false, ◌∙◌, ◌∷◌, ◌++◌, [], ap, arith, rules, subst, sym}
+use Rattle.std.proofs.Common.{◌-◌, length, take, ◌≡◌, false, ◌∙◌, ◌∷◌, ◌++◌, [], ap, arith, rules, subst, sym}
 use Rattle.avn_places.specs.Braces.{new_braces}
 use Rattle.avn_places.specs.Places.{innermost, outer}
 use Rattle.avn_places.specs.declared.turn.Expected.TheVariants as expected
@@ -52,7 +52,8 @@ pub turns-preserved-in_ok-push-in-Holds : goal.turns-preserved-in_ok-push-in-Hol
 turns-preserved-in_ok-push-in-Holds c =
     let inner = c.copied-innermost.ensures ∙ c.last.ensures.value ∙ ap innermost c.deref.ensures.value in
     let k = turned c.turns.rest.now c.past_run.result.now c.turn-then.result.1.now c.turns.opened.items c.copied-innermost.result c.turns.expected c.turn-then.result.0 _ c.past_run.utf8 c.past_run.ensures inner c.turn-then.ensures c.in-Holds.is in
-    let same : c.push-in-Holds.new.self.items ≡ outer c.turns.opened.items ++ c.in-Holds.braces ∷ [] = c.in_ok-push-in-Holds.ensures.items ∙ ap (λ os. os ++ c.in-Holds.braces ∷ []) c.pop-before.ensures.rest in
+    let count = sym c.deref.ensures.len ∙ ap (λ x. length x) c.deref.ensures.value in
+    let same : c.push-in-Holds.new.self.items ≡ outer c.turns.opened.items ++ c.in-Holds.braces ∷ [] = c.in_ok-push-in-Holds.ensures.items ∙ ap (λ os. os ++ c.in-Holds.braces ∷ []) (c.pop-before.ensures.rest ∙ ap (λ n. take (n - 1) c.turns.opened.items) count) in
     (search rules, subst (λ os. Leads c.args.text.now os c.in-Holds.next c.turn-then.result.1.now) (sym same) (leads_holding c.args.text.now c.turns.rest.now c.turn-then.result.1.now c.turns.opened.items c.in-Holds.braces c.turns.expected c.in-Holds.next c.turns.invariant.1 k))
 
 pub turns-smaller : goal.turns-smaller
@@ -65,5 +66,6 @@ pub turns-preserved : goal.turns-preserved
 turns-preserved c =
     let inner = c.copied-innermost.ensures ∙ c.last.ensures.value ∙ ap innermost c.deref.ensures.value in
     let k = turned c.turns.rest.now c.past_run.result.now c.turn-then.result.1.now c.turns.opened.items c.copied-innermost.result c.turns.expected c.turn-then.result.0 _ c.past_run.utf8 c.past_run.ensures inner c.turn-then.ensures c.in-Closes.is in
-    let same : c.pop-closed.new.self.items ≡ outer c.turns.opened.items = c.pop-closed.ensures.rest in
+    let count = sym c.deref.ensures.len ∙ ap (λ x. length x) c.deref.ensures.value in
+    let same : c.pop-closed.new.self.items ≡ outer c.turns.opened.items = c.pop-closed.ensures.rest ∙ ap (λ n. take (n - 1) c.turns.opened.items) count in
     (search rules, subst (λ os. Leads c.args.text.now os (expected.Behind false) c.turn-then.result.1.now) (sym same) (leads_out c.args.text.now c.turns.rest.now c.turn-then.result.1.now c.turns.opened.items c.turns.expected c.turns.invariant.1 k))

@@ -18,7 +18,7 @@ abbrev RSplits : List ℕ → Bor (List ℕ) × Bor (List ℕ) → Type 0
 RSplits bs x = (i : ℕ) × (j : ℕ) × RFindsChar 10 bs (Some (i, j)) × (x.0.now ≡ take i bs) × (x.1.now ≡ drop j bs) × (i ≤ j) × (length x.0.now ≡ i) × (length x.1.now + j ≡ length bs)
 
 pub last_line_behind : (bs : List ℕ) (x : Bor (List ℕ) × Bor (List ℕ)) → RSplits bs x → IsLastLine bs x.1.now
-last_line_behind bs x (i, j, f, a, b, r) = (
+last_line_behind bs x (i, j, f, a, b, _, _, _) = (
   no_feed x.1.now (λ k inside h.
       NoCharPasses-char 10 (drop j bs) k f.0 (omega arith) (omega (arith, inside, ap (λ l. length l) b)) (ap (λ l. get_or l k 0) (sym b) ∙ h)),
   inr (take i bs, sym (take-append-drop i bs) ∙ ap (λ l. take i bs ++ l) (drop_at_char 10 bs i j f.1 (omega arith) ∙ ap (λ l. 10 ∷ l) (sym b))),
@@ -35,9 +35,17 @@ first_line_before bs x h =
 pub first_line_whole : (bs : List ℕ) → IsSplitOnceResult 10 bs None → IsFirstLine bs bs
 first_line_whole bs h = (no_feed bs (split_parts 10 bs None h (omega arith)), inl refl)
 
-pub ruleset last_lines = (last_line_behind, last_line_whole)
+pub last_line_from : (bs : List ℕ) (r : Option (Bor (List ℕ) × Bor (List ℕ))) (x : Bor (List ℕ) × Bor (List ℕ)) → MatchOption r (RFindsChar 10 bs None) (RSplits bs) → r ≡ Some x → IsLastLine bs x.1.now
+last_line_from bs r x h e = last_line_behind bs x (subst (λ o. MatchOption o (RFindsChar 10 bs None) (RSplits bs)) e h)
 
-pub ruleset first_lines = (first_line_before, first_line_whole)
+pub last_line_of : (bs : List ℕ) (r : Option (Bor (List ℕ) × Bor (List ℕ))) → MatchOption r (RFindsChar 10 bs None) (RSplits bs) → r ≡ None → IsLastLine bs bs
+last_line_of bs r h e = last_line_whole bs (subst (λ o. MatchOption o (RFindsChar 10 bs None) (RSplits bs)) e h)
+
+pub first_line_from : (bs : List ℕ) (r : Option (Bor (List ℕ) × Bor (List ℕ))) (x : Bor (List ℕ) × Bor (List ℕ)) → IsSplitOnceResult 10 bs r → r ≡ Some x → IsFirstLine bs x.0.now
+first_line_from bs r x h e = first_line_before bs x (subst (IsSplitOnceResult 10 bs) e h)
+
+pub first_line_of : (bs : List ℕ) (r : Option (Bor (List ℕ) × Bor (List ℕ))) → IsSplitOnceResult 10 bs r → r ≡ None → IsFirstLine bs bs
+first_line_of bs r h e = first_line_whole bs (subst (IsSplitOnceResult 10 bs) e h)
 
 -- One character more, of which something is shown.
 more : (show : ℕ → ℕ) (whole a b cs : List ℕ) (c d : ℕ) → a ≡ whole ++ encode_utf8_all (map show cs) → d ≡ show c → b ≡ a ++ encode_utf8 d → b ≡ whole ++ encode_utf8_all (map show (cs ++ c ∷ []))

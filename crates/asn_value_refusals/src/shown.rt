@@ -11,7 +11,6 @@ use std::alloc::Global;
 pub const MOST_SHOWN: usize = 38;
 
 /// Returns what stands behind the last line feed of a text.
-#[tactic(auto, using(crate::proofs::Excerpts::last_lines))]
 fn last_line(text: &str) -> &str
     ensures { IsLastLine text.now result.now }
 {
@@ -22,7 +21,6 @@ fn last_line(text: &str) -> &str
 }
 
 /// Returns what stands before the first line feed of a text.
-#[tactic(auto, using(crate::proofs::Excerpts::first_lines))]
 fn first_line(text: &str) -> &str
     ensures { IsFirstLine text.now result.now }
 {

@@ -2,7 +2,7 @@
 use Rattle.std.proofs.Common.{◌∙◌, ◌++◌, ap, chars, drop, map-id, string_bytes, sym}
 use Rattle.std.proofs.lemmas.Iterator.{YieldsList-from_chars}
 use Rattle.std.proofs.lemmas.Iterator.Adapters.{YieldsList-from_skip}
-use Rattle.std.proofs.lemmas.Iterator.Consumers.{YieldsList-at, YieldsList-end}
+use Rattle.std.proofs.lemmas.Iterator.Consumers.{YieldsList-end}
 use Rattle.asn_value_refusals.specs.Excerpts.{blanks, shown_text}
 use Rattle.asn_value_refusals.proofs.Excerpts.{blanks_more, shown_more}
 use Rattle.asn_value_refusals.proofs.shown.add_before.Goals as goal
@@ -15,12 +15,12 @@ loop-character-preserved c = (
 
 pub returns-clause-line : goal.returns-clause-line
 returns-clause-line c =
-    let all = YieldsList-end (YieldsList-from_skip c.left_out.result (YieldsList-at {t = c.chars.result} cc (YieldsList-from_chars c.args.text.now c.utf8.text c.chars.ensures.rest)) cc) c.loop-character.yielded _ c.loop-character.yielded_by _ _ c.in-None.is c.next.ensures.steps in
+    let all = YieldsList-end (YieldsList-from_skip {s = c.into_iter-character-iterator.result} c.left_out.result (YieldsList-from_chars c.args.text.now c.utf8.text cc) cc) c.loop-character.yielded _ c.loop-character.yielded_by _ _ c.in-None.is c.next.ensures.steps in
     let same = sym (map-id c.loop-character.yielded) ∙ all.0 ∙ ap (λ n. drop n (chars c.args.text.now)) c.left_out.ensures in
     c.loop-character.invariant.0 ∙ ap (λ cs. string_bytes c.args.line.now ++ shown_text cs) same
 
 pub returns-clause-caret : goal.returns-clause-caret
 returns-clause-caret c =
-    let all = YieldsList-end (YieldsList-from_skip c.left_out.result (YieldsList-at {t = c.chars.result} cc (YieldsList-from_chars c.args.text.now c.utf8.text c.chars.ensures.rest)) cc) c.loop-character.yielded _ c.loop-character.yielded_by _ _ c.in-None.is c.next.ensures.steps in
+    let all = YieldsList-end (YieldsList-from_skip {s = c.into_iter-character-iterator.result} c.left_out.result (YieldsList-from_chars c.args.text.now c.utf8.text cc) cc) c.loop-character.yielded _ c.loop-character.yielded_by _ _ c.in-None.is c.next.ensures.steps in
     let same = sym (map-id c.loop-character.yielded) ∙ all.0 ∙ ap (λ n. drop n (chars c.args.text.now)) c.left_out.ensures in
     c.loop-character.invariant.1 ∙ ap (λ cs. string_bytes c.args.caret.now ++ blanks cs) same

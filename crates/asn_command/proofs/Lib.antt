@@ -1,5 +1,4 @@
 mod Delivering
-mod Feedless
 mod Laid
 mod Refused
 mod TextsOn

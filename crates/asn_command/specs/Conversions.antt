@@ -54,9 +54,9 @@ pub record IsOneLine (s : Shape) (canonical bytes : List ℕ) : Type 0 where
   pub one : HasNoFeed bytes
   pub same : Converts LEVEL_LIMIT Avn Avn s bytes canonical
 
--- The line has no line feed. It is the canonical text, or in value notation a text of the same value.
+-- The line is the canonical text, or in value notation a text of the same value on one line.
 abbrev pub IsLineText : Codec → Shape → List ℕ → List ℕ → Type 0
-IsLineText to s canonical bytes = (HasNoFeed bytes × (bytes ≡ canonical)) ⊎ ((to ≡ Avn) × IsOneLine s canonical bytes)
+IsLineText to s canonical bytes = (bytes ≡ canonical) ⊎ ((to ≡ Avn) × IsOneLine s canonical bytes)
 
 -- The canonical text, laid out on one line, is no text of the same value.
 abbrev pub HasNoLine : Shape → List ℕ → Type 0
@@ -67,7 +67,7 @@ abbrev pub IsSameLine : Shape → List ℕ → Option (String Global) → Type 0
 IsSameLine s canonical (Some line) = IsOneLine s canonical (string_bytes line)
 IsSameLine s canonical None = HasNoLine s canonical
 
--- The reply is such a line of this canonical text, with a line feed behind it and none within.
+-- The reply is such a line of this canonical text, with a line feed behind it.
 pub record IsLineAnswer (to : Codec) (s : Shape) (canonical due : List ℕ) : Type 0 where
   pub bytes : List ℕ
   pub text : IsLineText to s canonical bytes

@@ -1,10 +1,9 @@
 //! Converts a stream of texts, one a line.
 ghost use Rattle.asn_command.specs.Conversions.{IsLineConversion, IsLineOf, IsSameLine};
 ghost use Rattle.asn_command.specs.Conversions.{no_line_line};
-ghost use Rattle.asn_command.specs.OneLine.{HasNoFeed};
 ghost use Rattle.asn_core.specs.declared.codec.Codec.TheVariants as codec;
 ghost use Rattle.asn_model.specs.Readable.{is_readable};
-ghost use Rattle.std.specs.Prelude.{◌≡◌, ◌≢◌, [], IfOk, string_bytes, true};
+ghost use Rattle.std.specs.Prelude.{◌≡◌, [], IfOk, string_bytes, true};
 
 use crate::conversion::{Conversion, converted};
 use crate::one_line::one_line;
@@ -108,20 +107,18 @@ fn laid_reply<P: Part>(
 }
 
 /// Returns what a line of this origin comes to that is converted to this text: itself, or where it
-/// has line feeds, as value notation alone has, a text of the same value on one line.
+/// has line feeds, as value notation has, a text of the same value on one line.
 ///
 /// # Errors
 ///
 /// `OutOfMemory` alone.
-#[tactic(auto, using(crate::proofs::Feedless::none_found))]
 fn line_reply<P: Part>(
     alloc: Global,
     conversion: Conversion<P>,
     origin: Origin<'_>,
     written: String,
 ) -> Result<LineReply, OutOfMemory>
-    requires readable { is_readable (P.shape [] conversion.part) ≡ true }
-    requires line { conversion.to ≢ codec.Avn → HasNoFeed (string_bytes written) }
+    requires { is_readable (P.shape [] conversion.part) ≡ true }
     ensures { IfOk result (IsLineOf conversion.to (P.shape [] conversion.part)
         origin.entry (string_bytes written)) }
 {
@@ -140,7 +137,6 @@ impl<P: Part> LineWork for ConvertLines<'_, P> {
         work.conversion.to (P.shape [] work.conversion.part) work.file work.conversion.explain
         number bytes reply };
 
-    #[tactic(auto, using(crate::proofs::Feedless::converted_feedless))]
     fn answer(&self, alloc: Global, number: u64, line: &[u8]) -> Result<LineReply, OutOfMemory> {
         let origin = Origin {
             file: self.file,

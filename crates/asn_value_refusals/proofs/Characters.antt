@@ -2,7 +2,7 @@
 use Rattle.std.proofs.Common.{◌≡◌, ◌∙◌, ◌++◌, ◌∷◌, [], ℕ, List, ap, encode_utf8, encode_utf8_all, map, sym}
 use Rattle.std.proofs.lemmas.List.{append-nil, map-append}
 use Rattle.std.proofs.lemmas.Str.{encodes-append}
-use Rattle.asn_value_refusals.specs.Lines.{visible}
+use Rattle.asn_value_refusals.specs.Visible.{visible}
 
 -- One character more.
 pub shown_more : (a b cs : List ℕ) (c d : ℕ) → a ≡ encode_utf8_all (map visible cs) → d ≡ visible c → b ≡ a ++ encode_utf8 d → b ≡ encode_utf8_all (map visible (cs ++ c ∷ []))

@@ -1,1 +1,3 @@
+pub mod Visible
+pub mod Excerpts
 pub mod Lines

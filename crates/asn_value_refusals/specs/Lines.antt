@@ -1,7 +1,6 @@
 -- The lines that say why a text isn't converted.
-use Rattle.std.specs.Prelude.{◌≡◌, ℕ, List, [], ◌∷◌, ◌++◌, Bool, true, false, if◌then◌else◌, chars, codes, decimal, encode_utf8_all, is_some, map, not, take, string_bytes, MatchBool, Option, Some, None}
+use Rattle.std.specs.Prelude.{◌≡◌, ℕ, List, [], ◌∷◌, ◌++◌, Bool, true, false, codes, decimal, is_some, not, IsCharBoundary, take, string_bytes, MatchBool, Option, Some, None}
 use Rattle.std.specs.Borrow.{Bor}
-use Rattle.std.specs.Char.{is_control}
 use Rattle.std.specs.List.{flat_map}
 use Rattle.asn_dynamic.specs.declared.conversion.ConvertError.{ConvertError}
 use Rattle.asn_dynamic.specs.declared.conversion.ConvertError.TheVariants.{Read, Write}
@@ -16,7 +15,10 @@ use Rattle.asn_fault.specs.declared.codec_specific.CodecDecodeError.TheVariants.
 use Rattle.asn_fault.specs.declared.decode.DecodeErrorKind.{DecodeErrorKind}
 use Rattle.asn_fault.specs.declared.decode.DecodeErrorKind.TheVariants.{CodecSpecific, Parser}
 use Rattle.asn_lexer.specs.Places.{column_after, line_after}
+use Rattle.asn_value_refusals.specs.Excerpts.{IsExcerpt}
+use Rattle.asn_value_refusals.specs.Visible.{on_one_line}
 use Rattle.asn_value_refusals.specs.declared.origin.Origin.{Origin}
+use Rattle.avn_places.specs.Places.{IsFaultPlace}
 use Rattle.serde_json.specs.Read.{read as read_text}
 
 -- The number of a line after a colon, if there is one.
@@ -52,15 +54,6 @@ line_origin file number = record { file = file; line = Some number }
 abbrev pub not_text_line : Origin → List ℕ
 not_text_line o = origin_text o ++ codes ": isn't UTF-8\n"
 
--- A character as it is shown: a blank in place of one that controls a terminal, a line feed among
--- them.
-abbrev pub visible : ℕ → ℕ
-visible c = if is_control c then 32 else c
-
--- A text as it is shown, on one line.
-abbrev pub on_one_line : List ℕ → List ℕ
-on_one_line text = encode_utf8_all (map visible (chars text))
-
 -- A text is refused with this since it is no JSON, or no value notation: the text itself is at
 -- fault, and not its value.
 abbrev pub is_syntax_kind : List ℕ → DecodeErrorKind → Bool
@@ -87,28 +80,37 @@ place_text o front =
     o.file.now
     ++ (codes ":" ++ (decimal (line_from o.line front) ++ (codes ":" ++ decimal (column_after front))))
 
--- A line of a text is shown, and below it a caret after blanks.
-pub record IsExcerpt (bytes : List ℕ) : Type 0 where
-  pub line : List ℕ
-  pub blanks : List ℕ
-  pub is : bytes ≡ codes "  " ++ (line ++ (codes "\n  " ++ (blanks ++ codes "^\n")))
-
--- What is shown of the text, where that is asked for, and nothing else.
-abbrev pub IsExplanation : Bool → List ℕ → Type 0
-IsExplanation explain more = MatchBool explain (IsExcerpt more) (more ≡ [])
+-- The place of the text is shown, where that is asked for, and nothing else.
+abbrev pub IsExplanation : Bool → List ℕ → ℕ → List ℕ → Type 0
+IsExplanation explain text offset more = MatchBool explain (IsExcerpt text offset more) (more ≡ [])
 
 -- The line of a refusal for its reason, after what the text comes from.
 abbrev pub refusal_line : List ℕ → ConvertError → List ℕ
 refusal_line front e = on_one_line (front ++ (codes ": " ++ reason_text e)) ++ codes "\n"
 
--- The lines of a refusal of a text that is at fault itself: after a place in the text, with what
--- stands there if that is asked for.
+-- The place at which the text is said to be at fault: in value notation that of what can't stand
+-- there.
+abbrev pub IsPlaceOf : DecodeErrorKind → List ℕ → ℕ → Type 0
+IsPlaceOf (CodecSpecific (Avn (UnexpectedToken found))) text offset = IsFaultPlace text offset
+IsPlaceOf _ text offset = IsCharBoundary text offset
+
+abbrev pub IsPlaceOfKind : DynKind → List ℕ → ℕ → Type 0
+IsPlaceOfKind (Other kind) text offset = IsPlaceOf kind text offset
+IsPlaceOfKind _ text offset = IsCharBoundary text offset
+
+abbrev pub IsPlace : ConvertError → List ℕ → ℕ → Type 0
+IsPlace (Read e) text offset = IsPlaceOfKind e.kind text offset
+IsPlace (Write e) text offset = IsCharBoundary text offset
+
+-- The lines of a refusal of a text that is at fault itself: after its place in the text, with what
+-- stands at this very place if that is asked for.
 pub record IsTextRefusal (o : Origin) (e : ConvertError) (text : List ℕ) (explain : Bool)
     (lines : List ℕ)
     : Type 0 where
   pub offset : ℕ
   pub more : List ℕ
-  pub shown : IsExplanation explain more
+  pub place : IsPlace e text offset
+  pub shown : IsExplanation explain text offset more
   pub is : lines ≡ refusal_line (place_text o (take offset text)) e ++ more
 
 -- The lines that say why the text of this origin is refused with this error.

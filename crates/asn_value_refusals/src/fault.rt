@@ -1,7 +1,7 @@
 //! Finds the place at which a text is at fault.
-ghost use Rattle.asn_value_refusals.specs.Lines.{is_text_at_fault};
+ghost use Rattle.asn_value_refusals.specs.Lines.{IsPlace, is_text_at_fault};
 ghost use Rattle.serde_json.specs.Read.{read as read_text};
-ghost use Rattle.std.specs.Prelude.{◌≡◌, IfOk, is_some, not};
+ghost use Rattle.std.specs.Prelude.{◌≡◌, IfOk, IfSome, IsCharBoundary, is_some, not};
 
 use asn_core::OutOfMemory;
 use asn_dynamic::{ConvertError, DynError, DynKind};
@@ -12,12 +12,14 @@ use std::alloc::Global;
 
 /// Returns the offset of a line and a byte in it, both counted from 1, or that of the character of
 /// which the byte is a part.
-fn offset_of(text: &str, line: usize, column: usize) -> usize {
+fn offset_of(text: &str, line: usize, column: usize) -> usize
+    ensures { IsCharBoundary text.now result }
+{
     let mut begin: usize = 0;
     for (number, each) in text.split('\n').enumerate() {
         if number + 1 == line {
             let within = column.saturating_sub(1).min(each.len());
-            return begin.saturating_add(each.floor_char_boundary(within));
+            return text.floor_char_boundary(begin.saturating_add(within));
         }
         begin = begin.saturating_add(each.len()).saturating_add(1);
     }
@@ -30,7 +32,8 @@ fn offset_of(text: &str, line: usize, column: usize) -> usize {
 ///
 /// `OutOfMemory` alone.
 fn json_offset(alloc: Global, text: &str) -> Result<Option<usize>, OutOfMemory>
-    ensures { IfOk result (λ found. is_some found ≡ not (is_some (read_text text.now))) }
+    ensures found { IfOk result (λ found. is_some found ≡ not (is_some (read_text text.now))) }
+    ensures boundary { IfOk result (λ found. IfSome found (IsCharBoundary text.now)) }
 {
     match Value::from_str(alloc, text) {
         Ok(_value) => Ok(None),
@@ -52,7 +55,9 @@ pub fn fault_offset(
     text: &str,
     error: &ConvertError,
 ) -> Result<Option<usize>, OutOfMemory>
-    ensures { IfOk result (λ found. is_some found ≡ is_text_at_fault text.now error.now) }
+    ensures found { IfOk result (λ found. is_some found ≡ is_text_at_fault text.now error.now) }
+    ensures place { IfOk result (λ found. IfSome found (IsPlace error.now text.now)) }
+    ensures boundary { IfOk result (λ found. IfSome found (IsCharBoundary text.now)) }
 {
     let ConvertError::Read(
         DynError {

@@ -1,7 +1,8 @@
 //! Makes the lines of a refusal.
-ghost use Rattle.asn_value_refusals.specs.Lines.{IsExplanation, IsRefusalLines, on_one_line};
+ghost use Rattle.asn_value_refusals.specs.Lines.{IsExplanation, IsRefusalLines};
 ghost use Rattle.asn_value_refusals.specs.Lines.{path_text, place_text, reason_text, step_text};
-ghost use Rattle.std.specs.Prelude.{◌≡◌, ◌++◌, IfOk, codes, string_bytes, take};
+ghost use Rattle.asn_value_refusals.specs.Visible.{on_one_line};
+ghost use Rattle.std.specs.Prelude.{◌≡◌, ◌++◌, IfOk, IsCharBoundary, codes, string_bytes, take};
 
 use crate::fault::fault_offset;
 use crate::origin::{Origin, origin_of};
@@ -120,7 +121,8 @@ fn explanation(
     offset: usize,
     explain: bool,
 ) -> Result<String, OutOfMemory>
-    ensures { IfOk result (λ s. IsExplanation explain (string_bytes s)) }
+    requires { IsCharBoundary text.now offset }
+    ensures { IfOk result (λ s. IsExplanation explain text.now offset (string_bytes s)) }
 {
     if explain {
         return shown(alloc, text, offset);

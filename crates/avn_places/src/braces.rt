@@ -1,4 +1,6 @@
 //! Keeps in mind what stands in braces.
+ghost use Rattle.avn_places.specs.Braces.{behind_value, new_braces, with_item};
+ghost use Rattle.std.specs.Prelude.{◌≡◌};
 
 /// Is what an item of braces begins with.
 #[derive(Clone, Copy, PartialEq, Eq, Drop)]
@@ -22,7 +24,9 @@ pub struct Braces {
 
 impl Braces {
     /// Returns braces before their first item.
-    pub fn new() -> Braces {
+    pub fn new() -> Braces
+        ensures { result ≡ new_braces }
+    {
         Braces {
             named: None,
             are_integers: true,
@@ -31,19 +35,23 @@ impl Braces {
 
     /// Returns the braces with this item more, or `None` where it has a name and the others have
     /// none, or the other way round.
-    pub fn with_item(self, item: Item) -> Option<Braces> {
-        let is_named = item == Item::Named;
-        if self.named == Some(!is_named) {
-            return None;
+    pub fn with_item(self, item: Item) -> Option<Braces>
+        ensures { result ≡ with_item self item }
+    {
+        let is_named = matches!(item, Item::Named);
+        match self.named {
+            Some(named) if named != is_named => None,
+            _ => Some(Braces {
+                named: Some(is_named),
+                are_integers: self.are_integers && matches!(item, Item::Plain),
+            }),
         }
-        Some(Braces {
-            named: Some(is_named),
-            are_integers: self.are_integers && item == Item::Plain,
-        })
     }
 
     /// Returns the braces after a value of theirs, which is an integer or not.
-    pub fn behind_value(self, is_integer: bool) -> Braces {
+    pub fn behind_value(self, is_integer: bool) -> Braces
+        ensures { result ≡ behind_value self is_integer }
+    {
         Braces {
             named: self.named,
             are_integers: self.are_integers && is_integer,
@@ -51,7 +59,9 @@ impl Braces {
     }
 
     /// Returns whether a number may follow without a comma.
-    pub fn takes_number(self) -> bool {
+    pub fn takes_number(self) -> bool
+        ensures { result ≡ self.are_integers }
+    {
         self.are_integers
     }
 }

@@ -6,5 +6,6 @@ mod braces;
 mod rows;
 mod scan;
 mod tokens;
+mod turn;
 
 pub use scan::fault_offset;

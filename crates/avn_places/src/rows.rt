@@ -3,7 +3,7 @@ use crate::fault_offset;
 use std::test::Fail;
 
 /// Lists texts in which a bar stands before what can't stand there.
-const FAULTS: [&str; 33] = [
+const FAULTS: [&str; 38] = [
     "|",
     " |?",
     "a |b",
@@ -37,6 +37,11 @@ const FAULTS: [&str; 33] = [
     "{ a { b { c |] } } }",
     "{} \u{2003}|}",
     "{ 1.5 |2 }",
+    "{\r\n  a 1,\r\n  b |?\r\n}",
+    "'0 1\t0'B |x",
+    "|'0 2'B",
+    "{ { { { { { { { |?",
+    "{{{{{{{{|?",
 ];
 
 /// Each text is reported at its bar, which is left out.
@@ -51,7 +56,7 @@ fn faults_are_told_at_their_place(rt: HostRuntime) -> Result<(), Fail> {
 }
 
 /// Lists texts that are value notation.
-const TEXTS: [&str; 12] = [
+const TEXTS: [&str; 15] = [
     "a",
     " a : b : {} ",
     "-12",
@@ -64,6 +69,9 @@ const TEXTS: [&str; 12] = [
     "{ a b, c d : e, f { } }",
     "{ a NULL }",
     "{ a-b_c 'AB'H }",
+    "{\r\n  a 1\r\n}\r\n",
+    "'0 1\r\n0\t'B",
+    "{{{{{{{{}}}}}}}}",
 ];
 
 /// Where the text is value notation, it is passed whole.

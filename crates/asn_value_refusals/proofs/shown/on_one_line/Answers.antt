@@ -2,7 +2,7 @@
 use Rattle.std.proofs.Common.{◌∙◌, ap, encode_utf8_all, map, map-id, string_bytes, sym}
 use Rattle.std.proofs.lemmas.Iterator.{YieldsList-from_chars}
 use Rattle.std.proofs.lemmas.Iterator.Consumers.{YieldsList-end}
-use Rattle.asn_value_refusals.specs.Lines.{visible}
+use Rattle.asn_value_refusals.specs.Visible.{visible}
 use Rattle.asn_value_refusals.proofs.Characters.{shown_more}
 use Rattle.asn_value_refusals.proofs.shown.on_one_line.Goals as goal
 

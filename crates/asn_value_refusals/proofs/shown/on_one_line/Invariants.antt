@@ -1,6 +1,6 @@
 -- What is written so far is what is shown of the characters so far.
 use Rattle.std.proofs.Common.{◌≡◌, encode_utf8_all, map, string_bytes}
-use Rattle.asn_value_refusals.specs.Lines.{visible}
+use Rattle.asn_value_refusals.specs.Visible.{visible}
 use Rattle.asn_value_refusals.proofs.shown.on_one_line.Given as goal
 
 abbrev pub invariant-loop-character : goal.invariant-loop-character

@@ -1,0 +1,3 @@
+pub mod Braces
+pub mod Tokens
+pub mod Places

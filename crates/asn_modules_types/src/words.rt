@@ -102,5 +102,8 @@ pub fn string_in(alloc: Global, text: &str, token: Token) -> Result<Option<Strin
     if !are_verbatim(joined.as_slice()) {
         return Ok(None);
     }
-    Ok(String::from_utf8(joined).ok())
+    match String::from_utf8(joined) {
+        Ok(string) => Ok(Some(string)),
+        Err(_fault) => Ok(None),
+    }
 }

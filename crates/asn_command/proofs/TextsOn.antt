@@ -2,7 +2,7 @@
 use Rattle.std.proofs.Common.{◌≡◌, ◌<◌, ◌≤◌, ◌+◌, ◌++◌, ℕ, List, [], ◌∷◌, length, take, drop, get_or, map, min, Bool, true, false, nat_le, String, Global, string_bytes, refl, sym, ap, ap₂, ◌∙◌, append_assoc, append-nil, arith}
 use Rattle.std.proofs.lemmas.Bool.{leb-true, leb-false}
 use Rattle.std.specs.List.{flat_map}
-use Rattle.std.proofs.lemmas.List.{drop_all, drop_more, flat_map_more, get_or_default, map-append, take_more}
+use Rattle.std.proofs.lemmas.List.{drop_all, drop_more, flat_map_more, map-append, take_more}
 use Rattle.asn_model.specs.Shape as spec
 use Rattle.asn_model.specs.ShapeView.{shape_view}
 use Rattle.asn_model.specs.declared.shape_type.Shape.{Shape}
@@ -28,10 +28,6 @@ missing_more now line after modules i m n inside is l a =
     let next : take (i + 1) modules ≡ take i modules ++ m ∷ [] = take_more modules i m inside ∙ ap (λ x. take i modules ++ x ∷ []) (sym is) in
     a ∙ ap₂ (λ x y. x ++ y) n l ∙ flat_map_more missing_line [] (map missing_view (take i modules)) (missing_view m)
     ∙ ap (flat_map missing_line) (sym (ap (map missing_view) next ∙ map-append missing_view (take i modules) (m ∷ [])))
-
-pub missing_at : (now line after : List ℕ) (modules : List MissingModule) (i : ℕ) (d : MissingModule) → now ≡ flat_map missing_line (map missing_view (take i modules)) → i < length modules
-    → line ≡ missing_line (missing_view (get_or modules i d)) → after ≡ now ++ line → after ≡ flat_map missing_line (map missing_view (take (i + 1) modules))
-missing_at now line after modules i d n inside = missing_more now line after modules i (get_or modules i d) n inside (get_or_default modules i d (get_or modules i d) inside)
 
 module _ (f : names.TypeName → spec.Shape → List ℕ) where
   -- The texts on the types from a place on.

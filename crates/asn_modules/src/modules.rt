@@ -69,8 +69,8 @@ impl Modules {
         self.types.as_slice()
     }
 
-    /// Returns the modules that are imported from and aren't given, each once, in the order in which
-    /// they are named after FROM. Nothing is known of what they assign.
+    /// Returns the modules that are imported from and aren't given, each once, in the order in
+    /// which they are named after FROM. Nothing is known of what they assign.
     pub fn missing(&self) -> &[MissingModule]
         ensures { map missing_view result.now ≡ (modules_view self.now).missing }
     {

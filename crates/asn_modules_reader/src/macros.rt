@@ -1,5 +1,5 @@
-//! Reads what macros assign (X.208, Annex A): their definitions, types and values. What a macro makes
-//! of its notation is not read.
+//! Reads what macros assign (X.208, Annex A): their definitions, types and values. What a macro
+//! makes of its notation is not read.
 ghost use Rattle.asn_modules_grammar.specs.headers.Fronts.{Answers, first_is};
 ghost use Rattle.asn_modules_grammar.specs.notation.Macros.{assigned_value_at, begins_numbered};
 ghost use Rattle.asn_modules_grammar.specs.notation.Macros.{macro_named, macro_type, macro_value_at};

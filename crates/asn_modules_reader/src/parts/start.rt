@@ -60,8 +60,8 @@ fn read_field(tokens: &[Token]) -> Result<(Start, &[Token]), SyntaxFault>
     Ok((Start::Leaf(Leaf::Closed(Closed::ClassField)), rest))
 }
 
-/// Returns the refusal of a name that begins with a small letter, where a type is expected. With `<`
-/// after it, it begins a selection type (X.680, section 30), which isn't read.
+/// Returns the refusal of a name that begins with a small letter, where a type is expected. With
+/// `<` after it, it begins a selection type (X.680, section 30), which isn't read.
 fn refuse_small(name: Token, tokens: &[Token]) -> SyntaxFault {
     let met = match tokens {
         [sign, ..] if matches!(sign.kind, Kind::Less) => *sign,

@@ -48,8 +48,8 @@ fn read_tokens(
 ///
 /// `Refused` exactly where the text is none of modules, unless memory runs out: at the first place
 /// that begins no token, else at the first token that fits nothing that may stand there, or at the
-/// end of the text. A part of ASN.1 that isn't read is reported by its name. `OutOfMemory` may come in
-/// place of any answer.
+/// end of the text. A part of ASN.1 that isn't read is reported by its name. `OutOfMemory` may come
+/// in place of any answer.
 pub fn read_source<'t>(
     alloc: Global,
     file: &'t str,

@@ -58,8 +58,8 @@ fn check_value_names<'t>(
 ///
 /// # Errors
 ///
-/// What is reported of the names of values, else the first name that is too large for COMPONENTS OF,
-/// and `OutOfMemory`.
+/// What is reported of the names of values, else the first name that is too large for COMPONENTS
+/// OF, and `OutOfMemory`.
 fn check_in_assigned<'t>(
     alloc: Global,
     sources: &[Source<'t>],
@@ -80,8 +80,8 @@ fn check_in_assigned<'t>(
 /// # Errors
 ///
 /// The first name that is imported against a rule, else the first name of a type that its module
-/// neither assigns nor imports, else what is reported of the names of values, else the first name that
-/// is too large for COMPONENTS OF, and `OutOfMemory`.
+/// neither assigns nor imports, else what is reported of the names of values, else the first name
+/// that is too large for COMPONENTS OF, and `OutOfMemory`.
 fn check_missing(alloc: Global, sources: &[Source<'_>]) -> Result<(), ModuleError>
     ensures { Checks (first_missing (map source_view sources.now)) result }
 {

@@ -51,7 +51,7 @@ check() {
     "$asn" check "$1" >"$room/out" 2>"$room/err"
     local status=$?
     case $status in
-        0) echo "$1: $(head -n 1 "$room/out"), $(($(wc -l <"$room/out") - 1)) parts without values" ;;
+        0) echo "$1: $(head -n 1 "$room/out"), $(grep -c ': no value of it is read$' "$room/out") parts without values" ;;
         1) grep -F "$1:" "$room/err" | head -n 1 ;;
         *) echo "$1: status $status: $(tail -n 1 "$room/err")" ;;
     esac
@@ -171,7 +171,7 @@ protocols() {
         mended
         all=$((all + 1))
         if "$asn" check "${files[@]}" >"$room/out" 2>"$room/err"; then
-            echo "$folder: $(head -n 1 "$room/out"), $(($(wc -l <"$room/out") - 1)) parts without values"
+            echo "$folder: $(head -n 1 "$room/out"), $(grep -c ': no value of it is read$' "$room/out") parts without values"
             whole=$((whole + 1))
             types=$((types + $(head -n 1 "$room/out" | cut -d' ' -f1)))
             values "${files[@]}"
